@@ -1,88 +1,24 @@
 -- What the line of a message says.
-use Rattle.std.proofs.Common.{◌≡◌, ◌≢◌, ℕ, ◌+◌, ◌<◌, ◌≤◌, Bool, true, false, cond, ◌&&◌, ◌==◌, ltb, List, [], ◌∷◌, ◌++◌, None, Some, length, get_or, take, drop, refl, sym, ap, subst, ◌∙◌, inl, inr, arith, append_assoc, length-append}
+use Rattle.std.proofs.Common.{◌≡◌, ◌≢◌, ℕ, ◌≤◌, true, false, ◌==◌, List, [], ◌∷◌, ◌++◌, Some, length, get_or, refl, sym, ap, subst, ◌∙◌}
 use Rattle.std.specs.Prelude.{codes}
 use Rattle.std.specs.Io.BufRead.{strip_last}
-use Rattle.std.specs.List.{list_all, position_or_len}
+use Rattle.std.specs.List.{list_all}
 use Rattle.std.specs.Str.{IsUtf8}
-use Rattle.std.proofs.lemmas.Bool.{and_from, and_parts, cases_lt, false≢true}
-use Rattle.std.proofs.lemmas.Bool.Decides.{nat_tests}
-use Rattle.std.proofs.lemmas.List.{get_or_append_left, get_or_past}
+use Rattle.std.proofs.lemmas.Bool.{false≢true}
 use Rattle.std.proofs.lemmas.List.Elements.{All-append, All-cons, All-nil}
-use Rattle.std.proofs.lemmas.List.Sums.{AllPass-from_list_all, position_or_len_is}
-use Rattle.std.proofs.lemmas.Str.{IsUtf8-append, IsUtf8-from_ascii, is_utf8-from_IsUtf8}
-use Rattle.std.proofs.Math.Seq.{drop-append_seam, get_or-append_seam, take-append_seam}
-use Rattle.ledger_model.specs.Name.{is_name, is_name_character}
-use Rattle.script_lines.specs.declared.script_line.LineFault.TheVariants.{BadLine}
-use Rattle.script_lines.specs.LineMeaning.{by_first_word, fails, is_space, line_meaning, parted, sends, sent}
+use Rattle.std.proofs.lemmas.List.Sums.{AllPass-from_list_all}
+use Rattle.script_lines.specs.LineMeaning.{line_meaning, sends}
 use Rattle.script_lines.specs.Lines.{HasNoFeed}
 use Rattle.script_lines.specs.Ranges.{longest_line}
+use Rattle.script_lines.proofs.MessageLines.{is_word_byte, msg_says, name_word}
 use Rattle.journal_script.specs.Speaking.{StandsAsItIs, message_text}
 use Rattle.journal_script.proofs.LastByte.{keeps_last, kept_last, last, last_behind}
-
--- ---- words
-
--- a visible byte of ASCII
-abbrev is_word_byte : ℕ → Bool
-is_word_byte c = ltb 32 c && ltb c 128
-
-not_a_space : (c : ℕ) → is_word_byte c ≡ true → is_space c ≡ false
-not_a_space c h = grind (arith, nat_tests)
-
--- a word without a space is parted from what stands behind a space
-pub parted_word : (word rest : List ℕ) → list_all is_word_byte word ≡ true → parted (word ++ 32 ∷ rest) ≡ Some (word, rest)
-parted_word word rest h =
-    let text = word ++ 32 ∷ rest in
-    let none = λ (k : ℕ) (less : k < length word). ap is_space (get_or_append_left word (32 ∷ rest) 0 k less) ∙ not_a_space (get_or word k 0) (AllPass-from_list_all is_word_byte word h k 0 less) in
-    let at : position_or_len is_space text ≡ length word = position_or_len_is is_space text (length word) 0 (omega (arith, length-append word (32 ∷ rest))) none (λ less. ap is_space (get_or-append_seam word 32 rest 0)) in
-    let within : ltb (length word) (length text) ≡ true = grind (arith, nat_tests, length-append word (32 ∷ rest)) in
-    let longer : length word + 1 ≡ length (word ++ 32 ∷ []) = omega (arith, length-append word (32 ∷ [])) in
-    let back : drop (length word + 1) text ≡ rest = ap (λ k. drop k text) longer ∙ ap (drop (length (word ++ 32 ∷ []))) (sym (append_assoc word (32 ∷ []) rest)) ∙ drop-append_seam (word ++ 32 ∷ []) rest in
-    ap (λ k. cond (ltb k (length text)) (Some (take k text, drop (k + 1) text)) None) at
-    ∙ ap (λ b. cond b (Some (take (length word) text, drop (length word + 1) text)) None) within
-    ∙ (λ i. Some (take-append_seam word (32 ∷ rest) i, back i))
-
-is_plain-name : (c : ℕ) → is_name_character c ≡ true → is_word_byte c ≡ true
-is_plain-name c h = grind (arith, nat_tests)
-
-are_plain-name : (name : List ℕ) → list_all is_name_character name ≡ true → list_all is_word_byte name ≡ true
-are_plain-name [] h = refl
-are_plain-name (c ∷ name) h =
-    let both = and_parts (is_name_character c) (list_all is_name_character name) h in
-    and_from (is_word_byte c) (list_all is_word_byte name) (is_plain-name c both.0) (are_plain-name name both.1)
-
--- a name is one word
-name_word : (name : List ℕ) → is_name name ≡ true → list_all is_word_byte name ≡ true
-name_word name h = are_plain-name name (and_parts _ _ h).1
-
-ascii_utf8 : (bytes : List ℕ) → list_all (λ c. ltb c 128) bytes ≡ true → IsUtf8 bytes
-ascii_utf8 bytes h = IsUtf8-from_ascii bytes (λ i. elim (cases_lt i (length bytes)) [
-  | inl within ↦ let low : ltb (get_or bytes i 0) 128 ≡ true = AllPass-from_list_all (λ c. ltb c 128) bytes h i 0 within in grind (arith, nat_tests)
-  | inr past ↦ let none : get_or bytes i 0 ≡ 0 = get_or_past bytes i 0 past in omega arith
-])
-
-word_ascii : (word : List ℕ) → list_all is_word_byte word ≡ true → list_all (λ c. ltb c 128) word ≡ true
-word_ascii [] h = refl
-word_ascii (c ∷ word) h =
-    let both = and_parts (is_word_byte c) (list_all is_word_byte word) h in
-    and_from (ltb c 128) (list_all (λ x. ltb x 128) word) (and_parts (ltb 32 c) (ltb c 128) both.0).1 (word_ascii word both.1)
 
 word_feedless : (word : List ℕ) → list_all is_word_byte word ≡ true → HasNoFeed word
 word_feedless word h = λ k d within e. let plain : is_word_byte (get_or word k d) ≡ true = AllPass-from_list_all is_word_byte word h k d within in false≢true (ap is_word_byte (sym e) ∙ plain)
 
 space_feedless : HasNoFeed (32 ∷ [])
 space_feedless = All-cons (λ b. b ≢ 10) 32 [] (λ e. cc e) (All-nil (λ b. b ≢ 10))
-
--- ---- the line
-
-pub message_says : (name text : List ℕ) → IsUtf8 text → is_name name ≡ true → line_meaning (Some (message_text name text)) ≡ sends name text
-message_says name text utf8 named =
-    let rest = name ++ 32 ∷ text in
-    let behind : IsUtf8 (32 ∷ text) = IsUtf8-append (32 ∷ []) text (ascii_utf8 (32 ∷ []) refl) utf8 in
-    let whole : IsUtf8 (message_text name text) = IsUtf8-append (codes "msg ") rest (ascii_utf8 (codes "msg ") refl) (IsUtf8-append name (32 ∷ text) (ascii_utf8 name (word_ascii name (name_word name named))) behind) in
-    ap (λ b. cond b (by_first_word (parted (message_text name text))) (fails BadLine)) (is_utf8-from_IsUtf8 (message_text name text) whole)
-    ∙ ap by_first_word (parted_word (codes "msg") rest refl)
-    ∙ ap sent (parted_word name text (name_word name named))
-    ∙ ap (λ b. cond b (sends name text) (fails BadLine)) named
 
 -- the line is in a script as it is
 pub stands_in_script : (name text : List ℕ) → StandsAsItIs name text → HasNoFeed (message_text name text) × (strip_last 13 (message_text name text) ≡ message_text name text) × (length (message_text name text) ≤ longest_line)
@@ -103,4 +39,4 @@ module _ (name text line : List ℕ) (is : line ≡ message_text name text) (sta
   line_stands = subst (λ l. HasNoFeed l × (strip_last 13 l ≡ l) × (length l ≤ longest_line)) (sym is) (stands_in_script name text stands)
 
   pub line_says : IsUtf8 text → line_meaning (Some line) ≡ sends name text
-  line_says utf8 = ap (λ l. line_meaning (Some l)) is ∙ message_says name text utf8 stands.named
+  line_says utf8 = ap (λ l. line_meaning (Some l)) is ∙ msg_says name text utf8 stands.named

@@ -1,9 +1,10 @@
 -- A line with a mark behind it changes nothing that a script shows of its stations.
-use Rattle.std.proofs.Common.{◌≡◌, ℕ, ◌<◌, Bool, true, false, cond, not, ◌&&◌, ◌||◌, ◌==◌, ltb, leb, List, [], ◌∷◌, ◌++◌, Option, None, Some, bytes_eq, length, get_or, ◌⊎◌, inl, inr, refl, sym, ap, subst, ◌∙◌, arith}
-use Rattle.std.specs.Prelude.{⊤, codes, slice_index, Result, Ok, Err, ◌^◌}
+use Rattle.std.proofs.Common.{◌≡◌, ℕ, zero, suc, ◌<◌, Bool, true, false, cond, not, ◌&&◌, ◌||◌, ◌==◌, ltb, leb, List, [], ◌∷◌, ◌++◌, Option, None, Some, bytes_eq, length, get_or, ◌⊎◌, inl, inr, refl, sym, ap, subst, ◌∙◌, arith}
+use Rattle.std.specs.Prelude.{⊤, codes, slice_index, Err, ◌^◌}
 use Rattle.std.specs.Char.{is_ascii_digit}
 use Rattle.std.specs.Io.BufRead.{strip_last}
 use Rattle.std.specs.List.{list_all, position_or_len, before_first, after_first}
+use Rattle.std.specs.Option.{option_map_or}
 use Rattle.std.specs.Str.{is_utf8}
 use Rattle.std.specs.Str.Parse.{digits_value}
 use Rattle.std.proofs.lemmas.Bool.{true≢false, false≢true, eq-eqb, eqb-true, and_parts}
@@ -17,12 +18,10 @@ use Rattle.ledger_model.specs.Ranges.{most_name_characters}
 use Rattle.ledger_model.specs.World.{Station}
 use Rattle.marked_json.specs.declared.fault.JsonFault.{JsonFault}
 use Rattle.marked_json.specs.Reading.{marked_reading}
-use Rattle.reading_decimal.specs.declared.moment.MomentFault.{MomentFault}
-use Rattle.reading_decimal.specs.Moment.{moment_reading}
 use Rattle.script_lines.specs.declared.script_line.LineFault.TheVariants.{BadLine, DeclaredLate, PlanLimit}
 use Rattle.script_lines.specs.declared.script_line.Operation.{Operation}
 use Rattle.script_lines.specs.declared.script_line.Operation.TheVariants as operation
-use Rattle.script_lines.specs.LineMeaning.{LineMeaning, nothing, fails, sets_limits, declares, sets_period, sets_order, tells, sends, commands, asks_energy, asks_export, asks_total, asks_board, is_space, parted, is_number, number, four_numbers, limited, limited_next, limited_last, declared_names, declared_order, declared_period, order_of, order_word, period_of, told, told_moment, sent, operated, operated_last, operated_at, operated_key, asked, by_first_word, by_other_word, by_words, by_bytes, line_meaning}
+use Rattle.script_lines.specs.LineMeaning.{LineMeaning, ◌>>=◌, nothing, fails, sets_limits, declares, sets_period, sets_order, tells, sends, commands, asks_energy, asks_export, asks_total, asks_board, by_bytes, by_first_word, by_words, command_line, is_number, is_space, limits_line, line_meaning, moment, msg_line, name, now_line, number, order_line, order_word, parted, period_line, question_line, station_line, words}
 use Rattle.script_lines.specs.Lines.{ended}
 use Rattle.script_lines.specs.Texts.{fault_line}
 use Rattle.script_ledgers.specs.Script.{KeepsSites, Script, are_limits, by_meaning, limited_to, line_step, sent_to, station_named, step_by}
@@ -71,6 +70,48 @@ parted_is text words e = at (ltb (position_or_len is_space text) (length text)) 
         ∙ ap (λ b. before_first is_space text ++ b ∷ after_first is_space text) space
         ∙ ap (λ (p : List ℕ × List ℕ). p.0 ++ 32 ∷ p.1) same
 
+-- ---- the words of a text
+
+-- a mark stands in one of the words
+abbrev AnyMarked : List (List ℕ) → Type 0
+AnyMarked [] = ⊥
+AnyMarked (word ∷ line) = (is_marked word ≡ true) ⊎ AnyMarked line
+
+-- the last of the words ends with this byte
+abbrev Ends : ℕ → List (List ℕ) → Type 0
+Ends c [] = ⊥
+Ends c (word ∷ []) = last 32 word ≡ c
+Ends c (word ∷ next ∷ line) = Ends c (next ∷ line)
+
+-- what holds of words where it holds of what they are parted from
+parted_so : (P : List (List ℕ) → Type 0) (n : ℕ) (text : List ℕ) → P (text ∷ []) → ((ends : List ℕ × List ℕ) → parted text ≡ Some ends → P (ends.0 ∷ words (suc n) ends.1)) → P (words (suc (suc n)) text)
+parted_so P n text whole cut = at (parted text) refl
+  where
+    at : (o : Option (List ℕ × List ℕ)) → parted text ≡ o → P (option_map_or (λ ends. ends.0 ∷ words (suc n) ends.1) o (text ∷ []))
+    at None e = whole
+    at (Some ends) e = cut ends e
+
+marked_words : (n : ℕ) (text : List ℕ) → is_marked text ≡ true → AnyMarked (words n text)
+marked_words zero text h = inl h
+marked_words (suc zero) text h = inl h
+marked_words (suc (suc n)) text h = parted_so AnyMarked n text (inl h) (λ ends e. behind ends (marked_part ends.0 ends.1 (ap is_marked (sym (parted_is text ends e)) ∙ h)) (λ there. marked_words (suc n) ends.1 there))
+  where
+    behind : (ends : List ℕ × List ℕ) → (is_marked ends.0 ≡ true) ⊎ (is_marked ends.1 ≡ true) → (is_marked ends.1 ≡ true → AnyMarked (words (suc n) ends.1)) → AnyMarked (ends.0 ∷ words (suc n) ends.1)
+    behind ends (inl there) more = inl there
+    behind ends (inr there) more = inr (more there)
+
+last_part : (c : ℕ) (text : List ℕ) (ends : List ℕ × List ℕ) → last 32 text ≡ c → parted text ≡ Some ends → last 32 ends.1 ≡ c
+last_part c text ends h e = sym (last_behind 32 ends.0 32 ends.1) ∙ ap (last 32) (sym (parted_is text ends e)) ∙ h
+
+ends_behind : (c : ℕ) (word : List ℕ) (line : List (List ℕ)) → Ends c line → Ends c (word ∷ line)
+ends_behind c word [] never = absurd never
+ends_behind c word (next ∷ line) h = h
+
+last_word : (c n : ℕ) (text : List ℕ) → last 32 text ≡ c → Ends c (words n text)
+last_word c zero text h = h
+last_word c (suc zero) text h = h
+last_word c (suc (suc n)) text h = parted_so (Ends c) n text h (λ ends e. ends_behind c ends.0 (words (suc n) ends.1) (last_word c (suc n) ends.1 (last_part c text ends h e)))
+
 -- ---- words that a mark spoils
 
 second_false : (a b : Bool) → b ≡ false → (a && b) ≡ false
@@ -87,6 +128,9 @@ no_name_bytes (b ∷ t) h = no_name_byte b t (b == 35) refl h (no_name_bytes t)
 
 no_name : (text : List ℕ) → is_marked text ≡ true → is_name text ≡ false
 no_name text h = second_false (ltb 0 (length text) && leb (length text) most_name_characters) (list_all is_name_character text) (no_name_bytes text h)
+
+not_named : (text : List ℕ) → is_marked text ≡ true → name text ≡ None
+not_named text h = ap (λ b. cond b (Some text) None) (no_name text h)
 
 all_last : (p : ℕ → Bool) (x : ℕ) (xs : List ℕ) → p x ≡ true → list_all p xs ≡ true → p (last x xs) ≡ true
 all_last p x [] first rest = first
@@ -114,42 +158,33 @@ idle_if : (b : Bool) (m n : LineMeaning) → (b ≡ true → Idle m) → (b ≡ 
 idle_if true m n f g = f refl
 idle_if false m n f g = g refl
 
-idle_four : (a b c d : Option ℕ) → Idle (four_numbers a b c d)
-idle_four None b c d = tt
-idle_four (Some w) None c d = tt
-idle_four (Some w) (Some x) None d = tt
-idle_four (Some w) (Some x) (Some y) None = tt
-idle_four (Some w) (Some x) (Some y) (Some z) = tt
+-- a line that goes on from what a word is read as
+idle_read : {A : Type 0} (word : Option A) (says : A → LineMeaning) → ((x : A) → Idle (says x)) → Idle (word >>= says)
+idle_read None says all = tt
+idle_read (Some x) says all = all x
 
-idle_last : (transactions events : List ℕ) (o : Option (List ℕ × List ℕ)) → Idle (limited_last transactions events o)
-idle_last transactions events None = tt
-idle_last transactions events (Some words) = idle_four (number transactions) (number events) (number words.0) (number words.1)
+idle_none : {A : Type 0} (word : Option A) (says : A → LineMeaning) → word ≡ None → Idle (word >>= says)
+idle_none word says none = subst (λ o. Idle (o >>= says)) (sym none) tt
 
-idle_next : (transactions : List ℕ) (o : Option (List ℕ × List ℕ)) → Idle (limited_next transactions o)
-idle_next transactions None = tt
-idle_next transactions (Some words) = idle_last transactions words.0 (parted words.1)
+idle_limits : (line : List (List ℕ)) → Idle (limits_line line)
+idle_limits (t ∷ e ∷ r ∷ c ∷ []) = idle_read (number t) _ (λ _. idle_read (number e) _ (λ _. idle_read (number r) _ (λ _. idle_read (number c) _ (λ _. tt))))
+idle_limits _ = tt
 
-idle_limited : (o : Option (List ℕ × List ℕ)) → Idle (limited o)
-idle_limited None = tt
-idle_limited (Some words) = idle_next words.0 (parted words.1)
+idle_now : (line : List (List ℕ)) → Idle (now_line line)
+idle_now (time ∷ []) = idle_read (moment time) _ (λ _. tt)
+idle_now _ = tt
 
-idle_moment : (r : Result ℕ MomentFault) → Idle (told_moment r)
-idle_moment (Ok nanos) = tt
-idle_moment (Err fault) = tt
+idle_question : (asks : List ℕ → LineMeaning) → ((place : List ℕ) → Idle (asks place)) → (line : List (List ℕ)) → Idle (question_line asks line)
+idle_question asks all (place ∷ []) = idle_read (name place) _ all
+idle_question asks all _ = tt
 
-idle_told : (text : List ℕ) (o : Option (List ℕ × List ℕ)) → Idle (told text o)
-idle_told text None = idle_moment (moment_reading text)
-idle_told text (Some words) = tt
-
-idle_asked : (question : List ℕ → LineMeaning) (name : List ℕ) → Idle (question name) → Idle (asked question name)
-idle_asked question name idle = idle_if (is_name name) (question name) (fails BadLine) (λ _. idle) (λ _. tt)
-
-idle_declared : (words : List ℕ × List ℕ) → (is_name words.0 ≡ false) ⊎ (is_name words.1 ≡ false) → Idle (declared_names (Some words))
-idle_declared words none = idle_if (is_name words.0 && is_name words.1) (declares words.0 words.1) (fails BadLine) (λ both. refuse both none) (λ _. tt)
-  where
-    refuse : {P : Type 0} → (is_name words.0 && is_name words.1) ≡ true → (is_name words.0 ≡ false) ⊎ (is_name words.1 ≡ false) → P
-    refuse both (inl never) = absurd (true≢false (sym (and_parts (is_name words.0) (is_name words.1) both).0 ∙ never))
-    refuse both (inr never) = absurd (true≢false (sym (and_parts (is_name words.0) (is_name words.1) both).1 ∙ never))
+idle_station : (line : List (List ℕ)) → AnyMarked line → Idle (station_line line)
+idle_station (site ∷ station ∷ []) (inl there) = idle_none (name site) _ (not_named site there)
+idle_station (site ∷ station ∷ []) (inr (inl there)) = idle_read (name site) _ (λ _. idle_none (name station) _ (not_named station there))
+idle_station (site ∷ station ∷ []) (inr (inr never)) = absurd never
+idle_station [] there = tt
+idle_station (a ∷ []) there = tt
+idle_station (a ∷ b ∷ d ∷ line) there = tt
 
 module _ (c : ℕ) (no_space : (32 == c) ≡ false) (no_digit : is_ascii_digit c ≡ false) (no_e : (101 == c) ≡ false) (no_t : (116 == c) ≡ false) (no_text : (front : List ℕ) → (fault : JsonFault) × (marked_reading (front ++ c ∷ []) ≡ Err fault)) where
   not_empty : {P : Type 0} → 32 ≡ c → P
@@ -176,9 +211,6 @@ module _ (c : ℕ) (no_space : (32 == c) ≡ false) (no_digit : is_ascii_digit c
       other word none true is = absurd (true≢false (sym (eq-eqb (last 32 word) c (ap (last 32) (sym ((bytes_eq-Decides text word).0 is)) ∙ h)) ∙ none))
       other word none false is = refl
 
-  last_part : (text : List ℕ) (words : List ℕ × List ℕ) → last 32 text ≡ c → parted text ≡ Some words → last 32 words.1 ≡ c
-  last_part text words h e = sym (last_behind 32 words.0 32 words.1) ∙ ap (last 32) (sym (parted_is text words e)) ∙ h
-
   idle_text : (name text : List ℕ) → last 32 text ≡ c → Idle (sends name text)
   idle_text name [] h = not_empty h
   idle_text name (x ∷ xs) h =
@@ -186,74 +218,65 @@ module _ (c : ℕ) (no_space : (32 == c) ≡ false) (no_digit : is_ascii_digit c
       let same : x ∷ xs ≡ end.0 ++ c ∷ [] = end.1 ∙ ap (λ b. end.0 ++ b ∷ []) h in
       subst IsAnswered (sym same) (answered_where_not_read (end.0 ++ c ∷ []) (no_text end.0))
 
-  idle_sent : (text : List ℕ) (o : Option (List ℕ × List ℕ)) → last 32 text ≡ c → parted text ≡ o → Idle (sent o)
-  idle_sent text None h e = tt
-  idle_sent text (Some words) h e = idle_if (is_name words.0) (sends words.0 words.1) (fails BadLine) (λ _. idle_text words.0 words.1 (last_part text words h e)) (λ _. tt)
+  idle_msg : (line : List (List ℕ)) → Ends c line → Idle (msg_line line)
+  idle_msg (station ∷ text ∷ []) h = idle_read (name station) _ (λ at. idle_text at text h)
+  idle_msg [] h = tt
+  idle_msg (a ∷ []) h = tt
+  idle_msg (a ∷ b ∷ d ∷ line) h = tt
 
-  idle_names : (text : List ℕ) (o : Option (List ℕ × List ℕ)) → is_marked text ≡ true → parted text ≡ o → Idle (declared_names o)
-  idle_names text None m e = tt
-  idle_names text (Some words) m e = idle_declared words (elim (marked_part words.0 words.1 (ap is_marked (sym (parted_is text words e)) ∙ m)) [ inl there ↦ inl (no_name words.0 there) | inr there ↦ inr (no_name words.1 there) ])
+  idle_period : (line : List (List ℕ)) → Ends c line → Idle (period_line line)
+  idle_period (site ∷ seconds ∷ []) h = idle_read (name site) _ (λ _. idle_none (number seconds) _ (no_number seconds h))
+  idle_period [] h = tt
+  idle_period (a ∷ []) h = tt
+  idle_period (a ∷ b ∷ d ∷ line) h = tt
 
-  idle_period : (text : List ℕ) (o : Option (List ℕ × List ℕ)) → last 32 text ≡ c → parted text ≡ o → Idle (declared_period o)
-  idle_period text None h e = tt
-  idle_period text (Some words) h e = subst (λ n. Idle (period_of words.0 n)) (sym (no_number words.1 (last_part text words h e))) tt
+  idle_order : (line : List (List ℕ)) → Ends c line → Idle (order_line line)
+  idle_order (site ∷ word ∷ []) h = idle_read (name site) _ (λ _. idle_none (order_word word) _ (no_order word h))
+  idle_order [] h = tt
+  idle_order (a ∷ []) h = tt
+  idle_order (a ∷ b ∷ d ∷ line) h = tt
 
-  idle_order : (text : List ℕ) (o : Option (List ℕ × List ℕ)) → last 32 text ≡ c → parted text ≡ o → Idle (declared_order o)
-  idle_order text None h e = tt
-  idle_order text (Some words) h e = subst (λ o. Idle (order_of words.0 o)) (sym (no_order words.1 (last_part text words h e))) tt
-
-  idle_operated_last : (what : Operation) (name text : List ℕ) (o : Option (List ℕ × List ℕ)) → last 32 text ≡ c → parted text ≡ o → Idle (operated_last what name o)
-  idle_operated_last what name text None h e = tt
-  idle_operated_last what name text (Some words) h e = subst (λ n. Idle (operated_at what name (operated_key words.0 n))) (sym (no_number words.1 (last_part text words h e))) tt
-
-  idle_operated : (what : Operation) (text : List ℕ) (o : Option (List ℕ × List ℕ)) → last 32 text ≡ c → parted text ≡ o → Idle (operated what o)
-  idle_operated what text None h e = tt
-  idle_operated what text (Some words) h e = idle_operated_last what words.0 words.1 (parted words.1) (last_part text words h e) refl
-
-  idle_other : (word rest : List ℕ) → last 32 rest ≡ c → Idle (by_other_word word rest)
-  idle_other word rest h =
-      let erase = cond (bytes_eq word (codes "erase")) (operated operation.Erase (parted rest)) (fails BadLine) in
-      let restore = cond (bytes_eq word (codes "restore")) (operated operation.Restore (parted rest)) erase in
-      let void = cond (bytes_eq word (codes "void")) (operated operation.Void (parted rest)) restore in
-      let board = cond (bytes_eq word (codes "board")) (asked asks_board rest) void in
-      let total = cond (bytes_eq word (codes "total")) (asked asks_total rest) board in
-      let export = cond (bytes_eq word (codes "export")) (asked asks_export rest) total in
-      idle_if (bytes_eq word (codes "energy")) (asked asks_energy rest) export (λ _. idle_asked asks_energy rest tt)
-      (λ _. idle_if (bytes_eq word (codes "export")) (asked asks_export rest) total (λ _. idle_asked asks_export rest tt)
-      (λ _. idle_if (bytes_eq word (codes "total")) (asked asks_total rest) board (λ _. idle_asked asks_total rest tt)
-      (λ _. idle_if (bytes_eq word (codes "board")) (asked asks_board rest) void (λ _. idle_asked asks_board rest tt)
-      (λ _. idle_if (bytes_eq word (codes "void")) (operated operation.Void (parted rest)) restore (λ _. idle_operated operation.Void rest (parted rest) h refl)
-      (λ _. idle_if (bytes_eq word (codes "restore")) (operated operation.Restore (parted rest)) erase (λ _. idle_operated operation.Restore rest (parted rest) h refl)
-      (λ _. idle_if (bytes_eq word (codes "erase")) (operated operation.Erase (parted rest)) (fails BadLine) (λ _. idle_operated operation.Erase rest (parted rest) h refl) (λ _. tt)))))))
+  idle_command : (what : Operation) (line : List (List ℕ)) → Ends c line → Idle (command_line what line)
+  idle_command what (station ∷ tx ∷ seq ∷ []) h = idle_read (name station) _ (λ _. idle_none (number seq) _ (no_number seq h))
+  idle_command what [] h = tt
+  idle_command what (a ∷ []) h = tt
+  idle_command what (a ∷ b ∷ []) h = tt
+  idle_command what (a ∷ b ∷ d ∷ e ∷ line) h = tt
 
   -- the mark does not stand in the word `station`
-  behind_station : (words : List ℕ × List ℕ) → bytes_eq words.0 (codes "station") ≡ true → (is_marked words.0 ≡ true) ⊎ (is_marked words.1 ≡ true) → is_marked words.1 ≡ true
-  behind_station words is (inl there) = absurd (false≢true (ap is_marked (sym ((bytes_eq-Decides words.0 (codes "station")).0 is)) ∙ there))
-  behind_station words is (inr there) = there
+  behind_station : (line : List ℕ × List ℕ) → bytes_eq line.0 (codes "station") ≡ true → (is_marked line.0 ≡ true) ⊎ (is_marked line.1 ≡ true) → is_marked line.1 ≡ true
+  behind_station line is (inl there) = absurd (false≢true (ap is_marked (sym ((bytes_eq-Decides line.0 (codes "station")).0 is)) ∙ there))
+  behind_station line is (inr there) = there
 
-  idle_first : (text : List ℕ) (o : Option (List ℕ × List ℕ)) → last 32 text ≡ c → is_marked text ≡ true → parted text ≡ o → Idle (by_first_word o)
-  idle_first text None h m e = tt
-  idle_first text (Some words) h m e =
-      let rest = words.1 in
-      let more = last_part text words h e in
-      let there = marked_part words.0 rest (ap is_marked (sym (parted_is text words e)) ∙ m) in
-      let now = cond (bytes_eq words.0 (codes "now")) (told rest (parted rest)) (by_other_word words.0 rest) in
-      let order = cond (bytes_eq words.0 (codes "order")) (declared_order (parted rest)) now in
-      let period = cond (bytes_eq words.0 (codes "period")) (declared_period (parted rest)) order in
-      let limits = cond (bytes_eq words.0 (codes "limits")) (limited (parted rest)) period in
-      let station = cond (bytes_eq words.0 (codes "station")) (declared_names (parted rest)) limits in
-      idle_if (bytes_eq words.0 (codes "msg")) (sent (parted rest)) station (λ _. idle_sent rest (parted rest) more refl)
-      (λ _. idle_if (bytes_eq words.0 (codes "station")) (declared_names (parted rest)) limits (λ is. idle_names rest (parted rest) (behind_station words is there) refl)
-      (λ _. idle_if (bytes_eq words.0 (codes "limits")) (limited (parted rest)) period (λ _. idle_limited (parted rest))
-      (λ _. idle_if (bytes_eq words.0 (codes "period")) (declared_period (parted rest)) order (λ _. idle_period rest (parted rest) more refl)
-      (λ _. idle_if (bytes_eq words.0 (codes "order")) (declared_order (parted rest)) now (λ _. idle_order rest (parted rest) more refl)
-      (λ _. idle_if (bytes_eq words.0 (codes "now")) (told rest (parted rest)) (by_other_word words.0 rest) (λ _. idle_told rest (parted rest)) (λ _. idle_other words.0 rest more))))))
+  idle_first : (text : List ℕ) (line : List ℕ × List ℕ) → last 32 text ≡ c → is_marked text ≡ true → parted text ≡ Some line → Idle (by_first_word line)
+  idle_first text line h m e =
+      let word = line.0 in
+      let rest = line.1 in
+      let end = last_part c text line h e in
+      let there = marked_part word rest (ap is_marked (sym (parted_is text line e)) ∙ m) in
+      idle_if (bytes_eq word (codes "msg")) _ _ (λ _. idle_msg (words 2 rest) (last_word c 2 rest end))
+      (λ _. idle_if (bytes_eq word (codes "station")) _ _ (λ is. idle_station (words 2 rest) (marked_words 2 rest (behind_station line is there)))
+      (λ _. idle_if (bytes_eq word (codes "limits")) _ _ (λ _. idle_limits (words 4 rest))
+      (λ _. idle_if (bytes_eq word (codes "period")) _ _ (λ _. idle_period (words 2 rest) (last_word c 2 rest end))
+      (λ _. idle_if (bytes_eq word (codes "order")) _ _ (λ _. idle_order (words 2 rest) (last_word c 2 rest end))
+      (λ _. idle_if (bytes_eq word (codes "now")) _ _ (λ _. idle_now (words 2 rest))
+      (λ _. idle_if (bytes_eq word (codes "energy")) _ _ (λ _. idle_question asks_energy (λ _. tt) (words 1 rest))
+      (λ _. idle_if (bytes_eq word (codes "export")) _ _ (λ _. idle_question asks_export (λ _. tt) (words 1 rest))
+      (λ _. idle_if (bytes_eq word (codes "total")) _ _ (λ _. idle_question asks_total (λ _. tt) (words 1 rest))
+      (λ _. idle_if (bytes_eq word (codes "board")) _ _ (λ _. idle_question asks_board (λ _. tt) (words 1 rest))
+      (λ _. idle_if (bytes_eq word (codes "void")) _ _ (λ _. idle_command operation.Void (words 3 rest) (last_word c 3 rest end))
+      (λ _. idle_if (bytes_eq word (codes "restore")) _ _ (λ _. idle_command operation.Restore (words 3 rest) (last_word c 3 rest end))
+      (λ _. idle_if (bytes_eq word (codes "erase")) _ _ (λ _. idle_command operation.Erase (words 3 rest) (last_word c 3 rest end)) (λ _. tt)))))))))))))
+
+  idle_parted : (text : List ℕ) (o : Option (List ℕ × List ℕ)) → last 32 text ≡ c → is_marked text ≡ true → parted text ≡ o → Idle (o >>= by_first_word)
+  idle_parted text None h m e = tt
+  idle_parted text (Some line) h m e = idle_first text line h m e
 
   idle_bytes : (text : List ℕ) → last 32 text ≡ c → is_marked text ≡ true → Idle (by_bytes text)
   idle_bytes [] h m = tt
   idle_bytes (b ∷ text) h m =
       idle_if (b == 35) nothing (by_words (b ∷ text)) (λ _. tt)
-      (λ _. idle_if (is_utf8 (b ∷ text)) (by_first_word (parted (b ∷ text))) (fails BadLine) (λ _. idle_first (b ∷ text) (parted (b ∷ text)) h m refl) (λ _. tt))
+      (λ _. idle_if (is_utf8 (b ∷ text)) (parted (b ∷ text) >>= by_first_word) (fails BadLine) (λ _. idle_parted (b ∷ text) (parted (b ∷ text)) h m refl) (λ _. tt))
 
   idle_line : (most : ℕ) (text : List ℕ) → (c == 13) ≡ false → last 32 text ≡ c → is_marked text ≡ true → Idle (line_meaning (ended most text))
   idle_line most [] no_return h m = not_empty h

@@ -1,7 +1,9 @@
 -- What a line of a script says (this product's profile).
-use Rattle.std.specs.Prelude.{ℕ, Bool, not, ◌&&◌, ◌||◌, ◌==◌, ◌^◌, nat_lt, List, [], ◌∷◌, length, codes, slice_index, if◌then◌else◌, Option, None, Some, Result, Ok, Err}
+use Rattle.std.specs.Prelude.{ℕ, suc, Bool, not, ◌&&◌, ◌||◌, ◌==◌, ◌^◌, nat_lt, List, [], ◌∷◌, length, codes, slice_index, if◌then◌else◌, Option, None, Some}
 use Rattle.std.specs.Char.{is_ascii_digit}
 use Rattle.std.specs.List.{list_all, position_or_len, before_first, after_first}
+use Rattle.std.specs.Option.{option_map_or}
+use Rattle.std.specs.Result.{result_ok}
 use Rattle.std.specs.Str.{bytes_eq, is_utf8}
 use Rattle.std.specs.Str.Parse.{digits_value}
 use Rattle.ledger_model.specs.declared.command.Command.{Command}
@@ -12,7 +14,6 @@ use Rattle.ledger_model.specs.Key.{KeyName}
 use Rattle.ledger_model.specs.Name.{is_name}
 use Rattle.ledger_model.specs.Ranges.{sequence_end}
 use Rattle.ledger_model.specs.TxId.{is_tx_id, folded}
-use Rattle.reading_decimal.specs.declared.moment.MomentFault.{MomentFault}
 use Rattle.reading_decimal.specs.Moment.{moment_reading}
 use Rattle.script_lines.specs.declared.script_line.LineFault.{LineFault}
 use Rattle.script_lines.specs.declared.script_line.LineFault.TheVariants.{LineTooLong, BadLine, DeclaredLate, PlanLimit, StationTwice, UnknownStation, UnknownSite}
@@ -36,6 +37,8 @@ pub data LineMeaning : Type 0 where
   asks_total : List ℕ → LineMeaning
   asks_board : List ℕ → LineMeaning
 
+-- ---- words
+
 -- a space
 abbrev pub is_space : ℕ → Bool
 is_space b = b == 32
@@ -43,6 +46,17 @@ is_space b = b == 32
 -- what stands before the first space, and what stands after it; None where there is no space
 abbrev pub parted : List ℕ → Option (List ℕ × List ℕ)
 parted text = if nat_lt (position_or_len is_space text) (length text) then Some (before_first is_space text, after_first is_space text) else None
+
+-- the words of a text, a space between each two; of at most so many words the last is all that is left
+abbrev pub words : ℕ → List ℕ → List (List ℕ)
+words (suc (suc n)) text = option_map_or (λ ends. ends.0 ∷ words (suc n) ends.1) (parted text) (text ∷ [])
+words _ text = text ∷ []
+
+-- ---- what words are read as
+
+-- a name
+abbrev pub name : List ℕ → Option (List ℕ)
+name word = if is_name word then Some word else None
 
 -- a number: `0`, or a digit 1 to 9 with digits after it
 abbrev pub is_number : List ℕ → Bool
@@ -52,40 +66,9 @@ is_number text = nat_lt 0 (length text) && (list_all is_ascii_digit text && (not
 abbrev pub number : List ℕ → Option ℕ
 number text = if is_number text && nat_lt (digits_value 10 text) (2 ^ 64) then Some (digits_value 10 text) else None
 
--- four numbers are limits: of transactions, events, readings and changes
-abbrev pub four_numbers : Option ℕ → Option ℕ → Option ℕ → Option ℕ → LineMeaning
-four_numbers (Some transactions) (Some events) (Some readings) (Some changes) = sets_limits transactions events readings changes
-four_numbers _ _ _ _ = fails BadLine
-
--- `<readings> <changes>`, behind the words for transactions and events
-abbrev pub limited_last : List ℕ → List ℕ → Option (List ℕ × List ℕ) → LineMeaning
-limited_last transactions events None = fails BadLine
-limited_last transactions events (Some words) = four_numbers (number transactions) (number events) (number words.0) (number words.1)
-
--- `<events> <readings> <changes>`, behind the word for transactions
-abbrev pub limited_next : List ℕ → Option (List ℕ × List ℕ) → LineMeaning
-limited_next transactions None = fails BadLine
-limited_next transactions (Some words) = limited_last transactions words.0 (parted words.1)
-
--- `<transactions> <events> <readings> <changes>`
-abbrev pub limited : Option (List ℕ × List ℕ) → LineMeaning
-limited None = fails BadLine
-limited (Some words) = limited_next words.0 (parted words.1)
-
--- `<site> <station>`
-abbrev pub declared_names : Option (List ℕ × List ℕ) → LineMeaning
-declared_names None = fails BadLine
-declared_names (Some words) = if is_name words.0 && is_name words.1 then declares words.0 words.1 else fails BadLine
-
--- so many seconds are the settlement period of a site
-abbrev pub period_of : List ℕ → Option ℕ → LineMeaning
-period_of site None = fails BadLine
-period_of site (Some seconds) = if is_name site then sets_period site seconds else fails BadLine
-
--- `<site> <seconds>`
-abbrev pub declared_period : Option (List ℕ × List ℕ) → LineMeaning
-declared_period None = fails BadLine
-declared_period (Some words) = period_of words.0 (number words.1)
+-- the moment that a word writes
+abbrev pub moment : List ℕ → Option ℕ
+moment word = result_ok (moment_reading word)
 
 -- the order of readings that a word names
 abbrev pub order_word : List ℕ → Option Order
@@ -94,30 +77,9 @@ order_word word =
     else (if bytes_eq word (codes "moment") then Some Moment
     else None)
 
--- an order of readings for a site
-abbrev pub order_of : List ℕ → Option Order → LineMeaning
-order_of site None = fails BadLine
-order_of site (Some order) = if is_name site then sets_order site order else fails BadLine
-
--- `<site> <word>`
-abbrev pub declared_order : Option (List ℕ × List ℕ) → LineMeaning
-declared_order None = fails BadLine
-declared_order (Some words) = order_of words.0 (order_word words.1)
-
--- `<time>`, read as one word
-abbrev pub told_moment : Result ℕ MomentFault → LineMeaning
-told_moment (Ok nanos) = tells nanos
-told_moment (Err _) = fails BadLine
-
--- `<time>`, where no space stands in it
-abbrev pub told : List ℕ → Option (List ℕ × List ℕ) → LineMeaning
-told text None = told_moment (moment_reading text)
-told text (Some words) = fails BadLine
-
--- `<station> <text>`, of which the text may be empty
-abbrev pub sent : Option (List ℕ × List ℕ) → LineMeaning
-sent None = fails BadLine
-sent (Some words) = if is_name words.0 then sends words.0 words.1 else fails BadLine
+-- the key of a transaction's id, which is folded, and a sequence number
+abbrev pub key : List ℕ → ℕ → Option KeyName
+key tx seq = if is_tx_id tx && nat_lt seq sequence_end then Some (record { tx = folded tx; seq = seq }) else None
 
 -- the command that does so to the event of this key
 abbrev pub command_of : Operation → KeyName → Command
@@ -125,57 +87,81 @@ command_of operation.Void key = Void key
 command_of operation.Restore key = Restore key
 command_of operation.Erase key = Erase key
 
--- the key of a transaction's id, which is folded, and a sequence number
-abbrev pub operated_key : List ℕ → Option ℕ → Option KeyName
-operated_key tx None = None
-operated_key tx (Some seq) = if is_tx_id tx && nat_lt seq sequence_end then Some (record { tx = folded tx; seq = seq }) else None
+infixl 10 ◌>>=◌
+-- in a line, `(← number word)` is the number that the word writes; where it writes none, the line is bad
+abbrev pub ◌>>=◌ : {A : Type 0} → Option A → (A → LineMeaning) → LineMeaning
+None >>= says = fails BadLine
+Some read >>= says = says read
 
--- an operation on the event of a key, at a station
-abbrev pub operated_at : Operation → List ℕ → Option KeyName → LineMeaning
-operated_at what name None = fails BadLine
-operated_at what name (Some key) = if is_name name then commands name (command_of what key) else fails BadLine
+-- ---- the forms of lines, each by the words behind its first
 
--- `<transaction id> <seqNo>`, behind a station's name
-abbrev pub operated_last : Operation → List ℕ → Option (List ℕ × List ℕ) → LineMeaning
-operated_last what name None = fails BadLine
-operated_last what name (Some words) = operated_at what name (operated_key words.0 (number words.1))
+-- `limits <transactions> <events> <readings> <changes>`
+abbrev pub limits_line : List (List ℕ) → LineMeaning
+limits_line (transactions ∷ events ∷ readings ∷ changes ∷ []) = do sets_limits (← number transactions) (← number events) (← number readings) (← number changes)
+limits_line _ = fails BadLine
 
--- `<station> <transaction id> <seqNo>`
-abbrev pub operated : Operation → Option (List ℕ × List ℕ) → LineMeaning
-operated what None = fails BadLine
-operated what (Some words) = operated_last what words.0 (parted words.1)
+-- `station <site> <station>`
+abbrev pub station_line : List (List ℕ) → LineMeaning
+station_line (site ∷ station ∷ []) = do declares (← name site) (← name station)
+station_line _ = fails BadLine
 
--- `<station>` or `<site>`: a question for what it names
-abbrev pub asked : (List ℕ → LineMeaning) → List ℕ → LineMeaning
-asked question name = if is_name name then question name else fails BadLine
+-- `period <site> <seconds>`
+abbrev pub period_line : List (List ℕ) → LineMeaning
+period_line (site ∷ seconds ∷ []) = do sets_period (← name site) (← number seconds)
+period_line _ = fails BadLine
 
--- a first word that questions or commands
-abbrev pub by_other_word : List ℕ → List ℕ → LineMeaning
-by_other_word word rest =
-    if bytes_eq word (codes "energy") then asked asks_energy rest
-    else (if bytes_eq word (codes "export") then asked asks_export rest
-    else (if bytes_eq word (codes "total") then asked asks_total rest
-    else (if bytes_eq word (codes "board") then asked asks_board rest
-    else (if bytes_eq word (codes "void") then operated operation.Void (parted rest)
-    else (if bytes_eq word (codes "restore") then operated operation.Restore (parted rest)
-    else (if bytes_eq word (codes "erase") then operated operation.Erase (parted rest)
-    else fails BadLine))))))
+-- `order <site> <word>`
+abbrev pub order_line : List (List ℕ) → LineMeaning
+order_line (site ∷ word ∷ []) = do sets_order (← name site) (← order_word word)
+order_line _ = fails BadLine
 
--- the first word tells what the others are
-abbrev pub by_first_word : Option (List ℕ × List ℕ) → LineMeaning
-by_first_word None = fails BadLine
-by_first_word (Some words) =
-    if bytes_eq words.0 (codes "msg") then sent (parted words.1)
-    else (if bytes_eq words.0 (codes "station") then declared_names (parted words.1)
-    else (if bytes_eq words.0 (codes "limits") then limited (parted words.1)
-    else (if bytes_eq words.0 (codes "period") then declared_period (parted words.1)
-    else (if bytes_eq words.0 (codes "order") then declared_order (parted words.1)
-    else (if bytes_eq words.0 (codes "now") then told words.1 (parted words.1)
-    else by_other_word words.0 words.1)))))
+-- `now <time>`
+abbrev pub now_line : List (List ℕ) → LineMeaning
+now_line (time ∷ []) = do tells (← moment time)
+now_line _ = fails BadLine
 
--- the words of a line that is no comment
+-- `msg <station> <text>`
+abbrev pub msg_line : List (List ℕ) → LineMeaning
+msg_line (station ∷ text ∷ []) = do sends (← name station) text
+msg_line _ = fails BadLine
+
+-- `void`, `restore` or `erase` with `<station> <transaction id> <seqNo>`
+abbrev pub command_line : Operation → List (List ℕ) → LineMeaning
+command_line what (station ∷ tx ∷ seq ∷ []) = do commands (← name station) (command_of what (← key tx (← number seq)))
+command_line what _ = fails BadLine
+
+-- `energy`, `export` or `total` with `<station>`, or `board <site>`
+abbrev pub question_line : (List ℕ → LineMeaning) → List (List ℕ) → LineMeaning
+question_line asks (place ∷ []) = do asks (← name place)
+question_line asks _ = fails BadLine
+
+-- ---- a line
+
+-- the first word tells the form of the line, and how many words stand behind it: a message's text may have spaces, and a time may have none
+abbrev pub by_first_word : List ℕ × List ℕ → LineMeaning
+by_first_word (word, rest) =
+    if bytes_eq word (codes "msg") then msg_line (words 2 rest)
+    else (if bytes_eq word (codes "station") then station_line (words 2 rest)
+    else (if bytes_eq word (codes "limits") then limits_line (words 4 rest)
+    else (if bytes_eq word (codes "period") then period_line (words 2 rest)
+    else (if bytes_eq word (codes "order") then order_line (words 2 rest)
+    else (if bytes_eq word (codes "now") then now_line (words 2 rest)
+    else (if bytes_eq word (codes "energy") then question_line asks_energy (words 1 rest)
+    else (if bytes_eq word (codes "export") then question_line asks_export (words 1 rest)
+    else (if bytes_eq word (codes "total") then question_line asks_total (words 1 rest)
+    else (if bytes_eq word (codes "board") then question_line asks_board (words 1 rest)
+    else (if bytes_eq word (codes "void") then command_line operation.Void (words 3 rest)
+    else (if bytes_eq word (codes "restore") then command_line operation.Restore (words 3 rest)
+    else (if bytes_eq word (codes "erase") then command_line operation.Erase (words 3 rest)
+    else fails BadLine))))))))))))
+
+-- a line has a first word, and a space behind it
+abbrev pub by_text : List ℕ → LineMeaning
+by_text text = parted text >>= by_first_word
+
+-- a line that is no comment has to be a text
 abbrev pub by_words : List ℕ → LineMeaning
-by_words bytes = if is_utf8 bytes then by_first_word (parted bytes) else fails BadLine
+by_words bytes = if is_utf8 bytes then by_text bytes else fails BadLine
 
 -- an empty line and a comment say nothing, whatever their bytes
 abbrev pub by_bytes : List ℕ → LineMeaning

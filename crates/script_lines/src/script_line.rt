@@ -1,8 +1,9 @@
-ghost use Rattle.std.specs.Prelude.{◌≡◌, Option, option_map};
+ghost use Rattle.std.specs.Prelude.{◌≡◌, false, option_map, codes};
 ghost use Rattle.std.specs.Char.{is_ascii_digit};
 ghost use Rattle.std.specs.List.{list_all};
+ghost use Rattle.std.specs.Str.{bytes_eq};
 ghost use Rattle.script_lines.specs.Lines.{line_bytes};
-ghost use Rattle.script_lines.specs.ScriptLines.{meaning_of};
+ghost use Rattle.script_lines.specs.ScriptLines.{meaning_of, meaning_of_form};
 ghost use Rattle.script_lines.specs.LineMeaning as spec;
 
 use ledger_model::{Command, Key, Moment, Name, Order, TxId};
@@ -113,6 +114,7 @@ pub fn read_line(line: Option<&[u8]>) -> ScriptLine<'_>
     }
 }
 
+// The words of a line that is no comment.
 fn by_words(bytes: &[u8]) -> ScriptLine<'_>
     ensures { meaning_of result ≡ spec.by_words bytes.now }
 {
@@ -122,49 +124,50 @@ fn by_words(bytes: &[u8]) -> ScriptLine<'_>
     }
 }
 
+// The first word tells which form the line has.
 fn by_first_word(text: &str) -> ScriptLine<'_>
-    ensures { meaning_of result ≡ spec.by_first_word (spec.parted text.now) }
+    ensures { meaning_of result ≡ spec.by_text text.now }
 {
     let Some((word, rest)) = parted(text) else {
         return ScriptLine::Fails(LineFault::BadLine);
     };
     if word == "msg" {
-        sent(rest)
-    } else if word == "station" {
-        declared_names(rest)
-    } else if word == "limits" {
-        limited(rest)
-    } else if word == "period" {
-        declared_period(rest)
-    } else if word == "order" {
-        declared_order(rest)
-    } else if word == "now" {
-        told(rest)
+        msg_line(rest)
     } else {
-        by_other_word(word, rest)
+        other_line(word, rest)
     }
 }
 
-// A first word that questions or commands.
-fn by_other_word<'a>(word: &str, rest: &'a str) -> ScriptLine<'a>
-    ensures { meaning_of result ≡ spec.by_other_word word.now rest.now }
+// A line of any form but a message's.
+fn other_line<'a>(word: &str, rest: &'a str) -> ScriptLine<'a>
+    requires { bytes_eq word.now (codes "msg") ≡ false }
+    ensures { meaning_of result ≡ spec.by_first_word (word.now, rest.now) }
 {
-    if word == "energy" {
-        asked_energy(rest)
-    } else if word == "export" {
-        asked_export(rest)
-    } else if word == "total" {
-        asked_total(rest)
-    } else if word == "board" {
-        asked_board(rest)
-    } else if word == "void" {
-        operated(Operation::Void, rest)
-    } else if word == "restore" {
-        operated(Operation::Restore, rest)
-    } else if word == "erase" {
-        operated(Operation::Erase, rest)
-    } else {
-        ScriptLine::Fails(LineFault::BadLine)
+    match line_of_form(word, rest) {
+        Some(line) => line,
+        None => ScriptLine::Fails(LineFault::BadLine),
+    }
+}
+
+// The line of the form that the word names; `None` where the words are not those of the form.
+fn line_of_form<'a>(word: &str, rest: &'a str) -> Option<ScriptLine<'a>>
+    requires { bytes_eq word.now (codes "msg") ≡ false }
+    ensures { meaning_of_form result ≡ spec.by_first_word (word.now, rest.now) }
+{
+    match word {
+        "station" => station_line(rest),
+        "limits" => limits_line(rest),
+        "period" => period_line(rest),
+        "order" => order_line(rest),
+        "now" => now_line(rest),
+        "energy" => Some(ScriptLine::AsksEnergy(Name::new(rest)?)),
+        "export" => Some(ScriptLine::AsksExport(Name::new(rest)?)),
+        "total" => Some(ScriptLine::AsksTotal(Name::new(rest)?)),
+        "board" => Some(ScriptLine::AsksBoard(Name::new(rest)?)),
+        "void" => command_line(Operation::Void, rest),
+        "restore" => command_line(Operation::Restore, rest),
+        "erase" => command_line(Operation::Erase, rest),
+        _ => None,
     }
 }
 
@@ -203,80 +206,6 @@ fn number(word: &str) -> Option<u64>
     }
 }
 
-fn limited(rest: &str) -> ScriptLine<'_>
-    ensures { meaning_of result ≡ spec.limited (spec.parted rest.now) }
-{
-    match parted(rest) {
-        Some((transactions, rest)) => limited_next(transactions, rest),
-        None => ScriptLine::Fails(LineFault::BadLine),
-    }
-}
-
-fn limited_next<'a>(transactions: &str, rest: &'a str) -> ScriptLine<'a>
-    ensures { meaning_of result ≡ spec.limited_next transactions.now (spec.parted rest.now) }
-{
-    match parted(rest) {
-        Some((events, rest)) => limited_last(transactions, events, rest),
-        None => ScriptLine::Fails(LineFault::BadLine),
-    }
-}
-
-fn limited_last<'a>(transactions: &str, events: &str, rest: &'a str) -> ScriptLine<'a>
-    ensures { meaning_of result ≡ spec.limited_last transactions.now events.now (spec.parted rest.now) }
-{
-    let Some((readings, changes)) = parted(rest) else {
-        return ScriptLine::Fails(LineFault::BadLine);
-    };
-    let numbers = (
-        number(transactions),
-        number(events),
-        number(readings),
-        number(changes),
-    );
-    match numbers {
-        (Some(transactions), Some(events), Some(readings), Some(changes)) => {
-            ScriptLine::Limits(transactions, events, readings, changes)
-        }
-        _ => ScriptLine::Fails(LineFault::BadLine),
-    }
-}
-
-fn declared_names(rest: &str) -> ScriptLine<'_>
-    ensures { meaning_of result ≡ spec.declared_names (spec.parted rest.now) }
-{
-    let Some((site, name)) = parted(rest) else {
-        return ScriptLine::Fails(LineFault::BadLine);
-    };
-    match (Name::new(site), Name::new(name)) {
-        (Some(site), Some(name)) => ScriptLine::Declares(site, name),
-        _ => ScriptLine::Fails(LineFault::BadLine),
-    }
-}
-
-fn declared_period(rest: &str) -> ScriptLine<'_>
-    ensures { meaning_of result ≡ spec.declared_period (spec.parted rest.now) }
-{
-    let Some((site, seconds)) = parted(rest) else {
-        return ScriptLine::Fails(LineFault::BadLine);
-    };
-    match (Name::new(site), number(seconds)) {
-        (Some(site), Some(seconds)) => ScriptLine::SetsPeriod(site, seconds),
-        _ => ScriptLine::Fails(LineFault::BadLine),
-    }
-}
-
-fn declared_order(rest: &str) -> ScriptLine<'_>
-    ensures { meaning_of result ≡ spec.declared_order (spec.parted rest.now) }
-{
-    let Some((site, word)) = parted(rest) else {
-        return ScriptLine::Fails(LineFault::BadLine);
-    };
-    match (Name::new(site), order_of(word)) {
-        (Some(site), Some(order)) => ScriptLine::SetsOrder(site, order),
-        _ => ScriptLine::Fails(LineFault::BadLine),
-    }
-}
-
 /// The order of readings that a word names: `sequence` or `moment`.
 pub fn order_of(word: &str) -> Option<Order>
     ensures { result ≡ spec.order_word word.now }
@@ -288,91 +217,85 @@ pub fn order_of(word: &str) -> Option<Order>
     }
 }
 
-fn told(rest: &str) -> ScriptLine<'_>
-    ensures { meaning_of result ≡ spec.told rest.now (spec.parted rest.now) }
+// The key of a transaction's id and a sequence number.
+fn key_of(tx: &str, seq: u64) -> Option<Key>
+    ensures { result ≡ spec.key tx.now seq }
+{
+    Key::new(TxId::new(tx)?, u32::try_from(seq).ok()?)
+}
+
+// `limits <transactions> <events> <readings> <changes>`
+fn limits_line(rest: &str) -> Option<ScriptLine<'_>>
+    ensures { meaning_of_form result ≡ spec.limits_line (spec.words 4 rest.now) }
+{
+    let (transactions, rest) = parted(rest)?;
+    let (events, rest) = parted(rest)?;
+    let (readings, changes) = parted(rest)?;
+    Some(ScriptLine::Limits(
+        number(transactions)?,
+        number(events)?,
+        number(readings)?,
+        number(changes)?,
+    ))
+}
+
+// `station <site> <station>`
+fn station_line(rest: &str) -> Option<ScriptLine<'_>>
+    ensures { meaning_of_form result ≡ spec.station_line (spec.words 2 rest.now) }
+{
+    let (site, station) = parted(rest)?;
+    Some(ScriptLine::Declares(Name::new(site)?, Name::new(station)?))
+}
+
+// `period <site> <seconds>`
+fn period_line(rest: &str) -> Option<ScriptLine<'_>>
+    ensures { meaning_of_form result ≡ spec.period_line (spec.words 2 rest.now) }
+{
+    let (site, seconds) = parted(rest)?;
+    Some(ScriptLine::SetsPeriod(Name::new(site)?, number(seconds)?))
+}
+
+// `order <site> <word>`
+fn order_line(rest: &str) -> Option<ScriptLine<'_>>
+    ensures { meaning_of_form result ≡ spec.order_line (spec.words 2 rest.now) }
+{
+    let (site, word) = parted(rest)?;
+    Some(ScriptLine::SetsOrder(Name::new(site)?, order_of(word)?))
+}
+
+// `now <time>`
+fn now_line(rest: &str) -> Option<ScriptLine<'_>>
+    ensures { meaning_of_form result ≡ spec.now_line (spec.words 2 rest.now) }
 {
     if parted(rest).is_some() {
-        return ScriptLine::Fails(LineFault::BadLine);
+        return None;
     }
     match moment_of(rest) {
-        Ok(moment) => ScriptLine::Tells(moment),
-        Err(_) => ScriptLine::Fails(LineFault::BadLine),
+        Ok(moment) => Some(ScriptLine::Tells(moment)),
+        Err(_) => None,
     }
 }
 
-fn sent(rest: &str) -> ScriptLine<'_>
-    ensures { meaning_of result ≡ spec.sent (spec.parted rest.now) }
+// `msg <station> <text>`
+fn msg_line(rest: &str) -> ScriptLine<'_>
+    ensures { meaning_of result ≡ spec.msg_line (spec.words 2 rest.now) }
 {
-    let Some((name, text)) = parted(rest) else {
+    let Some((station, text)) = parted(rest) else {
         return ScriptLine::Fails(LineFault::BadLine);
     };
-    match Name::new(name) {
+    match Name::new(station) {
         Some(name) => ScriptLine::Sends(name, text),
         None => ScriptLine::Fails(LineFault::BadLine),
     }
 }
 
-fn operated(what: Operation, rest: &str) -> ScriptLine<'_>
-    ensures { meaning_of result ≡ spec.operated what (spec.parted rest.now) }
+// `void`, `restore` or `erase` with `<station> <transaction id> <seqNo>`
+fn command_line(what: Operation, rest: &str) -> Option<ScriptLine<'_>>
+    ensures { meaning_of_form result ≡ spec.command_line what (spec.words 3 rest.now) }
 {
-    match parted(rest) {
-        Some((name, rest)) => operated_last(what, name, rest),
-        None => ScriptLine::Fails(LineFault::BadLine),
-    }
-}
-
-fn operated_last<'a>(what: Operation, name: &str, rest: &'a str) -> ScriptLine<'a>
-    ensures { meaning_of result ≡ spec.operated_last what name.now (spec.parted rest.now) }
-{
-    let Some((tx, seq)) = parted(rest) else {
-        return ScriptLine::Fails(LineFault::BadLine);
-    };
-    match (Name::new(name), operated_key(tx, seq)) {
-        (Some(name), Some(key)) => ScriptLine::Commands(name, what.command(key)),
-        _ => ScriptLine::Fails(LineFault::BadLine),
-    }
-}
-
-// The key of a transaction's id and a sequence number.
-fn operated_key(tx: &str, seq: &str) -> Option<Key>
-    ensures { result ≡ spec.operated_key tx.now (spec.number seq.now) }
-{
-    let seq = u32::try_from(number(seq)?).ok()?;
-    Key::new(TxId::new(tx)?, seq)
-}
-
-fn asked_energy(rest: &str) -> ScriptLine<'_>
-    ensures { meaning_of result ≡ spec.asked spec.asks_energy rest.now }
-{
-    match Name::new(rest) {
-        Some(name) => ScriptLine::AsksEnergy(name),
-        None => ScriptLine::Fails(LineFault::BadLine),
-    }
-}
-
-fn asked_export(rest: &str) -> ScriptLine<'_>
-    ensures { meaning_of result ≡ spec.asked spec.asks_export rest.now }
-{
-    match Name::new(rest) {
-        Some(name) => ScriptLine::AsksExport(name),
-        None => ScriptLine::Fails(LineFault::BadLine),
-    }
-}
-
-fn asked_total(rest: &str) -> ScriptLine<'_>
-    ensures { meaning_of result ≡ spec.asked spec.asks_total rest.now }
-{
-    match Name::new(rest) {
-        Some(name) => ScriptLine::AsksTotal(name),
-        None => ScriptLine::Fails(LineFault::BadLine),
-    }
-}
-
-fn asked_board(rest: &str) -> ScriptLine<'_>
-    ensures { meaning_of result ≡ spec.asked spec.asks_board rest.now }
-{
-    match Name::new(rest) {
-        Some(name) => ScriptLine::AsksBoard(name),
-        None => ScriptLine::Fails(LineFault::BadLine),
-    }
+    let (station, rest) = parted(rest)?;
+    let (tx, seq) = parted(rest)?;
+    let name = Name::new(station)?;
+    let key = key_of(tx, number(seq)?)?;
+    Some(ScriptLine::Commands(name, what.command(key)))
 }
