@@ -20,12 +20,7 @@ const LEAST_OF_PIECE: usize = 4_096;
 // Of how many pieces a window has at least so many, where its pieces are not the shortest.
 const PIECES: usize = 12;
 
-// How many bytes of lines a window has where more stand behind it, and at most.
-const WINDOW: usize = 1_048_576;
-
-const LONGEST: usize = 1_572_864;
-
-// How many it has at least, and how many for all threads to be started.
+// The shortest run of lines for which threads are started, and the shortest for which all are.
 const SHORTEST: usize = 16_384;
 
 const LONG: usize = 262_144;
@@ -45,14 +40,10 @@ pub struct Lookahead {
     room: usize,
     // Where the bytes end that the last look was shown.
     seen: usize,
-    // Where the lines begin that no window has had.
-    behind: usize,
     // How many threads may read at once; None before the first is wanted.
     threads: Option<usize>,
     // The lines that are read ahead.
     window: Option<Window>,
-    // Those behind them, from when all pieces of the window are claimed: so threads have work while its lines are reached.
-    next: Option<Window>,
     // What was read of the piece under way.
     ready: Option<Chunk>,
     // The threads that have not ended, for all that is known.
@@ -75,10 +66,8 @@ impl Lookahead {
             alloc,
             room: usize::MAX,
             seen: usize::MAX,
-            behind: usize::MAX,
             threads: None,
             window: None,
-            next: None,
             ready: None,
             running: Vec::new(alloc),
             is_short: false,
@@ -107,15 +96,11 @@ impl Lookahead {
     }
 
     /// Takes over what was read of the lines from here on, reads some where it is not there yet, and starts threads for
-    /// lines in `shown`, the bytes that come next, for which none was started before.
+    /// the lines in `shown`, the bytes that come next, where none of them was shown before.
     pub fn look<X: Threads>(&mut self, rt: &X, shown: &[u8]) {
         if self.room <= self.seen {
-            self.seen = self.room.saturating_sub(shown.len());
-            self.behind = self.room;
-            self.window = None;
-            self.next = None;
+            self.open(rt, shown);
         }
-        self.pass(rt, shown);
         self.ready = match &mut self.window {
             Some(window) => window.reach(self.alloc, self.room),
             None => None,
@@ -123,65 +108,24 @@ impl Lookahead {
         self.is_short |= is_short(&self.ready);
     }
 
-    // Goes on to the window of the line under way, and opens the next one where each piece of it is claimed.
-    fn pass<X: Threads>(&mut self, rt: &X, shown: &[u8]) {
-        if self.is_over() {
-            self.window = self.next.take();
-        }
-        if self.window.is_none() {
-            self.window = self.open(rt, shown);
-        }
-        if self.next.is_none() && self.is_begun() {
-            self.next = self.open(rt, shown);
-        }
-    }
-
-    // Whether the line under way stands behind the window's.
-    fn is_over(&self) -> bool {
-        match &self.window {
-            Some(window) => window.is_over(self.room),
-            None => true,
-        }
-    }
-
-    // Whether each piece of the window is read or being read.
-    fn is_begun(&self) -> bool {
-        match &self.window {
-            Some(window) => window.is_begun(),
-            None => false,
-        }
-    }
-
-    // A window of lines in `shown` that none has had, with its threads, if there are enough.
-    fn open<X: Threads>(&mut self, rt: &X, shown: &[u8]) -> Option<Window> {
-        let from = self.room.saturating_sub(self.behind);
-        let lines = window_lines(shown.get(from..)?);
-        let threads = self.threads(rt);
-        if threads == 0 || lines.len() < SHORTEST {
-            self.behind = self.seen;
-            return None;
-        }
+    // Starts threads for the lines in `shown`, if there are enough.
+    fn open<X: Threads>(&mut self, rt: &X, shown: &[u8]) {
+        self.seen = self.room.saturating_sub(shown.len());
+        self.window = None;
         self.join(rt);
-        let room = self.behind;
-        self.behind = room.saturating_sub(lines.len());
-        match self.begin(rt, lines, room, threads) {
-            Ok(window) => Some(window),
-            Err(_) => {
-                self.threads = Some(0);
-                self.is_short = true;
-                None
-            }
-        }
-    }
-
-    // How many threads may read at once.
-    fn threads<X: Threads>(&mut self, rt: &X) -> usize {
         let threads = match self.threads {
             Some(threads) => threads,
             None => thread_count(rt),
         };
         self.threads = Some(threads);
-        threads
+        let lines = whole_lines(shown);
+        if threads == 0 || lines.len() < SHORTEST {
+            return;
+        }
+        if self.begin(rt, lines, threads).is_err() {
+            self.threads = Some(0);
+            self.is_short = true;
+        }
     }
 
     // Joins the threads that have told that they are done.
@@ -198,16 +142,15 @@ impl Lookahead {
         }
     }
 
-    // A window of these lines, before the first of which `room` bytes may be read, with its threads.
+    // Opens a window of lines, and starts its threads.
     fn begin<X: Threads>(
         &mut self,
         rt: &X,
         lines: &[u8],
-        room: usize,
         threads: usize,
-    ) -> Result<Window, AllocError> {
+    ) -> Result<(), AllocError> {
         let size = piece_size(lines.len());
-        let mut window = Window::open(self.alloc, lines, size, room)?;
+        let mut window = Window::open(self.alloc, lines, size, self.room)?;
         let most = if lines.len() < LONG {
             FEW_THREADS
         } else {
@@ -218,7 +161,8 @@ impl Lookahead {
                 break;
             }
         }
-        Ok(window)
+        self.window = Some(window);
+        Ok(())
     }
 
     // Starts a thread of a window, and tells whether one could be started.
@@ -277,14 +221,6 @@ fn piece_size(bytes: usize) -> usize
     ensures { 0 < result }
 {
     (bytes / PIECES).clamp(LEAST_OF_PIECE, MOST_OF_PIECE)
-}
-
-// The lines of a window, with which `shown` begins: those of which the window is long, or all where few stand behind them.
-fn window_lines(shown: &[u8]) -> &[u8] {
-    match shown.get(..WINDOW) {
-        Some(front) if shown.len() > LONGEST => whole_lines(front),
-        _ => whole_lines(shown),
-    }
 }
 
 // The whole lines with which `shown` begins.

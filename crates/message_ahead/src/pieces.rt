@@ -54,11 +54,6 @@ impl Pieces {
         }
     }
 
-    /// Whether each piece was claimed.
-    pub fn are_claimed(&self) -> bool {
-        self.claims.load(Ordering::SeqCst) >= self.ends.len()
-    }
-
     /// Where the piece of this number begins and ends, both at the lines' end where there is none.
     pub fn bounds(&self, piece: usize) -> (usize, usize)
         ensures { (result.0 ≤ result.1) × (result.1 ≤ length self.now.bytes.items) }

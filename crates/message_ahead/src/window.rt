@@ -81,16 +81,6 @@ impl Window {
         self.pieces.count()
     }
 
-    /// Whether each of its pieces is read or being read.
-    pub(crate) fn is_begun(&self) -> bool {
-        self.pieces.are_claimed()
-    }
-
-    /// Whether the line before which so many bytes may be read stands behind all of its lines.
-    pub(crate) fn is_over(&self, room: usize) -> bool {
-        self.pieces.bytes.len() <= self.offset(room)
-    }
-
     /// Whether the line before which so many bytes may be read begins another piece than the one under way.
     pub(crate) fn is_passed(&self, room: usize) -> bool {
         self.pieces.bounds(self.at).1 <= self.offset(room)

@@ -5,9 +5,9 @@ use crate::arguments::read_arguments;
 use crate::asked::Asked;
 use crate::options::program;
 use crate::station_words::WordFault;
+use board_report::write_out;
 use clap::Error;
 use clap::error::ErrorKind;
-use board_report::write_out;
 use journal_server::{
     JournalFault, Journalling, Restoring, Served, serve_journalled, serve_restored,
 };

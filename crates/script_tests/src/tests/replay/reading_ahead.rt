@@ -109,9 +109,9 @@ fn windows_behind_one_another_change_nothing(rt: HostRuntime) -> Result<(), Fail
     let mut text = Vec::new(rt.alloc());
     assert!(rt; is_replayed(&rt, &script, 4_096, &mut text)? && script.len() > 3_000_000);
     for _ in 0..2 {
-        // All of the lines are shown at once, and some of them before the others: three windows, and two.
-        assert!(rt; writes(&rt, &script, 4_194_304, &text)?);
-        assert!(rt; writes(&rt, &script, 2_000_000, &text)?);
+        // As much as a replay shows at once: a long window, and a shorter one; and four of the length between.
+        assert!(rt; writes(&rt, &script, 2_097_152, &text)?);
+        assert!(rt; writes(&rt, &script, 900_000, &text)?);
     }
     Ok(())
 }
