@@ -13,6 +13,7 @@ from typing import NamedTuple, Protocol
 
 from ocpp_board.limits import DEFAULT_LIMITS, LONGEST_LINE
 from ocpp_board.line_faults import words_of
+from ocpp_board.processes import replay_environment
 from ocpp_board.statuses import Mistaken
 
 # The first words of lines that may write nothing.
@@ -59,6 +60,7 @@ class Replay:
             stdout=subprocess.PIPE,
             stderr=subprocess.PIPE if is_heard else None,
             start_new_session=is_apart,
+            env=replay_environment(),
         )
         assert self.process.stdin and self.process.stdout
         self.input, self.output = self.process.stdin, self.process.stdout

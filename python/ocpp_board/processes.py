@@ -14,12 +14,20 @@ from ocpp_board.statuses import Status
 PACKAGES = Path(__file__).resolve().parent.parent
 # How a module of this package is run, by the Python that runs this one.
 MODULE = (sys.executable, "-P", "-m")
+# What the C library of a replay is asked for, where that is glibc: as many freed texts of a size at hand as the tree of
+# a message has, and not 7.
+TUNABLES = "glibc.malloc.tcache_count=127"
 
 
 def environment() -> dict[str, str]:
     """The environment in which another process finds this package."""
     path = os.pathsep.join(filter(None, [str(PACKAGES), os.environ.get("PYTHONPATH")]))
     return os.environ | {"PYTHONPATH": path}
+
+
+def replay_environment() -> dict[str, str]:
+    """The environment of a replay, with `TUNABLES` where it says nothing of them."""
+    return {"GLIBC_TUNABLES": TUNABLES} | os.environ
 
 
 def run_tool(name: str, words: Sequence[str], data: bytes) -> "subprocess.CompletedProcess[bytes]":

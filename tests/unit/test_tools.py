@@ -1,5 +1,6 @@
 """The command, what tools tell, and the tools that write or explain scripts."""
 
+import asyncio
 import json
 import logging
 import sys
@@ -7,12 +8,14 @@ from pathlib import Path
 
 import pytest
 
-from ocpp_board import cli, statuses
+from ocpp_board import answered, cli, statuses
 from ocpp_board.escapes import csv_cell, from_copy, shown
 from ocpp_board import repeats
 from ocpp_board.explain import Plan, Run
+from ocpp_board.fleet import forget, replays
 from ocpp_board.line_faults import bad_line, time_fault
 from ocpp_board.message_faults import message_fault
+from ocpp_board.processes import TUNABLES
 from ocpp_board.statuses import Mistaken, Status
 from ocpp_board.telling import JsonFormatter, PlainFormatter
 from ocpp_board.traffic import arguments, event, script, unchanging
@@ -94,6 +97,27 @@ def test_the_version_is_that_of_the_program() -> None:
     assert f'const VERSION: &str = "{version()}";' in arguments_of_the_program.read_text()
     words_of_the_replay = Path(__file__).parents[2] / "crates/ocpp_replay/src/words.rt"
     assert f'"ocpp_replay {version()}"' in words_of_the_replay.read_text()
+
+
+@pytest.mark.parametrize("said", [None, "glibc.malloc.arena_max=2"])
+def test_replays_have_texts_at_hand_unless_the_user_says_otherwise(
+    said: str | None, tmp_path: Path, monkeypatch: pytest.MonkeyPatch
+) -> None:
+    program = tmp_path / "program"
+    program.write_text('#!/bin/sh\nprintf %s "$GLIBC_TUNABLES"\n')
+    program.chmod(0o755)
+    monkeypatch.delenv("GLIBC_TUNABLES", raising=False)
+    if said:
+        monkeypatch.setenv("GLIBC_TUNABLES", said)
+
+    async def of_the_fleet() -> bytes:
+        replay = await replays.Replay.start(str(program))
+        return (await replay.process.communicate())[0]
+
+    told = (said or TUNABLES).encode()
+    assert answered.Replay(str(program)).output.read() == told
+    assert asyncio.run(of_the_fleet()) == told
+    assert forget.replayed(str(program), []) == told
 
 
 def test_escapes() -> None:

@@ -111,8 +111,8 @@ impl Lookahead {
     // Starts threads for the lines in `shown`, if there are enough.
     fn open<X: Threads>(&mut self, rt: &X, shown: &[u8]) {
         self.seen = self.room.saturating_sub(shown.len());
-        self.window = None;
         self.join(rt);
+        let place = self.place();
         let threads = match self.threads {
             Some(threads) => threads,
             None => thread_count(rt),
@@ -122,9 +122,22 @@ impl Lookahead {
         if threads == 0 || lines.len() < SHORTEST {
             return;
         }
-        if self.begin(rt, lines, threads).is_err() {
+        if self.begin(rt, place, lines, threads).is_err() {
             self.threads = Some(0);
             self.is_short = true;
+        }
+    }
+
+    // The place of the lines that were read ahead last, or one with no room where threads may still read those.
+    fn place(&mut self) -> Vec<u8> {
+        self.ready = None;
+        let place = match self.window.take() {
+            Some(window) => window.into_place(),
+            None => None,
+        };
+        match place {
+            Some(place) => place,
+            None => Vec::new(self.alloc),
         }
     }
 
@@ -142,15 +155,16 @@ impl Lookahead {
         }
     }
 
-    // Opens a window of lines, and starts its threads.
+    // Opens a window of lines, which are kept in the place of these bytes, and starts its threads.
     fn begin<X: Threads>(
         &mut self,
         rt: &X,
+        place: Vec<u8>,
         lines: &[u8],
         threads: usize,
     ) -> Result<(), AllocError> {
         let size = piece_size(lines.len());
-        let mut window = Window::open(self.alloc, lines, size, self.room)?;
+        let mut window = Window::open(self.alloc, place, lines, size, self.room)?;
         let most = if lines.len() < LONG {
             FEW_THREADS
         } else {

@@ -24,7 +24,22 @@ impl Pieces {
     pub fn cut(alloc: Global, lines: &[u8], size: usize) -> Result<Pieces, AllocError>
         requires { 0 < size }
     {
-        let mut bytes = Vec::with_capacity(alloc, lines.len())?;
+        Pieces::cut_in(alloc, Vec::with_capacity(alloc, lines.len())?, lines, size)
+    }
+
+    /// Cuts lines as [`Pieces::cut`] does, and keeps them in the place of these bytes.
+    ///
+    /// Condition: a piece has a byte.
+    pub(crate) fn cut_in(
+        alloc: Global,
+        place: Vec<u8>,
+        lines: &[u8],
+        size: usize,
+    ) -> Result<Pieces, AllocError>
+        requires { 0 < size }
+    {
+        let mut bytes = place;
+        bytes.clear();
         bytes.extend_from_slice(lines)?;
         let mut ends = Vec::with_capacity(alloc, lines.len() / size + 1)?;
         let mut end = 0;
@@ -37,6 +52,11 @@ impl Pieces {
             ends,
             claims: AtomicUsize::new(0),
         })
+    }
+
+    /// The lines.
+    pub(crate) fn into_bytes(self) -> Vec<u8> {
+        self.bytes
     }
 
     /// How many there are.

@@ -40,16 +40,18 @@ pub(crate) struct Work {
 }
 
 impl Window {
-    /// These lines, in pieces of about so many bytes, before the first of which `room` bytes may be read.
+    /// These lines, in pieces of about so many bytes, before the first of which `room` bytes may be read. They are kept in
+    /// the place of these bytes.
     pub(crate) fn open(
         alloc: Global,
+        place: Vec<u8>,
         lines: &[u8],
         size: usize,
         room: usize,
     ) -> Result<Window, AllocError>
         requires { 0 < size }
     {
-        let pieces = Pieces::cut(alloc, lines, size)?;
+        let pieces = Pieces::cut_in(alloc, place, lines, size)?;
         let mut chunks = Vec::with_capacity(alloc, pieces.count())?;
         for _ in 0..pieces.count() {
             chunks.push(None)?;
@@ -62,6 +64,23 @@ impl Window {
             at: 0,
             is_own: false,
         })
+    }
+
+    /// The place of its lines, where no thread reads them any more.
+    pub(crate) fn into_place(self) -> Option<Vec<u8>> {
+        let Window {
+            pieces,
+            rings,
+            chunks,
+            ..
+        } = self;
+        // What they hold was read of these lines.
+        drop(rings);
+        drop(chunks);
+        match Arc::into_inner(pieces) {
+            Some(pieces) => Some(pieces.into_bytes()),
+            None => None,
+        }
     }
 
     /// The work of one thread more.

@@ -15,6 +15,7 @@ mod options;
 mod station_words;
 
 use crate::cli::{STOPPED, run_command_line, tell_bytes, tell_fault};
+use gathered_input::gathered;
 use script_replay::{ReplayFault, buffered};
 use std::io::{BufRead, BufWriter, Write};
 use std::net::{Net, TcpListener, TcpStream};
@@ -28,7 +29,7 @@ use std::{env, io};
 
 fn main(rt: HostRuntime) -> ExitCode {
     let mut errors = rt.stderr();
-    let status = match buffered(&rt, rt.stdin(), rt.stdout()) {
+    let status = match buffered(&rt, gathered(&rt, rt.stdin()), rt.stdout()) {
         Ok((reader, writer)) => run(&rt, reader, writer, &mut errors, rt.stderr()),
         Err(_) => tell_fault(&mut errors, ReplayFault::OutOfMemory, STOPPED),
     };

@@ -8,6 +8,7 @@
 mod words;
 
 use crate::words::{Asked, HELP, VERSION, read_words};
+use gathered_input::gathered;
 use script_replay::{ReplayFault, buffered, replay_buffered};
 use std::io::Write;
 use std::process::ExitCode;
@@ -22,7 +23,7 @@ const MISTAKEN: u8 = 2;
 
 fn main(rt: HostRuntime) -> ExitCode {
     let ended = match program_asked(&rt) {
-        Ok(Asked::Replay) => match buffered(&rt, rt.stdin(), rt.stdout()) {
+        Ok(Asked::Replay) => match buffered(&rt, gathered(&rt, rt.stdin()), rt.stdout()) {
             Ok((mut reader, mut writer)) => replay_buffered(&rt, &mut reader, &mut writer),
             Err(_) => Err(ReplayFault::OutOfMemory),
         },

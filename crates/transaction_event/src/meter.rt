@@ -3,6 +3,7 @@ ghost use Rattle.std.specs.Prelude.{◌≡◌, ◌≢◌, Ok, Err, OnOk, IfOk, I
 ghost use Rattle.marked_json.specs.Reading.{node, left_of};
 ghost use Rattle.transaction_event.specs.Steps.{for_each};
 ghost use Rattle.transaction_event.specs.Sampled.{sample};
+ghost use Rattle.transaction_event.specs.Timestamp.{timestamp};
 ghost use Rattle.transaction_event.specs.MeterValues as spec;
 ghost use Rattle.transaction_event.specs.Growth.{GrowsAmong, SampleGrows, MeterValueGrows, MeterValuesGrow};
 ghost use Rattle.transaction_event.specs.declared.fault.PayloadFault.TheVariants.{OutOfMemory};
@@ -11,7 +12,7 @@ use crate::PayloadFault;
 use crate::member::{optional_items, required_items};
 use crate::readings::CountedReadings;
 use crate::sampled::sample;
-use crate::timestamp::timestamp;
+use crate::timestamp::timestamp_within;
 use ledger_model::Moment;
 use marked_json::{Items, Node};
 use std::alloc::Global;
@@ -36,7 +37,13 @@ fn samples(
 }
 
 #[tactic(auto, unfolding(crate::specs::MeterValues::meter_value))]
-fn meter_value(element: Node, readings: &mut CountedReadings) -> Result<(), PayloadFault>
+fn meter_value(
+    request: Node,
+    at: Moment,
+    element: Node,
+    readings: &mut CountedReadings,
+) -> Result<(), PayloadFault>
+    requires { timestamp (node request) ≡ Ok at }
     ensures ok { OnOk result (spec.meter_value readings.old (node element.entry) ≡ Ok readings.new) }
     ensures err { IfErr result
         (λ f. f ≢ OutOfMemory → spec.meter_value readings.old (node element.entry) ≡ Err f) }
@@ -45,12 +52,18 @@ fn meter_value(element: Node, readings: &mut CountedReadings) -> Result<(), Payl
     if !element.is_object() {
         return Err(PayloadFault::WrongType);
     }
-    let moment = timestamp(element)?;
+    let moment = timestamp_within(request, at, element)?;
     samples(moment, required_items(element, "sampledValue")?, readings)
 }
 
 #[tactic(auto, unfolding(crate::specs::Steps::for_each), using(crate::proofs::Growing::grows_here, crate::proofs::Growing::grows_later))]
-fn elements_in_turn(elements: Items, readings: &mut CountedReadings) -> Result<(), PayloadFault>
+fn elements_in_turn(
+    request: Node,
+    at: Moment,
+    elements: Items,
+    readings: &mut CountedReadings,
+) -> Result<(), PayloadFault>
+    requires { timestamp (node request) ≡ Ok at }
     ensures ok { OnOk result
         (for_each spec.meter_value readings.old (left_of elements.entry) ≡ Ok readings.new) }
     ensures err { IfErr result
@@ -59,14 +72,21 @@ fn elements_in_turn(elements: Items, readings: &mut CountedReadings) -> Result<(
         (λ f. f ≡ OutOfMemory → GrowsAmong spec.meter_value MeterValueGrows readings.old (left_of elements.entry)) }
 {
     for element in elements {
-        meter_value(element, readings)?;
+        meter_value(request, at, element, readings)?;
     }
     Ok(())
 }
 
 /// The counted readings of a request, in the order in which they were sent.
+///
+/// Condition: `at` is the moment of the request.
 #[tactic(auto, unfolding(crate::specs::MeterValues::meter_values, crate::specs::Steps::for_each))]
-pub fn meter_values(alloc: Global, request: Node) -> Result<CountedReadings, PayloadFault>
+pub fn meter_values(
+    alloc: Global,
+    request: Node,
+    at: Moment,
+) -> Result<CountedReadings, PayloadFault>
+    requires { timestamp (node request) ≡ Ok at }
     ensures ok { IfOk result (λ readings. spec.meter_values (node request.entry) ≡ Ok readings) }
     ensures err { IfErr result
         (λ f. f ≢ OutOfMemory → spec.meter_values (node request.entry) ≡ Err f) }
@@ -74,7 +94,7 @@ pub fn meter_values(alloc: Global, request: Node) -> Result<CountedReadings, Pay
 {
     let mut readings = CountedReadings::new(alloc);
     if let Some(elements) = optional_items(request, "meterValue")? {
-        elements_in_turn(elements, &mut readings)?;
+        elements_in_turn(request, at, elements, &mut readings)?;
     }
     Ok(readings)
 }

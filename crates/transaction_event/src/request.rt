@@ -96,7 +96,7 @@ fn read_event(alloc: Global, request: Node) -> Result<(Key, Event, bool), Payloa
     let key = key_of(request)?;
     let evse = evse_of(request)?;
     let token = has_token(request)?;
-    let readings = meter_values(alloc, request)?;
+    let readings = meter_values(alloc, request, moment)?;
     let event = Event::new(kind, moment, evse, readings.into_vec()).unwrap();
     Ok((key, event, token))
 }

@@ -50,6 +50,7 @@ from ocpp_board.fleet.lines import (
 )
 from ocpp_board.fleet.plans import Plan, Reckoning, known_lines
 from ocpp_board.fleet.states import SESSIONS
+from ocpp_board.processes import replay_environment
 from ocpp_board.session_times import SessionTimes
 from ocpp_board.words import add_program, parser_of
 
@@ -344,6 +345,7 @@ class Closing:
             "replay",
             stdin=asyncio.subprocess.PIPE,
             stdout=asyncio.subprocess.PIPE,
+            env=replay_environment(),
         )
         text, _ = await replay.communicate(path.read_bytes() + f"board {self.site}\n".encode())
         return figures(text[text.rindex(b"\nboard ") if b"\nboard " in text else 0 :].decode())

@@ -33,6 +33,7 @@ from ocpp_board.fleet.lines import station_of
 from ocpp_board.fleet.plans import Plan, known_lines
 from ocpp_board.fleet.replays import ReplayEnded
 from ocpp_board.fleet.tokens import NO_JSON, line_without
+from ocpp_board.processes import replay_environment
 from ocpp_board.statuses import Status
 from ocpp_board.words import add_program, parser_of
 
@@ -201,7 +202,11 @@ def replayed(program: str, lines: list[str]) -> bytes:
     sites = dict.fromkeys(line.split(" ")[1] for line in lines if line.startswith("station "))
     script = "\n".join([*lines, *(f"board {site}" for site in sites), ""])
     made = subprocess.run(
-        [program, "replay"], input=script.encode(), stdout=subprocess.PIPE, check=False
+        [program, "replay"],
+        input=script.encode(),
+        stdout=subprocess.PIPE,
+        env=replay_environment(),
+        check=False,
     )
     return made.stdout
 

@@ -6,6 +6,7 @@ from contextlib import contextmanager
 
 from ocpp_board.fleet.database import Fault
 from ocpp_board.fleet.plans import Plan
+from ocpp_board.processes import replay_environment
 
 # Bytes that are read at once.
 CHUNK = 1 << 18
@@ -34,7 +35,12 @@ class Replay:
         pipe = asyncio.subprocess.PIPE
         return cls(
             await asyncio.create_subprocess_exec(
-                program, "replay", stdin=pipe, stdout=pipe, start_new_session=True
+                program,
+                "replay",
+                stdin=pipe,
+                stdout=pipe,
+                start_new_session=True,
+                env=replay_environment(),
             )
         )
 

@@ -1,0 +1,267 @@
+//! An input of which a read gathers what comes at once.
+ghost use Rattle.std.specs.Prelude.{◌≤◌, length};
+
+use crate::readiness::{Readiness, StandardInput};
+use std::io::{Read, Stdin};
+use std::thread::Threads;
+use std::{io, thread};
+
+// From how many bytes on, given at once, more may follow at once: where less comes, whoever writes it is no faster than its
+// reader.
+const MUCH: usize = 32_768;
+
+// How often is looked for more before a read ends without it.
+const LOOKS: usize = 256;
+
+/// An input of which a read gathers what comes at once.
+#[derive(Drop)]
+pub struct GatheredInput<R, L> {
+    input: R,
+    readiness: L,
+    // Whether there is a processor for who writes while is looked.
+    is_gathering: bool,
+    // What a read gave behind bytes that were gathered.
+    stop: Option<Stop>,
+}
+
+// What a read gives in place of bytes.
+#[derive(Drop)]
+enum Stop {
+    End,
+    Fault(io::Error),
+}
+
+/// Standard input, of which a read gathers what comes at once.
+pub fn gathered<X: Threads>(rt: &X, input: Stdin) -> GatheredInput<Stdin, StandardInput> {
+    GatheredInput::new(rt, input, StandardInput)
+}
+
+impl<R: Read, L: Readiness> GatheredInput<R, L> {
+    /// This input, of whose readiness `readiness` tells. With one processor nothing is gathered.
+    pub fn new<X: Threads>(rt: &X, input: R, readiness: L) -> GatheredInput<R, L> {
+        GatheredInput {
+            input,
+            readiness,
+            is_gathering: has_processors(rt),
+            stop: None,
+        }
+    }
+
+    // Reads on behind the first bytes while much more is there at once, and tells how many bytes there are then. Behind a
+    // read that gave little it ends: whoever waits for an answer may write one line at a time.
+    fn gather(&mut self, buf: &mut [u8], first: usize) -> usize
+        requires { first ≤ length buf.old }
+        ensures { result ≤ length buf.old }
+    {
+        let mut count = first;
+        'more: while count < buf.len() && self.has_more() {
+            match self.input.read(&mut buf[count..]) {
+                Ok(0) => {
+                    self.stop = Some(Stop::End);
+                    break 'more;
+                }
+                Ok(more) => {
+                    count += more;
+                    if more < MUCH {
+                        break 'more;
+                    }
+                }
+                Err(error) => {
+                    self.stop = Some(Stop::Fault(error));
+                    break 'more;
+                }
+            }
+        }
+        count
+    }
+
+    // Whether more comes within so many looks.
+    fn has_more(&self) -> bool {
+        for _ in 0..LOOKS {
+            if self.readiness.is_ready() {
+                return true;
+            }
+        }
+        false
+    }
+}
+
+impl<R: Read, L: Readiness> Read for GatheredInput<R, L> {
+    fn read(&mut self, buf: &mut [u8]) -> io::Result<usize> {
+        match self.stop.take() {
+            Some(Stop::End) => return Ok(0),
+            Some(Stop::Fault(error)) => return Err(error),
+            None => {}
+        }
+        let first = self.input.read(buf)?;
+        if first < MUCH || !self.is_gathering {
+            return Ok(first);
+        }
+        Ok(self.gather(buf, first))
+    }
+}
+
+// Whether another processor is there than the caller's.
+fn has_processors<X: Threads>(rt: &X) -> bool {
+    match thread::available_parallelism(rt) {
+        Ok(processors) => processors.get() > 1,
+        Err(_) => false,
+    }
+}
+
+#[cfg(test)]
+mod tests {
+    use super::*;
+    use std::alloc::Global;
+    use std::cell::Cell;
+    use std::io::ErrorKind;
+    use std::test::Fail;
+
+    // Gives so many bytes by its first read and so many by each later one as long as there are some, and then its end or
+    // a fault. It counts its reads.
+    #[derive(Drop)]
+    struct Steps<'a> {
+        rest: &'a [u8],
+        step: usize,
+        later: usize,
+        fails: bool,
+        reads: &'a Cell<usize>,
+    }
+
+    impl Read for Steps<'_> {
+        fn read(&mut self, buf: &mut [u8]) -> io::Result<usize> {
+            self.reads.set(self.reads.get().saturating_add(1));
+            if self.rest.is_empty() && self.fails {
+                return Err(io::Error::from(ErrorKind::Other));
+            }
+            let count = self.step.min(self.rest.len()).min(buf.len());
+            buf[..count].copy_from_slice(&self.rest[..count]);
+            self.rest = &self.rest[count..];
+            self.step = self.later;
+            Ok(count)
+        }
+    }
+
+    // Is ready or not, and counts how often it was asked.
+    #[derive(Clone, Copy)]
+    struct Fixed<'a> {
+        is_ready: bool,
+        looks: &'a Cell<usize>,
+    }
+
+    impl Readiness for Fixed<'_> {
+        fn is_ready(&self) -> bool {
+            self.looks.set(self.looks.get().saturating_add(1));
+            self.is_ready
+        }
+    }
+
+    fn some_bytes(alloc: Global) -> Result<Vec<u8>, Fail> {
+        let mut bytes = Vec::new(alloc);
+        for at in 0..200_000u32 {
+            bytes.push((at % 251) as u8)?;
+        }
+        Ok(bytes)
+    }
+
+    fn gathering<'a>(
+        bytes: &'a [u8],
+        step: usize,
+        is_ready: bool,
+        counts: (&'a Cell<usize>, &'a Cell<usize>),
+    ) -> GatheredInput<Steps<'a>, Fixed<'a>> {
+        GatheredInput {
+            input: Steps {
+                rest: bytes,
+                step,
+                later: step,
+                fails: false,
+                reads: counts.0,
+            },
+            readiness: Fixed {
+                is_ready,
+                looks: counts.1,
+            },
+            is_gathering: true,
+            stop: None,
+        }
+    }
+
+    #[test]
+    fn a_read_gathers_what_is_there_in_its_order(rt: HostRuntime) -> Result<(), Fail> {
+        let bytes = some_bytes(rt.alloc())?;
+        let (reads, looks) = (Cell::new(0), Cell::new(0));
+        let mut input = gathering(&bytes, 40_000, true, (&reads, &looks));
+        let mut read = [0; 120_000];
+        assert_eq!(rt; input.read(&mut read)?, 120_000);
+        assert!(rt; bytes.get(..120_000) == Some(&read[..]));
+        assert_eq!(rt; reads.get(), 3);
+        // The rest, and the end, which is told by the next read.
+        assert_eq!(rt; input.read(&mut read)?, 80_000);
+        assert!(rt; bytes.get(120_000..) == read.get(..80_000));
+        assert_eq!(rt; reads.get(), 6);
+        assert_eq!(rt; input.read(&mut read)?, 0);
+        assert_eq!(rt; reads.get(), 6);
+        // Whoever reads on asks the input again.
+        assert_eq!(rt; input.read(&mut read)?, 0);
+        assert_eq!(rt; reads.get(), 7);
+        Ok(())
+    }
+
+    #[test]
+    fn lines_behind_a_burst_do_not_hold_it_back(rt: HostRuntime) -> Result<(), Fail> {
+        let bytes = some_bytes(rt.alloc())?;
+        let (reads, looks) = (Cell::new(0), Cell::new(0));
+        let mut input = gathering(&bytes, 100_000, true, (&reads, &looks));
+        input.input.later = 300;
+        let mut read = [0; 150_000];
+        assert_eq!(rt; input.read(&mut read)?, 100_300);
+        assert_eq!(rt; (reads.get(), looks.get()), (2, 1));
+        assert!(rt; bytes.get(..100_300) == read.get(..100_300));
+        assert_eq!(rt; input.read(&mut read)?, 300);
+        assert_eq!(rt; (reads.get(), looks.get()), (3, 1));
+        Ok(())
+    }
+
+    #[test]
+    fn nothing_is_waited_for(rt: HostRuntime) -> Result<(), Fail> {
+        let bytes = some_bytes(rt.alloc())?;
+        let (reads, looks) = (Cell::new(0), Cell::new(0));
+        let mut read = [0; 150_000];
+        // So little that nothing is looked for.
+        let mut slow = gathering(&bytes, MUCH - 1, true, (&reads, &looks));
+        assert_eq!(rt; slow.read(&mut read)?, MUCH - 1);
+        assert_eq!(rt; (reads.get(), looks.get()), (1, 0));
+        // Much, behind which nothing comes.
+        let mut once = gathering(&bytes, MUCH, false, (&reads, &looks));
+        assert_eq!(rt; once.read(&mut read)?, MUCH);
+        assert_eq!(rt; (reads.get(), looks.get()), (2, LOOKS));
+        // One processor.
+        let mut alone = gathering(&bytes, MUCH, true, (&reads, &looks));
+        alone.is_gathering = false;
+        assert_eq!(rt; alone.read(&mut read)?, MUCH);
+        assert_eq!(rt; (reads.get(), looks.get()), (3, LOOKS));
+        Ok(())
+    }
+
+    #[test]
+    fn a_fault_is_told_behind_what_was_gathered(rt: HostRuntime) -> Result<(), Fail> {
+        let bytes = some_bytes(rt.alloc())?;
+        let (reads, looks) = (Cell::new(0), Cell::new(0));
+        let mut input = gathering(
+            bytes.get(..50_000).unwrap_or(&[]),
+            50_000,
+            true,
+            (&reads, &looks),
+        );
+        input.input.fails = true;
+        let mut read = [0; 150_000];
+        assert_eq!(rt; input.read(&mut read)?, 50_000);
+        assert_eq!(rt; reads.get(), 2);
+        assert!(rt; input.read(&mut read).is_err());
+        assert_eq!(rt; reads.get(), 2);
+        assert!(rt; input.read(&mut read).is_err());
+        assert_eq!(rt; reads.get(), 3);
+        Ok(())
+    }
+}
