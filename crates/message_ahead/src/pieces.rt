@@ -18,19 +18,10 @@ pub struct Pieces {
 
 impl Pieces {
     /// Cuts lines, of which a line feed ends the last, into pieces of about so many bytes each, or of one line where that
-    /// is longer.
+    /// is longer. They are kept in the place of these bytes.
     ///
     /// Condition: a piece has a byte.
-    pub fn cut(alloc: Global, lines: &[u8], size: usize) -> Result<Pieces, AllocError>
-        requires { 0 < size }
-    {
-        Pieces::cut_in(alloc, Vec::with_capacity(alloc, lines.len())?, lines, size)
-    }
-
-    /// Cuts lines as [`Pieces::cut`] does, and keeps them in the place of these bytes.
-    ///
-    /// Condition: a piece has a byte.
-    pub(crate) fn cut_in(
+    pub fn cut(
         alloc: Global,
         place: Vec<u8>,
         lines: &[u8],

@@ -51,7 +51,7 @@ impl Window {
     ) -> Result<Window, AllocError>
         requires { 0 < size }
     {
-        let pieces = Pieces::cut_in(alloc, place, lines, size)?;
+        let pieces = Pieces::cut(alloc, place, lines, size)?;
         let mut chunks = Vec::with_capacity(alloc, pieces.count())?;
         for _ in 0..pieces.count() {
             chunks.push(None)?;

@@ -1,11 +1,10 @@
 //! The stations and sites of a running desk: ledgers and books under locks, tied rows, and the end.
 //!
 //! A [`Plan`] has sites and stations. [`Parts::open`] makes a [`StationCell`] of each station (`station_cell`,
-//! which this crate gives on with its [`Pass`], and whose step is [`settle`]), and a book of each site, whose
+//! which this crate gives on with its [`Pass`], and whose step is [`settle_judged`]), and a book of each site, whose
 //! rows show the stations' figures. A [`Desk`] has the same parts, each cell and each book behind a lock of
-//! its own, so that stations take commands at once: [`Desk::submit`] settles
-//! under the station's lock and then its site's, while viewers glance at the totals and wait for
-//! nobody. [`Desk::close`] compares all that lay behind the locks and gives up the locks: a [`Closed`].
+//! its own, so that stations take commands at once: [`Desk::submit`] judges a command under the station's lock, and
+//! settles one that is accepted under its site's, too, while viewers glance at the totals and wait for nobody. [`Desk::close`] compares all that lay behind the locks and gives up the locks: a [`Closed`].
 //! An operator reads a running desk by [`Desk::station_totals`] and [`Desk::site_boards`], whose boards are of one
 //! moment. `open`, [`Desk::station_board`] and `site_boards` alone take memory.
 //!
@@ -15,8 +14,8 @@
 //! as it should be leaves service there ([`StationCell::retire`]).
 //!
 //! The crate's one contract: what [`Desk::submit`] answers is the step's answer at some content that
-//! accepted commands leave, since nobody knows beforehand what lies behind a lock, and only where all that
-//! `settle` asks was found under both locks. Where `close` succeeds, all counts agree, all rows are tied, all
+//! accepted commands leave, since nobody knows beforehand what lies behind a lock, and a command is accepted only where
+//! all that `settle_judged` asks was found under both locks. Where `close` succeeds, all counts agree, all rows are tied, all
 //! totals are sums over stations, and what each viewer knew begins its site's posts. That a run settles at
 //! all, and on the latest content, the tests show.
 //!

@@ -1,8 +1,8 @@
 ghost use Rattle.site_desk.specs.Submit.{Submitted};
 
 use crate::roster::StationPlace;
-use crate::submit::try_settle;
-use ledger_model::{Answer, Command};
+use crate::submit::{can_judge, try_settle};
+use ledger_model::{Answer, Command, Refusal};
 use site_book::{Naming, SiteBook, Told};
 use station_cell::{Pass, StationCell};
 use std::sync::{Mutex, Wait};
@@ -56,8 +56,11 @@ impl<J: Naming> Settles<J, StationCell, ()> for AtCell {
         pass: &mut Pass,
         command: Command,
     ) -> (Answer, Option<Told<J>>, Option<()>) {
-        let mut book = book.lock(rt);
-        let (answer, told) = try_settle(held, &mut book, number, place, pass, command);
-        (answer, told, None)
+        if can_judge(held, number, place, pass) {
+            let (answer, told) = try_settle(rt, held, book, number, place, pass, command);
+            (answer, told, None)
+        } else {
+            (Answer::Refused(Refusal::ChangesExhausted), None, None)
+        }
     }
 }

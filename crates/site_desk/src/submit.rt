@@ -8,9 +8,10 @@ ghost use Rattle.site_desk.specs.Submit.{CanJudge, CanSettle, IsBoardWithin, Sub
 use crate::roster::StationPlace;
 use ledger_model::{Answer, Command, Refusal};
 use site_book::{Naming, SiteBook, Told};
-use station_cell::{Pass, StationCell, settle, settle_judged, tied};
+use station_cell::{Pass, StationCell, settle_judged, tied};
 use station_ledger::{Judgement, StationBoard};
 use std::alloc::{AllocError, Global};
+use std::sync::{Mutex, Wait};
 
 // Tells whether the cell is that of the station of this number and place.
 pub(crate) fn stands_at(cell: &StationCell, number: usize, place: &StationPlace) -> bool
@@ -22,18 +23,6 @@ pub(crate) fn stands_at(cell: &StationCell, number: usize, place: &StationPlace)
         && *cell.ledger().limits() == place.limits
         && cell.ledger().period() == place.period
         && cell.ledger().order() == place.order
-}
-
-// Tells whether the cell is that of the station of this number and place, and the book its site's.
-fn are_at<J: Naming>(
-    cell: &StationCell,
-    book: &SiteBook<J>,
-    number: usize,
-    place: &StationPlace,
-) -> bool
-    ensures { IsTrue result → (StandsAt number place.now cell.now) × (book.now.site ≡ place.now.site) }
-{
-    stands_at(cell, number, place) && book.site() == place.site
 }
 
 /// Tells whether all is so that judging a command of the pass asks, at the cell of the station of this number
@@ -64,24 +53,6 @@ pub fn can_post<J: Naming>(
         && tied(cell, book)
 }
 
-// Tells whether all is so that settling a command of the pass asks, at the cell of the station of this
-// number and place.
-fn can_settle<J: Naming>(
-    cell: &StationCell,
-    book: &SiteBook<J>,
-    number: usize,
-    place: &StationPlace,
-    pass: &Pass,
-) -> bool
-    ensures { IsTrue result → CanSettle number place.now cell.now book.now pass.now }
-{
-    are_at(cell, book, number, place)
-        && cell.knows(pass)
-        && book.holds(cell.row(), cell.ledger().limits())
-        && book.can_post()
-        && tied(cell, book)
-}
-
 /// Settles a command that was judged already ([`settle_judged`]), and tells also what that means to one who does not
 /// know what lay behind the locks.
 ///
@@ -104,19 +75,49 @@ pub fn settle_judged_at<J: Naming>(
     settle_judged(cell, book, pass, command, judgement)
 }
 
-// Settles the command where all that settling asks is so; else nothing changes.
-pub(crate) fn try_settle<J: Naming>(
+// Takes a command at what is behind the station's lock, as `Desk::submit` does where judging it may begin. One that the
+// ledger does not accept changes nothing, so the site's book is not waited for then.
+pub(crate) fn try_settle<J: Naming, R: Wait>(
+    rt: &R,
     cell: &mut StationCell,
-    book: &mut SiteBook<J>,
+    book: &Mutex<SiteBook<J>>,
     number: usize,
     place: &StationPlace,
     pass: &mut Pass,
     command: Command,
 ) -> (Answer, Option<Told<J>>)
+    requires can { CanJudge number place.now cell.old pass.old }
     ensures { Submitted place.now pass.old command result.0 pass.new result.1 }
 {
-    if can_settle(cell, book, number, place, pass) {
-        settle(cell, book, pass, command)
+    let judgement = cell.ledger().judgement(&command);
+    match judgement.answer {
+        Answer::Accepted(_) => settle_with_book(
+            rt, cell, book, number, place, pass, command, judgement,
+        ),
+        Answer::Repeat => (Answer::Repeat, None),
+        Answer::Refused(why) => (Answer::Refused(why), None),
+    }
+}
+
+// Settles a command that was judged so, under the lock of the site's book, where all that settling asks is so; else nothing
+// changes.
+fn settle_with_book<J: Naming, R: Wait>(
+    rt: &R,
+    cell: &mut StationCell,
+    book: &Mutex<SiteBook<J>>,
+    number: usize,
+    place: &StationPlace,
+    pass: &mut Pass,
+    command: Command,
+    judgement: Judgement,
+) -> (Answer, Option<Told<J>>)
+    requires can { CanJudge number place.now cell.old pass.old }
+    requires judged { IsJudged cell.old.limits cell.old.content command judgement.answer }
+    ensures { Submitted place.now pass.old command result.0 pass.new result.1 }
+{
+    let mut book = book.lock(rt);
+    if can_post(cell, &book, number, place, pass) {
+        settle_judged_at(cell, &mut book, number, place, pass, command, judgement)
     } else {
         (Answer::Refused(Refusal::ChangesExhausted), None)
     }

@@ -1,7 +1,6 @@
 ghost use Rattle.std.specs.Prelude.{◌≡◌, ◌↔◌, ◌<◌, ◌^◌, length, IsTrue};
-ghost use Rattle.ledger_model.specs.Step.{answer};
 ghost use Rattle.station_cell.specs.Cell.{Knows};
-ghost use Rattle.station_cell.specs.Settle.{Holds, IsSettled, Tied, cell_after, pass_after, posts_after, told_after};
+ghost use Rattle.station_cell.specs.Settle.{Holds, IsSettled, Tied};
 ghost use Rattle.station_ledger.specs.Judged.{IsJudged};
 
 use crate::cell::StationCell;
@@ -10,38 +9,13 @@ use ledger_model::{Answer, Command, Figures};
 use site_book::{Naming, SiteBook, Told};
 use station_ledger::Judgement;
 
-/// Takes a command of a pass at its station and answers it. Where it is accepted, the station's new
-/// figures are posted in its row, and what the book told comes with the answer; any other answer
-/// changes nothing. It takes no memory.
+/// Takes a command of a pass, which was judged, at its station and answers it. Where it is accepted, the
+/// station's new figures are posted in its row, and what the book told comes with the answer; any other
+/// answer changes nothing. It takes no memory.
 ///
 /// Conditions: the cell knows the pass ([`StationCell::knows`] tells), the book holds the cell's row
-/// ([`SiteBook::holds`] tells) and can post ([`SiteBook::can_post`] tells), and the row is tied
-/// ([`tied`] tells).
-pub fn settle<J: Naming>(
-    cell: &mut StationCell,
-    book: &mut SiteBook<J>,
-    pass: &mut Pass,
-    command: Command,
-) -> (Answer, Option<Told<J>>)
-    requires known { Knows cell.old pass.old }
-    requires held { Holds cell.old book.old }
-    requires room { length book.old.posts < 2 ^ 62 }
-    requires tied { Tied cell.old book.old }
-    ensures answer { result.0 ≡ answer cell.old.limits cell.old.content command }
-    ensures cell { cell.new ≡ cell_after cell.old pass.old command }
-    ensures pass { pass.new ≡ pass_after pass.old result.0 }
-    ensures book { book.new ≡ record book.old { posts = posts_after book.old.posts cell.new result.0 } }
-    ensures told { result.1 ≡ told_after book.new result.0 }
-    ensures known { Knows cell.new pass.new }
-    ensures tied { Tied cell.new book.new }
-{
-    let judgement = cell.ledger().judgement(&command);
-    settle_judged(cell, book, pass, command, judgement)
-}
-
-/// Takes a command of a pass at its station as [`settle`] does, where it was judged already.
-///
-/// Conditions: those of [`settle`], and this is the judgement of the command by the cell's ledger as it is now
+/// ([`SiteBook::holds`] tells) and can post ([`SiteBook::can_post`] tells), the row is tied ([`tied`] tells), and
+/// this is the judgement of the command by the cell's ledger as it is now
 /// ([`StationLedger::judgement`](station_ledger::StationLedger::judgement) gives it).
 pub fn settle_judged<J: Naming>(
     cell: &mut StationCell,

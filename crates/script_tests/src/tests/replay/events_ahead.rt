@@ -49,7 +49,7 @@ fn lines(alloc: Global) -> Result<(Vec<u8>, Vec<usize>), Fail> {
 
 // What is read of these lines, as one piece.
 fn chunk_of(alloc: Global, bytes: &[u8]) -> Result<Chunk, Fail> {
-    let pieces = Arc::new(alloc, Pieces::cut(alloc, bytes, 65_536)?)?;
+    let pieces = Arc::new(alloc, Pieces::cut(alloc, Vec::new(alloc), bytes, 65_536)?)?;
     Ok(Chunk::read(alloc, pieces, 0, 100_000))
 }
 
@@ -92,7 +92,7 @@ fn are_claimed(pieces: &Pieces, rooms: &[usize], end: usize) -> bool {
 #[test]
 fn each_piece_is_claimed_once(rt: HostRuntime) -> Result<(), Fail> {
     let (bytes, rooms) = lines(rt.alloc())?;
-    let pieces = Pieces::cut(rt.alloc(), &bytes, 1)?;
+    let pieces = Pieces::cut(rt.alloc(), Vec::new(rt.alloc()), &bytes, 1)?;
     assert!(rt; pieces.count() == rooms.len());
     assert!(rt; are_claimed(&pieces, &rooms, bytes.len()));
     Ok(())

@@ -1,8 +1,29 @@
+use Rattle.std.proofs.Common.{[], refl, sym, ◌∙◌}
+use Rattle.ledger_model.specs.declared.answer.Answer.TheVariants.{Repeat, Refused}
+use Rattle.site_book.specs.Book.{Book}
+use Rattle.station_cell.specs.Settle.{cell_after}
+use Rattle.station_cell.proofs.Settled.{judged_here}
 use Rattle.site_desk.proofs.Submits.{submitted}
 use Rattle.site_desk.proofs.submit.try_settle.Goals as goal
 
-pub returns-then-can_settle : goal.returns-then-can_settle
-returns-then-can_settle g c =
-    let may = c.can_settle.ensures c.if-can_settle.true in
-    submitted c.args.place.now c.args.number c.args.cell.now c.args.book.now c.args.pass.now c.args.command may.stands may.site may.reached may.counted may.knows
-    c.settle.result.0 c.settle.new.cell c.settle.new.book c.settle.new.pass c.settle.result.1 c.settle.ensures.answer c.settle.ensures.cell c.settle.ensures.pass c.settle.ensures.book c.settle.ensures.told
+pub settle_with_book-requires-clause-judged : goal.settle_with_book-requires-clause-judged
+settle_with_book-requires-clause-judged g c =
+    judged_here _ _ _ _ c.args.command c.judgement-judgement.result.answer c.ledger.ensures.limits c.ledger.ensures.content c.judgement-judgement.ensures
+
+pub returns-in-Repeat : goal.returns-in-Repeat
+returns-in-Repeat g c =
+    let may = c.requires.can in
+    let cell = c.args.cell.now in
+    let book : Book = record { site = c.args.place.now.site; limits = []; posts = [] } in
+    let is = sym c.in-Repeat.is ∙ (judged_here _ _ _ _ c.args.command _ c.ledger.ensures.limits c.ledger.ensures.content c.judgement-judgement.ensures).answered in
+    submitted c.args.place.now c.args.number cell book c.args.pass.now c.args.command may.stands refl may.reached may.counted may.knows
+    Repeat (cell_after cell c.args.pass.now c.args.command) book c.args.pass.now _ is refl refl refl refl
+
+pub returns-in-Refused : goal.returns-in-Refused
+returns-in-Refused g c =
+    let may = c.requires.can in
+    let cell = c.args.cell.now in
+    let book : Book = record { site = c.args.place.now.site; limits = []; posts = [] } in
+    let is = sym c.in-Refused.is ∙ (judged_here _ _ _ _ c.args.command _ c.ledger.ensures.limits c.ledger.ensures.content c.judgement-judgement.ensures).answered in
+    submitted c.args.place.now c.args.number cell book c.args.pass.now c.args.command may.stands refl may.reached may.counted may.knows
+    (Refused c.in-Refused.why) (cell_after cell c.args.pass.now c.args.command) book c.args.pass.now _ is refl refl refl refl

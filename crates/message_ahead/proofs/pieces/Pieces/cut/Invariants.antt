@@ -1,5 +1,5 @@
 use Rattle.std.proofs.Common.{length, ◌-◌, ◌≤◌}
-use Rattle.message_ahead.proofs.pieces.Pieces.cut_in.Given as goal
+use Rattle.message_ahead.proofs.pieces.Pieces.cut.Given as goal
 
 abbrev pub invariant-loop-end : goal.invariant-loop-end
 invariant-loop-end l = l.end ≤ length l.lines
