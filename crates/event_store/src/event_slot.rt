@@ -1,16 +1,17 @@
 use key_index::IndexKey;
 use ledger_model::{EvseId, Kind, Moment};
 
-/// What a slot keeps of an event: all but its readings, and where these begin and end.
+/// What a slot keeps of an event: all but its readings, and where these begin and end. Fields lie in this order, so the
+/// small ones stand together.
 #[derive(Clone, Copy)]
 pub struct EventSlot {
     pub(crate) key: IndexKey,
-    pub(crate) kind: Kind,
     pub(crate) moment: Moment,
-    pub(crate) evse: Option<EvseId>,
-    pub(crate) voided: bool,
     // The slots of its first reading and of its last one, where it has any.
     pub(crate) first: u32,
     pub(crate) last: u32,
     pub(crate) count: u16,
+    pub(crate) kind: Kind,
+    pub(crate) evse: Option<EvseId>,
+    pub(crate) voided: bool,
 }
