@@ -79,6 +79,22 @@ replays() {
     echo "scripts: $(ls "$made"/cases/*.stdout | wc -l) compared, by $(basename "$1")"
 }
 
+# burst COMMAND..: a burst of events through a pipe is answered before more comes there.
+burst() {
+    local events=200
+    "$board" traffic $events | grep -v '^board' > "$made/burst.script"
+    coproc "$@" 2> /dev/null
+    cat "$made/burst.script" >&"${COPROC[1]}"
+    timeout 20 head -n $events <&"${COPROC[0]}" > "$made/answers"
+    if [ "$(grep -c '^\[3,"' "$made/answers")" = $events ]; then
+        echo "a burst of $events events: answered before more comes, by $(basename "$1")"
+    else
+        differs "a burst of $events events, by $*,"
+    fi
+    exec {COPROC[1]}>&-
+    wait "$COPROC_PID"
+}
+
 # What explain, live and traffic give, which run the program or write for it.
 with_program() {
     gives 1 explain/mistakes.told "$board" explain --program "$program" explain/mistakes.script
@@ -217,6 +233,7 @@ for script in "$days"/*.script; do
 done
 if [ -n "$program" ]; then
     replays "$program" replay
+    burst "$program" replay
     "$one" words.words "$program" ../words/words.txt || differs words.txt
     for scenes in sessions serving living journalling following; do
         "$one" "scenes.$scenes" "$program" || differs "$scenes"
@@ -233,6 +250,7 @@ fi
 if [ -n "$replay" ]; then
     replays "$replay"
     replays "$replay" replay
+    burst "$replay"
     "$one" words.words "$replay" ../words/replay.txt || differs replay.txt
     gives 1 explain/mistakes.told "$board" explain --program "$replay" explain/mistakes.script
 fi
