@@ -38,6 +38,11 @@ if [ ${#missing[@]} != 0 ]; then
         skip "no ${missing[*]}, and apt-get can't install them: $(grep '^E:' "$told" | head -n 1)"
     leave
 fi
+# Where memory has room for them the databases lie there: how long a disk takes for a commit, or for a recovery, is not
+# what is tried, and where something else writes much it is seconds.
+memory=/dev/shm
+room=$(df -k --output=avail $memory 2> /dev/null | tail -n 1)
+[ -n "${TMPDIR-}" ] || [ "${room:-0}" -lt 4194304 ] || export TMPDIR=$memory
 told=$(mktemp) && more=$(mktemp) || exit 1
 trap 'rm -f "$told" "$more"' EXIT
 # They begin once the words of demo.py were found to be right. Where it has none, its faults are tried by two fleets.

@@ -62,6 +62,8 @@ from tests.fleet.trials import MISTAKEN, RIGHT, Trial, messages, parsed, parser_
 COMMON = ["server", "worker", "gateway", "replay", "order", "open", "stopped", "twice", "hang"]
 COMMON += ["two-workers", "network", "plan"]
 OWN = ["primary", "disk"]
+# Seconds in which all is answered beside a fault, on a machine with much else to do, too.
+ENOUGH = 300
 # Seconds without a beat that end a worker, and where one hangs that is to be ended.
 HANG, SHORT_HANG = 30, 3
 EACH = 20
@@ -146,7 +148,7 @@ class Demo(Trial):
                 "--rate",
                 self.words.rate,
                 "--seconds",
-                90 + seconds,
+                ENOUGH + seconds,
             ),
         )
         await asyncio.sleep(1)
@@ -341,7 +343,7 @@ class Demo(Trial):
         new = await self.more_stations(5, 5)
         loads = [
             self.fleet.load(
-                [url for _, url in self.gateways], first, 5, "--events", 8, "--seconds", 30
+                [url for _, url in self.gateways], first, 5, "--events", 8, "--seconds", ENOUGH
             )
             for first in (old, new)
         ]
