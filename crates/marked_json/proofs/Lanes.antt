@@ -28,13 +28,22 @@ some_passes p (x ∷ xs) some = by_first (p x) (mask_l (map p xs)) _ some (some_
   by_first true m n set more = omega arith
   by_first false m n set more = let less = more (omega arith) in omega arith
 
+-- the first lane that passes is one of the lanes
+pub near_in_lanes : (p : ℕ → Bool) (xs : List ℕ) (n k : ℕ) → n ≤ length xs → n ≤ 64 → 0 < mask_l (map p (chunk 0 n xs)) → k ≡ count_trailing_zeros 64 (mask_l (map p (chunk 0 n xs))) → k < n
+near_in_lanes p xs n k room short some is =
+    let v = chunk 0 n xs in
+    let here : 0 + n ≤ length xs = omega arith in
+    let long : length v ≡ n = length-chunk 0 n xs here in
+    let counted : k ≡ prefix_len (λ x. not (p x)) v = is ∙ trailing_mask_l p 64 v (omega arith) some in
+    omega (arith, some_passes p v some)
+
 pub first_in_lanes : (p : ℕ → Bool) (xs : List ℕ) (n k : ℕ) → n ≤ length xs → n ≤ 64 → 0 < mask_l (map p (chunk 0 n xs)) → k ≡ count_trailing_zeros 64 (mask_l (map p (chunk 0 n xs))) → IsFirstByte p xs (Some k)
 first_in_lanes p xs n k room short some is =
     let v = chunk 0 n xs in
     let here : 0 + n ≤ length xs = omega arith in
     let long : length v ≡ n = length-chunk 0 n xs here in
     let counted : k ≡ prefix_len (λ x. not (p x)) v = is ∙ trailing_mask_l p 64 v (omega arith) some in
-    let within : k < n = omega (arith, some_passes p v some) in
+    let within : k < n = near_in_lanes p xs n k room short some is in
     let place : k ≡ 0 + k = omega arith in
     let fails : (j : ℕ) → j < k → p (get_or xs j 0) ≡ false = λ j below. run_in_chunk_fails p xs 0 n k 0 here counted j (omega arith) (omega arith) in (
       record { low = omega arith; high = omega arith; before = λ j low high yes. let no = fails j high in cc },

@@ -3,4 +3,5 @@ pub mod Marks
 pub mod Cuts
 pub mod Grammar
 mod Lanes
+pub mod Texts
 pub mod StringLaws

@@ -5,12 +5,13 @@ use Rattle.std.proofs.lemmas.Bool.Decides.{nat_tests}
 use Rattle.marked_json.specs.Marking.{BytePlace, outside, in_number, in_string, after_backslash, Marks, with_front, marked, marked_token, marked_outside, is_before_colon, begins_number, goes_on_number}
 use Rattle.marked_json.specs.Number.{is_number}
 use Rattle.marked_json.specs.declared.fault.JsonFault.TheVariants.{BadNumber, NumberAsKey}
-use Rattle.std.proofs.lemmas.List.{at_drop_more, at_drop_all, take_more, take_all, length-drop, get_or-drop, drop-drop}
-use Rattle.std.proofs.Math.Seq.{drop-length}
+use Rattle.std.proofs.lemmas.List.{at_drop_more, at_drop_all, take_all, length-drop, get_or-drop, drop-drop, length-take-le, take-take}
+use Rattle.std.proofs.Math.Seq.{drop-length, take-append-add}
+use Rattle.std.proofs.lemmas.List.Sums.{prefix_len_stops}
 use Rattle.std.proofs.lemmas.Bool.{false_from_ne_true, cases_lt}
 use Rattle.std.proofs.lemmas.Grind.{common_steps}
 use Rattle.memchr.specs.Find.{Nowhere, NoneBefore, Passes, is_byte2}
-use Rattle.marked_json.specs.Steps.{string_len, completed, ahead}
+use Rattle.marked_json.specs.Steps.{string_len, completed}
 
 -- one front before another
 pub with_front-with_front : (xs ys : List ℕ) (m : Marks) → with_front xs (with_front ys m) ≡ with_front (xs ++ ys) m
@@ -63,11 +64,11 @@ no_branch true b string token plain e h = cc
 no_branch false true string token plain e h = cc
 no_branch false false string token plain e h = refl
 
-marked-plain : (c : ℕ) (cs : List ℕ) → eqb c 34 ≡ false → begins_number c ≡ false → marked outside (c ∷ cs) ≡ with_front (c ∷ []) (marked outside cs)
+pub marked-plain : (c : ℕ) (cs : List ℕ) → eqb c 34 ≡ false → begins_number c ≡ false → marked outside (c ∷ cs) ≡ with_front (c ∷ []) (marked outside cs)
 unfolding marked
 marked-plain c cs no_quote no_number = no_branch (eqb c 34) (begins_number c) _ _ _ no_quote no_number
 
-marked-at_quote : (cs : List ℕ) → marked outside (34 ∷ cs) ≡ with_front (34 ∷ 36 ∷ []) (marked in_string cs)
+pub marked-at_quote : (cs : List ℕ) → marked outside (34 ∷ cs) ≡ with_front (34 ∷ 36 ∷ []) (marked in_string cs)
 unfolding marked
 marked-at_quote cs = refl
 
@@ -95,35 +96,56 @@ marked-at_number (c ∷ cs) some first =
 -- the steps, on what was written and what is left
 
 -- a byte that stands for itself needs no mark
-pub ahead-plain : (written rest : List ℕ) (seen : ℕ) → seen < length rest → eqb (get_or rest seen 0) 34 ≡ false → begins_number (get_or rest seen 0) ≡ false → ahead written rest (seen + 1) ≡ ahead written rest seen
-ahead-plain written rest seen within no_quote no_number =
-    let c = get_or rest seen 0 in
-    let left = drop (seen + 1) rest in
-    let front : written ++ take (seen + 1) rest ≡ (written ++ take seen rest) ++ c ∷ [] = ap (λ xs. written ++ xs) (take_more rest seen 0 within) ∙ sym (append_assoc written (take seen rest) (c ∷ [])) in
-    ap (λ xs. with_front xs (marked outside left)) front
-    ∙ sym (with_front-with_front (written ++ take seen rest) (c ∷ []) (marked outside left))
-    ∙ ap (with_front (written ++ take seen rest)) (sym (marked-plain c left no_quote no_number) ∙ sym (at_drop_more (marked outside) rest seen 0 within))
+pub completed-plain : (old new rest : List ℕ) (at : ℕ) → at < length rest → eqb (get_or rest at 0) 34 ≡ false → begins_number (get_or rest at 0) ≡ false → new ≡ old ++ get_or rest at 0 ∷ [] → completed new (drop (at + 1) rest) ≡ completed old (drop at rest)
+completed-plain old new rest at within no_quote no_number added =
+    let c = get_or rest at 0 in
+    let left = drop (at + 1) rest in
+    ap (λ xs. with_front xs (marked outside left)) added
+    ∙ sym (with_front-with_front old (c ∷ []) (marked outside left))
+    ∙ ap (with_front old) (sym (marked-plain c left no_quote no_number) ∙ sym (at_drop_more (marked outside) rest at 0 within))
 
 -- `$` behind an opening quote, and the string needs no more marks
-pub ahead-string : (old new rest inside : List ℕ) (seen n : ℕ) → seen < length rest → get_or rest seen 0 ≡ 34 → inside ≡ drop (seen + 1) rest → n ≡ string_len false inside → new ≡ (old ++ take (seen + 1) rest) ++ 36 ∷ [] → ahead new inside n ≡ ahead old rest seen
-ahead-string old new rest inside seen n within quote left len added =
-    let front = old ++ take seen rest in
+pub completed-string : (old new rest inside : List ℕ) (at n : ℕ) → at < length rest → get_or rest at 0 ≡ 34 → inside ≡ drop (at + 1) rest → n ≡ string_len false inside → new ≡ (old ++ 34 ∷ 36 ∷ []) ++ take n inside → completed new (drop ((at + 1) + n) rest) ≡ completed old (drop at rest)
+completed-string old new rest inside at n within quote left len added =
     let count = string_len false inside in
-    let segment : take (seen + 1) rest ≡ take seen rest ++ 34 ∷ [] = take_more rest seen 0 within ∙ ap (λ c. take seen rest ++ c ∷ []) quote in
-    let joined : (old ++ (take seen rest ++ 34 ∷ [])) ++ 36 ∷ [] ≡ front ++ 34 ∷ 36 ∷ [] = simp append_assoc in
-    let copied : new ≡ front ++ 34 ∷ 36 ∷ [] = added ∙ ap (λ xs. (old ++ xs) ++ 36 ∷ []) segment ∙ joined in
-    let first : marked outside (drop seen rest) ≡ marked outside (34 ∷ inside) = at_drop_more (marked outside) rest seen 0 within ∙ ap (λ c. marked outside (c ∷ drop (seen + 1) rest)) quote ∙ ap (λ cs. marked outside (34 ∷ cs)) (sym left) in
-    ap (λ k. ahead new inside k) len
-    ∙ ap (λ xs. ahead xs inside count) copied
-    ∙ sym (with_front-with_front (front ++ 34 ∷ 36 ∷ []) (take count inside) (marked outside (drop count inside)))
-    ∙ ap (with_front (front ++ 34 ∷ 36 ∷ [])) (sym (marked-string false inside))
-    ∙ sym (with_front-with_front front (34 ∷ 36 ∷ []) (marked in_string inside))
-    ∙ ap (with_front front) (sym (marked-at_quote inside) ∙ sym first)
+    let front = old ++ 34 ∷ 36 ∷ [] in
+    let first : marked outside (drop at rest) ≡ marked outside (34 ∷ inside) = at_drop_more (marked outside) rest at 0 within ∙ ap (λ c. marked outside (c ∷ drop (at + 1) rest)) quote ∙ ap (λ cs. marked outside (34 ∷ cs)) (sym left) in
+    let end : drop ((at + 1) + n) rest ≡ drop n inside = sym (ap (drop n) left ∙ drop-drop n (at + 1) rest) in
+    ap (completed new) end
+    ∙ ap (λ xs. completed xs (drop n inside)) added
+    ∙ ap (λ k. completed (front ++ take k inside) (drop k inside)) len
+    ∙ sym (with_front-with_front front (take count inside) (marked outside (drop count inside)))
+    ∙ ap (with_front front) (sym (marked-string false inside))
+    ∙ sym (with_front-with_front old (34 ∷ 36 ∷ []) (marked in_string inside))
+    ∙ ap (with_front old) (sym (marked-at_quote inside) ∙ sym first)
 
 -- what a token at the front of the rest does
 pub completed-token : (old rest token left : List ℕ) (n : ℕ) → 0 < length rest → begins_number (get_or rest 0 0) ≡ true → n ≡ prefix_len goes_on_number rest → token ≡ take n rest → left ≡ drop n rest → completed old rest ≡ with_front old (marked_token token left (marked outside left))
 completed-token old rest token left n some begins len front back =
     rw (front, back, len) (ap (with_front old) (marked-at_number rest some begins))
+
+-- the same for a token at a place of the text
+pub completed-token_at : (old text token left : List ℕ) (at n : ℕ) → at < length text → begins_number (get_or text at 0) ≡ true → n ≡ prefix_len goes_on_number (drop at text) → token ≡ take n (drop at text) → left ≡ drop n (drop at text) → completed old (drop at text) ≡ with_front old (marked_token token left (marked outside left))
+completed-token_at old text token left at n some begins len front back =
+    let first : begins_number (get_or (drop at text) 0 0) ≡ true = ap begins_number (get_or-drop at text 0 0 ∙ ap (λ i. get_or text i 0) (let e : at + 0 ≡ at = omega arith in e)) ∙ begins in
+    completed-token old (drop at text) token left n (omega (arith, length-drop at text)) first len front back
+
+-- a token has a byte at least
+pub token_is_some : (text : List ℕ) (at n : ℕ) → at < length text → begins_number (get_or text at 0) ≡ true → n ≡ prefix_len goes_on_number (drop at text) → 0 < n
+token_is_some text at n some begins is =
+    let goes : goes_on_number (get_or text at 0) ≡ true = grind (arith, nat_tests) in
+    by (goes_on_number (get_or text at 0)) (prefix_len goes_on_number (drop (at + 1) text)) goes (is ∙ at_drop_more (prefix_len goes_on_number) text at 0 some) where
+      by : (b : Bool) (k : ℕ) → b ≡ true → n ≡ cond b (1 + k) 0 → 0 < n
+      by true k h e = omega arith
+      by false k h e = cc
+
+-- no number stands behind a token
+pub token_is_whole : (text : List ℕ) (at n : ℕ) → n ≡ prefix_len goes_on_number (drop at text) → at + n < length text → begins_number (get_or text (at + n) 0) ≡ true → ⊥
+token_is_whole text at n is more begins =
+    let stops : goes_on_number (get_or (drop at text) (prefix_len goes_on_number (drop at text)) 0) ≡ false = prefix_len_stops goes_on_number (drop at text) 0 (omega (arith, is, length-drop at text)) in
+    let there : goes_on_number (get_or text (at + n) 0) ≡ false = ap goes_on_number (sym (get_or-drop at text n 0)) ∙ ap (λ i. goes_on_number (get_or (drop at text) i 0)) is ∙ stops in
+    let goes : goes_on_number (get_or text (at + n) 0) ≡ true = grind (begins, arith, nat_tests) in
+    cc
 
 bad_branch : (b : Bool) (bad other : Marks) → b ≡ false → cond (not b) bad other ≡ bad
 bad_branch true bad other h = cc
@@ -193,13 +215,29 @@ string_len-last_backslash cs k last backslash =
     let first : string_len false (drop k cs) ≡ suc (string_len true (drop (k + 1) cs)) = at_drop_more (string_len false) cs k 0 (omega arith) ∙ ap (λ c. cond (eqb c 34) 1 (suc (string_len (eqb c 92) (drop (k + 1) cs)))) backslash in
     first ∙ omega (arith, second)
 
--- where the whole rest needs no mark it is copied
-pub ahead-end : (written new rest : List ℕ) (seen : ℕ) → length rest ≡ seen → new ≡ written ++ rest → ahead written rest seen ≡ Ok new
+-- at the end nothing is left to mark
+pub completed-end : (written rest : List ℕ) (at : ℕ) → length rest ≤ at → completed written (drop at rest) ≡ Ok written
 unfolding marked
-ahead-end written new rest seen all added =
-    let front : take seen rest ≡ rest = take_all seen rest (omega arith) in
-    let end : marked outside (drop seen rest) ≡ Ok [] = at_drop_all (marked outside) rest seen (omega arith) in
-    ap (with_front (written ++ take seen rest)) end ∙ ap Ok (append-nil (written ++ take seen rest) ∙ ap (λ xs. written ++ xs) front ∙ sym added)
+completed-end written rest at all =
+    let end : marked outside (drop at rest) ≡ Ok [] = at_drop_all (marked outside) rest at all in
+    ap (with_front written) end ∙ ap Ok (append-nil written)
+
+pub string_len-some_byte : (cs : List ℕ) (n : ℕ) → 0 < length cs → n ≡ string_len false cs → 0 < n
+unfolding string_len
+string_len-some_byte [] n some is = absurd (omega arith)
+string_len-some_byte (c ∷ cs) n some is = by (eqb c 34) is where
+  by : (b : Bool) → n ≡ cond b 1 (suc (string_len (eqb c 92) cs)) → 0 < n
+  by true e = omega arith
+  by false e = omega arith
+
+-- the first of what was put
+pub take_front : (len n k : ℕ) (new old ys : List ℕ) → k ≤ n → len ≤ length old → take (len + n) new ≡ take len old ++ ys → take (len + k) new ≡ take len old ++ take k ys
+take_front len n k new old ys short within put =
+    let long : length (take len old) ≡ len = length-take-le len old within in
+    sym (take-take (len + k) (len + n) new (omega arith))
+    ∙ ap (take (len + k)) put
+    ∙ ap (λ i. take (i + k) (take len old ++ ys)) (sym long)
+    ∙ take-append-add (take len old) ys k
 
 -- what a search for a quote or a backslash tells of a string
 
@@ -218,6 +256,13 @@ string_len-some : (cs : List ℕ) (k : ℕ) → NoneBefore (Passes (is_byte2 34 
 string_len-some cs k first =
     let high = first.high in
     string_len-skip cs k (omega arith) (λ j low. neither cs j (first.before j zero-le low))
+
+-- a quote that is the first of both ends a string
+pub string_len-first_quote : (cs : List ℕ) (k : ℕ) → NoneBefore (Passes (is_byte2 34 92) cs) 0 (length cs) k → get_or cs k 0 ≡ 34 → k + 1 ≡ string_len false cs
+string_len-first_quote cs k first quote =
+    let len = string_len-some cs k first in
+    let quoted = string_len-quote cs k first.high quote in
+    omega (arith, len, quoted)
 
 window : (bs : List ℕ) (at : ℕ) → take (length bs - at) (drop at bs) ≡ drop at bs
 window bs at = take_all (length bs - at) (drop at bs) (omega (arith, length-drop at bs))

@@ -1,6 +1,6 @@
 -- What the steps of the marking compute.
-use Rattle.std.specs.Prelude.{◌==◌, ℕ, suc, List, [], ◌∷◌, ◌++◌, take, drop, Bool, true, false, if◌then◌else◌}
-use Rattle.marked_json.specs.Marking.{Marks, with_front, marked, outside}
+use Rattle.std.specs.Prelude.{◌≡◌, ◌≤◌, ◌<◌, ◌+◌, ◌*◌, ◌==◌, ℕ, suc, List, [], ◌∷◌, ◌++◌, length, slice_index, Bool, true, false, if◌then◌else◌}
+use Rattle.marked_json.specs.Marking.{Marks, with_front, marked, outside, begins_number}
 
 -- how many bytes a string has from here on, its closing quote included
 unfoldable pub string_len : Bool → List ℕ → ℕ
@@ -12,6 +12,8 @@ string_len false (c ∷ cs) = if c == 34 then 1 else suc (string_len (c == 92) c
 abbrev pub completed : List ℕ → List ℕ → Marks
 completed written rest = with_front written (marked outside rest)
 
--- what was written, the first bytes of the rest as they are, and then the marked text of what follows them
-abbrev pub ahead : List ℕ → List ℕ → ℕ → Marks
-ahead written rest seen = completed (written ++ take seen rest) (drop seen rest)
+-- so few bytes are put at a place of a text that there is room for all to come, where five bytes are kept for two: a number
+-- of one byte gets three more, and another number does not stand behind it
+abbrev pub IsWithinRoom : ℕ → List ℕ → ℕ → Type 0
+IsWithinRoom len text at =
+    (2 * len ≤ 5 * at + 3) × (at < length text → begins_number (slice_index text at) ≡ true → 2 * len ≤ 5 * at)

@@ -1,5 +1,5 @@
 //! The marking of a text, which is what `serde_json` reads in its place.
-ghost use Rattle.std.specs.Prelude.{◌≡◌, ◌≢◌, not, ◌<◌, ◌+◌, ℕ, length, map, slice_index, string_bytes, ◌≤◌, true, false, Ok, Err, IfOk, IfErr};
+ghost use Rattle.std.specs.Prelude.{◌≡◌, ◌≢◌, not, ◌<◌, ◌+◌, ◌*◌, ◌++◌, [], ◌∷◌, take, drop, ℕ, length, map, slice_index, string_bytes, ◌≤◌, true, false, Ok, Err, IfOk, IfErr, OnOk, IfSome, Some};
 ghost use Rattle.std.specs.List.{prefix_len, find};
 ghost use Rattle.std.specs.Simd.Lanes.{mask_l};
 ghost use Rattle.memchr.specs.Find.{IsFirstByte, is_byte2};
@@ -10,122 +10,209 @@ ghost use Rattle.marked_json.specs.declared.fault.JsonFault.TheVariants.{OutOfMe
 use crate::fault::JsonFault;
 use crate::number::is_number;
 use memchr::memchr2;
-use std::alloc::Global;
+use std::alloc::{AllocError, Global};
 use std::simd::prelude::*;
 
-/// The marked text of `text`, in one buffer that is reserved once.
+/// The marked text of `text`, in one buffer that is made once.
 pub(crate) fn marked_text(alloc: Global, text: &str) -> Result<String, JsonFault>
     ensures ok { IfOk result (λ out. spec.marked spec.outside text.now ≡ Ok (string_bytes out)) }
     ensures err { IfErr result (λ fault. fault ≢ OutOfMemory → spec.marked spec.outside text.now ≡ Err fault) }
 {
-    let mut out = String::with_capacity(alloc, longest_marked(text.len()))?;
-    let mut rest = text;
-    let mut seen = 0;
-    while seen < rest.len() {
-        match mark_next(&mut out, rest, seen) {
-            Ok((left, next)) => {
-                rest = left;
-                seen = next;
+    let mut out = room_for(alloc, text.len())?;
+    mark_whole(&mut out, text)?;
+    // The marked text of a text is UTF-8.
+    Ok(unsafe { String::from_utf8_unchecked(out) })
+}
+
+// Puts the marked text in the place of room for it.
+fn mark_whole(out: &mut Vec<u8>, text: &str) -> Result<(), JsonFault>
+    requires { 5 * length text.now + 3 ≤ 2 * length out.old.items }
+    ensures ok { OnOk result (spec.marked spec.outside text.now ≡ Ok out.new.items) }
+    ensures err { IfErr result (λ fault. spec.marked spec.outside text.now ≡ Err fault) }
+{
+    let len = mark_all(out.as_mut_slice(), text.as_bytes())?;
+    out.truncate(len);
+    Ok(())
+}
+
+// Room for the marked text of a text. A string, of a byte or more, gets one byte, and a number, which stands at least
+// one byte before the next, gets three.
+fn room_for(alloc: Global, text_len: usize) -> Result<Vec<u8>, AllocError>
+    ensures { IfOk result (λ out. 5 * text_len + 3 ≤ 2 * length out.items) }
+{
+    let Some(twice) = text_len.checked_mul(5) else {
+        return Err(AllocError);
+    };
+    Vec::from_elem(alloc, 0, twice / 2 + 2)
+}
+
+// Puts the marked text where there is room for it, and tells its length.
+fn mark_all(out: &mut [u8], text: &[u8]) -> Result<usize, JsonFault>
+    requires { 5 * length text.now + 3 ≤ 2 * length out.old }
+    ensures ok { IfOk result (λ len. spec.marked spec.outside text.now ≡ Ok (take len out.new)) }
+    ensures err { IfErr result (λ fault. spec.marked spec.outside text.now ≡ Err fault) }
+{
+    let mut len = 0;
+    let mut at = 0;
+    while at < text.len() {
+        match mark_next(out, len, text, at) {
+            Ok(next) => {
+                len = next.0;
+                at = next.1;
             }
             Err(fault) => return Err(fault),
         }
     }
-    out.push_str(rest)?;
-    Ok(out)
+    Ok(len)
 }
 
-/// The most bytes that a marked text can have: a string, of two bytes or more, gets one byte, and a number, which
-/// stands at least one byte before the next, gets three.
-fn longest_marked(text_len: usize) -> usize {
-    text_len.saturating_add(3).saturating_mul(5) / 2
-}
-
-// One step outside strings, at the byte behind the `seen` bytes that need no mark. What it gives is what is to be
-// copied still, and how much of that needs no mark.
-fn mark_next<'a>(
-    out: &mut String,
-    rest: &'a str,
-    seen: usize,
-) -> Result<(&'a str, usize), JsonFault>
-    requires { seen < length rest.now }
-    ensures ok { IfOk result (λ left. steps.ahead (string_bytes out.new) left.0.now left.1 ≡ steps.ahead (string_bytes out.old) rest.now seen) }
-    ensures within { IfOk result (λ left. left.1 ≤ length left.0.now) }
-    ensures shorter { IfOk result (λ left. length left.0.now + seen < length rest.now + left.1) }
-    ensures err { IfErr result (λ fault. fault ≢ OutOfMemory → steps.ahead (string_bytes out.old) rest.now seen ≡ Err fault) }
+// One step outside strings, at a place, where `len` bytes are put. What it gives is how many are put then, and the
+// place behind what they are from.
+#[inline(always)]
+fn mark_next(
+    out: &mut [u8],
+    len: usize,
+    text: &[u8],
+    at: usize,
+) -> Result<(usize, usize), JsonFault>
+    requires some { at < length text.now }
+    requires room { 5 * length text.now + 3 ≤ 2 * length out.old }
+    requires few { steps.IsWithinRoom len text.now at }
+    ensures ok { IfOk result (λ next. steps.completed (take next.0 out.new) (drop next.1 text.now) ≡ steps.completed (take len out.old) (drop at text.now)) }
+    ensures moved { IfOk result (λ next. (at < next.1) × (next.1 ≤ length text.now)) }
+    ensures few { IfOk result (λ next. steps.IsWithinRoom next.0 text.now next.1) }
+    ensures same_room { length out.new ≡ length out.old }
+    ensures err { IfErr result (λ fault. steps.completed (take len out.old) (drop at text.now) ≡ Err fault) }
 {
-    let first = rest.as_bytes()[seen];
+    let first = text[at];
     if first == b'"' {
-        mark_string(out, rest, seen)
+        Ok(mark_string(out, len, text, at))
     } else if begins_number(first) {
-        mark_number(out, rest, seen)
+        mark_number(out, len, text, at)
     } else {
-        Ok((rest, seen + 1))
+        put_byte(out, len, first);
+        Ok((len + 1, at + 1))
     }
 }
 
-fn mark_string<'a>(
-    out: &mut String,
-    rest: &'a str,
-    seen: usize,
-) -> Result<(&'a str, usize), JsonFault>
-    requires some { seen < length rest.now }
-    requires quote { slice_index rest.now seen ≡ 34 }
-    ensures ok { IfOk result (λ left. steps.ahead (string_bytes out.new) left.0.now left.1 ≡ steps.ahead (string_bytes out.old) rest.now seen) }
-    ensures within { IfOk result (λ left. left.1 ≤ length left.0.now) }
-    ensures shorter { IfOk result (λ left. length left.0.now + seen < length rest.now + left.1) }
-    ensures err { IfErr result (λ fault. fault ≡ OutOfMemory) }
+#[inline(always)]
+fn mark_string(out: &mut [u8], len: usize, text: &[u8], at: usize) -> (usize, usize)
+    requires some { at < length text.now }
+    requires quote { slice_index text.now at ≡ 34 }
+    requires room { 5 * length text.now + 3 ≤ 2 * length out.old }
+    requires few { steps.IsWithinRoom len text.now at }
+    ensures put { steps.completed (take result.0 out.new) (drop result.1 text.now) ≡ steps.completed (take len out.old) (drop at text.now) }
+    ensures moved { (at < result.1) × (result.1 ≤ length text.now) }
+    ensures few { steps.IsWithinRoom result.0 text.now result.1 }
+    ensures same_room { length out.new ≡ length out.old }
 {
-    let (segment, inside) = rest.split_at(seen + 1);
-    out.push_str(segment)?;
-    out.push_str("$")?;
-    Ok((inside, string_len(inside.as_bytes())))
+    let (_, inside) = text.split_at(at + 1);
+    put_bytes(out, len, b"\"$");
+    let count = put_string(out, len + 2, inside);
+    (len + 2 + count, at + 1 + count)
 }
 
-fn mark_number<'a>(
-    out: &mut String,
-    rest: &'a str,
-    seen: usize,
-) -> Result<(&'a str, usize), JsonFault>
-    requires some { seen < length rest.now }
-    requires begins { spec.begins_number (slice_index rest.now seen) ≡ true }
-    ensures ok { IfOk result (λ left. steps.ahead (string_bytes out.new) left.0.now left.1 ≡ steps.ahead (string_bytes out.old) rest.now seen) }
-    ensures within { IfOk result (λ left. left.1 ≤ length left.0.now) }
-    ensures shorter { IfOk result (λ left. length left.0.now + seen < length rest.now + left.1) }
-    ensures err { IfErr result (λ fault. fault ≢ OutOfMemory → steps.ahead (string_bytes out.old) rest.now seen ≡ Err fault) }
+// Puts what is left of a string, with its closing quote, and tells how long that is. Most strings end within 32 bytes,
+// all of which are put at once.
+#[inline(always)]
+fn put_string(out: &mut [u8], len: usize, rest: &[u8]) -> usize
+    requires { len + length rest.now ≤ length out.old }
+    ensures value { result ≡ steps.string_len false rest.now }
+    ensures within { result ≤ length rest.now }
+    ensures put { take (len + result) out.new ≡ take len out.old ++ take result rest.now }
+    ensures same_room { length out.new ≡ length out.old }
 {
-    let (segment, number) = rest.split_at(seen);
-    out.push_str(segment)?;
-    match put_number(out, number) {
-        Ok(left) => Ok((left, 0)),
-        Err(fault) => Err(fault),
+    match near_stop(rest) {
+        Some(stop) if rest[stop] == b'"' => {
+            put_front(out, len, rest, stop + 1);
+            stop + 1
+        }
+        _ => put_long(out, len, rest),
     }
 }
 
-// Puts the number that the text begins with, as a marked string.
-fn put_number<'a>(out: &mut String, rest: &'a str) -> Result<&'a str, JsonFault>
-    requires some { 0 < length rest.now }
-    requires begins { spec.begins_number (slice_index rest.now 0) ≡ true }
-    ensures ok { IfOk result (λ left. steps.completed (string_bytes out.new) left.now ≡ steps.completed (string_bytes out.old) rest.now) }
-    ensures shorter { IfOk result (λ left. length left.now < length rest.now) }
-    ensures err { IfErr result (λ fault. fault ≢ OutOfMemory → steps.completed (string_bytes out.old) rest.now ≡ Err fault) }
+// Puts the first bytes of 32, by putting all 32.
+#[inline(always)]
+fn put_front(out: &mut [u8], len: usize, rest: &[u8], count: usize)
+    requires short { count ≤ 32 }
+    requires long { 32 ≤ length rest.now }
+    requires room { len + 32 ≤ length out.old }
+    ensures put { take (len + count) out.new ≡ take len out.old ++ take count rest.now }
+    ensures same_room { length out.new ≡ length out.old }
 {
-    let (token, left) = rest.split_at(token_len(rest.as_bytes()));
-    if !is_number(token.as_bytes()) {
+    u8x32::from_slice(rest).copy_to_slice(&mut out[len..]);
+}
+
+// Puts what is left of a string of any length.
+#[inline(never)]
+fn put_long(out: &mut [u8], len: usize, rest: &[u8]) -> usize
+    requires { len + length rest.now ≤ length out.old }
+    ensures value { result ≡ steps.string_len false rest.now }
+    ensures within { result ≤ length rest.now }
+    ensures put { take (len + result) out.new ≡ take len out.old ++ take result rest.now }
+    ensures same_room { length out.new ≡ length out.old }
+{
+    let count = string_len(rest);
+    let (string, _) = rest.split_at(count);
+    put_bytes(out, len, string);
+    count
+}
+
+// Puts the number that begins at a place, as a marked string.
+fn mark_number(
+    out: &mut [u8],
+    len: usize,
+    text: &[u8],
+    at: usize,
+) -> Result<(usize, usize), JsonFault>
+    requires some { at < length text.now }
+    requires begins { spec.begins_number (slice_index text.now at) ≡ true }
+    requires room { 5 * length text.now + 3 ≤ 2 * length out.old }
+    requires few { steps.IsWithinRoom len text.now at }
+    ensures ok { IfOk result (λ next. steps.completed (take next.0 out.new) (drop next.1 text.now) ≡ steps.completed (take len out.old) (drop at text.now)) }
+    ensures moved { IfOk result (λ next. (at < next.1) × (next.1 ≤ length text.now)) }
+    ensures few { IfOk result (λ next. steps.IsWithinRoom next.0 text.now next.1) }
+    ensures same_room { length out.new ≡ length out.old }
+    ensures err { IfErr result (λ fault. steps.completed (take len out.old) (drop at text.now) ≡ Err fault) }
+{
+    let (_, rest) = text.split_at(at);
+    let count = token_len(rest);
+    let (token, left) = rest.split_at(count);
+    if !is_number(token) {
         return Err(JsonFault::BadNumber);
     }
-    if is_before_colon(left.as_bytes()) {
+    if is_before_colon(left) {
         return Err(JsonFault::NumberAsKey);
     }
-    out.push_str("\"#")?;
-    out.push_str(token)?;
-    out.push_str("\"")?;
-    Ok(left)
+    put_bytes(out, len, b"\"#");
+    put_bytes(out, len + 2, token);
+    put_byte(out, len + 2 + count, b'"');
+    Ok((len + 3 + count, at + count))
+}
+
+#[inline(always)]
+fn put_byte(out: &mut [u8], len: usize, byte: u8)
+    requires { len < length out.old }
+    ensures put { take (len + 1) out.new ≡ take len out.old ++ byte ∷ [] }
+    ensures same_room { length out.new ≡ length out.old }
+{
+    out[len] = byte;
+}
+
+#[inline(always)]
+fn put_bytes(out: &mut [u8], len: usize, bytes: &[u8])
+    requires { len + length bytes.now ≤ length out.old }
+    ensures put { take (len + length bytes.now) out.new ≡ take len out.old ++ bytes.now }
+    ensures same_room { length out.new ≡ length out.old }
+{
+    out[len..len + bytes.len()].copy_from_slice(bytes);
 }
 
 fn begins_number(byte: u8) -> bool
     ensures { result ≡ spec.begins_number byte }
 {
-    byte == b'-' || byte.is_ascii_digit()
+    // Most bytes that are asked for stand behind the digits.
+    byte <= b'9' && (byte == b'-' || byte.is_ascii_digit())
 }
 
 fn goes_on_number(byte: u8) -> bool
@@ -186,13 +273,26 @@ fn string_len(bytes: &[u8]) -> usize
 fn first_stop(bytes: &[u8]) -> Option<usize>
     ensures { IsFirstByte (is_byte2 34 92) bytes.now result }
 {
-    if bytes.len() >= 32 {
-        let found = stops(u8x32::from_slice(bytes));
-        if found != 0 {
-            return Some(found.trailing_zeros() as usize);
-        }
+    match near_stop(bytes) {
+        Some(stop) => Some(stop),
+        None => memchr2(b'"', b'\\', bytes),
     }
-    memchr2(b'"', b'\\', bytes)
+}
+
+// The first quote or backslash, where it is one of the first 32 bytes of 32 or more.
+#[inline(always)]
+fn near_stop(bytes: &[u8]) -> Option<usize>
+    ensures first { IfSome result (λ stop. IsFirstByte (is_byte2 34 92) bytes.now (Some stop)) }
+    ensures near { IfSome result (λ stop. (stop < 32) × (32 ≤ length bytes.now)) }
+{
+    if bytes.len() < 32 {
+        return None;
+    }
+    let found = stops(u8x32::from_slice(bytes));
+    if found == 0 {
+        return None;
+    }
+    Some(found.trailing_zeros() as usize)
 }
 
 // Which of 32 bytes are quotes or backslashes: a bit for each byte, that of the first one lowest.

@@ -1,11 +1,11 @@
-use Rattle.std.proofs.Common.{◌≡◌, eqb, false, get_or, string_bytes, arith}
+use Rattle.std.proofs.Common.{◌≡◌, ◌+◌, eqb, false, get_or, take, arith}
 use Rattle.std.proofs.lemmas.Bool.Decides.{nat_tests}
 use Rattle.marked_json.specs.Marking.{begins_number}
-use Rattle.marked_json.proofs.Marks.{ahead-plain}
+use Rattle.marked_json.proofs.Marks.{completed-plain}
 use Rattle.marked_json.proofs.marking.mark_next.Goals as goal
 
 pub returns-else-begins_number-clause-ok : goal.returns-else-begins_number-clause-ok
 returns-else-begins_number-clause-ok c =
-    let no_quote : eqb (get_or c.args.rest.now c.args.seen 0) 34 ≡ false = grind (arith, nat_tests) in
-    let no_number : begins_number (get_or c.args.rest.now c.args.seen 0) ≡ false = cc in
-    ahead-plain (string_bytes c.args.out.now) c.args.rest.now c.args.seen c.requires no_quote no_number
+    let no_quote : eqb (get_or c.args.text.now c.args.at 0) 34 ≡ false = grind (arith, nat_tests) in
+    let no_number : begins_number (get_or c.args.text.now c.args.at 0) ≡ false = cc in
+    completed-plain (take c.args.len c.args.out.now) (take (c.args.len + 1) c.put_byte.new.out) c.args.text.now c.args.at c.requires.some no_quote no_number c.put_byte.ensures.put
