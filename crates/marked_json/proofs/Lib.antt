@@ -5,3 +5,4 @@ pub mod Grammar
 mod Lanes
 pub mod Texts
 pub mod StringLaws
+pub mod WantedMembers

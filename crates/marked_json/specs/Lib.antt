@@ -4,3 +4,4 @@ pub mod Marking
 pub mod Steps
 pub mod Reading
 pub mod Strings
+pub mod Wanted

@@ -23,7 +23,9 @@ mod marked;
 mod marking;
 mod node;
 mod number;
+mod wanted;
 
 pub use fault::JsonFault;
 pub use marked::{Marked, read_marked};
 pub use node::{Items, Node};
+pub use wanted::Wanted;

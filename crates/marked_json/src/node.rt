@@ -70,7 +70,7 @@ fn member_named<'a>(members: &'a Map<String, Value>, name: &str) -> Option<&'a V
 }
 
 // Whether a key is the name behind a mark.
-fn is_marked(key: &str, name: &str) -> bool
+pub(crate) fn is_marked(key: &str, name: &str) -> bool
     ensures { IsTrue result ↔ (key.now ≡ 36 ∷ name.now) }
 {
     // Most keys have another length; their bytes are not looked at.

@@ -4,11 +4,11 @@ use Rattle.std.specs.Int.Signed.{le_z}
 use Rattle.std.specs.Option.{ok_or}
 use Rattle.std.specs.Str.Parse.{signed_digits_value}
 use Rattle.serde_json.specs.Data.{Data}
-use Rattle.marked_json.specs.Reading.{number_of}
+use Rattle.marked_json.specs.Reading.{number_of, field_of}
 use Rattle.reading_decimal.specs.Integer.{is_integer}
 use Rattle.transaction_event.specs.declared.fault.PayloadFault.TheVariants.{Range, WrongType}
 use Rattle.transaction_event.specs.Steps.{Checked, checked_map, ◌>>=◌}
-use Rattle.transaction_event.specs.Member.{required, optional}
+use Rattle.transaction_event.specs.Member.{required_of, optional}
 
 -- The integer that a token writes, however large; minus zero is 0.
 abbrev pub integer_of_token : List ℕ → Option ℤ
@@ -31,8 +31,12 @@ abbrev pub integer_within : ℤ → ℤ → List ℕ → Checked ℤ
 integer_within low high token = ok_or (integer_of_token token) WrongType >>= within low high
 
 -- A member that has to be there, an integer from low to high.
+abbrev pub required_integer_of : ℤ → ℤ → Option Data → Checked ℤ
+required_integer_of low high member = required_of integer_of member >>= within low high
+
+-- The same, by the member's name.
 abbrev pub required_integer : ℤ → ℤ → List ℕ → Data → Checked ℤ
-required_integer low high name tree = required integer_of name tree >>= within low high
+required_integer low high name tree = required_integer_of low high (field_of name tree)
 
 -- An integer that is there lies between low and high.
 abbrev pub if_within : ℤ → ℤ → Option ℤ → Checked (Option ℤ)

@@ -8,6 +8,7 @@ pub mod Readings
 pub mod Sampled
 pub mod MeterValues
 pub mod Request
+pub mod RequestMembers
 pub mod Reply
 pub mod Message
 pub mod MessageMeaning

@@ -11,8 +11,12 @@ abbrev pub object_of : Data → Option Data
 object_of tree = if is_object tree then Some tree else None
 
 -- A member that has to be there, of a kind.
+abbrev pub required_of : {A : Type 0} → (Data → Option A) → Option Data → Checked A
+required_of kind member = ok_or member Missing >>= (λ there. ok_or (kind there) WrongType)
+
+-- The same, by the member's name.
 abbrev pub required : {A : Type 0} → (Data → Option A) → List ℕ → Data → Checked A
-required kind name tree = ok_or (field_of name tree) Missing >>= (λ member. ok_or (kind member) WrongType)
+required kind name tree = required_of kind (field_of name tree)
 
 -- What a member that is there has to be.
 abbrev pub if_there : {A : Type 0} → (Data → Option A) → Option Data → Checked (Option A)

@@ -1,12 +1,12 @@
 -- The timestamp of an object.
-use Rattle.std.specs.Prelude.{ℕ, List, Result, Ok, Err, codes}
+use Rattle.std.specs.Prelude.{ℕ, List, Option, Result, Ok, Err, codes}
 use Rattle.serde_json.specs.Data.{Data}
-use Rattle.marked_json.specs.Reading.{text_of}
+use Rattle.marked_json.specs.Reading.{text_of, field_of}
 use Rattle.reading_decimal.specs.Moment.{moment_reading}
 use Rattle.reading_decimal.specs.declared.moment.MomentFault.{MomentFault}
 use Rattle.transaction_event.specs.declared.fault.PayloadFault.TheVariants.{Moment}
 use Rattle.transaction_event.specs.Steps.{Checked, ◌>>=◌}
-use Rattle.transaction_event.specs.Member.{required}
+use Rattle.transaction_event.specs.Member.{required_of}
 
 -- What is no moment is refused.
 abbrev pub moment : Result ℕ MomentFault → Checked ℕ
@@ -17,6 +17,10 @@ moment (Err fault) = Err Moment
 unfoldable pub moment_named : List ℕ → Checked ℕ
 moment_named text = moment (moment_reading text)
 
+-- The moment that a timestamp names.
+abbrev pub timestamp_of : Option Data → Checked ℕ
+timestamp_of member = required_of text_of member >>= moment_named
+
 -- The moment that an object's timestamp names.
 unfoldable pub timestamp : Data → Checked ℕ
-timestamp tree = required text_of (codes "timestamp") tree >>= moment_named
+timestamp tree = timestamp_of (field_of (codes "timestamp") tree)

@@ -1,5 +1,5 @@
 //! Integers of a payload, by range.
-ghost use Rattle.std.specs.Prelude.{◌≡◌, ◌≤◌, ◌≤ℤ◌, length, IfOk, ◌≢◌, IfErr};
+ghost use Rattle.std.specs.Prelude.{◌≡◌, ◌≤◌, ◌≤ℤ◌, length, option_map, IfOk, ◌≢◌, IfErr};
 ghost use Rattle.marked_json.specs.Reading.{node};
 ghost use Rattle.transaction_event.specs.Integer as spec;
 ghost use Rattle.transaction_event.specs.declared.fault.PayloadFault.TheVariants.{OutOfMemory};
@@ -46,16 +46,25 @@ fn integer_in(member: Node, low: i64, high: i64) -> Result<i64, PayloadFault>
 }
 
 /// An integer from `low` to `high` that has to be there: `Missing`, `WrongType` or `Range`.
+pub fn required_integer_of(member: Option<Node>, low: i64, high: i64) -> Result<i64, PayloadFault>
+    ensures value { result ≡ spec.required_integer_of low high (option_map node member.entry) }
+    ensures range { IfOk result (λ n. (low ≤ℤ n) × (n ≤ℤ high)) }
+    ensures memory { IfErr result (λ f. f ≢ OutOfMemory) }
+{
+    match member {
+        Some(member) => integer_in(member, low, high),
+        None => Err(PayloadFault::Missing),
+    }
+}
+
+/// As [`required_integer_of`], by the member's name.
 pub fn required_integer(object: Node, name: &str, low: i64, high: i64) -> Result<i64, PayloadFault>
     requires { length name.now ≤ 63 }
     ensures value { result ≡ spec.required_integer low high name.now (node object.entry) }
     ensures range { IfOk result (λ n. (low ≤ℤ n) × (n ≤ℤ high)) }
     ensures memory { IfErr result (λ f. f ≢ OutOfMemory) }
 {
-    match object.field(name) {
-        Some(member) => integer_in(member, low, high),
-        None => Err(PayloadFault::Missing),
-    }
+    required_integer_of(object.field(name), low, high)
 }
 
 /// An integer from `low` to `high`, or none where the member is absent: `WrongType` or `Range`.

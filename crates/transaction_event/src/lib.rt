@@ -31,6 +31,7 @@ mod meter;
 mod readings;
 mod reply;
 mod request;
+mod request_members;
 mod sampled;
 mod scale;
 mod timestamp;

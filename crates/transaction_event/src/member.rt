@@ -2,22 +2,30 @@
 ghost use Rattle.std.specs.Prelude.{◌≡◌, ◌≤◌, length, option_map, ◌≢◌, IfErr};
 ghost use Rattle.marked_json.specs.Reading.{node, left_of, text_of, items_of, number_of};
 ghost use Rattle.transaction_event.specs.Steps.{checked_map};
-ghost use Rattle.transaction_event.specs.Member.{required, optional, object_of};
+ghost use Rattle.transaction_event.specs.Member.{required, required_of, optional, if_there, object_of};
 ghost use Rattle.transaction_event.specs.declared.fault.PayloadFault.TheVariants.{OutOfMemory};
 
 use crate::PayloadFault;
 use marked_json::{Items, Node};
 
 /// A text that has to be there: `Missing`, or `WrongType`.
+pub fn required_text_of<'a>(member: Option<Node<'a>>) -> Result<&'a str, PayloadFault>
+    ensures value { checked_map (λ s. s.now) result ≡ required_of text_of (option_map node member.entry) }
+    ensures memory { IfErr result (λ f. f ≢ OutOfMemory) }
+{
+    match member {
+        Some(member) => member.text().ok_or(PayloadFault::WrongType),
+        None => Err(PayloadFault::Missing),
+    }
+}
+
+/// As [`required_text_of`], by the member's name.
 pub fn required_text<'a>(object: Node<'a>, name: &str) -> Result<&'a str, PayloadFault>
     requires { length name.now ≤ 63 }
     ensures value { checked_map (λ s. s.now) result ≡ required text_of name.now (node object.entry) }
     ensures memory { IfErr result (λ f. f ≢ OutOfMemory) }
 {
-    match object.field(name) {
-        Some(member) => member.text().ok_or(PayloadFault::WrongType),
-        None => Err(PayloadFault::Missing),
-    }
+    required_text_of(object.field(name))
 }
 
 /// A text, or none where the member is absent: `WrongType`.
@@ -37,12 +45,11 @@ pub fn optional_text<'a>(object: Node<'a>, name: &str) -> Result<Option<&'a str>
 }
 
 /// An object that has to be there: `Missing`, or `WrongType`.
-pub fn required_object<'a>(object: Node<'a>, name: &str) -> Result<Node<'a>, PayloadFault>
-    requires { length name.now ≤ 63 }
-    ensures value { checked_map node result ≡ required object_of name.now (node object.entry) }
+pub fn required_object_of<'a>(member: Option<Node<'a>>) -> Result<Node<'a>, PayloadFault>
+    ensures value { checked_map node result ≡ required_of object_of (option_map node member.entry) }
     ensures memory { IfErr result (λ f. f ≢ OutOfMemory) }
 {
-    match object.field(name) {
+    match member {
         Some(member) if member.is_object() => Ok(member),
         Some(_) => Err(PayloadFault::WrongType),
         None => Err(PayloadFault::Missing),
@@ -50,17 +57,25 @@ pub fn required_object<'a>(object: Node<'a>, name: &str) -> Result<Node<'a>, Pay
 }
 
 /// An object, or none where the member is absent: `WrongType`.
+pub fn optional_object_of<'a>(member: Option<Node<'a>>) -> Result<Option<Node<'a>>, PayloadFault>
+    ensures value { checked_map (option_map node) result ≡ if_there object_of (option_map node member.entry) }
+    ensures memory { IfErr result (λ f. f ≢ OutOfMemory) }
+{
+    match member {
+        Some(member) if member.is_object() => Ok(Some(member)),
+        Some(_) => Err(PayloadFault::WrongType),
+        None => Ok(None),
+    }
+}
+
+/// As [`optional_object_of`], by the member's name.
 pub fn optional_object<'a>(object: Node<'a>, name: &str) -> Result<Option<Node<'a>>, PayloadFault>
     requires { length name.now ≤ 63 }
     ensures value { checked_map (option_map node) result
         ≡ optional object_of name.now (node object.entry) }
     ensures memory { IfErr result (λ f. f ≢ OutOfMemory) }
 {
-    match object.field(name) {
-        Some(member) if member.is_object() => Ok(Some(member)),
-        Some(_) => Err(PayloadFault::WrongType),
-        None => Ok(None),
-    }
+    optional_object_of(object.field(name))
 }
 
 /// The items of an array that has to be there: `Missing`, or `WrongType`.
@@ -76,13 +91,11 @@ pub fn required_items<'a>(object: Node<'a>, name: &str) -> Result<Items<'a>, Pay
 }
 
 /// The items of an array, or none where the member is absent: `WrongType`.
-pub fn optional_items<'a>(object: Node<'a>, name: &str) -> Result<Option<Items<'a>>, PayloadFault>
-    requires { length name.now ≤ 63 }
-    ensures value { checked_map (option_map left_of) result
-        ≡ optional items_of name.now (node object.entry) }
+pub fn optional_items_of<'a>(member: Option<Node<'a>>) -> Result<Option<Items<'a>>, PayloadFault>
+    ensures value { checked_map (option_map left_of) result ≡ if_there items_of (option_map node member.entry) }
     ensures memory { IfErr result (λ f. f ≢ OutOfMemory) }
 {
-    match object.field(name) {
+    match member {
         Some(member) => match member.items() {
             Some(items) => Ok(Some(items)),
             None => Err(PayloadFault::WrongType),

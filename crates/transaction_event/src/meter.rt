@@ -3,16 +3,17 @@ ghost use Rattle.std.specs.Prelude.{◌≡◌, ◌≢◌, Ok, Err, OnOk, IfOk, I
 ghost use Rattle.marked_json.specs.Reading.{node, left_of};
 ghost use Rattle.transaction_event.specs.Steps.{for_each};
 ghost use Rattle.transaction_event.specs.Sampled.{sample};
-ghost use Rattle.transaction_event.specs.Timestamp.{timestamp};
 ghost use Rattle.transaction_event.specs.MeterValues as spec;
+ghost use Rattle.transaction_event.specs.RequestMembers.{AreFound, request_with};
 ghost use Rattle.transaction_event.specs.Growth.{GrowsAmong, SampleGrows, MeterValueGrows, MeterValuesGrow};
 ghost use Rattle.transaction_event.specs.declared.fault.PayloadFault.TheVariants.{OutOfMemory};
 
 use crate::PayloadFault;
-use crate::member::{optional_items, required_items};
+use crate::member::required_items;
 use crate::readings::CountedReadings;
+use crate::request_members::RequestMembers;
 use crate::sampled::sample;
-use crate::timestamp::timestamp_within;
+use crate::timestamp::NamedMoment;
 use ledger_model::Moment;
 use marked_json::{Items, Node};
 use std::alloc::Global;
@@ -38,12 +39,10 @@ fn samples(
 
 #[tactic(auto, unfolding(crate::specs::MeterValues::meter_value))]
 fn meter_value(
-    request: Node,
-    at: Moment,
+    at: &NamedMoment,
     element: Node,
     readings: &mut CountedReadings,
 ) -> Result<(), PayloadFault>
-    requires { timestamp (node request) ≡ Ok at }
     ensures ok { OnOk result (spec.meter_value readings.old (node element.entry) ≡ Ok readings.new) }
     ensures err { IfErr result
         (λ f. f ≢ OutOfMemory → spec.meter_value readings.old (node element.entry) ≡ Err f) }
@@ -52,18 +51,16 @@ fn meter_value(
     if !element.is_object() {
         return Err(PayloadFault::WrongType);
     }
-    let moment = timestamp_within(request, at, element)?;
+    let moment = at.timestamp(element)?;
     samples(moment, required_items(element, "sampledValue")?, readings)
 }
 
 #[tactic(auto, unfolding(crate::specs::Steps::for_each), using(crate::proofs::Growing::grows_here, crate::proofs::Growing::grows_later))]
 fn elements_in_turn(
-    request: Node,
-    at: Moment,
+    at: &NamedMoment,
     elements: Items,
     readings: &mut CountedReadings,
 ) -> Result<(), PayloadFault>
-    requires { timestamp (node request) ≡ Ok at }
     ensures ok { OnOk result
         (for_each spec.meter_value readings.old (left_of elements.entry) ≡ Ok readings.new) }
     ensures err { IfErr result
@@ -72,29 +69,27 @@ fn elements_in_turn(
         (λ f. f ≡ OutOfMemory → GrowsAmong spec.meter_value MeterValueGrows readings.old (left_of elements.entry)) }
 {
     for element in elements {
-        meter_value(request, at, element, readings)?;
+        meter_value(at, element, readings)?;
     }
     Ok(())
 }
 
 /// The counted readings of a request, in the order in which they were sent.
-///
-/// Condition: `at` is the moment of the request.
 #[tactic(auto, unfolding(crate::specs::MeterValues::meter_values, crate::specs::Steps::for_each))]
 pub fn meter_values(
     alloc: Global,
-    request: Node,
-    at: Moment,
+    members: &RequestMembers,
+    at: &NamedMoment,
 ) -> Result<CountedReadings, PayloadFault>
-    requires { timestamp (node request) ≡ Ok at }
-    ensures ok { IfOk result (λ readings. spec.meter_values (node request.entry) ≡ Ok readings) }
+    requires { AreFound members.now }
+    ensures ok { IfOk result (λ readings. spec.meter_values (request_with members.now) ≡ Ok readings) }
     ensures err { IfErr result
-        (λ f. f ≢ OutOfMemory → spec.meter_values (node request.entry) ≡ Err f) }
-    ensures memory { IfErr result (λ f. f ≡ OutOfMemory → MeterValuesGrow (node request.entry)) }
+        (λ f. f ≢ OutOfMemory → spec.meter_values (request_with members.now) ≡ Err f) }
+    ensures memory { IfErr result (λ f. f ≡ OutOfMemory → MeterValuesGrow (request_with members.now)) }
 {
     let mut readings = CountedReadings::new(alloc);
-    if let Some(elements) = optional_items(request, "meterValue")? {
-        elements_in_turn(request, at, elements, &mut readings)?;
+    if let Some(elements) = members.meter_values()? {
+        elements_in_turn(at, elements, &mut readings)?;
     }
     Ok(readings)
 }

@@ -1,14 +1,15 @@
 //! The timestamp of an object.
-ghost use Rattle.std.specs.Prelude.{◌≡◌, ◌≢◌, Ok, IfErr};
+ghost use Rattle.std.specs.Prelude.{◌≡◌, ◌≢◌, option_map, IfErr};
 ghost use Rattle.marked_json.specs.Reading.{node};
 ghost use Rattle.transaction_event.specs.Timestamp as spec;
 ghost use Rattle.transaction_event.specs.declared.fault.PayloadFault.TheVariants.{OutOfMemory};
 
 use crate::PayloadFault;
-use crate::member::required_text;
+use crate::member::{required_text, required_text_of};
 use ledger_model::Moment;
 use marked_json::Node;
 use reading_decimal::moment_of;
+use std::marker::Model;
 
 #[tactic(auto, unfolding(crate::specs::Timestamp::moment_named))]
 fn moment_named(text: &str) -> Result<Moment, PayloadFault>
@@ -18,28 +19,54 @@ fn moment_named(text: &str) -> Result<Moment, PayloadFault>
     moment_of(text).map_err(|_| PayloadFault::Moment)
 }
 
-/// The moment that the object's `timestamp` names: `Missing`, `WrongType` or `Moment`.
-#[tactic(auto, unfolding(crate::specs::Timestamp::timestamp))]
-pub fn timestamp(object: Node) -> Result<Moment, PayloadFault>
-    ensures value { result ≡ spec.timestamp (node object.entry) }
-    ensures memory { IfErr result (λ f. f ≢ OutOfMemory) }
-{
-    moment_named(required_text(object, "timestamp")?)
+/// A moment, and the text that names it.
+#[derive(Drop)]
+pub struct NamedMoment<'a> {
+    text: &'a str,
+    moment: Moment,
 }
 
-/// The moment that the timestamp of a request's meter value names, as [`timestamp`] gives it. Most name the request's own
-/// moment by the same text, which is not read again then.
-///
-/// Condition: it is the moment of the request.
-#[tactic(auto, unfolding(crate::specs::Timestamp::timestamp))]
-pub fn timestamp_within(request: Node, moment: Moment, object: Node) -> Result<Moment, PayloadFault>
-    requires { spec.timestamp (node request) ≡ Ok moment }
-    ensures value { result ≡ spec.timestamp (node object.entry) }
-    ensures memory { IfErr result (λ f. f ≢ OutOfMemory) }
-{
-    let text = required_text(object, "timestamp")?;
-    match required_text(request, "timestamp") {
-        Ok(known) if known == text => Ok(moment),
-        _ => moment_named(text),
+impl<'a> Model for NamedMoment<'a> {
+    ghost use Rattle.std.specs.Prelude.{◌≡◌, ℕ, Ok};
+    ghost use Rattle.transaction_event.specs.Timestamp.{moment_named};
+
+    ghost Value = { ℕ };
+
+    ghost view = { λ n. n.moment };
+
+    ghost invariant = { λ n. moment_named n.text.now ≡ Ok n.moment };
+}
+
+impl<'a> NamedMoment<'a> {
+    /// The moment that a timestamp names: `Missing`, `WrongType` or `Moment`.
+    pub fn of(timestamp: Option<Node<'a>>) -> Result<NamedMoment<'a>, PayloadFault>
+        ensures value { result ≡ spec.timestamp_of (option_map node timestamp.entry) }
+        ensures memory { IfErr result (λ f. f ≢ OutOfMemory) }
+    {
+        let text = required_text_of(timestamp)?;
+        let moment = moment_named(text)?;
+        Ok(NamedMoment { text, moment })
+    }
+
+    /// The moment.
+    pub fn moment(&self) -> Moment
+        ensures { result ≡ self.now }
+    {
+        self.moment
+    }
+
+    /// The moment that the timestamp of an object names: `Missing`, `WrongType` or `Moment`. Most meter values name the
+    /// moment of their request by the same text, which is not read again then.
+    #[tactic(auto, unfolding(crate::specs::Timestamp::timestamp))]
+    pub fn timestamp(&self, object: Node) -> Result<Moment, PayloadFault>
+        ensures value { result ≡ spec.timestamp (node object.entry) }
+        ensures memory { IfErr result (λ f. f ≢ OutOfMemory) }
+    {
+        let text = required_text(object, "timestamp")?;
+        if text == self.text {
+            Ok(self.moment)
+        } else {
+            moment_named(text)
+        }
     }
 }

@@ -4,10 +4,11 @@ use Rattle.serde_json.specs.Data.{Data}
 use Rattle.ledger_model.specs.declared.kind.Kind.{Kind}
 use Rattle.ledger_model.specs.Event.{MeterReading}
 use Rattle.ledger_model.specs.Key.{KeyName}
-use Rattle.marked_json.specs.Reading.{node, text_of}
+use Rattle.marked_json.specs.Reading.{text_of}
 use Rattle.transaction_event.specs.Member.{required}
 use Rattle.transaction_event.specs.MeterValues.{meter_values}
 use Rattle.transaction_event.specs.Request.{Request, kind_of, key_of, evse_of, has_token, request_of}
+use Rattle.transaction_event.specs.RequestMembers.{request_with}
 use Rattle.transaction_event.specs.Steps.{Checked, ◌>>=◌}
 use Rattle.transaction_event.specs.Timestamp.{timestamp}
 use Rattle.transaction_event.proofs.request.read_event.Goals as goal
@@ -64,29 +65,29 @@ module _ (request : Data) (kind : Kind) (is_kind : Ok kind ≡ kind_of request) 
 pub returns-in_err-kind-clause-err : goal.returns-in_err-kind-clause-err
 returns-in_err-kind-clause-err c =
     let p = err_from_is_err_and c.from_residual.result c.from_residual.ensures.1 in
-    rw (p.1, p.2) (λ _. sym (by_kind (node c.args.request) (Err c.in_err-kind.field-0.0) c.in_err-kind.ensures.value))
+    rw (p.1, p.2) (λ _. sym (by_kind (request_with c.args.members.now) (Err c.in_err-kind.field-0.0) c.in_err-kind.ensures.value))
 
-pub returns-in_err-moment-clause-err : goal.returns-in_err-moment-clause-err
-returns-in_err-moment-clause-err c =
-    let p = err_from_is_err_and c.from_residual-in_err-moment.result c.from_residual-in_err-moment.ensures.1 in
-    rw (p.1, p.2) (λ _. sym (by_moment (node c.args.request) c.in_ok-kind.kind c.in_ok-kind.ensures.value (Err c.in_err-moment.field-0.0) c.in_err-moment.ensures.value))
+pub returns-in_err-timestamp-clause-err : goal.returns-in_err-timestamp-clause-err
+returns-in_err-timestamp-clause-err c =
+    let p = err_from_is_err_and c.from_residual-in_err-timestamp.result c.from_residual-in_err-timestamp.ensures.1 in
+    rw (p.1, p.2) (λ _. sym (by_moment (request_with c.args.members.now) c.in_ok-kind.kind c.in_ok-kind.ensures.value (Err c.in_err-timestamp.field-0.0) c.in_err-timestamp.ensures.value))
 
-pub returns-in_err-required_text-clause-err : goal.returns-in_err-required_text-clause-err
-returns-in_err-required_text-clause-err c =
-    let p = err_from_is_err_and c.from_residual-in_err-required_text.result c.from_residual-in_err-required_text.ensures.1 in
-    rw (p.1, p.2) (λ _. sym (by_reason (node c.args.request) c.in_ok-kind.kind c.in_ok-kind.ensures.value c.in_ok-moment.moment c.in_ok-moment.ensures.value (Err c.in_err-required_text.field-0.0) c.in_err-required_text.ensures.value))
+pub returns-in_err-trigger_reason-clause-err : goal.returns-in_err-trigger_reason-clause-err
+returns-in_err-trigger_reason-clause-err c =
+    let p = err_from_is_err_and c.from_residual-in_err-trigger_reason.result c.from_residual-in_err-trigger_reason.ensures.1 in
+    rw (p.1, p.2) (λ _. sym (by_reason (request_with c.args.members.now) c.in_ok-kind.kind c.in_ok-kind.ensures.value c.in_ok-timestamp.timestamp c.in_ok-timestamp.ensures.value (Err c.in_err-trigger_reason.field-0.0) c.in_err-trigger_reason.ensures.value))
 
 pub returns-in_err-key-clause-err : goal.returns-in_err-key-clause-err
 returns-in_err-key-clause-err c =
     let p = err_from_is_err_and c.from_residual-in_err-key.result c.from_residual-in_err-key.ensures.1 in
-    rw (p.1, p.2) (λ _. sym (by_key (node c.args.request) c.in_ok-kind.kind c.in_ok-kind.ensures.value c.in_ok-moment.moment c.in_ok-moment.ensures.value c.in_ok-required_text.field-0.now c.in_ok-required_text.ensures.value (Err c.in_err-key.field-0.0) c.in_err-key.ensures.value))
+    rw (p.1, p.2) (λ _. sym (by_key (request_with c.args.members.now) c.in_ok-kind.kind c.in_ok-kind.ensures.value c.in_ok-timestamp.timestamp c.in_ok-timestamp.ensures.value c.in_ok-trigger_reason.field-0.now c.in_ok-trigger_reason.ensures.value (Err c.in_err-key.field-0.0) c.in_err-key.ensures.value))
 
 pub returns-in_err-evse-clause-err : goal.returns-in_err-evse-clause-err
 returns-in_err-evse-clause-err c =
     let p = err_from_is_err_and c.from_residual-in_err-evse.result c.from_residual-in_err-evse.ensures.1 in
-    rw (p.1, p.2) (λ _. sym (by_evse (node c.args.request) c.in_ok-kind.kind c.in_ok-kind.ensures.value c.in_ok-moment.moment c.in_ok-moment.ensures.value c.in_ok-required_text.field-0.now c.in_ok-required_text.ensures.value c.in_ok-key.key c.in_ok-key.ensures.value (Err c.in_err-evse.field-0.0) c.in_err-evse.ensures.value))
+    rw (p.1, p.2) (λ _. sym (by_evse (request_with c.args.members.now) c.in_ok-kind.kind c.in_ok-kind.ensures.value c.in_ok-timestamp.timestamp c.in_ok-timestamp.ensures.value c.in_ok-trigger_reason.field-0.now c.in_ok-trigger_reason.ensures.value c.in_ok-key.key c.in_ok-key.ensures.value (Err c.in_err-evse.field-0.0) c.in_err-evse.ensures.value))
 
 pub returns-in_err-token-clause-err : goal.returns-in_err-token-clause-err
 returns-in_err-token-clause-err c =
     let p = err_from_is_err_and c.from_residual-in_err-token.result c.from_residual-in_err-token.ensures.1 in
-    rw (p.1, p.2) (λ _. sym (by_token (node c.args.request) c.in_ok-kind.kind c.in_ok-kind.ensures.value c.in_ok-moment.moment c.in_ok-moment.ensures.value c.in_ok-required_text.field-0.now c.in_ok-required_text.ensures.value c.in_ok-key.key c.in_ok-key.ensures.value c.in_ok-evse.evse c.in_ok-evse.ensures.value (Err c.in_err-token.field-0.0) c.in_err-token.ensures.value))
+    rw (p.1, p.2) (λ _. sym (by_token (request_with c.args.members.now) c.in_ok-kind.kind c.in_ok-kind.ensures.value c.in_ok-timestamp.timestamp c.in_ok-timestamp.ensures.value c.in_ok-trigger_reason.field-0.now c.in_ok-trigger_reason.ensures.value c.in_ok-key.key c.in_ok-key.ensures.value c.in_ok-evse.evse c.in_ok-evse.ensures.value (Err c.in_err-token.field-0.0) c.in_err-token.ensures.value))
