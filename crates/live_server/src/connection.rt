@@ -19,6 +19,10 @@ const SILENT_TICKS: u64 = 4 * 600;
 // More ticks than any other limit has.
 const MOST_TICKS: u64 = 128;
 
+// How many bytes a write has at most whose time begins where it waits. Nearly none waits, and the clock is not asked
+// then.
+const SHORT_WRITE: usize = 1_024;
+
 // How long what the peer had sent is read after the last that it is told.
 const LEAVING_SECONDS: u64 = 1;
 
@@ -27,7 +31,7 @@ const LEAVING_SECONDS: u64 = 1;
 pub(crate) struct Patience {
     // For its opening handshake, or its request.
     pub(crate) opening: u64,
-    // For a write, from its first byte to its last.
+    // For a write, from its first byte to its last; for a short one from its first wait.
     pub(crate) writing: u64,
 }
 
@@ -52,7 +56,7 @@ pub(crate) struct Connection<'a, R: Clock> {
     patience: Patience,
     phase: Cell<Phase>,
     silent: Cell<u64>,
-    // When the write under way began.
+    // Since when the write under way has its time.
     writing: Cell<Option<Instant>>,
 }
 
@@ -89,22 +93,23 @@ impl<'a, R: Clock> Connection<'a, R> {
         }
     }
 
-    // Tells whether a write that began then has to be given up.
-    fn is_write_over(&self, since: Instant) -> bool {
+    // Tells whether the write under way has to be given up.
+    fn is_write_over(&self) -> bool {
+        let Some(since) = self.writing.get() else {
+            return false;
+        };
         match self.phase.get() {
             Phase::Opening(began) => self.is_over(began, self.patience.opening),
             _ => self.is_over(since, self.patience.writing),
         }
     }
 
-    // When the write under way began.
-    fn writes_since(&self) -> io::Result<Instant> {
-        if let Some(since) = self.writing.get() {
-            return Ok(since);
+    // From here on the write under way has its time, if it has not yet.
+    fn times_write(&self) -> io::Result<()> {
+        if self.writing.get().is_none() {
+            self.writing.set(Some(Instant::now(self.rt)?));
         }
-        let now = Instant::now(self.rt)?;
-        self.writing.set(Some(now));
-        Ok(now)
+        Ok(())
     }
 
     // Counts a tick without bytes, and tells whether it was one too many.
@@ -150,6 +155,14 @@ fn is_tick(moved: &io::Result<usize>) -> bool {
     match moved {
         Ok(_) => false,
         Err(error) => error.kind() == ErrorKind::WouldBlock,
+    }
+}
+
+// Tells whether all of the bytes were written.
+fn is_whole(written: &io::Result<usize>, bytes: &[u8]) -> bool {
+    match written {
+        Ok(count) => *count == bytes.len(),
+        Err(_) => false,
     }
 }
 
@@ -240,12 +253,18 @@ impl<R: Clock> Read for ConnectionStream<'_, R> {
 
 impl<R: Clock> Write for ConnectionStream<'_, R> {
     fn write(&mut self, buf: &[u8]) -> io::Result<usize> {
-        let since = self.connection.writes_since()?;
+        if buf.len() > SHORT_WRITE {
+            self.connection.times_write()?;
+        }
         for _ in 0..MOST_TICKS {
-            if self.connection.is_write_over(since) {
+            if self.connection.is_write_over() {
                 break;
             }
             let written = self.stream.write(buf);
+            if is_whole(&written, buf) {
+                return written;
+            }
+            self.connection.times_write()?;
             if !is_tick(&written) {
                 return written;
             }
