@@ -1,17 +1,17 @@
 -- The marked text of a text of UTF-8 is one.
-use Rattle.std.proofs.Common.{◌≡◌, ◌<◌, ◌≤◌, ◌+◌, ◌-◌, ◌⊎◌, inl, inr, ℕ, zero, suc, Bool, true, false, cond, eqb, not, List, [], ◌∷◌, ◌++◌, take, drop, get_or, length, Ok, Err, refl, ap, sym, subst, ◌∙◌, arith, append_assoc, append-nil}
+use Rattle.std.proofs.Common.{◌≡◌, ◌<◌, ◌≤◌, ◌+◌, ◌⊎◌, inl, inr, ℕ, zero, suc, Bool, true, false, cond, eqb, not, List, [], ◌∷◌, ◌++◌, take, drop, get_or, length, Ok, Err, refl, ap, sym, subst, ◌∙◌, arith, append_assoc, append-nil}
 use Rattle.std.specs.List.{prefix_len}
 use Rattle.std.specs.Str.{IsUtf8, IsAscii, IsCharBoundary}
 use Rattle.std.proofs.lemmas.Bool.{cases_lt}
 use Rattle.std.proofs.lemmas.Bool.Decides.{nat_tests}
-use Rattle.std.proofs.lemmas.List.{length-drop, get_or-drop, drop-drop, at_drop_more, take_more, take_all}
+use Rattle.std.proofs.lemmas.List.{length-drop, get_or-drop, at_drop_more, take_more, take_all}
 use Rattle.std.proofs.lemmas.Str.{IsUtf8-append, IsUtf8-take, IsUtf8-drop, IsUtf8-from_ascii, IsCharBoundary-after_ascii, IsCharBoundary-before_ascii}
 use Rattle.marked_json.specs.Number.{is_number}
 use Rattle.marked_json.specs.Marking.{Marks, with_front, marked, outside, marked_token, is_before_colon, begins_number, goes_on_number}
-use Rattle.marked_json.specs.Steps.{string_len, completed}
+use Rattle.marked_json.specs.Steps.{string_len}
 use Rattle.marked_json.specs.declared.fault.JsonFault.TheVariants.{BadNumber, NumberAsKey}
 use Rattle.marked_json.proofs.Cuts.{IsCharBoundary-token, number_ascii}
-use Rattle.marked_json.proofs.Marks.{with_front-with_front, marked-plain, marked-at_quote, marked-string, marked-at_number, completed-end}
+use Rattle.marked_json.proofs.Marks.{marked-plain, marked-at_quote, marked-string, marked-at_number, completed-end, token_is_some}
 
 -- what follows a front that was marked
 ok_behind : (front : List ℕ) (m : Marks) (out : List ℕ) → with_front front m ≡ Ok out → (rest : List ℕ) × (m ≡ Ok rest) × (out ≡ front ++ rest)
@@ -38,10 +38,6 @@ string_len-within false (c ∷ cs) = by (eqb c 34) (string_len-within (eqb c 92)
 only_ascii : (c : ℕ) → c < 128 → IsAscii (c ∷ [])
 only_ascii c low zero = low
 only_ascii c low (suc i) = omega arith
-
-one_goes : (b : Bool) (n k : ℕ) → b ≡ true → k ≡ cond b (1 + n) 0 → 0 < k
-one_goes true n k h is = omega arith
-one_goes false n k h is = cc
 
 ascii_alone : (c : ℕ) → c < 128 → IsUtf8 (c ∷ [])
 ascii_alone c low = IsUtf8-from_ascii (c ∷ []) (only_ascii c low)
@@ -85,8 +81,7 @@ behind_step n marked_behind rest seen more within few u h = by_end (cases_lt see
       let token : marked outside numeral ≡ marked_token (take k numeral) (drop k numeral) (marked outside (drop k numeral)) = marked-at_number numeral (omega (arith, length-drop seen rest)) here in
       let put = ok_token (take k numeral) (drop k numeral) (marked outside (drop k numeral)) more (sym token ∙ h) in
       let behind = ok_behind (34 ∷ 35 ∷ (take k numeral ++ 34 ∷ [])) (marked outside (drop k numeral)) more put in
-      let goes : goes_on_number c ≡ true = grind (arith, nat_tests) in
-      let some_digit : 0 < k = one_goes (goes_on_number c) (prefix_len goes_on_number left) k goes (at_drop_more (prefix_len goes_on_number) rest seen 0 some) in
+      let some_digit : 0 < k = token_is_some rest seen k some begins refl in
       let later : IsUtf8 behind.0 = marked_behind (drop k numeral) 0 behind.0 (omega arith) (omega (arith, length-drop k numeral, length-drop seen rest)) (IsUtf8-drop numeral k text end) behind.1 in
       let quoted : IsUtf8 (take k numeral ++ 34 ∷ []) = IsUtf8-append (take k numeral) (34 ∷ []) (IsUtf8-take numeral k text end) (ascii_alone 34 (omega arith)) in
       let marks : IsUtf8 (34 ∷ 35 ∷ []) = IsUtf8-append (34 ∷ []) (35 ∷ []) (ascii_alone 34 (omega arith)) (ascii_alone 35 (omega arith)) in

@@ -8,11 +8,11 @@ use Rattle.std.proofs.lemmas.Slice.Eq.{bytes_eq-Decides}
 use Rattle.serde_json.specs.Data.{Data}
 use Rattle.serde_json.specs.Find.{get_member, as_object}
 use Rattle.serde_json.specs.View.{view, members_view}
-use Rattle.serde_json.proofs.Views.{Entry, member_here, member_later}
+use Rattle.serde_json.proofs.Views.{member_here, member_later}
 use Rattle.marked_json.specs.declared.node.Node.{Node}
 use Rattle.marked_json.specs.declared.wanted.Wanted.{Wanted}
 use Rattle.marked_json.specs.Reading.{node, unless_null, field_of}
-use Rattle.marked_json.specs.Wanted.{name_of, first_of, found, offered, within}
+use Rattle.marked_json.specs.Wanted.{Entry, name_of, first_of, found, offered, within}
 
 -- the first of two, where the second is put in only for want of the first
 taken : (first : Option Node) (same : Bool) (member : Node) (rest all : Option Data) → (same ≡ true → all ≡ Some (node member)) → (same ≡ false → all ≡ rest)

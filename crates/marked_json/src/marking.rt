@@ -40,10 +40,10 @@ fn mark_whole(out: &mut Vec<u8>, text: &str) -> Result<(), JsonFault>
 fn room_for(alloc: Global, text_len: usize) -> Result<Vec<u8>, AllocError>
     ensures { IfOk result (λ out. 5 * text_len + 3 ≤ 2 * length out.items) }
 {
-    let Some(twice) = text_len.checked_mul(5) else {
+    let Some(halves) = text_len.checked_mul(5) else {
         return Err(AllocError);
     };
-    Vec::from_elem(alloc, 0, twice / 2 + 2)
+    Vec::from_elem(alloc, 0, halves / 2 + 2)
 }
 
 // Puts the marked text where there is room for it, and tells its length.
@@ -78,9 +78,7 @@ fn mark_next(
     requires some { at < length text.now }
     requires room { 5 * length text.now + 3 ≤ 2 * length out.old }
     requires few { steps.IsWithinRoom len text.now at }
-    ensures ok { IfOk result (λ next. steps.completed (take next.0 out.new) (drop next.1 text.now) ≡ steps.completed (take len out.old) (drop at text.now)) }
-    ensures moved { IfOk result (λ next. (at < next.1) × (next.1 ≤ length text.now)) }
-    ensures few { IfOk result (λ next. steps.IsWithinRoom next.0 text.now next.1) }
+    ensures step { IfOk result (steps.IsStep text.now out.old out.new len at) }
     ensures same_room { length out.new ≡ length out.old }
     ensures err { IfErr result (λ fault. steps.completed (take len out.old) (drop at text.now) ≡ Err fault) }
 {
@@ -101,9 +99,7 @@ fn mark_string(out: &mut [u8], len: usize, text: &[u8], at: usize) -> (usize, us
     requires quote { slice_index text.now at ≡ 34 }
     requires room { 5 * length text.now + 3 ≤ 2 * length out.old }
     requires few { steps.IsWithinRoom len text.now at }
-    ensures put { steps.completed (take result.0 out.new) (drop result.1 text.now) ≡ steps.completed (take len out.old) (drop at text.now) }
-    ensures moved { (at < result.1) × (result.1 ≤ length text.now) }
-    ensures few { steps.IsWithinRoom result.0 text.now result.1 }
+    ensures step { steps.IsStep text.now out.old out.new len at result }
     ensures same_room { length out.new ≡ length out.old }
 {
     let (_, inside) = text.split_at(at + 1);
@@ -169,9 +165,7 @@ fn mark_number(
     requires begins { spec.begins_number (slice_index text.now at) ≡ true }
     requires room { 5 * length text.now + 3 ≤ 2 * length out.old }
     requires few { steps.IsWithinRoom len text.now at }
-    ensures ok { IfOk result (λ next. steps.completed (take next.0 out.new) (drop next.1 text.now) ≡ steps.completed (take len out.old) (drop at text.now)) }
-    ensures moved { IfOk result (λ next. (at < next.1) × (next.1 ≤ length text.now)) }
-    ensures few { IfOk result (λ next. steps.IsWithinRoom next.0 text.now next.1) }
+    ensures step { IfOk result (steps.IsStep text.now out.old out.new len at) }
     ensures same_room { length out.new ≡ length out.old }
     ensures err { IfErr result (λ fault. steps.completed (take len out.old) (drop at text.now) ≡ Err fault) }
 {

@@ -1,8 +1,8 @@
-use Rattle.std.proofs.Common.{◌≡◌, ◌<◌, ◌≤◌, ◌+◌, ◌*◌, ap, sym, ◌++◌, ◌∷◌, [], ◌∙◌, false, true, take, drop, length, get_or, arith}
+use Rattle.std.proofs.Common.{◌≡◌, ◌<◌, ◌≤◌, ◌+◌, ◌*◌, ap, sym, ◌++◌, ◌∷◌, [], ◌∙◌, false, true, take, drop, length, arith}
 use Rattle.std.specs.List.{prefix_len}
 use Rattle.std.proofs.lemmas.List.{drop-drop}
 use Rattle.marked_json.specs.Number.{is_number}
-use Rattle.marked_json.specs.Marking.{is_before_colon, begins_number, goes_on_number, marked, outside}
+use Rattle.marked_json.specs.Marking.{is_before_colon, goes_on_number, marked, outside}
 use Rattle.marked_json.specs.Steps.{completed}
 use Rattle.marked_json.proofs.Marks.{completed-token_at, marked_token-bad, marked_token-key, marked_token-good, token_is_some, token_is_whole}
 use Rattle.marked_json.proofs.marking.mark_number.Goals as goal
@@ -28,8 +28,8 @@ returns-then-is_before_colon-clause-err c =
     completed-token_at old c.args.text.now token left c.args.at count c.requires.some c.requires.begins (c.token_len-count.ensures.value ∙ ap (prefix_len goes_on_number) c.split_at.ensures.back) (c.split_at-2.ensures.front ∙ ap (take count) c.split_at.ensures.back) (c.split_at-2.ensures.back ∙ ap (drop count) c.split_at.ensures.back)
     ∙ marked_token-key old token left (marked outside left) good key
 
-pub returns-clause-ok : goal.returns-clause-ok
-returns-clause-ok c =
+pub returns-clause-step : goal.returns-clause-step
+returns-clause-step c =
     let old = take c.args.len c.args.out.now in
     let token = c.split_at-2.result.0.now in
     let left = c.split_at-2.result.1.now in
@@ -43,16 +43,15 @@ returns-clause-ok c =
     let added : new ≡ ((old ++ 34 ∷ 35 ∷ []) ++ token) ++ 34 ∷ [] =
     last ∙ c.put_byte.ensures.put ∙ ap (λ xs. xs ++ 34 ∷ []) (middle ∙ ap (λ xs. xs ++ token) c.put_bytes.ensures.put) in
     let end : drop (c.args.at + count) c.args.text.now ≡ left = sym ((c.split_at-2.ensures.back ∙ ap (drop count) c.split_at.ensures.back) ∙ drop-drop count c.args.at c.args.text.now) in
-    ap (completed new) end
-    ∙ marked_token-good old new token left (marked outside left) good no_key added
-    ∙ sym (completed-token_at old c.args.text.now token left c.args.at count c.requires.some c.requires.begins (c.token_len-count.ensures.value ∙ ap (prefix_len goes_on_number) c.split_at.ensures.back) (c.split_at-2.ensures.front ∙ ap (take count) c.split_at.ensures.back) (c.split_at-2.ensures.back ∙ ap (drop count) c.split_at.ensures.back))
-
-pub returns-clause-few : goal.returns-clause-few
-returns-clause-few c =
-    let count = c.token_len-count.result in
     let is : count ≡ prefix_len goes_on_number (drop c.args.at c.args.text.now) = c.token_len-count.ensures.value ∙ ap (prefix_len goes_on_number) c.split_at.ensures.back in
     let some : 0 < count = token_is_some c.args.text.now c.args.at count c.requires.some c.requires.begins is in
-    let few : 2 * c.args.len ≤ 5 * c.args.at = c.requires.few.1 c.requires.some c.requires.begins in (
-      omega (arith, few, some),
-      λ more begins. absurd (token_is_whole c.args.text.now c.args.at count is more begins),
-    )
+    let few : 2 * c.args.len ≤ 5 * c.args.at = c.requires.few.1 c.requires.some c.requires.begins in
+    record {
+      same =
+          ap (completed new) end
+          ∙ marked_token-good old new token left (marked outside left) good no_key added
+          ∙ sym (completed-token_at old c.args.text.now token left c.args.at count c.requires.some c.requires.begins is (c.split_at-2.ensures.front ∙ ap (take count) c.split_at.ensures.back) (c.split_at-2.ensures.back ∙ ap (drop count) c.split_at.ensures.back));
+      forward = omega (arith, some);
+      within = omega (arith, c.requires.some, c.token_len-count.ensures.within, c.split_at.ensures.back_len);
+      few = (omega (arith, few, some), λ more begins. absurd (token_is_whole c.args.text.now c.args.at count is more begins));
+    }

@@ -1,7 +1,6 @@
 use Rattle.std.proofs.Common.{◌≡◌, ◌∷◌, map, ap, sym, refl, ◌∙◌}
-use Rattle.serde_json.proofs.Views.{Entry}
 use Rattle.marked_json.specs.declared.node.Node.{Node}
-use Rattle.marked_json.specs.Wanted.{offered, within}
+use Rattle.marked_json.specs.Wanted.{Entry, offered, within}
 use Rattle.marked_json.proofs.WantedMembers.{within-each_offered}
 use Rattle.marked_json.proofs.wanted.find_among.Goals as goal
 
