@@ -45,10 +45,11 @@ pub struct Restoring {
     pub allows_left_out: bool,
 }
 
-/// Serves a plan's stations as [`serve_live`](live_server::serve_live) does, and writes a journal: a comment, the plan's
-/// declarations, and the line of each accepted change, which the writer behind the buffer took before the change is
-/// answered, with the time of its receipt in front of it where that is asked for. Where it listens and what an operator is answered goes to `told`; the boards come back as a value. Where the
-/// journal can't be written nothing more is accepted, and the server ends itself with `WriteFault`; its boards are there.
+/// Serves a plan's stations as [`serve_live`](live_server::serve_live) does, and writes a journal: a comment, the
+/// plan's declarations, and the line of each accepted change, which the writer behind the buffer took before the change
+/// is answered, with the time of its receipt in front of it where that is asked for. Where it listens and what an
+/// operator is answered goes to `told`; the boards come back as a value. Where the journal can't be written nothing
+/// more is accepted, and the server ends itself with `WriteFault`; its boards are there.
 ///
 /// A plan with a fault is told before anything is written.
 pub fn serve_journalled<

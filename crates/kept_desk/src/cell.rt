@@ -15,7 +15,7 @@ use crate::share::Share;
 use crate::way::Journalled;
 use ledger_model::{Answer, Command, Refusal};
 use site_book::{Naming, SiteBook, Told};
-use site_desk::{HasCell, StationPlace, can_post, settle_judged_at};
+use site_desk::{HasCell, StationPlace, settle_at};
 use station_cell::{Pass, StationCell, TooManyPasses, enlist_cell};
 use station_ledger::Judgement;
 use std::io::Write;
@@ -176,12 +176,12 @@ fn settle_written<J: Naming, R: Wait>(
     ensures settled { IsInService cell.new → cell.new ≡ cell_after cell.old pass.old judged.command }
     ensures submitted { Submitted place.now pass.old judged.command result.0 pass.new result.1 }
 {
-    let mut book = book.lock(rt);
-    if can_post(cell, &book, number, place, pass) {
-        let Judged { command, judgement } = judged;
-        settle_judged_at(cell, &mut book, number, place, pass, command, judgement)
-    } else {
-        cell.retire();
-        (Answer::Refused(Refusal::ChangesExhausted), None)
+    let Judged { command, judgement } = judged;
+    match settle_at(rt, cell, book, number, place, pass, command, judgement) {
+        Some(settled) => settled,
+        None => {
+            cell.retire();
+            (Answer::Refused(Refusal::ChangesExhausted), None)
+        }
     }
 }

@@ -58,10 +58,10 @@ impl<J: Naming, K: Opening, W: Write + Drop> KeptDesk<J, K, W> {
     /// The desk of a plan over these parts, with a journal of no entries that writes behind what the writer
     /// holds, and the viewers, each with its site's number.
     ///
-    /// Conditions: K names this table, what the writer behind the buffer holds, what the stations hold and what
-    /// they are called; nothing is left in the buffer; the plan has no fault ([`Plan::fault`] tells), and the parts are a cell for each of its
-    /// stations and a book for each of its sites, as [`Parts::open`] gives them, whatever commands they
-    /// took since.
+    /// Conditions: K names this table, what the writer behind the buffer holds, what the stations hold and what they
+    /// are called; nothing is left in the buffer; the plan has no fault ([`Plan::fault`] tells), and the parts are a
+    /// cell for each of its stations and a book for each of its sites, as [`Parts::open`] gives them, whatever commands
+    /// they took since.
     pub fn open(
         alloc: Global,
         plan: &Plan,

@@ -135,7 +135,8 @@ fn serve_desk<J: Naming + Send + Sync, R: Host, O: Orders, W: Write + Drop, L: W
     end_run(alloc, plan, desk, ran)
 }
 
-// Closes the desk, writes the boards behind what its output has, and gives the passes. How the operator's lines ended is told after that.
+// Closes the desk, writes the boards behind what its output has, and gives the passes. How the operator's lines ended
+// is told after that.
 fn end_run<J: Naming, W: Write + Drop>(
     alloc: Global,
     plan: &Plan,

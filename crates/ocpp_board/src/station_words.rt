@@ -28,8 +28,9 @@ impl Display for WordFault<'_> {
     }
 }
 
-/// The plan of the stations that these words name, in their order, under these limits. A site begins at its first mention,
-/// and has so many viewers, this settlement period and this order of readings. Names of stations that stand twice are left to the desk to refuse.
+/// The plan of the stations that these words name, in their order, under these limits. A site begins at its first
+/// mention, and has so many viewers, this settlement period and this order of readings. Names of stations that stand
+/// twice are left to the desk to refuse.
 pub fn plan_of<'a>(
     words: &[&'a str],
     viewers: u16,

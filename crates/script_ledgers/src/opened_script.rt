@@ -26,7 +26,7 @@ use message_ahead::{Lookahead, SentEvent};
 use script_lines::{LineFault, LineReader, ScriptLine, put_answer, put_fault, put_line, read_line};
 use site_book::{Naming, SiteBook, Tables};
 use site_desk::Parts;
-use station_cell::{Pass, StationCell, enlist_cell, settle_judged};
+use station_cell::{Pass, StationCell, enlist_cell, settle};
 use std::alloc::{AllocError, Global};
 use std::io;
 use std::io::BufRead;
@@ -308,7 +308,7 @@ impl<J: Naming> OpenedScript<J> {
         let site = cell.site() as usize;
         let pass = &mut self.passes[number];
         let judgement = cell.ledger().judgement(&command);
-        let (answer, _) = settle_judged(cell, &mut self.books[site], pass, command, judgement);
+        let (answer, _) = settle(cell, &mut self.books[site], pass, command, judgement);
         answer
     }
 

@@ -13,9 +13,10 @@ use std::thread::Threads;
 
 /// Replays a script: reads its lines and writes the text of each.
 ///
-/// After `Ok` the reader was read to its end, and the bytes written are the text of the bytes read. After a
-/// ReadFault or TooMuchInput they are the text of the complete lines read, after a WriteFault a front of the text
-/// of the complete lines read, or of all lines where the reader is at its end, and after OutOfMemory the text of the lines before that of the last byte read.
+/// After `Ok` the reader was read to its end, and the bytes written are the text of the bytes read. After a ReadFault
+/// or TooMuchInput they are the text of the complete lines read, after a WriteFault a front of the text of the complete
+/// lines read, or of all lines where the reader is at its end, and after OutOfMemory the text of the lines before that
+/// of the last byte read.
 pub fn replay_stream<X: AllocGlobal + Threads, R: BufRead, W: Write>(
     rt: &X,
     reader: &mut R,

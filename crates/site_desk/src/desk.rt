@@ -95,10 +95,10 @@ impl<J: Naming> Desk<J, StationCell> {
     }
 
     /// Takes a command of a pass and answers it, under the station's lock: where it is accepted, the station's new
-    /// figures are posted under its site's lock, too, and what the book told comes with the answer.
-    /// Any other answer changes nothing and waits for no other station. `ChangesExhausted` also answers a pass of no station of this
-    /// desk, and where what lies behind the locks is not as it should be, which no run of fewer than
-    /// 2^62 accepted changes a site meets.
+    /// figures are posted under its site's lock, too, and what the book told comes with the answer. Any other answer
+    /// changes nothing and waits for no other station. `ChangesExhausted` also answers a pass of no station of this
+    /// desk, and where what lies behind the locks is not as it should be, which no run of fewer than 2^62 accepted
+    /// changes a site meets.
     pub fn submit<G: Gate, R: Wait + Clock>(
         &self,
         rt: &R,

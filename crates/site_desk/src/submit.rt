@@ -1,4 +1,4 @@
-ghost use Rattle.std.specs.Prelude.{◌≡◌, IsTrue, IfOk};
+ghost use Rattle.std.specs.Prelude.{◌≡◌, IsNone, IsTrue, IfOk, IfSome};
 ghost use Rattle.ledger_model.specs.Figures.{AreWithin};
 ghost use Rattle.site_desk.specs.Roster.{StandsAt};
 ghost use Rattle.station_cell.specs.Settle.{cell_after};
@@ -8,7 +8,7 @@ ghost use Rattle.site_desk.specs.Submit.{CanJudge, CanSettle, IsBoardWithin, Sub
 use crate::roster::StationPlace;
 use ledger_model::{Answer, Command, Refusal};
 use site_book::{Naming, SiteBook, Told};
-use station_cell::{Pass, StationCell, settle_judged, tied};
+use station_cell::{Pass, StationCell, settle, tied};
 use station_ledger::{Judgement, StationBoard};
 use std::alloc::{AllocError, Global};
 use std::sync::{Mutex, Wait};
@@ -33,11 +33,8 @@ pub fn can_judge(cell: &StationCell, number: usize, place: &StationPlace, pass: 
     cell.is_in_service() && stands_at(cell, number, place) && cell.knows(pass)
 }
 
-/// Tells whether all is so that settling a command of the pass asks where what judging asks is so: at the book of the
-/// cell's site.
-///
-/// Condition: what judging asks ([`can_judge`] tells).
-pub fn can_post<J: Naming>(
+// Tells whether all is so that settling a command of the pass asks, where all that judging asks is so.
+fn can_post<J: Naming>(
     cell: &StationCell,
     book: &SiteBook<J>,
     number: usize,
@@ -53,12 +50,9 @@ pub fn can_post<J: Naming>(
         && tied(cell, book)
 }
 
-/// Settles a command that was judged already ([`settle_judged`]), and tells also what that means to one who does not
-/// know what lay behind the locks.
-///
-/// Conditions: what settling asks ([`can_judge`] and then [`can_post`] tell), and this is the judgement of the command by
-/// the cell's ledger as it is now ([`StationLedger::judgement`](station_ledger::StationLedger::judgement) gives it).
-pub fn settle_judged_at<J: Naming>(
+// Settles a command that was judged so, and tells also what that means to one who does not know what lay behind the
+// locks.
+fn settle_locked<J: Naming>(
     cell: &mut StationCell,
     book: &mut SiteBook<J>,
     number: usize,
@@ -72,7 +66,7 @@ pub fn settle_judged_at<J: Naming>(
     ensures cell { cell.new ≡ cell_after cell.old pass.old command }
     ensures submitted { Submitted place.now pass.old command result.0 pass.new result.1 }
 {
-    settle_judged(cell, book, pass, command, judgement)
+    settle(cell, book, pass, command, judgement)
 }
 
 // Takes a command at what is behind the station's lock, as `Desk::submit` does where judging it may begin. One that the
@@ -91,17 +85,24 @@ pub(crate) fn try_settle<J: Naming, R: Wait>(
 {
     let judgement = cell.ledger().judgement(&command);
     match judgement.answer {
-        Answer::Accepted(_) => settle_with_book(
-            rt, cell, book, number, place, pass, command, judgement,
-        ),
+        Answer::Accepted(_) => {
+            match settle_at(rt, cell, book, number, place, pass, command, judgement) {
+                Some(settled) => settled,
+                None => (Answer::Refused(Refusal::ChangesExhausted), None),
+            }
+        }
         Answer::Repeat => (Answer::Repeat, None),
         Answer::Refused(why) => (Answer::Refused(why), None),
     }
 }
 
-// Settles a command that was judged so, under the lock of the site's book, where all that settling asks is so; else nothing
-// changes.
-fn settle_with_book<J: Naming, R: Wait>(
+/// Settles a command that was judged so ([`settle`]), under the lock of the site's book, which is waited for. Where the
+/// book is not as it should be, which no run of fewer than 2^62 accepted changes a site meets, nothing changes, and there
+/// is no answer.
+///
+/// Conditions: what judging asks ([`can_judge`] tells), and this is the judgement of the command by the cell's ledger as
+/// it is now ([`StationLedger::judgement`](station_ledger::StationLedger::judgement) gives it).
+pub fn settle_at<J: Naming, R: Wait>(
     rt: &R,
     cell: &mut StationCell,
     book: &Mutex<SiteBook<J>>,
@@ -110,16 +111,19 @@ fn settle_with_book<J: Naming, R: Wait>(
     pass: &mut Pass,
     command: Command,
     judgement: Judgement,
-) -> (Answer, Option<Told<J>>)
+) -> Option<(Answer, Option<Told<J>>)>
     requires can { CanJudge number place.now cell.old pass.old }
     requires judged { IsJudged cell.old.limits cell.old.content command judgement.answer }
-    ensures { Submitted place.now pass.old command result.0 pass.new result.1 }
+    ensures cell { IfSome result (λ _. cell.new ≡ cell_after cell.old pass.old command) }
+    ensures submitted { IfSome result (λ r. Submitted place.now pass.old command r.0 pass.new r.1) }
+    ensures unchanged { IsNone result → (cell.new ≡ cell.old) × (pass.new ≡ pass.old) }
 {
     let mut book = book.lock(rt);
     if can_post(cell, &book, number, place, pass) {
-        settle_judged_at(cell, &mut book, number, place, pass, command, judgement)
+        let settled = settle_locked(cell, &mut book, number, place, pass, command, judgement);
+        Some(settled)
     } else {
-        (Answer::Refused(Refusal::ChangesExhausted), None)
+        None
     }
 }
 

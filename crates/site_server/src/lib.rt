@@ -6,10 +6,10 @@
 //! many connections, glances at the totals meanwhile where that is wished, closes the desk and writes the
 //! board of each site. [`simulate`] does the same for simulated stations, which it starts itself.
 //!
-//! The crate's one contract: what is written of a closed desk is, for each site in the plan's order, the
-//! board from scratch from the content of its stations' ledgers, and its totals are the sums over them
-//! ([`closed_board`](board_report::closed_board)). `serve_many` gives back passes of the desk alone, at most one for each connection.
-//! That connections are served at once, what a socket delivers, and all timing is shown by tests.
+//! The crate's one contract: what is written of a closed desk is, for each site in the plan's order, the board from
+//! scratch from the content of its stations' ledgers, and its totals are the sums over them
+//! ([`closed_board`](board_report::closed_board)). `serve_many` gives back passes of the desk alone, at most one for
+//! each connection. That connections are served at once, what a socket delivers, and all timing is shown by tests.
 //!
 //! ```text
 //! let passes = serve_many(rt, alloc, &listener, 2, &desk, &NoGate)?;   // two connections, both to their end

@@ -17,7 +17,7 @@ use station_ledger::Judgement;
 /// ([`SiteBook::holds`] tells) and can post ([`SiteBook::can_post`] tells), the row is tied ([`tied`] tells), and
 /// this is the judgement of the command by the cell's ledger as it is now
 /// ([`StationLedger::judgement`](station_ledger::StationLedger::judgement) gives it).
-pub fn settle_judged<J: Naming>(
+pub fn settle<J: Naming>(
     cell: &mut StationCell,
     book: &mut SiteBook<J>,
     pass: &mut Pass,

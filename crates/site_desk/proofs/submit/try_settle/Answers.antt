@@ -6,8 +6,8 @@ use Rattle.station_cell.proofs.Settled.{judged_here}
 use Rattle.site_desk.proofs.Submits.{submitted}
 use Rattle.site_desk.proofs.submit.try_settle.Goals as goal
 
-pub settle_with_book-requires-clause-judged : goal.settle_with_book-requires-clause-judged
-settle_with_book-requires-clause-judged g c =
+pub settle_at-requires-clause-judged : goal.settle_at-requires-clause-judged
+settle_at-requires-clause-judged g c =
     judged_here _ _ _ _ c.args.command c.judgement-judgement.result.answer c.ledger.ensures.limits c.ledger.ensures.content c.judgement-judgement.ensures
 
 pub returns-in-Repeat : goal.returns-in-Repeat

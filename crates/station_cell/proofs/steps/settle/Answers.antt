@@ -3,7 +3,7 @@ use Rattle.ledger_model.specs.declared.answer.Answer.TheVariants.{Repeat, Refuse
 use Rattle.ledger_model.specs.Board.{figures_by}
 use Rattle.ledger_model.specs.Content.{entries}
 use Rattle.station_cell.proofs.Settled.{book_posted, known_after, tied_after}
-use Rattle.station_cell.proofs.steps.settle_judged.Goals as goal
+use Rattle.station_cell.proofs.steps.settle.Goals as goal
 
 pub returns-in-Accepted : goal.returns-in-Accepted
 returns-in-Accepted g c =
