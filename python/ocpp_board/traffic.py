@@ -46,18 +46,29 @@ def name(station: int) -> str:
     return f"CS-{station + 1:02}"
 
 
+def message(number: int, kind: str, time: datetime, seq: int, transaction: str, energy: int) -> str:
+    """The message of an event with one reading, in Wh."""
+    moment = time.strftime(MOMENT)
+    return (
+        f'[2,"{number}","TransactionEvent",{{"eventType":"{kind}","timestamp":"{moment}",'
+        f'"triggerReason":"MeterValuePeriodic","seqNo":{seq},'
+        f'"transactionInfo":{{"transactionId":"{transaction}"}},'
+        f'"meterValue":[{{"timestamp":"{moment}","sampledValue":[{{"value":{energy}}}]}}]}}]'
+    )
+
+
+def kind_of(seq: int, last: int) -> str:
+    """The kind of an event of a session whose last event has this number."""
+    return "Started" if seq == 0 else "Ended" if seq == last else "Updated"
+
+
 def event(number: int, stations: int) -> str:
-    """The message of the event of this number, counted over all stations."""
+    """The line of the event of this number, counted over all stations."""
     own, station = divmod(number, stations)
     session, seq = divmod(own, SESSION)
-    kind = "Started" if seq == 0 else "Ended" if seq == SESSION - 1 else "Updated"
-    time = (FIRST + timedelta(seconds=STEP * own)).strftime(MOMENT)
-    return (
-        f'msg {name(station)} [2,"{number}","TransactionEvent",{{"eventType":"{kind}","timestamp":"{time}",'
-        f'"triggerReason":"MeterValuePeriodic","seqNo":{seq},'
-        f'"transactionInfo":{{"transactionId":"S-{session}"}},'
-        f'"meterValue":[{{"timestamp":"{time}","sampledValue":[{{"value":{START + RISE * own}}}]}}]}}]'
-    )
+    time = FIRST + timedelta(seconds=STEP * own)
+    text = message(number, kind_of(seq, SESSION - 1), time, seq, f"S-{session}", START + RISE * own)
+    return f"msg {name(station)} {text}"
 
 
 def script(count: int, stations: int) -> Iterator[str]:
