@@ -1,6 +1,6 @@
 """Measures what a server takes of the processors for a message, beside an echo.
 
-    tests/one measure.round_trips PROGRAM [--connections 16] [--kinds again ..] [--rounds 9] [--messages 20000]
+    tests/one measure.round_trips PROGRAM [--connections 16] [--kinds again ..] [--rounds 9] [--messages 15000]
         [--environment NAME=VALUE ..]
 
 Each round begins with another kind, and has one run of the echo. It needs `rustc`, which builds the
@@ -18,12 +18,14 @@ from collections.abc import Sequence
 from dataclasses import dataclass
 from pathlib import Path
 from statistics import median
+from subprocess import PIPE
 
 from tests.measure.rounds import stolen
 
 STATIONS = 64
-KINDS = ("again", "new", "heartbeat")
-ECHO = "echo"
+# What is sent. `journalled` are new events at a server with a journal.
+KINDS = ("again", "new", "heartbeat", "journalled")
+ECHO, JOURNALLED = "echo", "journalled"
 
 
 @dataclass(frozen=True)
@@ -43,41 +45,42 @@ def memory_of(process: int) -> int:
     return next(int(line.split()[1]) for line in lines if line.startswith("VmHWM"))
 
 
-def started(words: Sequence[str], environment: Sequence[str]) -> tuple[subprocess.Popen[str], str]:
-    """A server, and the port that it tells first."""
-    variables = os.environ | dict(each.split("=", 1) for each in environment)
-    server = subprocess.Popen(
-        words, stdin=subprocess.PIPE, stdout=subprocess.PIPE, text=True, env=variables
-    )
-    assert server.stdout is not None
-    return server, server.stdout.readline().strip().rpartition(":")[2]
+def started(words: Sequence[str], folder: str, variables: Sequence[str]) -> subprocess.Popen[str]:
+    """A server. What it writes to standard output with a journal goes to a file of this folder."""
+    environment = os.environ | dict(each.split("=", 1) for each in variables)
+    if "--journal" not in words:
+        return subprocess.Popen(words, stdin=PIPE, stdout=PIPE, text=True, env=environment)
+    with open(f"{folder}/journal", "wb") as journal:
+        return subprocess.Popen(
+            words, stdin=PIPE, stdout=journal, stderr=PIPE, text=True, env=environment
+        )
 
 
-def measured(client: str, kind: str, asked: argparse.Namespace) -> Trips:
+def measured(folder: str, kind: str, asked: argparse.Namespace) -> Trips:
     """One run of messages of a kind, or of the echo with messages of the first kind."""
-    words = [client, ECHO]
-    if kind != ECHO:
+    client = f"{folder}/round_trips"
+    if kind == ECHO:
+        server = started([client, ECHO], folder, [])
+    else:
         stations = [f"north/CS-{station:02}" for station in range(STATIONS)]
-        words = [asked.program, "serve", "--live", *stations]
-    server, port = started(words, [] if kind == ECHO else asked.environment)
+        kept = ["--journal"] if kind == JOURNALLED else []
+        words = [asked.program, "serve", "--live", *kept, *stations]
+        server = started(words, folder, asked.environment)
+    told = server.stdout or server.stderr
+    assert told is not None
+    port = told.readline().strip().rpartition(":")[2]
     sent = asked.kinds[0] if kind == ECHO else kind
-    load = [
-        client,
-        "load",
-        port,
-        str(asked.connections),
-        str(asked.messages),
-        sent,
-        str(server.pid),
-    ]
+    sent = "new" if sent == JOURNALLED else sent
+    load = [client, "load", port, str(asked.connections), str(asked.messages), sent]
     try:
-        told = subprocess.run(load, stdout=subprocess.PIPE, text=True, check=True).stdout.split()
+        words = [*load, str(server.pid)]
+        figures = subprocess.run(words, stdout=PIPE, text=True, check=True).stdout
         memory = memory_of(server.pid)
     finally:
         if kind == ECHO:
             server.kill()
         server.communicate()
-    processor, rate, middle, slow = (float(word) for word in told)
+    processor, rate, middle, slow = (float(word) for word in figures.split())
     return Trips(processor, rate, middle, slow, memory)
 
 
@@ -101,20 +104,20 @@ def main(words: Sequence[str]) -> None:
     )
     parser.add_argument("--kinds", nargs="+", default=["again"], choices=KINDS)
     parser.add_argument("--rounds", type=int, default=9)
-    parser.add_argument("--messages", type=int, default=20_000, help="of each connection")
+    parser.add_argument("--messages", type=int, default=15_000, help="of each connection")
     parser.add_argument("--environment", nargs="*", default=[], metavar="NAME=VALUE")
     asked = parser.parse_args(words)
     cases = [ECHO, *asked.kinds]
     runs: dict[str, list[Trips]] = {case: [] for case in cases}
     before = stolen()
     with tempfile.TemporaryDirectory() as folder:
-        client = f"{folder}/round_trips"
-        source = Path(__file__).with_suffix(".rs")
-        subprocess.run(["rustc", "--edition", "2021", "-O", "-o", client, source], check=True)
+        source = str(Path(__file__).with_suffix(".rs"))
+        built = ["rustc", "--edition", "2021", "-O", "-o", f"{folder}/round_trips", source]
+        subprocess.run(built, check=True)
         for turn in range(asked.rounds):
             first = turn % len(cases)
             for case in cases[first:] + cases[:first]:
-                runs[case].append(measured(client, case, asked))
+                runs[case].append(measured(folder, case, asked))
     for case in cases:
         print(report(case, runs[case], runs[ECHO]))
     print(f"stolen: {stolen() - before} ticks")
