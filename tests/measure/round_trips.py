@@ -1,6 +1,6 @@
 """Measures what a server takes of the processors for a message, beside an echo.
 
-    tests/one measure.round_trips PROGRAM [--connections 16] [--kinds again ..] [--rounds 9] [--messages 15000]
+    tests/one measure.round_trips PROGRAM [--connections 16] [--kinds again ..] [--rounds 9] [--messages 14000]
         [--environment NAME=VALUE ..]
 
 Each round begins with another kind, and has one run of the echo. It needs `rustc`, which builds the
@@ -104,7 +104,7 @@ def main(words: Sequence[str]) -> None:
     )
     parser.add_argument("--kinds", nargs="+", default=["again"], choices=KINDS)
     parser.add_argument("--rounds", type=int, default=9)
-    parser.add_argument("--messages", type=int, default=15_000, help="of each connection")
+    parser.add_argument("--messages", type=int, default=14_000, help="of each connection")
     parser.add_argument("--environment", nargs="*", default=[], metavar="NAME=VALUE")
     asked = parser.parse_args(words)
     cases = [ECHO, *asked.kinds]
