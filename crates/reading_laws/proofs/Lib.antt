@@ -1,0 +1,2 @@
+pub mod RepeatLemmas
+pub mod StretchLemmas
