@@ -14,3 +14,4 @@ mod NotJson
 mod Unheard
 mod Spoiled
 pub mod Cuts
+pub mod OneScript

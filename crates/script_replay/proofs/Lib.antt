@@ -5,3 +5,4 @@ pub mod Faults
 pub mod ReachedStations
 pub mod ScriptRuns
 pub mod SiteSums
+pub mod LiveEvents

@@ -1,3 +1,4 @@
 pub mod Outcome
 pub mod Answering
 pub mod Laws
+pub mod LiveLaws

@@ -1,4 +1,5 @@
 //! Laws of a script's text. Each function's contract is the law; the functions do nothing.
+ghost use Rattle.script_replay.specs.LiveLaws.{LiveEventsMakeBoards, LiveEventsMakeEnergies, LiveEventsMakeTotals};
 ghost use Rattle.script_replay.specs.Laws.{AnEmptyScriptWritesNothing, FaultsChangeNothing, StationsAreReached, EnergyIsFromScratch, ExportIsFromScratch, TotalsAreFromScratch, BoardsAreFromScratch, SitesAreSums, WorldsAreRuns, UnacceptedChangesNothing, OrderChangesNoBoard};
 
 /// The text of an empty script is empty.
@@ -54,4 +55,14 @@ pub fn unaccepted()
 /// station by station, the same in another order, have the same boards.
 pub fn orders()
     ensures { OrderChangesNoBoard }
+{}
+
+/// Two scripts that leave the stations of a site the same names and the same live events, with one order of
+/// readings and one settlement period of the site, show its board alike: all is equal but how many events are
+/// voided. The energies of each of its stations, imported and exported, are equal, and so are its totals but
+/// for that number.
+pub fn live_events()
+    ensures boards { LiveEventsMakeBoards }
+    ensures energies { LiveEventsMakeEnergies }
+    ensures totals { LiveEventsMakeTotals }
 {}

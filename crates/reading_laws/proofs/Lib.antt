@@ -1,0 +1,3 @@
+pub mod RepeatLemmas
+pub mod RepeatExample
+pub mod StretchLemmas

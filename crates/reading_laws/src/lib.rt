@@ -1,0 +1,15 @@
+//! Laws about the readings of a transaction, in the subject's own words.
+//!
+//! A station often lists readings again: an Ended event repeats what the transaction's earlier events
+//! carried (TransactionEventRequest, OCPP 2.0.1 Part 2, block E). The definitions of the ledger say what
+//! energy is; the laws here say that such repeats change none of it, and what a run of readings is.
+//!
+//! The crate's one contract: each function has no parameters and nothing to do. What it ensures holds of
+//! all stored events and all readings. No crate needs these functions to run.
+#![tactic(auto)]
+
+mod repeats;
+mod stretches;
+
+pub use repeats::repeated_readings_change_no_sum;
+pub use stretches::runs_are_maximal_stretches;
