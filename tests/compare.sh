@@ -132,6 +132,8 @@ with_program() {
         "$board" tables --script "$made/troubles.script" --program "$program" --out "$made/x" tables/troubles.text
     tells 2 "the script is compressed by gzip" "$board" tables --script "$made/day.script.gz" --program "$program" \
         --out "$made/x" tables/troubles.text
+    tells 2 "the text is not of the script $days/day.script: session " "$board" tables --script "$days/day.script" \
+        --program "$program" --out "$made/x" tables/troubles.text
     tells 2 "No such file or directory" "$board" tables --script nowhere.script --program "$program" --out "$made/x" \
         tables/troubles.text
     tells 2 "No such file or directory" "$board" tables --script "$made/troubles.script" --program ./nowhere \
@@ -207,6 +209,8 @@ tells 2 "not 300, 900, 1800 or 3600 seconds: 'north=600'" "$board" log-to-script
 tells 2 "no name of a site: 'no/name=300'" "$board" log-to-script --period no/name=300 "$days/day.jsonl"
 tells 2 "not sequence or moment: 'north=time'" "$board" log-to-script --order north=time "$days/day.jsonl"
 tells 2 "no name of a site: 'no/name=moment'" "$board" log-to-script --order no/name=moment "$days/day.jsonl"
+tells 2 "--order names the site 'nroth', which the log does not have; its sites: riverside" \
+    "$board" log-to-script --order nroth=moment "$days/site_day.jsonl"
 tells 2 "No such file or directory" "$board" log-to-script nowhere.jsonl
 tells 2 "No space left on device" bash -c '"$board" log-to-script "$days/site_day.jsonl" > /dev/full'
 tells 2 "No space left on device" bash -c '"$board" log-to-script --form maeve --stations forms/stations.txt forms/maeve.mqtt > /dev/full'

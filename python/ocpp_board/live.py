@@ -306,6 +306,8 @@ def arguments(argv: Sequence[str], prog: str) -> argparse.Namespace:
         parser.error("--log takes --stations and --state")
     if words.script and (words.stations or words.state or words.once):
         parser.error("--stations, --state and --once go with --log")
+    if words.script and (words.order or words.period or words.limits):
+        parser.error("--order, --period and --limits go with --log; a SCRIPT has lines for them")
     return words
 
 

@@ -32,6 +32,8 @@ class LogFeed:
         self.words, self.ledger = words, ledger
         plan = ScriptPlan(words)
         self.kept = KeptScript(words.state, plan.declarations())
+        for fault in plan.strangers():
+            log.warning("%s; nothing comes of it until that file names the site", fault)
         self.reader = LogReader(words, plan)
         self.place = self.kept.place()
         self.followed: Followed | None = None

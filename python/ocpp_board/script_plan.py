@@ -1,6 +1,8 @@
 """The stations that a script of a log declares, with their sites, limits, settlement periods and orders of readings."""
 
 import argparse
+import difflib
+from collections.abc import Iterable
 
 from ocpp_board.escapes import shown
 from ocpp_board.limits import (
@@ -53,6 +55,15 @@ def why_no_names(line: str, names: list[str]) -> str:
     return f"{shown(line.strip())}: {told[0]}; {told[1]}"
 
 
+def known(name: str, sites: Iterable[str]) -> str:
+    """Which sites there are, for a reader, those first whose names are near to this one."""
+    names = list(sites)
+    near = difflib.get_close_matches(name, names, 1, 0.5)
+    names = near + [one for one in names if one not in near]
+    more = f" and {len(names) - MOST_SITES:,} more" if len(names) > MOST_SITES else ""
+    return f"its sites: {', '.join(names[:MOST_SITES])}{more}" if names else "it has no site"
+
+
 class ScriptPlan:
     """The stations so far. With `--stations` they are those of its file, and no others."""
 
@@ -73,6 +84,26 @@ class ScriptPlan:
     def sites(self) -> list[str]:
         """The sites, in the order in which they came."""
         return list(dict.fromkeys(self.site_of.values()))
+
+    def strangers(self) -> list[str]:
+        """What is wrong with options that name sites which no station has, a sentence for each."""
+        told = [*self.sites(), *filter(None, [self.words.one_site]), *self.map.values()]
+        sites = list(dict.fromkeys(told))
+        return [
+            f"{option} names the site {shown(name)}, which {self.source()} does not have; {known(name, sites)}"
+            for option, of_sites in (("--order", self.words.order), ("--period", self.words.period))
+            for name in of_sites
+            if name and name not in sites
+        ]
+
+    def source(self) -> str:
+        """Where the sites come from, for a reader."""
+        return str(self.words.stations) if self.is_fixed else "the log"
+
+    def check_sites(self) -> None:
+        """Raises Mistaken where an option names a site that no station has."""
+        if strangers := self.strangers():
+            raise Mistaken("; ".join(strangers))
 
     def place(self, entry: Entry) -> tuple[str, str]:
         """The site and the station of a line. Raises Refused where they are not known."""

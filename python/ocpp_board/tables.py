@@ -74,6 +74,7 @@ from ocpp_board.pages import Row
 from ocpp_board.progress import Progress
 from ocpp_board.quality import Kind
 from ocpp_board.refusals import Refusals, UntakenLines
+from ocpp_board.script_check import check_text, whole
 from ocpp_board.session_times import Registers
 from ocpp_board.sources import is_gzip, opened
 from ocpp_board.statuses import Mistaken, Status, ended
@@ -440,14 +441,16 @@ def write_files(
     return Status.TOLD if reader.counts["unread"] else Status.DONE
 
 
-def read_script(words: argparse.Namespace) -> tuple[Told, Refusals]:
-    """Replays the script, and gives what its messages tell and what was refused of them, which it writes."""
+def read_script(words: argparse.Namespace, text: IO[bytes]) -> tuple[Told, Refusals]:
+    """Replays the script that a text is of, and gives what its messages tell and what was refused of them, which it
+    writes. Raises Mistaken where the text is of another script."""
     told, refusals = Told(), Refusals()
     with opened(words.script) as file:
         if is_gzip(file):
             raise Mistaken("the script is compressed by gzip: gunzip it first")
         script = UntakenLines(file)
         hand_on(answered(words.program, script), [told.take, refusals.take])
+    check_text(text, told.transactions, words.script)
     for refusal in script.refusals:
         refusals.add(refusal)
     refusals.end()
@@ -459,13 +462,14 @@ def run(words: argparse.Namespace) -> int:
     """Writes the files of the text that the words name, or follows a server."""
     if words.follow:
         follow(words, words.follow[0], int(words.follow[1]))
-    with opened(words.text) as text:
-        if is_gzip(text):
+    with opened(words.text) as file:
+        if is_gzip(file):
             raise Mistaken("the text is compressed by gzip: gunzip -c TEXT | ocpp-board tables")
         layout = layout_of(words)
         if words.script is None:
-            return write_files(words, text, layout)
-        told, refusals = read_script(words)
+            return write_files(words, file, layout)
+        text = whole(file)
+        told, refusals = read_script(words, text)
         until = words.until or told.until()
         layout = replace(layout, until=until, refused=refusals.count())
         return write_files(words, text, layout, told)

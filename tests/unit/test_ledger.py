@@ -155,3 +155,15 @@ def test_a_log_that_is_not_there_is_told(stub: str, tmp_path: Path) -> None:
     with pytest.raises(FileNotFoundError):
         feed.feed()
     ledger.close()
+
+
+def test_a_site_that_the_file_of_stations_lacks_is_warned_of(
+    stub: str, tmp_path: Path, capsys: pytest.CaptureFixture[str]
+) -> None:
+    (tmp_path / "log").write_text(row())
+    feed, ledger, _ = feed_of(stub, tmp_path, "--order", "nroth=moment", "--period", "north=300")
+    feed.feed()
+    ledger.close()
+    (told,) = (text for text in capsys.readouterr().err.splitlines() if "nroth" in text)
+    assert told.startswith("--order names the site 'nroth', which ") and "its sites: north" in told
+    assert ledger.counts["accepted"] == 1

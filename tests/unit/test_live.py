@@ -199,6 +199,8 @@ def test_what_is_no_board_writes_nothing(tmp_path: Path) -> None:
         ("script", "--state", "f"),
         ("script", "--once"),
         ("script", "--every", "0.1"),
+        ("script", "--order", "north=moment"),
+        ("script", "--period", "300"),
         ("--log", "log", "--stations", "s", "--state", "f", "--limits", "0", "1", "1", "1"),
     ],
 )
