@@ -6,7 +6,7 @@ import logging
 import os
 import time
 import zlib
-from collections.abc import Iterable
+from collections.abc import Callable, Iterable
 from pathlib import Path
 from typing import IO, NamedTuple
 
@@ -90,9 +90,12 @@ class Place(NamedTuple):
 class Followed:
     """The lines of a log that grows. A file that was rotated is read to its end, and then those that came after it."""
 
-    def __init__(self, path: Path, place: Place | None) -> None:
-        """`place`: how far it was read before. Raises OSError where there is no file of this name."""
-        self.path = path
+    def __init__(
+        self, path: Path, place: Place | None, cut: Callable[[str], None] = log.warning
+    ) -> None:
+        """`place`: how far it was read before. `cut` gets what is told where the log was cut short. Raises OSError
+        where there is no file of this name."""
+        self.path, self.cut = path, cut
         # A compressed file ended in its middle.
         self.is_damaged = False
         self.begin(place or Place(0, ""))
@@ -101,6 +104,8 @@ class Followed:
         """Goes on at a place; where no file is the one that was read, with the one of the name from its start."""
         file = known(self.path, [place])
         self.take(file or unpacked(open(self.path, "rb")), place.place if file else 0)
+        if not file:
+            self.cut(f"no file is the one that was read before: {self.path} is read from its start")
 
     def take(self, file: IO[bytes], at: int) -> None:
         """Reads this file from here on."""
@@ -126,6 +131,8 @@ class Followed:
         """The lines that came, so many at most; None for one that is too long. There are none where nothing came."""
         lines: list[bytes | None] = []
         before = self.at
+        if self.is_cut():
+            return self.after_cut(lines)
         while len(lines) < MOST_LINES and self.at < before + MOST_BYTES:
             part = self.part()
             if not part:
@@ -134,9 +141,34 @@ class Followed:
             self.rest = (self.rest + part)[: LONGEST_LOG_LINE + 1]
             if part.endswith(b"\n"):
                 lines.append(self.line())
+        if self.is_cut():
+            # While it was read.
+            return self.after_cut(lines)
         if not lines:
             return self.at_end()
         self.place = Place(self.at, front_of(self.file, self.at))
+        return lines
+
+    def is_cut(self) -> bool:
+        """Whether the file lacks what was read of it: it was cut short, and may have grown past that since. Of a
+        compressed one that can't be told."""
+        if isinstance(self.file, gzip.GzipFile):
+            return False
+        place = self.place
+        return is_cut_short(self.file, self.at) or front_of(self.file, place.place) != place.front
+
+    def after_cut(self, lines: list[bytes | None]) -> list[bytes | None]:
+        """Goes on in a copy that was made before the cut, which has these lines, too; else at the start, with what was
+        read before it."""
+        copy = known(self.path, [self.place]) if self.place.place else None
+        if copy:
+            self.cut(f"{self.path} was cut; what it had is read from the copy beside it")
+            self.take(copy, self.place.place)
+            return []
+        lines += [self.line()] if self.pending else []
+        self.cut(f"{self.path} was cut, and no copy is beside it; it is read from its start")
+        # Another file object: this one's buffer has what was there before.
+        self.take(unpacked(open(os.dup(self.file.fileno()), "rb")), 0)
         return lines
 
     def part(self) -> bytes:
@@ -174,11 +206,7 @@ class Followed:
     def go_on(self, now: os.stat_result) -> None:
         """Reads the next file. Raises FileNotFoundError where it is not there yet."""
         old = self.file
-        if os.path.samestat(os.stat(self.path), now):
-            # It was copied and cut short: the copy may have more than was read of it.
-            self.begin(self.place)
-        else:
-            self.take(unpacked(open(self.after(now), "rb")), 0)
+        self.take(unpacked(open(self.after(now), "rb")), 0)
         self.is_damaged = False
         old.close()
 

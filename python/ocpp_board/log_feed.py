@@ -7,11 +7,13 @@ import threading
 from collections import Counter
 from functools import partial
 
+from ocpp_board.escapes import shown
 from ocpp_board.followed import Followed, Place
 from ocpp_board.kept_script import KeptScript
 from ocpp_board.ledger import Ledger
 from ocpp_board.line_faults import BYTE_ORDER_MARK
 from ocpp_board.log_reader import LogReader, Taken
+from ocpp_board.logforms import Entry
 from ocpp_board.messages import Refused
 from ocpp_board.refusals import MOST_UNTAKEN, comment_of
 from ocpp_board.script_plan import ScriptPlan
@@ -38,6 +40,8 @@ class LogFeed:
         self.place = self.kept.place()
         self.followed: Followed | None = None
         self.now: str | None = None
+        # What the last line told that is of a station.
+        self.last: Entry | None = None
         # How often each kind of mistake came, and what was told once.
         self.untaken: Counter[str] = Counter()
         self.told: set[str] = set()
@@ -65,7 +69,7 @@ class LogFeed:
         """The log, which is waited for where it is not there yet. Raises OSError."""
         while not self.is_ending.is_set():
             try:
-                followed = Followed(self.words.log, self.place)
+                followed = Followed(self.words.log, self.place, self.tell_cut)
             except FileNotFoundError as fault:
                 if self.words.once:
                     raise
@@ -84,6 +88,20 @@ class LogFeed:
         self.is_caught_up.set()
         if not self.reader.has_form():
             self.tell_once(f"no line of {self.words.log} is of the form {self.reader.form_name()}")
+
+    def tell_cut(self, what: str) -> None:
+        """Tells that the log was cut short, and which line was the last before."""
+        last = self.last
+        if last is None:
+            log.warning("%s", what)
+            return
+        at = f" at {shown(last.time)[1:-1]}" if last.time else ""
+        log.warning(
+            "%s; the last line before the cut that was taken is of %s%s",
+            what,
+            shown(last.station)[1:-1],
+            at,
+        )
 
     def tell_once(self, text: str) -> None:
         """Tells this, where it was not told yet."""
@@ -105,6 +123,7 @@ class LogFeed:
             taken = self.reader.take(line.removeprefix(BYTE_ORDER_MARK) if line else None)
         except Refused as why:
             return self.refused(why)
+        self.last = self.reader.entry or self.last
         if taken.note:
             # Of each kind the first.
             if taken.note.kind not in self.told:

@@ -108,6 +108,60 @@ def test_a_file_that_is_copied_and_cut_short(tmp_path: Path) -> None:
     assert taken(followed) == [b"d\n"]
 
 
+def numbered(first: int, count: int) -> bytes:
+    return b"".join(b"line %d\n" % number for number in range(first, first + count))
+
+
+@pytest.mark.parametrize("is_copied", [True, False])
+def test_a_log_that_is_cut_and_outgrows_its_place_loses_nothing(
+    is_copied: bool, tmp_path: Path
+) -> None:
+    log, told = tmp_path / "log", list[str]()
+    log.write_bytes(numbered(0, 100))
+    followed = Followed(log, None, told.append)
+    lines = taken(followed)
+    assert len(lines) == 100 and not told
+    if is_copied:
+        with open(log, "ab") as file:
+            file.write(numbered(100, 50) + b"line")
+        shutil.copy(log, tmp_path / "log.1")
+        with open(tmp_path / "log.1", "ab") as file:
+            file.write(b" 150\n")
+        age(tmp_path / "log.1", 60)
+    # As `copytruncate` of logrotate leaves it, and the writer goes on: it has more than was read before.
+    with open(log, "rb+") as file:
+        file.truncate(0)
+        file.write(numbered(1_000, 400))
+    assert os.stat(log).st_size > followed.place.place
+    lines += taken(followed)
+    old = numbered(0, 151 if is_copied else 100)
+    assert b"".join(filter(None, lines)) == old + numbered(1_000, 400)
+    (text,) = told
+    assert text.startswith(f"{log} was cut") and ("from the copy" in text) == is_copied
+    assert followed.place.place == log.stat().st_size and followed.is_current()
+
+
+def test_what_was_read_before_a_cut_is_given(
+    tmp_path: Path, monkeypatch: pytest.MonkeyPatch
+) -> None:
+    log, told = tmp_path / "log", list[str]()
+    log.write_bytes(numbered(0, 20) + b"half")
+    followed = Followed(log, None, told.append)
+    read = followed.part
+
+    def part() -> bytes:
+        if found := read():
+            return found
+        monkeypatch.setattr(followed, "part", read)
+        log.write_bytes(b"x\n")  # While it is looked at.
+        return b""
+
+    monkeypatch.setattr(followed, "part", part)
+    lines = followed.lines()
+    assert b"".join(filter(None, lines)) == numbered(0, 20) + b"half" and len(told) == 1
+    assert taken(followed) == [b"x\n"]
+
+
 def test_a_log_that_is_compressed_itself(tmp_path: Path) -> None:
     log = tmp_path / "log.gz"
     with gzip.open(log, "wb") as file:
