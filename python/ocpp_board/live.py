@@ -6,8 +6,8 @@ follows the log of a CSMS, also over its rotations, hands its messages to `ocpp_
 seconds writes each site's pages and tables to the folder of --out: SITE.html, SITE.<day>.html, SITE.periods.csv,
 SITE.transactions.csv, SITE.findings.csv and SITE.refused.csv. Each file is there whole or not at all. The folder of
 --state has a script of all that was taken, and how far the log was read: when the tool is started again it goes on
-from there. The log's lines are read as `ocpp-board log-to-script` reads them, and the options for their form are the
-same. Or
+from there. A first start reads the rotated files beside the log first. The log's lines are read as `ocpp-board
+log-to-script` reads them, and the options for their form are the same. Or
 
     ocpp-board live --out FOLDER <(tail -n +1 -F csms.log | ocpp-board log-to-script --stations stations.txt)
 

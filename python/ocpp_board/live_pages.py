@@ -41,6 +41,7 @@ class Pages:
     def write(self, site: str, board: bytes) -> None:
         """Writes a site's files where its board or the number of refused messages is another, or where its data is too
         old by now, or no longer. Raises OSError."""
+        self.refusals.settle(self.told.has_taken)
         refused = self.refusals.count(site)
         shown = board, refused, self.is_old()
         if not board.startswith(b"board ") or self.shown.get(site) == shown:

@@ -18,6 +18,7 @@ from ocpp_board.limits import (
 from ocpp_board.line_faults import NAMES, name_fault
 from ocpp_board.logforms import Entry
 from ocpp_board.messages import Refused
+from ocpp_board.refusals import NOT_IN
 from ocpp_board.statuses import Mistaken
 
 
@@ -110,14 +111,14 @@ class ScriptPlan:
         station, words = entry.station, self.words
         if self.is_fixed:
             if station not in self.site_of:
-                raise Refused(f"a station is not in {words.stations}", shown(station))
+                raise Refused(f"{NOT_IN} {words.stations}", shown(station))
             return self.site_of[station], station
         if station in self.map:
             return self.map[station], station
         if words.one_site:
             return words.one_site, named("station", station)
         if words.site_map:
-            raise Refused(f"a station is not in {words.site_map}", shown(station))
+            raise Refused(f"{NOT_IN} {words.site_map}", shown(station))
         return named("site", entry.site), named("station", station)
 
     def admit(self, site: str, station: str) -> bool:

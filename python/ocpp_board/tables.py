@@ -452,7 +452,8 @@ def read_script(words: argparse.Namespace, text: IO[bytes]) -> tuple[Told, Refus
         hand_on(answered(words.program, script), [told.take, refusals.take])
     check_text(text, told.transactions, words.script)
     for refusal in script.refusals:
-        refusals.add(refusal)
+        if not told.has_taken(refusal):
+            refusals.add(refusal)
     refusals.end()
     refusals.write(Path(f"{words.out}.refused.csv"))
     return told, refusals

@@ -5,6 +5,7 @@ from datetime import datetime
 from ocpp_board.answered import Answered
 from ocpp_board.boards import Part, Session
 from ocpp_board.quality import findings_of, order_line
+from ocpp_board.refusals import NOT_IN, Refusal
 from ocpp_board.session_times import times_of
 from ocpp_board.transactions import Event, Transactions
 
@@ -39,6 +40,17 @@ class Told:
                 transaction, events, session.complete, None if part.is_by_time else order_line(site)
             )
             session.state = state_of(session, events)
+
+    def has_taken(self, refusal: Refusal) -> bool:
+        """Whether what could not be taken of a log was taken since: its event, or any message of a station that was in
+        no file."""
+        site = self.transactions.site_of.get(refusal.station)
+        if site is None:
+            return False
+        if not refusal.transaction:
+            return refusal.what.startswith(NOT_IN)
+        known = self.transactions.of(site, refusal.station, refusal.transaction.lower())
+        return refusal.number.isdecimal() and int(refusal.number) in known.events
 
     def until(self) -> datetime | None:
         """The latest receipt of a message, or time of an event whose receipt is not told."""

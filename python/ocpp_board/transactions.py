@@ -177,12 +177,16 @@ class Transactions:
 
     def __init__(self) -> None:
         self.known: dict[tuple[str, str, str], Transaction] = {}
+        # The sites of the stations that something was accepted of.
+        self.site_of: dict[str, str] = {}
         # The latest receipt of a message, or time of an event whose receipt is not told.
         self.latest: datetime | None = None
 
     def take(self, answered: Answered) -> None:
         """Takes a message with its answer. One that is no event, or was refused for another cause, tells nothing."""
         self.came(answered.received)
+        if answered.is_accepted:
+            self.site_of[answered.station] = answered.site
         head = HEAD.match(answered.message)
         is_conflict = answered.answer.endswith(CONFLICT)
         if head and head[1] != "TransactionEvent" or not (answered.is_accepted or is_conflict):

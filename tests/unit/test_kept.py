@@ -13,6 +13,7 @@ from ocpp_board.followed import GONE, Followed, Place, front_of, is_replaced, kn
 from ocpp_board.kept_script import BEGIN, KeptScript
 from ocpp_board.limits import LONGEST_LOG_LINE
 from ocpp_board.statuses import Mistaken
+from ocpp_board.telling import set_up
 
 STATIONS = b"station north A\n"
 
@@ -90,6 +91,38 @@ def test_several_rotations_while_nobody_read(tmp_path: Path) -> None:
         shutil.copystat(path, f"{path}.gz")
         path.unlink()
     assert taken(Followed(log, after_a)) == [b"b\n", b"c\n", b"d\n"]
+
+
+def test_a_first_start_reads_the_rotated_files_first(
+    tmp_path: Path, capsys: pytest.CaptureFixture[str]
+) -> None:
+    set_up("live")
+    log = tmp_path / "csms.log"
+    log.write_bytes(b"f\n")
+    rotated = [
+        "csms-2026-03-01.log",
+        "csms.log.3.gz",
+        "csms.log.2",
+        "csms.log.1",
+        "csms.log-20260304",
+    ]
+    for number, name in enumerate(rotated):
+        data = b"abcde"[number : number + 1] + b"\n"
+        (tmp_path / name).write_bytes(gzip.compress(data) if name.endswith(".gz") else data)
+        # Two of one moment are put in order by their numbers.
+        age(tmp_path / name, 900 - 100 * (number - (number == 3)))
+    moment = time.time() - 700
+    for name in rotated[2:4]:
+        os.utime(tmp_path / name, (moment, moment))
+    for name in ("csms.log.lock", "csms.log.5.xz", "other.log.1", "csms.log.1.swp"):
+        (tmp_path / name).write_bytes(b"x\n")
+        age(tmp_path / name, 2_000)
+    assert b"".join(filter(None, taken(Followed(log, None)))) == b"a\nb\nc\nd\ne\nf\n"
+    said = capsys.readouterr().err
+    assert f"read first, the oldest first: {', '.join(rotated)}\n" in said
+    assert "not read, since only gzip is: csms.log.5.xz" in said
+    # Where the file that was read is gone, nothing beside it is passed over.
+    assert taken(Followed(log, Place(2, "gone")))[0] == b"a\n"
 
 
 def test_a_file_that_is_copied_and_cut_short(tmp_path: Path) -> None:
