@@ -128,7 +128,7 @@ with_program() {
         as_stored "tables/$name.csv" "$made/$name.csv"
     done
     holds tables/troubles.said
-    tells 0 "sessions with findings: no counted reading: 2, energy that does not count: 6, transaction id used again: 2, " \
+    tells 0 "sessions with findings: power that cannot be: 2, signed value differs: 2, register reset or exchanged: 2, " \
         "$board" tables --script "$made/troubles.script" --program "$program" --out "$made/x" tables/troubles.text
     tells 2 "the script is compressed by gzip" "$board" tables --script "$made/day.script.gz" --program "$program" \
         --out "$made/x" tables/troubles.text

@@ -130,6 +130,8 @@ class Part:
     periods: list[Period] = field(default_factory=list)
     sessions: list[Session] = field(default_factory=list)
     is_by_time: bool = False
+    # What is doubtful at a station and of no session, where the messages were told.
+    findings: list[Finding] = field(default_factory=list)
 
     def add(self, kind: str, values: tuple[str, ...]) -> bool:
         """Takes a line into the part; False where its values can't be."""

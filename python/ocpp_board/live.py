@@ -54,7 +54,7 @@ from ocpp_board.script_plan import add_plan, check_plan
 from ocpp_board.sources import is_gzip
 from ocpp_board.statuses import Mistaken, Status, ended
 from ocpp_board.told import Told
-from ocpp_board.words import add_program, parsed, parser_of, zone
+from ocpp_board.words import add_power, add_program, parsed, parser_of, zone
 
 log = logging.getLogger(__name__)
 
@@ -106,7 +106,7 @@ class Run:
 
     def __init__(self, words: argparse.Namespace) -> None:
         """Raises OSError, and Mistaken where a file of the words is wrong or another run keeps its script there."""
-        self.words, self.refusals, told = words, Refusals(), Told()
+        self.words, self.refusals, told = words, Refusals(), Told(words.most_kw)
         self.pages = Pages(words, self.refusals, told)
         takers: list[Callable[[Answered], None]] = [self.refusals.take, told.take]
         self.ledger = Ledger(words.program, takers, self.refusals.add)
@@ -296,6 +296,7 @@ def arguments(argv: Sequence[str], prog: str) -> argparse.Namespace:
         help="the time zone of days and hours, such as Europe/Berlin",
     )
     add_log(parser)
+    add_power(parser)
     add_program(parser)
     words = parsed(parser, argv)
     words.prog = prog

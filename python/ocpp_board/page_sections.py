@@ -11,7 +11,7 @@ from ocpp_board.calendars import Calendar
 from ocpp_board.energies import kwh, share, sum_of
 from ocpp_board.pages import MARK, Row, across, cells_of, flow_heads, kept, ranges, table
 from ocpp_board.pictures import Scale, picture, strip
-from ocpp_board.quality import Finding, Kind
+from ocpp_board.quality import Effect, Finding, Kind
 from ocpp_board.session_times import Registers, duration
 
 # Rows of a table of sessions, characters of its cells, and ranges of missing numbers in a cell.
@@ -63,9 +63,12 @@ def problems_of(stations: Iterable[Part]) -> Iterator[Problem]:
     for part in stations:
         unread.add(part.name, 0, not part.whole or part.total is None)
         voided.add(part.name, 0, part.total.voided if part.total else 0)
+        for each in part.findings:
+            found[each.kind].add(part.name, 0, each.times)
         for one in part.sessions:
             is_told = any(
-                each.kind in (Kind.REGISTER_FALLS, Kind.REPEATED) for each in one.findings
+                each.kind in (Kind.REGISTER_FALLS, Kind.RESET, Kind.REPEATED)
+                for each in one.findings
             )
             fell = not is_told and one.flow.down + one.flow.export_down > 0
             falls.add(part.name, fell, fell)
@@ -74,9 +77,10 @@ def problems_of(stations: Iterable[Part]) -> Iterator[Problem]:
             if not one.complete:
                 state = states[next(name for name in STATES if one.state.startswith(name))]
                 state.add(part.name, 1, one.missing or 1)
-    yield from (
-        one for one in (unread, *states.values(), *found.values(), falls, voided) if one.times
-    )
+    wrong = [found[kind] for kind in Kind if kind.effect is Effect.WRONG]
+    others = [found[kind] for kind in Kind if kind.effect is not Effect.WRONG]
+    order = (unread, *wrong, falls, *states.values(), *others, voided)
+    yield from (one for one in order if one.times)
 
 
 def trouble_of(part: Part) -> tuple[int, int, int, int]:
@@ -84,7 +88,7 @@ def trouble_of(part: Part) -> tuple[int, int, int, int]:
     total = part.total
     if total is None or not part.whole:
         return -1, 0, 0, 0
-    doubtful = sum(bool(session.findings) for session in part.sessions)
+    doubtful = sum(bool(session.findings) for session in part.sessions) + len(part.findings)
     return 0, total.complete - total.transactions, -total.missing, -doubtful - total.voided
 
 

@@ -72,14 +72,14 @@ from ocpp_board.energies import Flow, kwh_of
 from ocpp_board.escapes import csv_cell
 from ocpp_board.pages import Row
 from ocpp_board.progress import Progress
-from ocpp_board.quality import Kind
+from ocpp_board.quality import Finding, Kind
 from ocpp_board.refusals import Refusals, UntakenLines
 from ocpp_board.script_check import check_text, whole
 from ocpp_board.session_times import Registers
 from ocpp_board.sources import is_gzip, opened
 from ocpp_board.statuses import Mistaken, Status, ended
 from ocpp_board.told import Told
-from ocpp_board.words import add_program, parsed, parser_of, zone
+from ocpp_board.words import add_power, add_program, parsed, parser_of, zone
 
 log = logging.getLogger(__name__)
 
@@ -253,12 +253,19 @@ class Findings(CsvSink):
     def part(self, part: Part) -> None:
         """The rows of a station."""
         for t in part.sessions:
-            front = [self.number, self.site, self.cell(part.name), self.cell(t.tx)]
+            front: list[int | str] = [self.number, self.site, self.cell(part.name), self.cell(t.tx)]
             for one in t.findings:
                 self.counts[one.kind.label] += 1
-                first = moments(self.calendar, one.first)
-                told = [one.kind.label, one.times, *first, self.cell(one.detail), one.kind.meaning]
-                self.rows.writerow([*front, *told])
+                self.row(front, one)
+        for one in part.findings:
+            self.counts[one.kind.label] += 1
+            self.row([self.number, self.site, self.cell(part.name), ""], one)
+
+    def row(self, front: list[int | str], one: Finding) -> None:
+        """The row of a finding, which begins so."""
+        first = moments(self.calendar, one.first)
+        told = [one.kind.label, one.times, *first, self.cell(one.detail), one.kind.meaning]
+        self.rows.writerow([*front, *told])
 
     def tell(self) -> None:
         """How many sessions have a finding of each kind."""
@@ -355,6 +362,7 @@ def arguments(argv: Sequence[str], prog: str) -> argparse.Namespace:
         metavar="SCRIPT",
         help="the script that the text is of: its messages tell times of sessions, findings, and what was refused",
     )
+    add_power(parser)
     add_program(parser)
     add_moments(parser)
     words = parsed(parser, argv)
@@ -444,7 +452,7 @@ def write_files(
 def read_script(words: argparse.Namespace, text: IO[bytes]) -> tuple[Told, Refusals]:
     """Replays the script that a text is of, and gives what its messages tell and what was refused of them, which it
     writes. Raises Mistaken where the text is of another script."""
-    told, refusals = Told(), Refusals()
+    told, refusals = Told(words.most_kw), Refusals()
     with opened(words.script) as file:
         if is_gzip(file):
             raise Mistaken("the script is compressed by gzip: gunzip it first")

@@ -4,9 +4,10 @@ from datetime import datetime
 
 from ocpp_board.answered import Answered
 from ocpp_board.boards import Part, Session
-from ocpp_board.quality import findings_of, order_line
+from ocpp_board.quality import MOST_KW, Finding, findings_of, in_order, order_option
 from ocpp_board.refusals import NOT_IN, Refusal
 from ocpp_board.session_times import times_of
+from ocpp_board.station_findings import Lived, found_in, outside
 from ocpp_board.transactions import Event, Transactions
 
 
@@ -23,8 +24,9 @@ def state_of(session: Session, events: list[Event]) -> str:
 class Told:
     """Takes messages with their answers as they come, and gives each session of a board what they tell of it."""
 
-    def __init__(self) -> None:
-        self.transactions = Transactions()
+    def __init__(self, most_kw: int = MOST_KW) -> None:
+        """`most_kw`: the greatest power of an EVSE that can be."""
+        self.transactions, self.most_kw = Transactions(), most_kw
 
     def take(self, answered: Answered) -> None:
         """Takes a message with its answer."""
@@ -32,14 +34,30 @@ class Told:
 
     def mark(self, site: str, part: Part) -> None:
         """Gives each session of a station its times and findings, by the events that the board counts."""
+        lived = list[Lived]()
         for session in part.sessions:
             transaction = self.transactions.of(site, part.name, session.tx)
             events = transaction.live(session.first, session.last, session.gaps)
             session.times = times_of(events, part.is_by_time)
+            by_sequence = None if part.is_by_time else order_option(site)
             session.findings = findings_of(
-                transaction, events, session.complete, None if part.is_by_time else order_line(site)
+                transaction, events, session.complete, by_sequence, self.most_kw
             )
             session.state = state_of(session, events)
+            numbers = session.missing, session.gaps
+            lived.append(Lived(session.tx, session.evse, events, session.times, *numbers))
+        if not part.is_site:
+            self.mark_beside(site, part, lived)
+
+    def mark_beside(self, site: str, part: Part, lived: list[Lived]) -> None:
+        """Gives the sessions of a station what is doubtful in them beside each other, and the station the rest."""
+        more = dict[str, list[Finding]]()
+        for tx, finding in found_in(lived):
+            more.setdefault(tx, []).append(finding)
+        for session in part.sessions:
+            if session.tx in more:
+                session.findings = in_order(session.findings + more[session.tx])
+        part.findings = outside(self.transactions.outside.of(site, part.name), lived)
 
     def has_taken(self, refusal: Refusal) -> bool:
         """Whether what could not be taken of a log was taken since: its event, or any message of a station that was in

@@ -6,6 +6,7 @@ from collections.abc import Sequence
 from zoneinfo import ZoneInfo
 
 from ocpp_board import telling
+from ocpp_board.quality import MOST_KW
 
 
 def parser_of(prog: str, about: str | None, ending: str = "") -> argparse.ArgumentParser:
@@ -36,6 +37,24 @@ def add_program(parser: argparse.ArgumentParser) -> None:
         metavar="PATH",
         default="ocpp_board",
         help="the program (default: ocpp_board)",
+    )
+
+
+def kilowatts(text: str) -> int:
+    """A power in whole kW."""
+    if not text.isdecimal() or not 1 <= int(text) <= 100_000:
+        raise argparse.ArgumentTypeError(f"no power from 1 to 100000 kW: {text!r}")
+    return int(text)
+
+
+def add_power(parser: argparse.ArgumentParser) -> None:
+    """The option that says which power can be."""
+    parser.add_argument(
+        "--most-kw",
+        metavar="KW",
+        type=kilowatts,
+        default=MOST_KW,
+        help=f"the greatest power of an EVSE: what is above is a finding (default: {MOST_KW})",
     )
 
 
