@@ -269,16 +269,20 @@ done
 made_by "$board" tables --tz Europe/Berlin --from 2026-03-29 --to 2026-10-25 --out "$made/berlin" tables/berlin.text
 made_by "$board" tables --out "$made/states" tables/states.text
 made_by "$board" tables --out "$made/exports" tables/exports.text
-for name in berlin.periods berlin.transactions states.transactions exports.periods exports.transactions; do
+for name in berlin.transactions states.transactions exports.periods exports.transactions; do
     as_stored "tables/$name.csv" "$made/$name.csv"
 done
 holds tables/berlin.said
 holds tables/exports.said
 made_by "$board" tables --written $written --out "$made/repeats" "$days/repeats.expected"
 holds tables/repeats.said
-made_by "$board" tables --tz Europe/Berlin --day 2026-03-29 --out "$made/one" tables/berlin.text
-grep -E '^board|:00Z,2026-03-29T' tables/berlin.periods.csv > "$made/one.rows"
-diff "$made/one.rows" "$made/one.periods.csv" || differs "a day of tables/berlin.periods.csv"
+# The periods of the days of 23 and 25 hours, which are rows of the whole table, too.
+for day in 2026-03-29 2026-10-25; do
+    made_by "$board" tables --tz Europe/Berlin --day $day --out "$made/$day" tables/berlin.text
+    as_stored "tables/berlin.$day.periods.csv" "$made/$day.periods.csv"
+    grep -E "^board|^([^,]*,){7}${day}T" "$made/berlin.periods.csv" | diff - "$made/$day.periods.csv" ||
+        differs "the rows of $day in berlin.periods.csv"
+done
 # Labels, contrast and links of all pages that were made, and how wide they are on a phone, names and numbers being long.
 made_by "$board" tables --tz America/Argentina/ComodRivadavia --out "$made/long" tables/long.text
 if "$one" page_check "$made"/*.html > "$made/checked"; then

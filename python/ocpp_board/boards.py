@@ -2,7 +2,7 @@
 
 import logging
 import re
-from collections.abc import Iterable, Iterator
+from collections.abc import Iterable, Iterator, Sequence
 from dataclasses import dataclass, field
 from datetime import datetime
 from functools import lru_cache
@@ -10,6 +10,7 @@ from typing import IO, NamedTuple, Protocol
 
 from ocpp_board.energies import FLOW, Flow
 from ocpp_board.limits import NAME, PERIODS, TRANSACTION
+from ocpp_board.period_doubts import KnownPeriods, together
 from ocpp_board.progress import Progress
 from ocpp_board.quality import Finding
 from ocpp_board.session_times import SessionTimes
@@ -132,6 +133,8 @@ class Part:
     is_by_time: bool = False
     # What is doubtful at a station and of no session, where the messages were told.
     findings: list[Finding] = field(default_factory=list)
+    # What the messages tell of its periods, where they were told.
+    known: KnownPeriods | None = None
 
     def add(self, kind: str, values: tuple[str, ...]) -> bool:
         """Takes a line into the part; False where its values can't be."""
@@ -265,6 +268,13 @@ class Marker(Protocol):
 
     def mark(self, site: str, part: Part) -> None:
         """Gives each session of a part of this site what is known of it."""
+
+
+def know_site(parts: Sequence[Part]) -> None:
+    """Has the site, which is the first of a board's parts, know of its periods what its stations do."""
+    known = [part.known for part in parts[1:] if part.known is not None]
+    if known and parts[0].known is None:
+        parts[0].known = together(known)
 
 
 class Reader:

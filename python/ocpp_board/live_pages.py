@@ -30,6 +30,8 @@ class Pages:
         self.shown: dict[str, tuple[bytes, int, bool]] = {}
         # By site and day, what the day's page shows.
         self.days: dict[str, dict[date, bytes]] = {}
+        # By site and day, which doubts it shows.
+        self.marks: dict[str, dict[date, int]] = {}
         # By site, its row on the page of all sites.
         self.sites: dict[str, list[Row]] = {}
         self.calendar = Calendar(words.tz or timezone.utc)
@@ -88,6 +90,7 @@ class Pages:
             oldest=self.words.oldest,
             refused=refused,
             standing=standing,
+            marks=self.marks.setdefault(name.name, {}),
         )
         with tempfile.TemporaryFile() as text:
             text.write(board)

@@ -10,6 +10,7 @@ from ocpp_board.boards import Part, Period, Session, Total
 from ocpp_board.calendars import Calendar
 from ocpp_board.energies import kwh, share, sum_of
 from ocpp_board.pages import MARK, Row, across, cells_of, flow_heads, kept, ranges, table
+from ocpp_board.period_doubts import SURE, Doubt, KnownPeriods
 from ocpp_board.pictures import Scale, picture, strip
 from ocpp_board.quality import Effect, Finding, Kind
 from ocpp_board.session_times import Registers, duration
@@ -130,8 +131,19 @@ def bar_cell(mwh: int, most: int) -> str:
     return f'<span{kind} aria-hidden="true" style="width:{width:.1f}%"></span>'
 
 
+def figure_cell(doubt: Doubt) -> str:
+    """How the figures of a period were come by, in a cell; empty where they were measured and no number is missing."""
+    said = ["estimated"] if doubt.is_estimated else []
+    said += ["numbers missing"] if doubt.has_gap else []
+    return f'<td class="doubt">{", ".join(said)}' if said else "<td>"
+
+
 def periods_of(
-    day: date, periods: list[Period], calendar: Calendar, has_export: bool
+    day: date,
+    periods: list[Period],
+    calendar: Calendar,
+    has_export: bool,
+    known: KnownPeriods | None,
 ) -> Iterator[str]:
     """The table of a day's periods, whose rows leave out what HTML lets be left out: pages have many."""
     zone = "UTC" if calendar.is_utc else calendar.name
@@ -140,12 +152,14 @@ def periods_of(
     yield (
         f'<thead><tr><th scope="col">Period ({zone}){beside}'
         + "".join(f'<th scope="col">{head}' for head in flow_heads(has_export))
+        + ('<th scope="col">Figure' if known else "")
         + "</thead>\n<tbody>\n"
     )
     for p in periods:
         yield (
             f'<tr><th scope="row">{calendar.times(p.start, p.seconds)}'
             + "".join(f"<td>{cell}" for cell in cells_of(p.flow, has_export))
+            + (figure_cell(known.doubts.get(int(p.start.timestamp()), SURE)) if known else "")
             + "\n"
         )
     yield "</tbody></table>\n"
@@ -176,14 +190,14 @@ def day_of_part(one: DayPart, calendar: Calendar, has_export: bool) -> Iterator[
     day, periods = one.day, one.periods
     whose = f"{'Site' if one.part.is_site else 'Station'} {escape(one.part.name)}"
     said, shown = (said_of(whose, text, periods, has_export) for text in (str(day), kept(str(day))))
-    columns = len(flow_heads(has_export)) + (1 if calendar.is_utc else 2)
+    columns = len(flow_heads(has_export)) + (1 if calendar.is_utc else 2) + bool(one.part.known)
     yield f'<section aria-labelledby="{one.label}">\n<h3 id="{one.label}">{whose}</h3>\n'
     yield f'<div class="day" style="--columns:{columns}">\n<figure>\n'
     label = f"Bars. {said}. The table has the numbers."
     yield from picture(label, day, periods, one.scale, calendar)
     yield f"<figcaption>{shown}</figcaption>\n</figure>\n"
     yield f'<div class="scroll" role="group" tabindex="0" aria-label="Periods of {whose} on {day}">\n'
-    yield from periods_of(day, periods, calendar, has_export)
+    yield from periods_of(day, periods, calendar, has_export, one.part.known)
     yield "</div>\n</div>\n</section>\n"
 
 

@@ -68,9 +68,10 @@ from ocpp_board.answered import Answered, answered
 from ocpp_board.board_pages import Boards, DayPages, Index, Layout
 from ocpp_board.boards import Part, Reader, Session, Sink
 from ocpp_board.calendars import Calendar
-from ocpp_board.energies import Flow, kwh_of
+from ocpp_board.energies import kwh_of
 from ocpp_board.escapes import csv_cell
 from ocpp_board.pages import Row
+from ocpp_board.period_table import FLOWS, READINGS, PeriodTable, flow_cells, signed_kwh
 from ocpp_board.progress import Progress
 from ocpp_board.quality import Finding, Kind
 from ocpp_board.refusals import Refusals, UntakenLines
@@ -131,19 +132,6 @@ class Tables(CsvSink):
     """The CSV files of periods and of transactions. `has_times`: messages were told, which have the times of
     sessions."""
 
-    FLOWS = [
-        "up (mWh)",
-        "down (mWh)",
-        "up (kWh)",
-        "down (kWh)",
-        "export up (mWh)",
-        "export down (mWh)",
-        "export up (kWh)",
-        "export down (kWh)",
-    ]
-    # In which order readings are taken, in the last column of both files.
-    READINGS = "readings"
-    PERIODS = ["board", "level", "site", "station", "seconds"]
     TRANSACTIONS = [
         "board",
         "site",
@@ -174,12 +162,16 @@ class Tables(CsvSink):
     ) -> None:
         super().__init__(raw, calendar)
         self.has_times = has_times
-        self.periods = csv.writer(periods, lineterminator="\n")
+        self.periods = PeriodTable(periods, calendar)
         self.transactions = csv.writer(transactions, lineterminator="\n")
-        starts = moment_heads(calendar, "period start")
-        self.periods.writerow([*self.PERIODS, *starts, *self.FLOWS, self.READINGS])
-        heads = [*self.TRANSACTIONS, *self.FLOWS, "state", *self.time_heads()]
-        self.transactions.writerow([*heads, self.READINGS])
+        self.parts = list[Part]()
+        heads = [*self.TRANSACTIONS, *FLOWS, "state", *self.time_heads()]
+        self.transactions.writerow([*heads, READINGS])
+
+    def board(self, number: int, site: str, line: int) -> None:
+        """A board begins."""
+        super().board(number, site, line)
+        self.parts = []
 
     def time_heads(self) -> list[str]:
         """The heads of the columns that boards don't tell."""
@@ -189,24 +181,18 @@ class Tables(CsvSink):
         times = [*ends, "duration (s)", *self.REGISTERS, "stopped reason"]
         return ["net (kWh)", *times, "findings"]
 
-    @staticmethod
-    def flows(flow: Flow) -> list[int | str]:
-        """The cells of an energy."""
-        up, down, export_up, export_down = flow
-        imported: list[int | str] = [up, down, kwh_of(up), kwh_of(down)]
-        return imported + [export_up, export_down, kwh_of(export_up), kwh_of(export_down)]
-
     def part(self, part: Part) -> None:
-        """The rows of a site or a station."""
-        level, station = ("site", "") if part.is_site else ("station", self.cell(part.name))
-        order = "by time" if part.is_by_time else "by sequence"
-        for p in self.calendar.shown(part.periods):
-            front = [self.number, level, self.site, station, p.seconds]
-            cells = [*self.calendar.cells(p.start), *self.flows(p.flow)]
-            self.periods.writerow([*front, *cells, order])
+        """The rows of a station's sessions."""
+        self.parts.append(part)
+        station, order = self.cell(part.name), "by time" if part.is_by_time else "by sequence"
         for t in part.sessions:
             row = [self.number, self.site, station, *self.session(t), *self.times(t)]
             self.transactions.writerow([*row, order])
+
+    def end(self) -> None:
+        """The rows of the periods of a whole board."""
+        names = {part.name: self.cell(part.name) for part in self.parts}
+        self.periods.write(str(self.number), self.parts, names)
 
     def session(self, t: Session) -> list[int | str]:
         """The cells of a session."""
@@ -215,7 +201,7 @@ class Tables(CsvSink):
         return [
             *numbers,
             *("yes" if t.complete else "no", t.missing, gaps),
-            *self.flows(t.flow),
+            *flow_cells(t.flow),
             t.state,
         ]
 
@@ -225,9 +211,8 @@ class Tables(CsvSink):
             return []
         times = t.times
         seconds: int | str = "" if times.seconds is None else times.seconds
-        net = t.flow.net
         return [
-            f"{'-' if net < 0 else ''}{kwh_of(abs(net))}",
+            signed_kwh(t.flow.net),
             *moments(self.calendar, times.start),
             *moments(self.calendar, times.end),
             seconds,

@@ -4,6 +4,7 @@ from datetime import datetime
 
 from ocpp_board.answered import Answered
 from ocpp_board.boards import Part, Session
+from ocpp_board.period_doubts import KnownPeriods, doubts_of, flows_of
 from ocpp_board.quality import MOST_KW, Finding, findings_of, in_order, order_option
 from ocpp_board.refusals import NOT_IN, Refusal
 from ocpp_board.session_times import times_of
@@ -34,7 +35,7 @@ class Told:
 
     def mark(self, site: str, part: Part) -> None:
         """Gives each session of a station its times and findings, by the events that the board counts."""
-        lived = list[Lived]()
+        lived, part.known = list[Lived](), None if part.is_site else KnownPeriods()
         for session in part.sessions:
             transaction = self.transactions.of(site, part.name, session.tx)
             events = transaction.live(session.first, session.last, session.gaps)
@@ -44,6 +45,10 @@ class Told:
                 transaction, events, session.complete, by_sequence, self.most_kw
             )
             session.state = state_of(session, events)
+            if part.known:
+                flows = flows_of(events, part.seconds, part.is_by_time)
+                doubts = doubts_of(events, part.seconds, session.gaps)
+                part.known.add(session.evse, flows, doubts)
             numbers = session.missing, session.gaps
             lived.append(Lived(session.tx, session.evse, events, session.times, *numbers))
         if not part.is_site:
