@@ -115,6 +115,8 @@ class Session:
     state: str = ""
     times: SessionTimes | None = None
     findings: list[Finding] = field(default_factory=list)
+    # The numbers of voided events, each with who voided it and why.
+    voided: list[tuple[int, str, str]] = field(default_factory=list)
 
 
 @dataclass

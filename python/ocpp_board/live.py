@@ -17,9 +17,10 @@ What is refused, or can't be taken, is told at once on standard error and stands
 cause by name and what to do.
 
 Standard input is the operator's: each of its lines goes between the script's lines, and its answer comes on
-standard output. What it voids, restores and erases stands in the script of --state, too:
+standard output. What it voids, restores and erases is kept in the script of --state with who and why, which may stand
+behind ` # `, and in SITE.operator.csv:
 
-    void CS-01 T1 3
+    void CS-01 T1 3 # jo: meter exchanged
     accepted 17
     total CS-01
     total events=16 voided=1 transactions=1 complete=0 missing=1 up=4800000 down=0 export_up=0 export_down=0
@@ -92,7 +93,7 @@ class ScriptFeed:
 
     def ask(self, line: bytes) -> bytes:
         """The answer to an operator's line. Raises Ended."""
-        return self.ledger.ask(line)
+        return self.ledger.operate(line)
 
     def end(self) -> None:
         """Nothing more is wanted."""
@@ -107,9 +108,10 @@ class Run:
     def __init__(self, words: argparse.Namespace) -> None:
         """Raises OSError, and Mistaken where a file of the words is wrong or another run keeps its script there."""
         self.words, self.refusals, told = words, Refusals(), Told(words.most_kw)
-        self.pages = Pages(words, self.refusals, told)
         takers: list[Callable[[Answered], None]] = [self.refusals.take, told.take]
         self.ledger = Ledger(words.program, takers, self.refusals.add)
+        told.operators = self.ledger.operators
+        self.pages = Pages(words, self.refusals, told)
         takers.append(NearLimits(self.ledger.messages.limits, tell_limit).take)
         self.source: ScriptFeed | LogFeed = (
             LogFeed(words, self.ledger) if words.log else ScriptFeed(words.script, self.ledger)

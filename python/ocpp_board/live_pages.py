@@ -26,8 +26,9 @@ class Pages:
 
     def __init__(self, words: argparse.Namespace, refusals: Refusals, told: Told) -> None:
         self.words, self.refusals, self.told = words, refusals, told
-        # By site: the board that the files show, how many messages were refused, and whether the data is too old.
-        self.shown: dict[str, tuple[bytes, int, bool]] = {}
+        # By site: the board that the files show, how many messages were refused, whether the data is too old, and how
+        # many lines of operators there were.
+        self.shown: dict[str, tuple[bytes, int, bool, int]] = {}
         # By site and day, what the day's page shows.
         self.days: dict[str, dict[date, bytes]] = {}
         # By site and day, which doubts it shows.
@@ -45,12 +46,14 @@ class Pages:
         old by now, or no longer. Raises OSError."""
         self.refusals.settle(self.told.has_taken)
         refused = self.refusals.count(site)
-        shown = board, refused, self.is_old()
+        operators = self.told.operators
+        shown = board, refused, self.is_old(), len(operators.deeds)
         if not board.startswith(b"board ") or self.shown.get(site) == shown:
             return
         folder = Path(tempfile.mkdtemp(prefix=".live_board.", dir=self.words.out))
         try:
             self.refusals.write(folder / f"{site}.refused.csv", site)
+            operators.write(folder / f"{site}.operator.csv", self.told.sites(), site)
             days = digests(board, self.calendar)
             layout = self.make(folder / site, board, refused, self.unchanged(site, days))
             if len(self.sites) > 1 and SITES not in self.sites:

@@ -15,6 +15,7 @@ from ocpp_board.line_faults import BYTE_ORDER_MARK
 from ocpp_board.log_reader import LogReader, Taken
 from ocpp_board.logforms import Entry
 from ocpp_board.messages import Refused
+from ocpp_board.operators import Deed, is_change
 from ocpp_board.refusals import MOST_UNTAKEN, comment_of
 from ocpp_board.script_plan import ScriptPlan
 
@@ -22,8 +23,8 @@ log = logging.getLogger(__name__)
 
 # Seconds until the log is looked at again.
 AGAIN = 0.5
-# The first words of an operator's lines that change what a station holds.
-CHANGES = (b"void", b"restore", b"erase")
+# Bytes of the script that an operator's line may take.
+LONGEST_DEED = 16_384
 
 
 class LogFeed:
@@ -154,15 +155,18 @@ class LogFeed:
             self.ledger.send(line, partial(self.kept.append, line))
 
     def ask(self, line: bytes) -> bytes:
-        """The answer to an operator's line; one that changes something is kept first. Raises Ended."""
-        if line.split(b" ", 1)[0] not in CHANGES:
+        """The answer to an operator's line; what it changed is on disk by then. Raises Ended, and Mistaken where the
+        script has no room."""
+        if not is_change(line):
             return self.ledger.ask(line)
         with self.taking:
-            return self.ledger.ask(line, partial(self.keep, line.rstrip(b"\r\n") + b"\n"))
+            self.kept.check_room(LONGEST_DEED)
+            return self.ledger.operate(line, self.keep)
 
-    def keep(self, line: bytes) -> None:
-        """Has a line on disk."""
-        self.kept.append(line)
+    def keep(self, deed: Deed) -> None:
+        """Has an operator's line on disk: as a line where it was accepted, and else as a comment alone."""
+        line = deed.line.encode() + b"\n" if deed.is_accepted else b""
+        self.kept.append(deed.comment() + line)
         self.kept.keep(None)
 
     def size(self) -> int:

@@ -23,6 +23,7 @@ UNKNOWN = "\N{EN DASH}"
 STATES = {
     "numbers missing": "Messages between the first and the last did not come, were refused or are voided. Ask "
     "the station for those that did not come.",
+    "voided by": "An operator voided events between the first and the last, and no other is missing.",
     "no start": "The first event is no start. What came before it is not there.",
     "a start or end misplaced": "A start or an end stands between the first and the last event.",
     "events after the end": "Events came after the end that an earlier board had.",
@@ -210,13 +211,25 @@ def finding_text(one: Finding) -> str:
 
 def state_text(t: Session) -> str:
     """What is told of a session's completeness, and what is doubtful."""
-    findings = "".join(map(finding_text, t.findings))
-    if not t.missing:
-        return t.state + findings
+    findings = voided_text(t) + "".join(map(finding_text, t.findings))
+    if not t.missing or t.state.startswith("voided by"):
+        return escape(t.state) + findings
     more = len(t.gaps) - MOST_RANGES
     some = ranges(t.gaps[:MOST_RANGES]) + (f" and {more:,} ranges more" if more > 0 else "")
     count = "1 number" if t.missing == 1 else f"{t.missing:,} numbers"
     return f"{count} missing: {some}{''.join(strip(t))}{findings}"
+
+
+def voided_text(t: Session) -> str:
+    """The voided events of a session in a cell: which, by whom, and why."""
+    by: dict[tuple[str, str], list[int]] = {}
+    for number, who, why in t.voided:
+        by.setdefault((who or "an operator", why), []).append(number)
+    return "".join(
+        f"<br>{', '.join(map(str, numbers[:MOST_RANGES]))} voided by {escape(who)}"
+        + (f": {escape(why)}" if why else "")
+        for (who, why), numbers in by.items()
+    )
 
 
 def when(at: datetime | None, calendar: Calendar) -> str:

@@ -15,7 +15,7 @@ from datetime import datetime, timezone
 from pathlib import Path
 from typing import Any, NamedTuple
 
-from ocpp_board.answered import Answered, Lines, moment_of
+from ocpp_board.answered import OPERATOR, Answered, Lines, moment_of
 from ocpp_board.escapes import csv_cell, shown, without_controls
 from ocpp_board.limits import LONGEST_LINE, MOMENT
 from ocpp_board.line_faults import Said, bad_line
@@ -173,12 +173,16 @@ class UntakenLines:
     def __init__(self, script: Lines) -> None:
         self.script = script
         self.refusals: list[Refusal] = []
+        # Comments that tell of operators' lines.
+        self.operators: list[bytes] = []
 
     def readline(self) -> bytes:
         """The next line; empty at the end."""
         line = self.script.readline()
         if refusal := commented(line):
             self.refusals.append(refusal)
+        elif line.startswith(OPERATOR):
+            self.operators.append(line)
         return line
 
 

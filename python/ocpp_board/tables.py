@@ -442,13 +442,17 @@ def read_script(words: argparse.Namespace, text: IO[bytes]) -> tuple[Told, Refus
         if is_gzip(file):
             raise Mistaken("the script is compressed by gzip: gunzip it first")
         script = UntakenLines(file)
-        hand_on(answered(words.program, script), [told.take, refusals.take])
+        messages = answered(words.program, script, told.operators.take)
+        hand_on(messages, [told.take, refusals.take])
     check_text(text, told.transactions, words.script)
     for refusal in script.refusals:
         if not told.has_taken(refusal):
             refusals.add(refusal)
     refusals.end()
     refusals.write(Path(f"{words.out}.refused.csv"))
+    for comment in script.operators:
+        told.operators.comment(comment)
+    told.operators.write(Path(f"{words.out}.operator.csv"), told.sites())
     return told, refusals
 
 

@@ -4,12 +4,17 @@ from datetime import datetime
 
 from ocpp_board.answered import Answered
 from ocpp_board.boards import Part, Session
+from ocpp_board.operators import Operators
 from ocpp_board.period_doubts import KnownPeriods, doubts_of, flows_of
 from ocpp_board.quality import MOST_KW, Finding, findings_of, in_order, order_option
 from ocpp_board.refusals import NOT_IN, Refusal
 from ocpp_board.session_times import times_of
 from ocpp_board.station_findings import Lived, found_in, outside
 from ocpp_board.transactions import Event, Transactions
+
+
+# Who voided an event, where no name was given.
+SOMEBODY = "an operator"
 
 
 def state_of(session: Session, events: list[Event]) -> str:
@@ -28,6 +33,7 @@ class Told:
     def __init__(self, most_kw: int = MOST_KW) -> None:
         """`most_kw`: the greatest power of an EVSE that can be."""
         self.transactions, self.most_kw = Transactions(), most_kw
+        self.operators = Operators()
 
     def take(self, answered: Answered) -> None:
         """Takes a message with its answer."""
@@ -45,6 +51,7 @@ class Told:
                 transaction, events, session.complete, by_sequence, self.most_kw
             )
             session.state = state_of(session, events)
+            self.mark_voided(part.name, session)
             if part.known:
                 flows = flows_of(events, part.seconds, part.is_by_time)
                 doubts = doubts_of(events, part.seconds, session.gaps)
@@ -53,6 +60,20 @@ class Told:
             lived.append(Lived(session.tx, session.evse, events, session.times, *numbers))
         if not part.is_site:
             self.mark_beside(site, part, lived)
+
+    def mark_voided(self, station: str, session: Session) -> None:
+        """Gives a session what operators voided of it, and says so where nothing else is missing."""
+        voids = self.operators.voids(station, session.tx)
+        session.voided = [
+            (number, voids[number].who, voids[number].why) for number in sorted(voids)
+        ]
+        if not session.missing:
+            return
+        inside = [one for one in session.voided if session.first < one[0] < session.last]
+        if inside:
+            said = "voided by " + ", ".join(dict.fromkeys(who or SOMEBODY for _, who, _ in inside))
+            more = "numbers missing, " if len(inside) < session.missing else ""
+            session.state = more + said
 
     def mark_beside(self, site: str, part: Part, lived: list[Lived]) -> None:
         """Gives the sessions of a station what is doubtful in them beside each other, and the station the rest."""
@@ -74,6 +95,10 @@ class Told:
             return refusal.what.startswith(NOT_IN)
         known = self.transactions.of(site, refusal.station, refusal.transaction.lower())
         return refusal.number.isdecimal() and int(refusal.number) in known.events
+
+    def sites(self) -> dict[str, str]:
+        """The sites of the stations that something was accepted of."""
+        return self.transactions.site_of
 
     def until(self) -> datetime | None:
         """The latest receipt of a message, or time of an event whose receipt is not told."""

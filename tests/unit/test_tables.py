@@ -34,7 +34,7 @@ def told(monkeypatch: pytest.MonkeyPatch) -> list[str]:
     """The messages of a script, with what the program was and how it begins."""
     seen = list[str]()
 
-    def answered(program: str, script: IO[bytes]) -> Iterator[Answered]:
+    def answered(program: str, script: IO[bytes], _other: object) -> Iterator[Answered]:
         seen.extend([program, script.readline().decode()])
         session = KINDS[SESSION["kind"]]("T1", FIRST)
         session[-1].payload["transactionInfo"]["stoppedReason"] = REASON
