@@ -165,8 +165,29 @@ with_program() {
     # Commands that are drawn, at a site by moment and at one by sequence, against plain lists.
     "$one" drawn_orders "$program" || differs drawn_orders
 
+    # The commands of the examples, as they are written there.
+    written_as examples/a-log-to-a-page/README.md
+    written_as examples/beside-a-csms/README.md
+    [ -s "$made/as_written/live/riverside.html" ] && [ -s "$made/as_written/site.findings.csv" ] ||
+        differs "what the commands of the examples write"
+
     # 50 events of each of two stations: a session of 48 and one of 2, in each of which all but the first rise by 250 Wh.
     gives 0 forms/traffic.text bash -c '"$board" traffic 100 --stations 2 | "$1" replay | grep -v "^.3,"' _ "$program"
+}
+
+# written_as README: the commands of this page, with the program that is built and in a folder of their own. Those that
+# go on are ended by a signal after a while, as a user does.
+written_as() {
+    mkdir -p "$made/as_written"
+    sed -n 's/^    //p' "$top/$1" | sed "s|crates/ocpp_replay/out/ocpp_replay|$program replay|; s|/tmp/|$made/as_written/|g
+        s|^python/ocpp-board live|timeout -s INT --preserve-status 20 python/ocpp-board live --program $program|
+        s|^python/ocpp-board tables \(.*--script\)|python/ocpp-board tables --program $program \1|" > "$made/written.sh"
+    if (cd "$top" && bash -e "$made/written.sh" < /dev/null) > "$made/given" 2> "$made/told"; then
+        echo "$1: $(wc -l < "$made/written.sh") lines as written"
+    else
+        cat "$made/told"
+        differs "$1"
+    fi
 }
 
 # The logs become scripts. That of the first day has other fields, and its messages are JSON.

@@ -13,7 +13,7 @@ from typing import NamedTuple, Protocol
 
 from ocpp_board.limits import DEFAULT_LIMITS, LONGEST_LINE
 from ocpp_board.line_faults import words_of
-from ocpp_board.processes import replay_environment
+from ocpp_board.processes import BUILD, replay_environment
 from ocpp_board.statuses import Mistaken
 
 # The first words of lines that may write nothing.
@@ -55,15 +55,19 @@ class Replay:
 
     def __init__(self, program: str, *, is_apart: bool = False, is_heard: bool = False) -> None:
         """`is_apart`: a signal to this process's group is none to the replay. `is_heard`: what it tells is kept."""
-        self.process = subprocess.Popen(
-            [program, "replay"],
-            bufsize=BUFFER,
-            stdin=subprocess.PIPE,
-            stdout=subprocess.PIPE,
-            stderr=subprocess.PIPE if is_heard else None,
-            start_new_session=is_apart,
-            env=replay_environment(),
-        )
+        try:
+            self.process = subprocess.Popen(
+                [program, "replay"],
+                bufsize=BUFFER,
+                stdin=subprocess.PIPE,
+                stdout=subprocess.PIPE,
+                stderr=subprocess.PIPE if is_heard else None,
+                start_new_session=is_apart,
+                env=replay_environment(),
+            )
+        except FileNotFoundError as fault:
+            said = f"{fault.strerror}: the program that replays; {BUILD}"
+            raise FileNotFoundError(fault.errno, said, program) from None
         assert self.process.stdin and self.process.stdout
         self.input, self.output = self.process.stdin, self.process.stdout
         self.sent: deque[Line] = deque()

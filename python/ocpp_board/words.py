@@ -6,6 +6,7 @@ from collections.abc import Sequence
 from zoneinfo import ZoneInfo
 
 from ocpp_board import telling
+from ocpp_board.processes import found_program
 from ocpp_board.quality import MOST_KW
 
 
@@ -35,8 +36,8 @@ def add_program(parser: argparse.ArgumentParser) -> None:
     parser.add_argument(
         "--program",
         metavar="PATH",
-        default="ocpp_board",
-        help="the program (default: ocpp_board)",
+        default=found_program(),
+        help="the program (default: that of crates/*/out of this checkout, or else ocpp_board of the path)",
     )
 
 
