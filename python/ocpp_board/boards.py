@@ -8,6 +8,7 @@ from datetime import datetime
 from functools import lru_cache
 from typing import IO, NamedTuple, Protocol
 
+from ocpp_board.bills import Details
 from ocpp_board.energies import FLOW, Flow
 from ocpp_board.limits import NAME, PERIODS, TRANSACTION
 from ocpp_board.period_doubts import KnownPeriods, together
@@ -115,6 +116,9 @@ class Session:
     state: str = ""
     times: SessionTimes | None = None
     findings: list[Finding] = field(default_factory=list)
+    # Its id as it was sent first, and what its events tell for a bill.
+    sent: str = ""
+    details: list[Details] = field(default_factory=list)
     # The numbers of voided events, each with who voided it and why.
     voided: list[tuple[int, str, str]] = field(default_factory=list)
 

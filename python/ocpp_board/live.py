@@ -55,7 +55,7 @@ from ocpp_board.script_plan import add_plan, check_plan
 from ocpp_board.sources import is_gzip
 from ocpp_board.statuses import Mistaken, Status, ended
 from ocpp_board.told import Told
-from ocpp_board.words import add_power, add_program, parsed, parser_of, zone
+from ocpp_board.words import add_power, add_program, add_tokens, parsed, parser_of, zone
 
 log = logging.getLogger(__name__)
 
@@ -299,6 +299,7 @@ def arguments(argv: Sequence[str], prog: str) -> argparse.Namespace:
     )
     add_log(parser)
     add_power(parser)
+    add_tokens(parser)
     add_program(parser)
     words = parsed(parser, argv)
     words.prog = prog

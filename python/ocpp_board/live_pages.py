@@ -84,6 +84,7 @@ class Pages:
     def make(self, name: Path, board: bytes, refused: int, standing: frozenset[date]) -> Layout:
         """Makes the files of a board, whose names begin so, but for the pages of days that stand already."""
         more = ["--tz", str(self.words.tz)] if self.words.tz else []
+        more += ["--tokens", getattr(self.words, "tokens", "none")]
         more += ["--log-json"] if self.words.log_json else []
         more += ["--refresh", str(max(1, round(self.words.every)))]
         words = tables.arguments(["--out", str(name), *more], self.words.prog)
@@ -106,5 +107,10 @@ class Pages:
     def put(self, folder: Path, last: str) -> None:
         """Moves files to where they belong; the pages that link to others come last."""
         order = last, f"{SITES}.html"
+        for path in [path for path in folder.iterdir() if path.is_dir()]:
+            (self.words.out / path.name).mkdir(exist_ok=True)
+            for file in path.iterdir():
+                os.replace(file, self.words.out / path.name / file.name)
+            path.rmdir()
         for path in sorted(folder.iterdir(), key=lambda path: [path.name == one for one in order]):
             os.replace(path, self.words.out / path.name)

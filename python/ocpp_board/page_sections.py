@@ -34,6 +34,10 @@ STATES = {
 }
 
 
+# Names of problems that are others than those of states.
+PROBLEMS = {"voided by": "voided by an operator"}
+
+
 @dataclass
 class Problem:
     """What is wrong: in how many sessions, how often, and at which stations."""
@@ -55,7 +59,7 @@ class Problem:
 def problems_of(stations: Iterable[Part]) -> Iterator[Problem]:
     """What is wrong at these stations, the gravest first."""
     unread = Problem("not read", "Lines of the board could not be read, so it lacks something.")
-    states = {name: Problem(name, meaning) for name, meaning in STATES.items()}
+    states = {name: Problem(PROBLEMS.get(name, name), meaning) for name, meaning in STATES.items()}
     found = {kind: Problem(kind.label, kind.meaning) for kind in Kind}
     falls = Problem(
         "down is not 0",

@@ -65,6 +65,7 @@ from typing import IO, NoReturn, TextIO
 from urllib.request import urlopen
 
 from ocpp_board.answered import Answered, answered
+from ocpp_board.bills import HEADS as BILL_HEADS, cells_of, write_signed
 from ocpp_board.board_pages import Boards, DayPages, Index, Layout
 from ocpp_board.boards import Part, Reader, Session, Sink
 from ocpp_board.calendars import Calendar
@@ -80,7 +81,7 @@ from ocpp_board.session_times import Registers
 from ocpp_board.sources import is_gzip, opened
 from ocpp_board.statuses import Mistaken, Status, ended
 from ocpp_board.told import Told
-from ocpp_board.words import add_power, add_program, parsed, parser_of, zone
+from ocpp_board.words import add_power, add_program, add_tokens, parsed, parser_of, zone
 
 log = logging.getLogger(__name__)
 
@@ -159,9 +160,12 @@ class Tables(CsvSink):
         raw: bool,
         calendar: Calendar,
         has_times: bool = False,
+        tokens: str = "none",
+        signed: Path | None = None,
     ) -> None:
+        """`tokens`: how drivers' tokens are written; `signed`: the folder of the files of signed values."""
         super().__init__(raw, calendar)
-        self.has_times = has_times
+        self.has_times, self.tokens, self.signed = has_times, tokens, signed
         self.periods = PeriodTable(periods, calendar)
         self.transactions = csv.writer(transactions, lineterminator="\n")
         self.parts = list[Part]()
@@ -179,13 +183,15 @@ class Tables(CsvSink):
             return []
         ends = [head for name in ("start", "end") for head in moment_heads(self.calendar, name)]
         times = [*ends, "duration (s)", *self.REGISTERS, "stopped reason"]
-        return ["net (kWh)", *times, "findings"]
+        return ["net (kWh)", *times, "findings", *BILL_HEADS]
 
     def part(self, part: Part) -> None:
         """The rows of a station's sessions."""
         self.parts.append(part)
         station, order = self.cell(part.name), "by time" if part.is_by_time else "by sequence"
         for t in part.sessions:
+            if self.signed:
+                write_signed(self.signed, part.name, t.sent, t.details)
             row = [self.number, self.site, station, *self.session(t), *self.times(t)]
             self.transactions.writerow([*row, order])
 
@@ -220,6 +226,7 @@ class Tables(CsvSink):
             *registers(times.exported),
             self.cell(times.reason),
             "; ".join(one.kind.label for one in t.findings),
+            *map(self.cell, cells_of(t.sent, t.details, self.tokens)),
         ]
 
 
@@ -348,6 +355,7 @@ def arguments(argv: Sequence[str], prog: str) -> argparse.Namespace:
         help="the script that the text is of: its messages tell times of sessions, findings, and what was refused",
     )
     add_power(parser)
+    add_tokens(parser)
     add_program(parser)
     add_moments(parser)
     words = parsed(parser, argv)
@@ -418,7 +426,10 @@ def write_files(
     days, index = DayPages(layout), Index(layout)
     with contextlib.ExitStack() as files:
         csv_files = file("periods"), file("transactions")
-        sinks: list[Sink] = [Tables(*csv_files, words.raw, layout.calendar, told is not None)]
+        bill = (words.tokens, Path(f"{words.out}.signed")) if told else ("none", None)
+        sinks: list[Sink] = [
+            Tables(*csv_files, words.raw, layout.calendar, told is not None, *bill)
+        ]
         findings = Findings(file("findings"), words.raw, layout.calendar) if told else None
         sinks += [findings] if findings else []
         sinks.append(Boards([days.add, index.add]))

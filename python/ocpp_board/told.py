@@ -52,6 +52,8 @@ class Told:
             )
             session.state = state_of(session, events)
             self.mark_voided(part.name, session)
+            session.sent = transaction.sent
+            session.details = [event.details for event in events]
             if part.known:
                 flows = flows_of(events, part.seconds, part.is_by_time)
                 doubts = doubts_of(events, part.seconds, session.gaps)

@@ -10,6 +10,7 @@ from datetime import datetime, timezone
 from typing import Any, NamedTuple
 
 from ocpp_board.answered import Answered
+from ocpp_board.bills import NOTHING, Details, details_of
 from ocpp_board.messages import HEAD
 from ocpp_board.meter_values import EXPORT, IMPORT, JSON, MeterValues, measurand_of
 from ocpp_board.meter_values import mwh_of as mwh_of, seconds_of as seconds_of
@@ -48,6 +49,8 @@ class Event(NamedTuple):
     reason: str
     evse: int = 0
     unlike: tuple[str, ...] = ()
+    # What it tells for a bill.
+    details: Details = NOTHING
 
 
 def readings_in_order(
@@ -72,6 +75,8 @@ class Transaction:
 
     events: dict[int, Event] = field(default_factory=dict)
     conflicts: list[Event] = field(default_factory=list)
+    # Its id as it was sent first: two that differ in letters' sizes alone are one.
+    sent: str = ""
 
     def live(self, first: int, last: int, gaps: list[tuple[int, int]]) -> list[Event]:
         """The events that a board counts, which tells their first and last number and the gaps between."""
@@ -129,6 +134,7 @@ def event_of(payload: dict[str, Any], received: datetime | None) -> Event:
         plain(payload["transactionInfo"].get("stoppedReason")),
         evse_of(payload),
         tuple(unlike),
+        details_of(payload),
     )
 
 
@@ -175,11 +181,12 @@ class Transactions:
         if action != "TransactionEvent":
             return
         event = event_of(payload, answered.received)
-        tx = payload["transactionInfo"]["transactionId"].lower()
+        sent = payload["transactionInfo"]["transactionId"]
+        tx = sent.lower()
         key = answered.site, answered.station, tx
         whole = self.known.get(key)
         if whole is None:
-            whole = self.known[key] = Transaction()
+            whole = self.known[key] = Transaction(sent=sent)
         if is_conflict:
             if len(whole.conflicts) < MOST_CONFLICTS:
                 whole.conflicts.append(event)

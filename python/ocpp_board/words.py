@@ -6,6 +6,7 @@ from collections.abc import Sequence
 from zoneinfo import ZoneInfo
 
 from ocpp_board import telling
+from ocpp_board.bills import TOKENS
 from ocpp_board.processes import found_program
 from ocpp_board.quality import MOST_KW
 
@@ -56,6 +57,17 @@ def add_power(parser: argparse.ArgumentParser) -> None:
         type=kilowatts,
         default=MOST_KW,
         help=f"the greatest power of an EVSE: what is above is a finding (default: {MOST_KW})",
+    )
+
+
+def add_tokens(parser: argparse.ArgumentParser) -> None:
+    """The option that says how drivers' tokens are written."""
+    parser.add_argument(
+        "--tokens",
+        choices=TOKENS,
+        default=TOKENS[0],
+        help="how the idToken of a session is written: not at all, since it is personal, as the SHA-256 of its small "
+        "letters, or plain (default: none)",
     )
 
 
