@@ -324,6 +324,12 @@ def keep_pages(words: argparse.Namespace) -> int:
     """Keeps the pages until all is at its end or a signal comes, and gives the exit status."""
     words.out.mkdir(parents=True, exist_ok=True)
     run = Run(words)
+    log.info(
+        "reads %s; pages are in %s, written every %g s; Ctrl-C or SIGTERM writes them once more and ends it",
+        words.log or words.script,
+        words.out,
+        words.every,
+    )
     try:
         run.wait()
     except (KeyboardInterrupt, Ended):

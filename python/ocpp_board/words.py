@@ -3,6 +3,7 @@
 import argparse
 import logging
 from collections.abc import Sequence
+from typing import NoReturn
 from zoneinfo import ZoneInfo
 
 from ocpp_board import telling
@@ -11,9 +12,17 @@ from ocpp_board.processes import found_program
 from ocpp_board.quality import MOST_KW
 
 
+class Parser(argparse.ArgumentParser):
+    """A parser that tells a wrong word in two lines, and not behind all words that there are."""
+
+    def error(self, message: str) -> NoReturn:
+        """Ends the program with status 2."""
+        self.exit(2, f"{self.prog}: error: {message}\n{self.prog} --help tells its words\n")
+
+
 def parser_of(prog: str, about: str | None, ending: str = "") -> argparse.ArgumentParser:
     """A parser whose help has these texts as they are laid out, with the options of all tools."""
-    parser = argparse.ArgumentParser(
+    parser = Parser(
         prog=prog,
         description=about,
         epilog=ending,

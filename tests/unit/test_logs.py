@@ -56,7 +56,7 @@ def test_dotted_names_lead_into_objects() -> None:
     assert JsonForm(fields).read('{"from.id":"B",' + text[1:]) == Entry(
         None, "B", "1772352000.500", "[]"
     )
-    with pytest.raises(Refused, match="'body.frame' is missing"):
+    with pytest.raises(Refused, match=r"'body.frame' is missing \(--message-field names another"):
         JsonForm(fields).read('{"from":{"id":"A"},"body":[]}')
     cut = JsonForm(fields._replace(is_json_message=True)).read(
         '{"from":{"id":"A"},"body":{ "frame" : [2,  1.50] }}'
