@@ -128,10 +128,12 @@ with_program() {
         as_stored "tables/$name.csv" "$made/$name.csv"
     done
     holds tables/troubles.said
-    tells 0 "sessions with findings: no counted reading: 2, energy that does not count: 6, transaction id used again: 2, " \
+    tells 0 "sessions with findings: power that cannot be: 2, signed value differs: 2, register reset or exchanged: 2, " \
         "$board" tables --script "$made/troubles.script" --program "$program" --out "$made/x" tables/troubles.text
     tells 2 "the script is compressed by gzip" "$board" tables --script "$made/day.script.gz" --program "$program" \
         --out "$made/x" tables/troubles.text
+    tells 2 "the text is not of the script $days/day.script: session " "$board" tables --script "$days/day.script" \
+        --program "$program" --out "$made/x" tables/troubles.text
     tells 2 "No such file or directory" "$board" tables --script nowhere.script --program "$program" --out "$made/x" \
         tables/troubles.text
     tells 2 "No such file or directory" "$board" tables --script "$made/troubles.script" --program ./nowhere \
@@ -163,8 +165,29 @@ with_program() {
     # Commands that are drawn, at a site by moment and at one by sequence, against plain lists.
     "$one" drawn_orders "$program" || differs drawn_orders
 
+    # The commands of the examples, as they are written there.
+    written_as examples/a-log-to-a-page/README.md
+    written_as examples/beside-a-csms/README.md
+    [ -s "$made/as_written/live/riverside.html" ] && [ -s "$made/as_written/site.findings.csv" ] ||
+        differs "what the commands of the examples write"
+
     # 50 events of each of two stations: a session of 48 and one of 2, in each of which all but the first rise by 250 Wh.
     gives 0 forms/traffic.text bash -c '"$board" traffic 100 --stations 2 | "$1" replay | grep -v "^.3,"' _ "$program"
+}
+
+# written_as README: the commands of this page, with the program that is built and in a folder of their own. Those that
+# go on are ended by a signal after a while, as a user does.
+written_as() {
+    mkdir -p "$made/as_written"
+    sed -n 's/^    //p' "$top/$1" | sed "s|crates/ocpp_replay/out/ocpp_replay|$program replay|; s|/tmp/|$made/as_written/|g
+        s|^python/ocpp-board live|timeout -s INT --preserve-status 20 python/ocpp-board live --program $program|
+        s|^python/ocpp-board tables \(.*--script\)|python/ocpp-board tables --program $program \1|" > "$made/written.sh"
+    if (cd "$top" && bash -e "$made/written.sh" < /dev/null) > "$made/given" 2> "$made/told"; then
+        echo "$1: $(wc -l < "$made/written.sh") lines as written"
+    else
+        cat "$made/told"
+        differs "$1"
+    fi
 }
 
 # The logs become scripts. That of the first day has other fields, and its messages are JSON.
@@ -207,6 +230,8 @@ tells 2 "not 300, 900, 1800 or 3600 seconds: 'north=600'" "$board" log-to-script
 tells 2 "no name of a site: 'no/name=300'" "$board" log-to-script --period no/name=300 "$days/day.jsonl"
 tells 2 "not sequence or moment: 'north=time'" "$board" log-to-script --order north=time "$days/day.jsonl"
 tells 2 "no name of a site: 'no/name=moment'" "$board" log-to-script --order no/name=moment "$days/day.jsonl"
+tells 2 "--order names the site 'nroth', which the log does not have; its sites: riverside" \
+    "$board" log-to-script --order nroth=moment "$days/site_day.jsonl"
 tells 2 "No such file or directory" "$board" log-to-script nowhere.jsonl
 tells 2 "No space left on device" bash -c '"$board" log-to-script "$days/site_day.jsonl" > /dev/full'
 tells 2 "No space left on device" bash -c '"$board" log-to-script --form maeve --stations forms/stations.txt forms/maeve.mqtt > /dev/full'
@@ -265,16 +290,20 @@ done
 made_by "$board" tables --tz Europe/Berlin --from 2026-03-29 --to 2026-10-25 --out "$made/berlin" tables/berlin.text
 made_by "$board" tables --out "$made/states" tables/states.text
 made_by "$board" tables --out "$made/exports" tables/exports.text
-for name in berlin.periods berlin.transactions states.transactions exports.periods exports.transactions; do
+for name in berlin.transactions states.transactions exports.periods exports.transactions; do
     as_stored "tables/$name.csv" "$made/$name.csv"
 done
 holds tables/berlin.said
 holds tables/exports.said
 made_by "$board" tables --written $written --out "$made/repeats" "$days/repeats.expected"
 holds tables/repeats.said
-made_by "$board" tables --tz Europe/Berlin --day 2026-03-29 --out "$made/one" tables/berlin.text
-grep -E '^board|:00Z,2026-03-29T' tables/berlin.periods.csv > "$made/one.rows"
-diff "$made/one.rows" "$made/one.periods.csv" || differs "a day of tables/berlin.periods.csv"
+# The periods of the days of 23 and 25 hours, which are rows of the whole table, too.
+for day in 2026-03-29 2026-10-25; do
+    made_by "$board" tables --tz Europe/Berlin --day $day --out "$made/$day" tables/berlin.text
+    as_stored "tables/berlin.$day.periods.csv" "$made/$day.periods.csv"
+    grep -E "^board|^([^,]*,){7}${day}T" "$made/berlin.periods.csv" | diff - "$made/$day.periods.csv" ||
+        differs "the rows of $day in berlin.periods.csv"
+done
 # Labels, contrast and links of all pages that were made, and how wide they are on a phone, names and numbers being long.
 made_by "$board" tables --tz America/Argentina/ComodRivadavia --out "$made/long" tables/long.text
 if "$one" page_check "$made"/*.html > "$made/checked"; then

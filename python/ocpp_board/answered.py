@@ -7,13 +7,13 @@ of such a line's text is known.
 import subprocess
 import threading
 from collections import deque
-from collections.abc import Iterator
+from collections.abc import Callable, Iterator
 from datetime import datetime
 from typing import NamedTuple, Protocol
 
 from ocpp_board.limits import DEFAULT_LIMITS, LONGEST_LINE
 from ocpp_board.line_faults import words_of
-from ocpp_board.processes import replay_environment
+from ocpp_board.processes import BUILD, replay_environment
 from ocpp_board.statuses import Mistaken
 
 # The first words of lines that may write nothing.
@@ -25,8 +25,8 @@ MARKED = (b"fault PlanLimit\n", b"fault DeclaredLate\n")
 BAD_LINE = b"fault BadLine\n"
 # Bytes that are handed to the replay at once.
 BUFFER = 65_536
-# A comment that tells when the message behind it was received.
-RECEIVED = b"# received "
+# Comments that tell when the message behind them was received, and whose the operator's line behind them is.
+RECEIVED, OPERATOR = b"# received ", b"# operator "
 
 
 class Lines(Protocol):
@@ -46,6 +46,8 @@ class Line(NamedTuple):
     is_marked: bool
     # When it was received, as the line before it tells.
     received: bytes
+    # Who had it done, as the comment right before it tells.
+    operator: bytes = b""
 
 
 class Replay:
@@ -53,19 +55,23 @@ class Replay:
 
     def __init__(self, program: str, *, is_apart: bool = False, is_heard: bool = False) -> None:
         """`is_apart`: a signal to this process's group is none to the replay. `is_heard`: what it tells is kept."""
-        self.process = subprocess.Popen(
-            [program, "replay"],
-            bufsize=BUFFER,
-            stdin=subprocess.PIPE,
-            stdout=subprocess.PIPE,
-            stderr=subprocess.PIPE if is_heard else None,
-            start_new_session=is_apart,
-            env=replay_environment(),
-        )
+        try:
+            self.process = subprocess.Popen(
+                [program, "replay"],
+                bufsize=BUFFER,
+                stdin=subprocess.PIPE,
+                stdout=subprocess.PIPE,
+                stderr=subprocess.PIPE if is_heard else None,
+                start_new_session=is_apart,
+                env=replay_environment(),
+            )
+        except FileNotFoundError as fault:
+            said = f"{fault.strerror}: the program that replays; {BUILD}"
+            raise FileNotFoundError(fault.errno, said, program) from None
         assert self.process.stdin and self.process.stdout
         self.input, self.output = self.process.stdin, self.process.stdout
         self.sent: deque[Line] = deque()
-        self.received = b""
+        self.received, self.operator = b"", b""
 
     def sendable(self, number: int, line: bytes) -> bytes:
         """The line as it is sent: with a mark where it may write nothing. One that is answered is remembered."""
@@ -74,10 +80,14 @@ class Replay:
         if not is_long and (not bare or bare.startswith(b"#")):
             if bare.startswith(RECEIVED):
                 self.received = bare.removeprefix(RECEIVED)
+            elif bare.startswith(OPERATOR):
+                self.operator = bare
             return line
         word, _, rest = bare.partition(b" ")
         is_marked = word in SILENT
-        self.sent.append(Line(number, bare[: LONGEST_LINE + 1], is_marked, self.received))
+        front = bare[: LONGEST_LINE + 1]
+        self.sent.append(Line(number, front, is_marked, self.received, self.operator))
+        self.operator = b""
         self.received = rest if word == b"now" else b""
         if not is_marked:
             return line
@@ -214,8 +224,10 @@ class Messages:
         return Answered(line.number, site, station, received, message, answer)
 
 
-def answered(program: str, script: Lines) -> Iterator[Answered]:
-    """Each message of a script with its answer, by a replay that runs.
+def answered(
+    program: str, script: Lines, other: Callable[[Line, bytes], None] | None = None
+) -> Iterator[Answered]:
+    """Each message of a script with its answer, by a replay that runs. `other` gets all other lines.
 
     Raises OSError where the script can't be read or the program not be started, and Mistaken where the replay ends
     with a fault.
@@ -224,6 +236,8 @@ def answered(program: str, script: Lines) -> Iterator[Answered]:
     for line, text in replay.texts():
         if message := messages.take(line, text):
             yield message
+        elif other:
+            other(line, text)
     status, told = replay.ended()
     if status:
         raise Mistaken(f"the replay ended with status {status}: {told}")

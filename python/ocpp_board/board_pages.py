@@ -2,11 +2,11 @@
 
 from collections.abc import Callable, Iterable, Iterator
 from dataclasses import dataclass, field
-from datetime import date, datetime, timedelta
+from datetime import date, datetime, timedelta, timezone
 from html import escape
 from itertools import groupby
 
-from ocpp_board.boards import Part, Period
+from ocpp_board.boards import Part, Period, know_site
 from ocpp_board.calendars import Calendar
 from ocpp_board.energies import kwh, share, sum_of
 from ocpp_board.page_sections import (
@@ -39,6 +39,7 @@ from ocpp_board.pages import (
     refused_banner,
     table,
 )
+from ocpp_board.period_doubts import Doubt
 from ocpp_board.pictures import Scale
 
 # Bytes of a page's body from which on it goes on on the next.
@@ -88,6 +89,7 @@ class Boards:
 
     def end(self) -> None:
         """Hands the board on."""
+        know_site(self.parts)
         board = Board(self.number, self.parts[0], self.line, self.parts[1:])
         for take in self.takers:
             take(board)
@@ -111,6 +113,8 @@ class Layout:
     refused: int = 0
     # Days whose pages stand already, and are not written; None where every page is written.
     standing: frozenset[date] | None = None
+    # By day, what stands on its page beside the board; a page whose mark is another does not stand.
+    marks: dict[date, int] = field(default_factory=dict)
 
     def index(self, number: int = 1) -> str:
         """The path of the page of all boards, and of those on which it goes on."""
@@ -326,8 +330,24 @@ class DayPages:
                 one = DayPart(part, f"b{board.number}-{number}", day, periods, scale)
                 days.setdefault(day, []).append(one)
         self.shown.update(days)
-        for day in sorted(days.keys() - (self.layout.standing or ())):
+        standing = (self.layout.standing or frozenset()) - self.marked(board)
+        for day in sorted(days.keys() - standing):
             self.add_day(board, day, days[day])
+
+    def marked(self, board: Board) -> set[date]:
+        """The days whose doubts are others than those that their pages have."""
+        found: dict[date, list[tuple[int, int, Doubt]]] = {}
+        for number, part in enumerate((board.site, *board.stations)):
+            for start, doubt in part.known.doubts.items() if part.known else ():
+                day = self.calendar.day(datetime.fromtimestamp(start, timezone.utc))
+                found.setdefault(day, []).append((number, start, doubt))
+        marks, before = {
+            day: hash(tuple(sorted(some))) for day, some in found.items()
+        }, self.layout.marks
+        changed = {day for day in {*marks, *before} if marks.get(day) != before.get(day)}
+        before.clear()
+        before.update(marks)
+        return changed
 
     def add_day(self, board: Board, day: date, parts: list[DayPart]) -> None:
         """Adds a day of a board: its site, the table of its stations, and each of these."""

@@ -2,14 +2,16 @@
 
 import logging
 import re
-from collections.abc import Iterable, Iterator
+from collections.abc import Iterable, Iterator, Sequence
 from dataclasses import dataclass, field
 from datetime import datetime
 from functools import lru_cache
 from typing import IO, NamedTuple, Protocol
 
+from ocpp_board.bills import Details
 from ocpp_board.energies import FLOW, Flow
 from ocpp_board.limits import NAME, PERIODS, TRANSACTION
+from ocpp_board.period_doubts import KnownPeriods, together
 from ocpp_board.progress import Progress
 from ocpp_board.quality import Finding
 from ocpp_board.session_times import SessionTimes
@@ -114,6 +116,11 @@ class Session:
     state: str = ""
     times: SessionTimes | None = None
     findings: list[Finding] = field(default_factory=list)
+    # Its id as it was sent first, and what its events tell for a bill.
+    sent: str = ""
+    details: list[Details] = field(default_factory=list)
+    # The numbers of voided events, each with who voided it and why.
+    voided: list[tuple[int, str, str]] = field(default_factory=list)
 
 
 @dataclass
@@ -130,6 +137,10 @@ class Part:
     periods: list[Period] = field(default_factory=list)
     sessions: list[Session] = field(default_factory=list)
     is_by_time: bool = False
+    # What is doubtful at a station and of no session, where the messages were told.
+    findings: list[Finding] = field(default_factory=list)
+    # What the messages tell of its periods, where they were told.
+    known: KnownPeriods | None = None
 
     def add(self, kind: str, values: tuple[str, ...]) -> bool:
         """Takes a line into the part; False where its values can't be."""
@@ -263,6 +274,13 @@ class Marker(Protocol):
 
     def mark(self, site: str, part: Part) -> None:
         """Gives each session of a part of this site what is known of it."""
+
+
+def know_site(parts: Sequence[Part]) -> None:
+    """Has the site, which is the first of a board's parts, know of its periods what its stations do."""
+    known = [part.known for part in parts[1:] if part.known is not None]
+    if known and parts[0].known is None:
+        parts[0].known = together(known)
 
 
 class Reader:

@@ -9,6 +9,10 @@ from ocpp_board.boards import KEPT_MOMENTS, Period
 from ocpp_board.limits import MOMENT
 
 
+# Days without a period in a row, after which their rows are left out: a clock that was set wrong lies far away.
+LONGEST_PAUSE = 62
+
+
 class Calendar:
     """The days from the first to the last one, both included, in a zone."""
 
@@ -42,11 +46,37 @@ class Calendar:
         """The hour and the minute of a moment."""
         return self.local(moment).strftime("%H:%M")
 
+    def label(self, moment: datetime) -> str:
+        """The hour and the minute of a moment. In an hour that comes twice they are 2A:15 and later 2B:15."""
+        local = self.local(moment)
+        if local.replace(fold=0).utcoffset() == local.replace(fold=1).utcoffset():
+            return local.strftime("%H:%M")
+        # In an hour that is left out the two differ as well, and the local time has no moment.
+        return f"{local.hour}{'AB'[local.fold]}:{local:%M}"
+
+    def days(self, periods: Iterable[Period]) -> list[date]:
+        """The days from the first period to the last one, without those of a pause of more than so many days."""
+        with_periods = sorted({self.day(p.start) for p in periods})
+        found = with_periods[:1]
+        for day in with_periods[1:]:
+            pause = (day - found[-1]).days
+            first = 1 if pause <= LONGEST_PAUSE else pause
+            found += [day - timedelta(days=pause - n) for n in range(first, pause + 1)]
+        return [day for day in found if self.first <= day <= self.last]
+
+    def starts(self, day: date, seconds: int) -> list[datetime]:
+        """The beginnings of a day's periods of so many seconds: 96 of a quarter of an hour, or 92, or 100."""
+        begin, length = self.begin(day), self.seconds(day)
+        first = begin.timestamp() // seconds * seconds
+        count = -(-int(begin.timestamp() + length - first) // seconds)
+        starts = (datetime.fromtimestamp(first + n * seconds, timezone.utc) for n in range(count))
+        return [start for start in starts if self.day(start) == day]
+
     def times_of(self, start: datetime, seconds: int) -> str:
         """From when to when a period is, and from when in UTC as another cell; the end of a day is 24:00."""
-        end = self.time(start + timedelta(seconds=seconds))
+        end = self.label(start + timedelta(seconds=seconds))
         beside = "" if self.is_utc else f"<td>{start:%H:%M}"
-        return f"{self.time(start)}\N{EN DASH}{'24:00' if end == '00:00' else end}{beside}"
+        return f"{self.label(start)}\N{EN DASH}{'24:00' if end == '00:00' else end}{beside}"
 
     def cells_of(self, moment: datetime) -> list[str]:
         """A moment of UTC, and the same in the zone where that is another, for a CSV file."""

@@ -4,9 +4,10 @@ import gzip
 import hashlib
 import logging
 import os
+import re
 import time
 import zlib
-from collections.abc import Iterable
+from collections.abc import Callable, Iterable
 from pathlib import Path
 from typing import IO, NamedTuple
 
@@ -53,9 +54,44 @@ def is_cut_short(file: IO[bytes], place: int) -> bool:
 
 
 def beside(path: Path) -> list[Path]:
-    """The files that a rotation leaves: those whose names begin as this one's, and go on."""
-    found = sorted(path.parent.glob(f"{path.name}?*"))
-    return [one for one in found if one.is_file() and one.suffix not in PACKED]
+    """The files that a rotation leaves: those whose names begin as this one's, and go on, or have a date in it."""
+    found = {*path.parent.glob(f"{path.name}?*"), *filter(rotated(path), path.parent.iterdir())}
+    return [one for one in sorted(found) if one.is_file() and one.suffix not in PACKED]
+
+
+def rotated(path: Path) -> Callable[[Path], bool]:
+    """Whether a name is one that a rotation of this file gives: with a number or a date behind it, or with a date in
+    front of its ending."""
+    end = rf"(?:\.gz|{'|'.join(map(re.escape, PACKED))})?"
+    names = (rf"{re.escape(path.name)}[.\-_][0-9][0-9T:._\-]*", *dated(path))
+    pattern = re.compile(rf"(?:{'|'.join(names)}){end}")
+    return lambda one: pattern.fullmatch(one.name) is not None
+
+
+def dated(path: Path) -> list[str]:
+    """The expression of this file's name with a date in front of its ending, where it has one."""
+    date = r"[.\-_][0-9]{4}-?[0-9]{2}-?[0-9]{2}(?:[T._\-][0-9:._\-]*)?"
+    return [re.escape(path.stem) + date + re.escape(path.suffix)] if path.suffix else []
+
+
+def age_of(path: Path) -> tuple[int, int]:
+    """By what files of a rotation are put in order, the oldest first: when they were written last, and of one moment by
+    their numbers."""
+    number = re.search(r"\.([0-9]{1,9})(?:\.gz)?$", path.name)
+    return path.stat().st_mtime_ns, -int(number[1]) if number else 0
+
+
+def older(path: Path) -> list[Path]:
+    """The files of a log that rotations left, the oldest first. Those that can't be read are told."""
+    is_rotated = rotated(path)
+    unread = [
+        one.name
+        for one in sorted(path.parent.iterdir())
+        if is_rotated(one) and one.suffix in PACKED
+    ]
+    if unread:
+        log.warning("not read, since only gzip is: %s", ", ".join(unread))
+    return sorted(filter(is_rotated, beside(path)), key=age_of)
 
 
 def has(file: IO[bytes], place: int) -> bool:
@@ -90,17 +126,30 @@ class Place(NamedTuple):
 class Followed:
     """The lines of a log that grows. A file that was rotated is read to its end, and then those that came after it."""
 
-    def __init__(self, path: Path, place: Place | None) -> None:
-        """`place`: how far it was read before. Raises OSError where there is no file of this name."""
-        self.path = path
+    def __init__(
+        self, path: Path, place: Place | None, cut: Callable[[str], None] = log.warning
+    ) -> None:
+        """`place`: how far it was read before. `cut` gets what is told where the log was cut short. Raises OSError
+        where there is no file of this name."""
+        self.path, self.cut = path, cut
         # A compressed file ended in its middle.
         self.is_damaged = False
         self.begin(place or Place(0, ""))
 
     def begin(self, place: Place) -> None:
-        """Goes on at a place; where no file is the one that was read, with the one of the name from its start."""
-        file = known(self.path, [place])
-        self.take(file or unpacked(open(self.path, "rb")), place.place if file else 0)
+        """Goes on at a place; where nothing was read, or no file is the one that was, with the oldest one."""
+        file = known(self.path, [place]) if place.place else None
+        if file:
+            self.take(file, place.place)
+            return
+        os.stat(self.path)
+        files = older(self.path)
+        if place.place:
+            self.cut("no file is the one that was read before, and all are read from their starts")
+        if files:
+            names = ", ".join(one.name for one in files)
+            log.info("read first, the oldest first: %s", names)
+        self.take(unpacked(open([*files, self.path][0], "rb")), 0)
 
     def take(self, file: IO[bytes], at: int) -> None:
         """Reads this file from here on."""
@@ -126,6 +175,8 @@ class Followed:
         """The lines that came, so many at most; None for one that is too long. There are none where nothing came."""
         lines: list[bytes | None] = []
         before = self.at
+        if self.is_cut():
+            return self.after_cut(lines)
         while len(lines) < MOST_LINES and self.at < before + MOST_BYTES:
             part = self.part()
             if not part:
@@ -134,9 +185,34 @@ class Followed:
             self.rest = (self.rest + part)[: LONGEST_LOG_LINE + 1]
             if part.endswith(b"\n"):
                 lines.append(self.line())
+        if self.is_cut():
+            # While it was read.
+            return self.after_cut(lines)
         if not lines:
             return self.at_end()
         self.place = Place(self.at, front_of(self.file, self.at))
+        return lines
+
+    def is_cut(self) -> bool:
+        """Whether the file lacks what was read of it: it was cut short, and may have grown past that since. Of a
+        compressed one that can't be told."""
+        if isinstance(self.file, gzip.GzipFile):
+            return False
+        place = self.place
+        return is_cut_short(self.file, self.at) or front_of(self.file, place.place) != place.front
+
+    def after_cut(self, lines: list[bytes | None]) -> list[bytes | None]:
+        """Goes on in a copy that was made before the cut, which has these lines, too; else at the start, with what was
+        read before it."""
+        copy = known(self.path, [self.place]) if self.place.place else None
+        if copy:
+            self.cut(f"{self.path} was cut; what it had is read from the copy beside it")
+            self.take(copy, self.place.place)
+            return []
+        lines += [self.line()] if self.pending else []
+        self.cut(f"{self.path} was cut, and no copy is beside it; it is read from its start")
+        # Another file object: this one's buffer has what was there before.
+        self.take(unpacked(open(os.dup(self.file.fileno()), "rb")), 0)
         return lines
 
     def part(self) -> bytes:
@@ -174,20 +250,14 @@ class Followed:
     def go_on(self, now: os.stat_result) -> None:
         """Reads the next file. Raises FileNotFoundError where it is not there yet."""
         old = self.file
-        if os.path.samestat(os.stat(self.path), now):
-            # It was copied and cut short: the copy may have more than was read of it.
-            self.begin(self.place)
-        else:
-            self.take(unpacked(open(self.after(now), "rb")), 0)
+        self.take(unpacked(open(self.after(now), "rb")), 0)
         self.is_damaged = False
         old.close()
 
     def after(self, now: os.stat_result) -> Path:
         """The file that was written next after this one: one beside it, or the one of the name."""
-        later = [
-            (stat.st_mtime_ns, one)
-            for one in beside(self.path)
-            if (stat := one.stat()).st_mtime_ns > now.st_mtime_ns
-            and not os.path.samestat(stat, now)
-        ]
+        files = beside(self.path)
+        same = [age_of(one) for one in files if os.path.samestat(one.stat(), now)]
+        age = same[0] if same else (now.st_mtime_ns, 0)
+        later = [(age_of(one), one) for one in files if age_of(one) > age]
         return min(later)[1] if later else self.path

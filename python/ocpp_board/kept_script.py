@@ -101,11 +101,7 @@ class KeptScript:
 
     def append(self, lines: bytes) -> None:
         """Adds lines. Raises OSError, and Mistaken where there is no room for them."""
-        if self.size + len(lines) > LONGEST_SCRIPT:
-            raise Mistaken(
-                f"{self.path} has no room for more: it has {self.size:,} bytes, and a script at most "
-                f"{LONGEST_SCRIPT:,}; begin with another folder, or take the fleet"
-            )
+        self.check_room(len(lines))
         self.file.write(lines)
         self.size += len(lines)
         if not self.is_told and 10 * self.size > 9 * LONGEST_SCRIPT:
@@ -115,6 +111,14 @@ class KeptScript:
                 self.path,
                 f"{self.size:,}",
                 f"{LONGEST_SCRIPT:,}",
+            )
+
+    def check_room(self, count: int) -> None:
+        """Raises Mistaken where there is no room for so many bytes more."""
+        if self.size + count > LONGEST_SCRIPT:
+            raise Mistaken(
+                f"{self.path} has no room for more: it has {self.size:,} bytes, and a script at most "
+                f"{LONGEST_SCRIPT:,}; begin with another folder, or take the fleet"
             )
 
     def keep(self, place: Place | None) -> None:

@@ -5,8 +5,9 @@ import threading
 from collections import deque
 from collections.abc import Callable
 
-from ocpp_board.answered import Answered, Line, Messages, Replay
+from ocpp_board.answered import OPERATOR, Answered, Line, Messages, Replay
 from ocpp_board.limits import LONGEST_LINE
+from ocpp_board.operators import Deed, Operators, deed_of, is_change
 from ocpp_board.refusals import Refusal, commented, is_left
 
 # The first words of lines that need the ledgers.
@@ -33,6 +34,7 @@ class Ledger:
         """`takers` get each message with its answer; `untaken` what the script keeps of lines that a log had."""
         self.replay, self.messages = Replay(program, is_apart=True), Messages()
         self.takers, self.untaken = takers, untaken
+        self.operators = Operators()
         # Held while a line is sent, and while takers take a message.
         self.sending, self.taking = threading.Lock(), threading.Lock()
         # Set where the ledgers stand, or where the replay has ended.
@@ -68,7 +70,10 @@ class Ledger:
 
     def comment(self, line: bytes) -> None:
         """A comment, which would only take room of what the replay may read. One that is too long is none."""
-        if refusal := commented(line):
+        if line.startswith(OPERATOR):
+            with self.taking:
+                self.operators.comment(line)
+        elif refusal := commented(line):
             with self.taking:
                 self.untaken(refusal)
         elif len(line) > LONGEST_LINE:
@@ -139,6 +144,22 @@ class Ledger:
             with self.taking:
                 for taker in self.takers:
                     taker(message)
+        else:
+            with self.taking:
+                self.operators.take(line, text)
+
+    def operate(self, line: bytes, keep: Callable[[Deed], None] | None = None) -> bytes:
+        """The answer to an operator's line; one that changed something, or was refused, is kept. Raises Ended."""
+        if not is_change(line):
+            return self.ask(line)
+        deed = deed_of(line)
+        answer = self.ask(deed.line.encode())
+        deed = deed._replace(answer=answer.decode("utf-8", "replace").strip())
+        if keep:
+            keep(deed)
+        with self.taking:
+            self.operators.add(deed)
+        return answer
 
     def close(self) -> int:
         """Ends the input, and gives the replay's exit status."""

@@ -6,8 +6,8 @@ follows the log of a CSMS, also over its rotations, hands its messages to `ocpp_
 seconds writes each site's pages and tables to the folder of --out: SITE.html, SITE.<day>.html, SITE.periods.csv,
 SITE.transactions.csv, SITE.findings.csv and SITE.refused.csv. Each file is there whole or not at all. The folder of
 --state has a script of all that was taken, and how far the log was read: when the tool is started again it goes on
-from there. The log's lines are read as `ocpp-board log-to-script` reads them, and the options for their form are the
-same. Or
+from there. A first start reads the rotated files beside the log first. The log's lines are read as `ocpp-board
+log-to-script` reads them, and the options for their form are the same. Or
 
     ocpp-board live --out FOLDER <(tail -n +1 -F csms.log | ocpp-board log-to-script --stations stations.txt)
 
@@ -17,9 +17,10 @@ What is refused, or can't be taken, is told at once on standard error and stands
 cause by name and what to do.
 
 Standard input is the operator's: each of its lines goes between the script's lines, and its answer comes on
-standard output. What it voids, restores and erases stands in the script of --state, too:
+standard output. What it voids, restores and erases is kept in the script of --state with who and why, which may stand
+behind ` # `, and in SITE.operator.csv:
 
-    void CS-01 T1 3
+    void CS-01 T1 3 # jo: meter exchanged
     accepted 17
     total CS-01
     total events=16 voided=1 transactions=1 complete=0 missing=1 up=4800000 down=0 export_up=0 export_down=0
@@ -54,7 +55,7 @@ from ocpp_board.script_plan import add_plan, check_plan
 from ocpp_board.sources import is_gzip
 from ocpp_board.statuses import Mistaken, Status, ended
 from ocpp_board.told import Told
-from ocpp_board.words import add_program, parsed, parser_of, zone
+from ocpp_board.words import add_power, add_program, add_tokens, parsed, parser_of, zone
 
 log = logging.getLogger(__name__)
 
@@ -92,7 +93,7 @@ class ScriptFeed:
 
     def ask(self, line: bytes) -> bytes:
         """The answer to an operator's line. Raises Ended."""
-        return self.ledger.ask(line)
+        return self.ledger.operate(line)
 
     def end(self) -> None:
         """Nothing more is wanted."""
@@ -106,10 +107,11 @@ class Run:
 
     def __init__(self, words: argparse.Namespace) -> None:
         """Raises OSError, and Mistaken where a file of the words is wrong or another run keeps its script there."""
-        self.words, self.refusals, told = words, Refusals(), Told()
-        self.pages = Pages(words, self.refusals, told)
+        self.words, self.refusals, told = words, Refusals(), Told(words.most_kw)
         takers: list[Callable[[Answered], None]] = [self.refusals.take, told.take]
         self.ledger = Ledger(words.program, takers, self.refusals.add)
+        told.operators = self.ledger.operators
+        self.pages = Pages(words, self.refusals, told)
         takers.append(NearLimits(self.ledger.messages.limits, tell_limit).take)
         self.source: ScriptFeed | LogFeed = (
             LogFeed(words, self.ledger) if words.log else ScriptFeed(words.script, self.ledger)
@@ -296,6 +298,8 @@ def arguments(argv: Sequence[str], prog: str) -> argparse.Namespace:
         help="the time zone of days and hours, such as Europe/Berlin",
     )
     add_log(parser)
+    add_power(parser)
+    add_tokens(parser)
     add_program(parser)
     words = parsed(parser, argv)
     words.prog = prog
@@ -306,6 +310,8 @@ def arguments(argv: Sequence[str], prog: str) -> argparse.Namespace:
         parser.error("--log takes --stations and --state")
     if words.script and (words.stations or words.state or words.once):
         parser.error("--stations, --state and --once go with --log")
+    if words.script and (words.order or words.period or words.limits):
+        parser.error("--order, --period and --limits go with --log; a SCRIPT has lines for them")
     return words
 
 
@@ -318,6 +324,12 @@ def keep_pages(words: argparse.Namespace) -> int:
     """Keeps the pages until all is at its end or a signal comes, and gives the exit status."""
     words.out.mkdir(parents=True, exist_ok=True)
     run = Run(words)
+    log.info(
+        "reads %s; pages are in %s, written every %g s; Ctrl-C or SIGTERM writes them once more and ends it",
+        words.log or words.script,
+        words.out,
+        words.every,
+    )
     try:
         run.wait()
     except (KeyboardInterrupt, Ended):

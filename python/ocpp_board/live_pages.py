@@ -26,10 +26,13 @@ class Pages:
 
     def __init__(self, words: argparse.Namespace, refusals: Refusals, told: Told) -> None:
         self.words, self.refusals, self.told = words, refusals, told
-        # By site: the board that the files show, how many messages were refused, and whether the data is too old.
-        self.shown: dict[str, tuple[bytes, int, bool]] = {}
+        # By site: the board that the files show, how many messages were refused, whether the data is too old, and how
+        # many lines of operators there were.
+        self.shown: dict[str, tuple[bytes, int, bool, int]] = {}
         # By site and day, what the day's page shows.
         self.days: dict[str, dict[date, bytes]] = {}
+        # By site and day, which doubts it shows.
+        self.marks: dict[str, dict[date, int]] = {}
         # By site, its row on the page of all sites.
         self.sites: dict[str, list[Row]] = {}
         self.calendar = Calendar(words.tz or timezone.utc)
@@ -41,13 +44,16 @@ class Pages:
     def write(self, site: str, board: bytes) -> None:
         """Writes a site's files where its board or the number of refused messages is another, or where its data is too
         old by now, or no longer. Raises OSError."""
+        self.refusals.settle(self.told.has_taken)
         refused = self.refusals.count(site)
-        shown = board, refused, self.is_old()
+        operators = self.told.operators
+        shown = board, refused, self.is_old(), len(operators.deeds)
         if not board.startswith(b"board ") or self.shown.get(site) == shown:
             return
         folder = Path(tempfile.mkdtemp(prefix=".live_board.", dir=self.words.out))
         try:
             self.refusals.write(folder / f"{site}.refused.csv", site)
+            operators.write(folder / f"{site}.operator.csv", self.told.sites(), site)
             days = digests(board, self.calendar)
             layout = self.make(folder / site, board, refused, self.unchanged(site, days))
             if len(self.sites) > 1 and SITES not in self.sites:
@@ -78,6 +84,7 @@ class Pages:
     def make(self, name: Path, board: bytes, refused: int, standing: frozenset[date]) -> Layout:
         """Makes the files of a board, whose names begin so, but for the pages of days that stand already."""
         more = ["--tz", str(self.words.tz)] if self.words.tz else []
+        more += ["--tokens", getattr(self.words, "tokens", "none")]
         more += ["--log-json"] if self.words.log_json else []
         more += ["--refresh", str(max(1, round(self.words.every)))]
         words = tables.arguments(["--out", str(name), *more], self.words.prog)
@@ -87,6 +94,7 @@ class Pages:
             oldest=self.words.oldest,
             refused=refused,
             standing=standing,
+            marks=self.marks.setdefault(name.name, {}),
         )
         with tempfile.TemporaryFile() as text:
             text.write(board)
@@ -99,5 +107,10 @@ class Pages:
     def put(self, folder: Path, last: str) -> None:
         """Moves files to where they belong; the pages that link to others come last."""
         order = last, f"{SITES}.html"
+        for path in [path for path in folder.iterdir() if path.is_dir()]:
+            (self.words.out / path.name).mkdir(exist_ok=True)
+            for file in path.iterdir():
+                os.replace(file, self.words.out / path.name / file.name)
+            path.rmdir()
         for path in sorted(folder.iterdir(), key=lambda path: [path.name == one for one in order]):
             os.replace(path, self.words.out / path.name)

@@ -7,12 +7,15 @@ import threading
 from collections import Counter
 from functools import partial
 
+from ocpp_board.escapes import shown
 from ocpp_board.followed import Followed, Place
 from ocpp_board.kept_script import KeptScript
 from ocpp_board.ledger import Ledger
 from ocpp_board.line_faults import BYTE_ORDER_MARK
 from ocpp_board.log_reader import LogReader, Taken
+from ocpp_board.logforms import Entry
 from ocpp_board.messages import Refused
+from ocpp_board.operators import Deed, is_change
 from ocpp_board.refusals import MOST_UNTAKEN, comment_of
 from ocpp_board.script_plan import ScriptPlan
 
@@ -20,8 +23,8 @@ log = logging.getLogger(__name__)
 
 # Seconds until the log is looked at again.
 AGAIN = 0.5
-# The first words of an operator's lines that change what a station holds.
-CHANGES = (b"void", b"restore", b"erase")
+# Bytes of the script that an operator's line may take.
+LONGEST_DEED = 16_384
 
 
 class LogFeed:
@@ -32,10 +35,14 @@ class LogFeed:
         self.words, self.ledger = words, ledger
         plan = ScriptPlan(words)
         self.kept = KeptScript(words.state, plan.declarations())
+        for fault in plan.strangers():
+            log.warning("%s; nothing comes of it until that file names the site", fault)
         self.reader = LogReader(words, plan)
         self.place = self.kept.place()
         self.followed: Followed | None = None
         self.now: str | None = None
+        # What the last line told that is of a station.
+        self.last: Entry | None = None
         # How often each kind of mistake came, and what was told once.
         self.untaken: Counter[str] = Counter()
         self.told: set[str] = set()
@@ -63,7 +70,7 @@ class LogFeed:
         """The log, which is waited for where it is not there yet. Raises OSError."""
         while not self.is_ending.is_set():
             try:
-                followed = Followed(self.words.log, self.place)
+                followed = Followed(self.words.log, self.place, self.tell_cut)
             except FileNotFoundError as fault:
                 if self.words.once:
                     raise
@@ -82,6 +89,20 @@ class LogFeed:
         self.is_caught_up.set()
         if not self.reader.has_form():
             self.tell_once(f"no line of {self.words.log} is of the form {self.reader.form_name()}")
+
+    def tell_cut(self, what: str) -> None:
+        """Tells that the log was cut short, and which line was the last before."""
+        last = self.last
+        if last is None:
+            log.warning("%s", what)
+            return
+        at = f" at {shown(last.time)[1:-1]}" if last.time else ""
+        log.warning(
+            "%s; the last line before the cut that was taken is of %s%s",
+            what,
+            shown(last.station)[1:-1],
+            at,
+        )
 
     def tell_once(self, text: str) -> None:
         """Tells this, where it was not told yet."""
@@ -103,6 +124,7 @@ class LogFeed:
             taken = self.reader.take(line.removeprefix(BYTE_ORDER_MARK) if line else None)
         except Refused as why:
             return self.refused(why)
+        self.last = self.reader.entry or self.last
         if taken.note:
             # Of each kind the first.
             if taken.note.kind not in self.told:
@@ -133,15 +155,18 @@ class LogFeed:
             self.ledger.send(line, partial(self.kept.append, line))
 
     def ask(self, line: bytes) -> bytes:
-        """The answer to an operator's line; one that changes something is kept first. Raises Ended."""
-        if line.split(b" ", 1)[0] not in CHANGES:
+        """The answer to an operator's line; what it changed is on disk by then. Raises Ended, and Mistaken where the
+        script has no room."""
+        if not is_change(line):
             return self.ledger.ask(line)
         with self.taking:
-            return self.ledger.ask(line, partial(self.keep, line.rstrip(b"\r\n") + b"\n"))
+            self.kept.check_room(LONGEST_DEED)
+            return self.ledger.operate(line, self.keep)
 
-    def keep(self, line: bytes) -> None:
-        """Has a line on disk."""
-        self.kept.append(line)
+    def keep(self, deed: Deed) -> None:
+        """Has an operator's line on disk: as a line where it was accepted, and else as a comment alone."""
+        line = deed.line.encode() + b"\n" if deed.is_accepted else b""
+        self.kept.append(deed.comment() + line)
         self.kept.keep(None)
 
     def size(self) -> int:

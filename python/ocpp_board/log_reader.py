@@ -11,7 +11,7 @@ from ocpp_board.limits import FIRST_MOMENT, LONGEST_LOG_LINE, MOMENT, PAST_MOMEN
 from ocpp_board.logforms import Entry, form_of
 from ocpp_board.message_faults import OLD_ACTIONS
 from ocpp_board.messages import CALL, Refused, is_answer, msg_line, tells_moment
-from ocpp_board.refusals import UNTAKEN, Refusal, named_in
+from ocpp_board.refusals import NOT_IN, UNTAKEN, Refusal, named_in
 from ocpp_board.script_plan import ScriptPlan
 
 log = logging.getLogger(__name__)
@@ -21,7 +21,7 @@ EPOCH = re.compile(r"([0-9]{9,19})(\.[0-9]*)?")
 SECONDS_DIGITS = 10
 # What is to be done about a line that is not taken, by how the mistake begins.
 ADVICE = (
-    ("a station is not in", "add the station to that file"),
+    (NOT_IN, "add the station to that file"),
     ("a station is no name", "give the station a name that the ledger takes"),
     ("station ", "name the station's one site by --site or --site-map"),
     ("its script line", "a shorter message"),

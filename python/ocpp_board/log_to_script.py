@@ -251,6 +251,8 @@ class Conversion:
     def __init__(self, words: argparse.Namespace, out: IO[bytes]) -> None:
         self.words = words
         self.plan = ScriptPlan(words, MOST_SPLIT if words.split else MOST_STATIONS)
+        if self.plan.is_fixed:
+            self.plan.check_sites()
         self.reader = LogReader(words, self.plan)
         self.counts = self.reader.counts
         self.script = Scripts(words, self.plan) if words.split else Script(words, self.plan, out)
@@ -380,6 +382,7 @@ def convert(words: argparse.Namespace) -> int:
     with open(1, "wb", closefd=False) as out, opened(words.log) as file:
         conversion = Conversion(words, out)
         conversion.run(unpacked(file), Progress(file))
+        conversion.plan.check_sites()
         conversion.script.write()
     conversion.tell()
     return Status.TOLD if conversion.counts["refused"] else Status.DONE

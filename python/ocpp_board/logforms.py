@@ -102,12 +102,17 @@ def member_text(of: Members, field: str) -> str:
     return member_text(members_of(of.texts[first]), rest)
 
 
-def text_member(entry: dict[str, Any], field: str) -> str:
-    """A member that has to be a text. Raises Refused where it is not."""
+def text_member(entry: dict[str, Any], field: str, option: str = "") -> str:
+    """A member that has to be a text. Raises Refused where it is not. `option`: what names the field."""
     value = member(entry, field)
     if isinstance(value, str):
         return value
-    raise Refused(f"{shown(field)} is {'missing' if value is None else 'no text'}")
+    raise Refused(f"{shown(field)} is {'missing' if value is None else 'no text'}{option}")
+
+
+def named_by(field: str) -> str:
+    """Which option names a field, for a reader."""
+    return f" (--{field}-field names another field)"
 
 
 def time_member(entry: dict[str, Any], field: str) -> str | None:
@@ -134,8 +139,9 @@ class JsonForm:
         entry = of.values
         if fields.protocol and is_old(member(entry, fields.protocol)):
             return Entry(None, "", None, "", is_stations=False, is_old=True)
-        site = text_member(entry, fields.site) if fields.has_site else None
-        station, told = text_member(entry, fields.station), time_member(entry, fields.time)
+        site = text_member(entry, fields.site, named_by("site")) if fields.has_site else None
+        station = text_member(entry, fields.station, named_by("station"))
+        told = time_member(entry, fields.time)
         is_stations = (
             fields.direction is None or text_member(entry, fields.direction) == fields.incoming
         )
@@ -145,11 +151,12 @@ class JsonForm:
         """The message as the station sent it."""
         field = self.fields.message
         if not self.fields.is_json_message:
-            return text_member(of.values, field)
+            return text_member(of.values, field, named_by("message"))
         value = member(of.values, field)
         if isinstance(value, (dict, list)):
             return member_text(of, field)
-        raise Refused(f"{shown(field)} is {'missing' if value is None else 'no array or object'}")
+        why = "missing" if value is None else "no array or object"
+        raise Refused(f"{shown(field)} is {why}{named_by('message')}")
 
 
 class RegexForm:

@@ -219,19 +219,23 @@ REMEDIES = {
     ),
     "TooManyTransactions": (
         "the station has as many transactions as its limits allow",
-        "a line `limits <transactions> <events> <readings> <changes>` before its `station` line",
+        "more room by --limits of log-to-script or live, in a script by a line `limits <transactions> <events> "
+        "<readings> <changes>` before its `station` line",
     ),
     "EventsFull": (
         "the station has as many events as its limits allow; voided ones count until they are erased",
-        "a line `limits <transactions> <events> <readings> <changes>` before its `station` line",
+        "more room by --limits of log-to-script or live, in a script by a line `limits <transactions> <events> "
+        "<readings> <changes>` before its `station` line",
     ),
     "ReadingsFull": (
         "the station has as many readings as its limits allow",
-        "a line `limits <transactions> <events> <readings> <changes>` before its `station` line",
+        "more room by --limits of log-to-script or live, in a script by a line `limits <transactions> <events> "
+        "<readings> <changes>` before its `station` line",
     ),
     "ChangesExhausted": (
         "the station has accepted as many changes as its limits allow",
-        "a line `limits <transactions> <events> <readings> <changes>` before its `station` line",
+        "more room by --limits of log-to-script or live, in a script by a line `limits <transactions> <events> "
+        "<readings> <changes>` before its `station` line",
     ),
     "NoSuchEvent": (
         "the station has no event with this transaction id and this number",

@@ -10,8 +10,9 @@ from ocpp_board.boards import Part, Period, Session, Total
 from ocpp_board.calendars import Calendar
 from ocpp_board.energies import kwh, share, sum_of
 from ocpp_board.pages import MARK, Row, across, cells_of, flow_heads, kept, ranges, table
+from ocpp_board.period_doubts import SURE, Doubt, KnownPeriods
 from ocpp_board.pictures import Scale, picture, strip
-from ocpp_board.quality import Finding, Kind
+from ocpp_board.quality import Effect, Finding, Kind
 from ocpp_board.session_times import Registers, duration
 
 # Rows of a table of sessions, characters of its cells, and ranges of missing numbers in a cell.
@@ -22,6 +23,7 @@ UNKNOWN = "\N{EN DASH}"
 STATES = {
     "numbers missing": "Messages between the first and the last did not come, were refused or are voided. Ask "
     "the station for those that did not come.",
+    "voided by": "An operator voided events between the first and the last, and no other is missing.",
     "no start": "The first event is no start. What came before it is not there.",
     "a start or end misplaced": "A start or an end stands between the first and the last event.",
     "events after the end": "Events came after the end that an earlier board had.",
@@ -30,6 +32,10 @@ STATES = {
     "goes on, or its start or end did not come or stands in a wrong place.",
     "no end yet": "The session goes on, or its end did not come.",
 }
+
+
+# Names of problems that are others than those of states.
+PROBLEMS = {"voided by": "voided by an operator"}
 
 
 @dataclass
@@ -53,7 +59,7 @@ class Problem:
 def problems_of(stations: Iterable[Part]) -> Iterator[Problem]:
     """What is wrong at these stations, the gravest first."""
     unread = Problem("not read", "Lines of the board could not be read, so it lacks something.")
-    states = {name: Problem(name, meaning) for name, meaning in STATES.items()}
+    states = {name: Problem(PROBLEMS.get(name, name), meaning) for name, meaning in STATES.items()}
     found = {kind: Problem(kind.label, kind.meaning) for kind in Kind}
     falls = Problem(
         "down is not 0",
@@ -63,9 +69,12 @@ def problems_of(stations: Iterable[Part]) -> Iterator[Problem]:
     for part in stations:
         unread.add(part.name, 0, not part.whole or part.total is None)
         voided.add(part.name, 0, part.total.voided if part.total else 0)
+        for each in part.findings:
+            found[each.kind].add(part.name, 0, each.times)
         for one in part.sessions:
             is_told = any(
-                each.kind in (Kind.REGISTER_FALLS, Kind.REPEATED) for each in one.findings
+                each.kind in (Kind.REGISTER_FALLS, Kind.RESET, Kind.REPEATED)
+                for each in one.findings
             )
             fell = not is_told and one.flow.down + one.flow.export_down > 0
             falls.add(part.name, fell, fell)
@@ -74,9 +83,10 @@ def problems_of(stations: Iterable[Part]) -> Iterator[Problem]:
             if not one.complete:
                 state = states[next(name for name in STATES if one.state.startswith(name))]
                 state.add(part.name, 1, one.missing or 1)
-    yield from (
-        one for one in (unread, *states.values(), *found.values(), falls, voided) if one.times
-    )
+    wrong = [found[kind] for kind in Kind if kind.effect is Effect.WRONG]
+    others = [found[kind] for kind in Kind if kind.effect is not Effect.WRONG]
+    order = (unread, *wrong, falls, *states.values(), *others, voided)
+    yield from (one for one in order if one.times)
 
 
 def trouble_of(part: Part) -> tuple[int, int, int, int]:
@@ -84,7 +94,7 @@ def trouble_of(part: Part) -> tuple[int, int, int, int]:
     total = part.total
     if total is None or not part.whole:
         return -1, 0, 0, 0
-    doubtful = sum(bool(session.findings) for session in part.sessions)
+    doubtful = sum(bool(session.findings) for session in part.sessions) + len(part.findings)
     return 0, total.complete - total.transactions, -total.missing, -doubtful - total.voided
 
 
@@ -126,8 +136,19 @@ def bar_cell(mwh: int, most: int) -> str:
     return f'<span{kind} aria-hidden="true" style="width:{width:.1f}%"></span>'
 
 
+def figure_cell(doubt: Doubt) -> str:
+    """How the figures of a period were come by, in a cell; empty where they were measured and no number is missing."""
+    said = ["estimated"] if doubt.is_estimated else []
+    said += ["numbers missing"] if doubt.has_gap else []
+    return f'<td class="doubt">{", ".join(said)}' if said else "<td>"
+
+
 def periods_of(
-    day: date, periods: list[Period], calendar: Calendar, has_export: bool
+    day: date,
+    periods: list[Period],
+    calendar: Calendar,
+    has_export: bool,
+    known: KnownPeriods | None,
 ) -> Iterator[str]:
     """The table of a day's periods, whose rows leave out what HTML lets be left out: pages have many."""
     zone = "UTC" if calendar.is_utc else calendar.name
@@ -136,12 +157,14 @@ def periods_of(
     yield (
         f'<thead><tr><th scope="col">Period ({zone}){beside}'
         + "".join(f'<th scope="col">{head}' for head in flow_heads(has_export))
+        + ('<th scope="col">Figure' if known else "")
         + "</thead>\n<tbody>\n"
     )
     for p in periods:
         yield (
             f'<tr><th scope="row">{calendar.times(p.start, p.seconds)}'
             + "".join(f"<td>{cell}" for cell in cells_of(p.flow, has_export))
+            + (figure_cell(known.doubts.get(int(p.start.timestamp()), SURE)) if known else "")
             + "\n"
         )
     yield "</tbody></table>\n"
@@ -172,14 +195,14 @@ def day_of_part(one: DayPart, calendar: Calendar, has_export: bool) -> Iterator[
     day, periods = one.day, one.periods
     whose = f"{'Site' if one.part.is_site else 'Station'} {escape(one.part.name)}"
     said, shown = (said_of(whose, text, periods, has_export) for text in (str(day), kept(str(day))))
-    columns = len(flow_heads(has_export)) + (1 if calendar.is_utc else 2)
+    columns = len(flow_heads(has_export)) + (1 if calendar.is_utc else 2) + bool(one.part.known)
     yield f'<section aria-labelledby="{one.label}">\n<h3 id="{one.label}">{whose}</h3>\n'
     yield f'<div class="day" style="--columns:{columns}">\n<figure>\n'
     label = f"Bars. {said}. The table has the numbers."
     yield from picture(label, day, periods, one.scale, calendar)
     yield f"<figcaption>{shown}</figcaption>\n</figure>\n"
     yield f'<div class="scroll" role="group" tabindex="0" aria-label="Periods of {whose} on {day}">\n'
-    yield from periods_of(day, periods, calendar, has_export)
+    yield from periods_of(day, periods, calendar, has_export, one.part.known)
     yield "</div>\n</div>\n</section>\n"
 
 
@@ -192,13 +215,25 @@ def finding_text(one: Finding) -> str:
 
 def state_text(t: Session) -> str:
     """What is told of a session's completeness, and what is doubtful."""
-    findings = "".join(map(finding_text, t.findings))
-    if not t.missing:
-        return t.state + findings
+    findings = voided_text(t) + "".join(map(finding_text, t.findings))
+    if not t.missing or t.state.startswith("voided by"):
+        return escape(t.state) + findings
     more = len(t.gaps) - MOST_RANGES
     some = ranges(t.gaps[:MOST_RANGES]) + (f" and {more:,} ranges more" if more > 0 else "")
     count = "1 number" if t.missing == 1 else f"{t.missing:,} numbers"
     return f"{count} missing: {some}{''.join(strip(t))}{findings}"
+
+
+def voided_text(t: Session) -> str:
+    """The voided events of a session in a cell: which, by whom, and why."""
+    by: dict[tuple[str, str], list[int]] = {}
+    for number, who, why in t.voided:
+        by.setdefault((who or "an operator", why), []).append(number)
+    return "".join(
+        f"<br>{', '.join(map(str, numbers[:MOST_RANGES]))} voided by {escape(who)}"
+        + (f": {escape(why)}" if why else "")
+        for (who, why), numbers in by.items()
+    )
 
 
 def when(at: datetime | None, calendar: Calendar) -> str:

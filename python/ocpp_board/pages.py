@@ -44,6 +44,7 @@ thead th{position:sticky;top:0;background:var(--paper);border-bottom:2px solid v
 white-space:normal}
 table.plain{width:auto}.day table.plain{width:100%}
 tbody th{font-weight:400;white-space:normal;overflow-wrap:anywhere;min-width:8rem}
+td.doubt{white-space:normal;color:var(--bad);font-size:.75rem}
 td.left{white-space:normal;min-width:8rem;overflow-wrap:anywhere}
 tr.sum>*{border-top:2px solid var(--ink);font-weight:600}
 .bar{width:10rem;min-width:10rem}td.bar{padding:.35rem .5rem}
@@ -81,6 +82,9 @@ beside.</p>
 <p>A difference of two readings counts in the period of its later reading: what a meter read at 10:15:00 has risen \
 since the reading before belongs to the period that begins at 10:15. Readings that an Ended event lists again show as \
 down, and again as up, where a page does not say that readings are taken by time.</p>
+<p>A figure is estimated where a session went on at an end of the period and has no reading within 2 seconds of it: \
+then its energy may belong to a period beside it. Numbers missing: messages of a session did not come then, or do not \
+count. All other figures are measured. The CSV file has what sharing by time would put into the period.</p>
 """
 
 SESSIONS = """<p>A session is complete when its first event is its start, its last one its end, no number between them \

@@ -2,6 +2,7 @@
 
 import os
 import select
+import shutil
 import stat
 import subprocess
 import sys
@@ -12,6 +13,9 @@ from pathlib import Path
 from ocpp_board.statuses import Status
 
 PACKAGES = Path(__file__).resolve().parent.parent
+# The programs that replay, and how the second one is built.
+PROGRAMS = ("ocpp_board", "ocpp_replay")
+BUILD = "build one by `cd crates/ocpp_replay && rt run --jobs 1 < stdin`, or name one by --program"
 # How a module of this package is run, by the Python that runs this one.
 MODULE = (sys.executable, "-P", "-m")
 # What the C library of a replay is asked for, where that is glibc: as many freed texts of a size at hand as the tree of
@@ -23,6 +27,16 @@ def environment() -> dict[str, str]:
     """The environment in which another process finds this package."""
     path = os.pathsep.join(filter(None, [str(PACKAGES), os.environ.get("PYTHONPATH")]))
     return os.environ | {"PYTHONPATH": path}
+
+
+def found_program() -> str:
+    """The program that replays: one that was built in the checkout of this package, or else of the path."""
+    crates = PACKAGES.parent / "crates"
+    for name in PROGRAMS:
+        path = crates / name / "out" / name
+        if os.access(path, os.X_OK) and path.is_file():
+            return str(path)
+    return next(filter(shutil.which, PROGRAMS), PROGRAMS[0])
 
 
 def replay_environment() -> dict[str, str]:

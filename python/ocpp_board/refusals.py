@@ -9,12 +9,13 @@ import logging
 import os
 import re
 from collections import Counter
+from collections.abc import Callable
 from dataclasses import dataclass
 from datetime import datetime, timezone
 from pathlib import Path
 from typing import Any, NamedTuple
 
-from ocpp_board.answered import Answered, Lines, moment_of
+from ocpp_board.answered import OPERATOR, Answered, Lines, moment_of
 from ocpp_board.escapes import csv_cell, shown, without_controls
 from ocpp_board.limits import LONGEST_LINE, MOMENT
 from ocpp_board.line_faults import Said, bad_line
@@ -29,8 +30,10 @@ MOST_TOLD = 10
 MOST_ROWS = 65_536
 # Characters of a message's text that are kept.
 LONGEST_TEXT = 64
-# The cause of a line of a log that is no message of a station for the ledger.
+# The cause of a line of a log that is no message of a station for the ledger, and how it is told of a station that the
+# file of stations lacks.
 UNTAKEN = "Untaken"
+NOT_IN = "a station is not in"
 # Lines of a kind that can't be taken, which a script keeps; the others are counted.
 MOST_UNTAKEN = 10_000
 # A comment of a script that has a refusal of a line of the log.
@@ -170,12 +173,16 @@ class UntakenLines:
     def __init__(self, script: Lines) -> None:
         self.script = script
         self.refusals: list[Refusal] = []
+        # Comments that tell of operators' lines.
+        self.operators: list[bytes] = []
 
     def readline(self) -> bytes:
         """The next line; empty at the end."""
         line = self.script.readline()
         if refusal := commented(line):
             self.refusals.append(refusal)
+        elif line.startswith(OPERATOR):
+            self.operators.append(line)
         return line
 
 
@@ -203,6 +210,14 @@ class Refusals:
         self.of_site[refusal.site] += 1
         self.causes[refusal.cause] += 1
         self.tell(refusal, self.causes[refusal.cause])
+
+    def settle(self, is_taken: Callable[[Refusal], bool]) -> None:
+        """Takes away rows of lines that could not be taken, whose messages were taken by now."""
+        for key, row in [*self.rows.items()]:
+            if key.cause == UNTAKEN and is_taken(key):
+                del self.rows[key]
+                self.of_site[key.site] -= row.times
+                self.causes[UNTAKEN] -= row.times
 
     def tell(self, refusal: Refusal, count: int) -> None:
         """Tells a refusal, the one of this count of its cause."""
@@ -233,8 +248,9 @@ class Refusals:
 
     def end(self) -> None:
         """Tells how many there were of each cause."""
-        if self.causes:
-            causes = ", ".join(f"{name} {count:,}" for name, count in sorted(self.causes.items()))
+        if self.count():
+            some = sorted((name, count) for name, count in self.causes.items() if count)
+            causes = ", ".join(f"{name} {count:,}" for name, count in some)
             log.warning("refused: %s messages in all: %s", f"{self.count():,}", causes)
 
 

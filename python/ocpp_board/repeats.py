@@ -3,6 +3,7 @@
 import json
 from collections.abc import Iterator
 from datetime import datetime, timedelta, timezone
+from functools import lru_cache
 from typing import Any, NamedTuple
 
 from ocpp_board.limits import MOMENT
@@ -39,11 +40,14 @@ STATIONS = (
 )
 
 
+@lru_cache(None)
 def level(kind: Kind, session: int, number: int, measurand: str) -> int:
-    """What a register reads at an event of a session: it rises from event to event by this and that."""
+    """What a register reads at an event of a session: it rises from event to event by this and that, and goes on in the
+    next session."""
+    before = START if session == 0 else level(kind, session - 1, EVENTS - 1, measurand)
     own = 37 * session + 11 * len(kind.name) + (71 if measurand == EXPORT else 0)
     rises = (LEAST + (own + 53 * n) % (MOST - LEAST) for n in range(number))
-    return START + 10_000 * session + sum(rises)
+    return before + sum(rises)
 
 
 def meter_value(kind: Kind, session: int, number: int, at: datetime) -> Payload:

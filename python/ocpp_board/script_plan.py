@@ -1,6 +1,8 @@
 """The stations that a script of a log declares, with their sites, limits, settlement periods and orders of readings."""
 
 import argparse
+import difflib
+from collections.abc import Iterable
 
 from ocpp_board.escapes import shown
 from ocpp_board.limits import (
@@ -16,6 +18,7 @@ from ocpp_board.limits import (
 from ocpp_board.line_faults import NAMES, name_fault
 from ocpp_board.logforms import Entry
 from ocpp_board.messages import Refused
+from ocpp_board.refusals import NOT_IN
 from ocpp_board.statuses import Mistaken
 
 
@@ -53,6 +56,15 @@ def why_no_names(line: str, names: list[str]) -> str:
     return f"{shown(line.strip())}: {told[0]}; {told[1]}"
 
 
+def known(name: str, sites: Iterable[str]) -> str:
+    """Which sites there are, for a reader, those first whose names are near to this one."""
+    names = list(sites)
+    near = difflib.get_close_matches(name, names, 1, 0.5)
+    names = near + [one for one in names if one not in near]
+    more = f" and {len(names) - MOST_SITES:,} more" if len(names) > MOST_SITES else ""
+    return f"its sites: {', '.join(names[:MOST_SITES])}{more}" if names else "it has no site"
+
+
 class ScriptPlan:
     """The stations so far. With `--stations` they are those of its file, and no others."""
 
@@ -74,19 +86,39 @@ class ScriptPlan:
         """The sites, in the order in which they came."""
         return list(dict.fromkeys(self.site_of.values()))
 
+    def strangers(self) -> list[str]:
+        """What is wrong with options that name sites which no station has, a sentence for each."""
+        told = [*self.sites(), *filter(None, [self.words.one_site]), *self.map.values()]
+        sites = list(dict.fromkeys(told))
+        return [
+            f"{option} names the site {shown(name)}, which {self.source()} does not have; {known(name, sites)}"
+            for option, of_sites in (("--order", self.words.order), ("--period", self.words.period))
+            for name in of_sites
+            if name and name not in sites
+        ]
+
+    def source(self) -> str:
+        """Where the sites come from, for a reader."""
+        return str(self.words.stations) if self.is_fixed else "the log"
+
+    def check_sites(self) -> None:
+        """Raises Mistaken where an option names a site that no station has."""
+        if strangers := self.strangers():
+            raise Mistaken("; ".join(strangers))
+
     def place(self, entry: Entry) -> tuple[str, str]:
         """The site and the station of a line. Raises Refused where they are not known."""
         station, words = entry.station, self.words
         if self.is_fixed:
             if station not in self.site_of:
-                raise Refused(f"a station is not in {words.stations}", shown(station))
+                raise Refused(f"{NOT_IN} {words.stations}", shown(station))
             return self.site_of[station], station
         if station in self.map:
             return self.map[station], station
         if words.one_site:
             return words.one_site, named("station", station)
         if words.site_map:
-            raise Refused(f"a station is not in {words.site_map}", shown(station))
+            raise Refused(f"{NOT_IN} {words.site_map}", shown(station))
         return named("site", entry.site), named("station", station)
 
     def admit(self, site: str, station: str) -> bool:

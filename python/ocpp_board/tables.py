@@ -65,20 +65,23 @@ from typing import IO, NoReturn, TextIO
 from urllib.request import urlopen
 
 from ocpp_board.answered import Answered, answered
+from ocpp_board.bills import HEADS as BILL_HEADS, cells_of, write_signed
 from ocpp_board.board_pages import Boards, DayPages, Index, Layout
 from ocpp_board.boards import Part, Reader, Session, Sink
 from ocpp_board.calendars import Calendar
-from ocpp_board.energies import Flow, kwh_of
+from ocpp_board.energies import kwh_of
 from ocpp_board.escapes import csv_cell
 from ocpp_board.pages import Row
+from ocpp_board.period_table import FLOWS, READINGS, PeriodTable, flow_cells, signed_kwh
 from ocpp_board.progress import Progress
-from ocpp_board.quality import Kind
+from ocpp_board.quality import Finding, Kind
 from ocpp_board.refusals import Refusals, UntakenLines
+from ocpp_board.script_check import check_text, whole
 from ocpp_board.session_times import Registers
 from ocpp_board.sources import is_gzip, opened
 from ocpp_board.statuses import Mistaken, Status, ended
 from ocpp_board.told import Told
-from ocpp_board.words import add_program, parsed, parser_of, zone
+from ocpp_board.words import add_power, add_program, add_tokens, parsed, parser_of, zone
 
 log = logging.getLogger(__name__)
 
@@ -130,19 +133,6 @@ class Tables(CsvSink):
     """The CSV files of periods and of transactions. `has_times`: messages were told, which have the times of
     sessions."""
 
-    FLOWS = [
-        "up (mWh)",
-        "down (mWh)",
-        "up (kWh)",
-        "down (kWh)",
-        "export up (mWh)",
-        "export down (mWh)",
-        "export up (kWh)",
-        "export down (kWh)",
-    ]
-    # In which order readings are taken, in the last column of both files.
-    READINGS = "readings"
-    PERIODS = ["board", "level", "site", "station", "seconds"]
     TRANSACTIONS = [
         "board",
         "site",
@@ -170,15 +160,22 @@ class Tables(CsvSink):
         raw: bool,
         calendar: Calendar,
         has_times: bool = False,
+        tokens: str = "none",
+        signed: Path | None = None,
     ) -> None:
+        """`tokens`: how drivers' tokens are written; `signed`: the folder of the files of signed values."""
         super().__init__(raw, calendar)
-        self.has_times = has_times
-        self.periods = csv.writer(periods, lineterminator="\n")
+        self.has_times, self.tokens, self.signed = has_times, tokens, signed
+        self.periods = PeriodTable(periods, calendar)
         self.transactions = csv.writer(transactions, lineterminator="\n")
-        starts = moment_heads(calendar, "period start")
-        self.periods.writerow([*self.PERIODS, *starts, *self.FLOWS, self.READINGS])
-        heads = [*self.TRANSACTIONS, *self.FLOWS, "state", *self.time_heads()]
-        self.transactions.writerow([*heads, self.READINGS])
+        self.parts = list[Part]()
+        heads = [*self.TRANSACTIONS, *FLOWS, "state", *self.time_heads()]
+        self.transactions.writerow([*heads, READINGS])
+
+    def board(self, number: int, site: str, line: int) -> None:
+        """A board begins."""
+        super().board(number, site, line)
+        self.parts = []
 
     def time_heads(self) -> list[str]:
         """The heads of the columns that boards don't tell."""
@@ -186,26 +183,22 @@ class Tables(CsvSink):
             return []
         ends = [head for name in ("start", "end") for head in moment_heads(self.calendar, name)]
         times = [*ends, "duration (s)", *self.REGISTERS, "stopped reason"]
-        return ["net (kWh)", *times, "findings"]
-
-    @staticmethod
-    def flows(flow: Flow) -> list[int | str]:
-        """The cells of an energy."""
-        up, down, export_up, export_down = flow
-        imported: list[int | str] = [up, down, kwh_of(up), kwh_of(down)]
-        return imported + [export_up, export_down, kwh_of(export_up), kwh_of(export_down)]
+        return ["net (kWh)", *times, "findings", *BILL_HEADS]
 
     def part(self, part: Part) -> None:
-        """The rows of a site or a station."""
-        level, station = ("site", "") if part.is_site else ("station", self.cell(part.name))
-        order = "by time" if part.is_by_time else "by sequence"
-        for p in self.calendar.shown(part.periods):
-            front = [self.number, level, self.site, station, p.seconds]
-            cells = [*self.calendar.cells(p.start), *self.flows(p.flow)]
-            self.periods.writerow([*front, *cells, order])
+        """The rows of a station's sessions."""
+        self.parts.append(part)
+        station, order = self.cell(part.name), "by time" if part.is_by_time else "by sequence"
         for t in part.sessions:
+            if self.signed:
+                write_signed(self.signed, part.name, t.sent, t.details)
             row = [self.number, self.site, station, *self.session(t), *self.times(t)]
             self.transactions.writerow([*row, order])
+
+    def end(self) -> None:
+        """The rows of the periods of a whole board."""
+        names = {part.name: self.cell(part.name) for part in self.parts}
+        self.periods.write(str(self.number), self.parts, names)
 
     def session(self, t: Session) -> list[int | str]:
         """The cells of a session."""
@@ -214,7 +207,7 @@ class Tables(CsvSink):
         return [
             *numbers,
             *("yes" if t.complete else "no", t.missing, gaps),
-            *self.flows(t.flow),
+            *flow_cells(t.flow),
             t.state,
         ]
 
@@ -224,9 +217,8 @@ class Tables(CsvSink):
             return []
         times = t.times
         seconds: int | str = "" if times.seconds is None else times.seconds
-        net = t.flow.net
         return [
-            f"{'-' if net < 0 else ''}{kwh_of(abs(net))}",
+            signed_kwh(t.flow.net),
             *moments(self.calendar, times.start),
             *moments(self.calendar, times.end),
             seconds,
@@ -234,6 +226,7 @@ class Tables(CsvSink):
             *registers(times.exported),
             self.cell(times.reason),
             "; ".join(one.kind.label for one in t.findings),
+            *map(self.cell, cells_of(t.sent, t.details, self.tokens)),
         ]
 
 
@@ -252,12 +245,19 @@ class Findings(CsvSink):
     def part(self, part: Part) -> None:
         """The rows of a station."""
         for t in part.sessions:
-            front = [self.number, self.site, self.cell(part.name), self.cell(t.tx)]
+            front: list[int | str] = [self.number, self.site, self.cell(part.name), self.cell(t.tx)]
             for one in t.findings:
                 self.counts[one.kind.label] += 1
-                first = moments(self.calendar, one.first)
-                told = [one.kind.label, one.times, *first, self.cell(one.detail), one.kind.meaning]
-                self.rows.writerow([*front, *told])
+                self.row(front, one)
+        for one in part.findings:
+            self.counts[one.kind.label] += 1
+            self.row([self.number, self.site, self.cell(part.name), ""], one)
+
+    def row(self, front: list[int | str], one: Finding) -> None:
+        """The row of a finding, which begins so."""
+        first = moments(self.calendar, one.first)
+        told = [one.kind.label, one.times, *first, self.cell(one.detail), one.kind.meaning]
+        self.rows.writerow([*front, *told])
 
     def tell(self) -> None:
         """How many sessions have a finding of each kind."""
@@ -354,6 +354,8 @@ def arguments(argv: Sequence[str], prog: str) -> argparse.Namespace:
         metavar="SCRIPT",
         help="the script that the text is of: its messages tell times of sessions, findings, and what was refused",
     )
+    add_power(parser)
+    add_tokens(parser)
     add_program(parser)
     add_moments(parser)
     words = parsed(parser, argv)
@@ -424,7 +426,10 @@ def write_files(
     days, index = DayPages(layout), Index(layout)
     with contextlib.ExitStack() as files:
         csv_files = file("periods"), file("transactions")
-        sinks: list[Sink] = [Tables(*csv_files, words.raw, layout.calendar, told is not None)]
+        bill = (words.tokens, Path(f"{words.out}.signed")) if told else ("none", None)
+        sinks: list[Sink] = [
+            Tables(*csv_files, words.raw, layout.calendar, told is not None, *bill)
+        ]
         findings = Findings(file("findings"), words.raw, layout.calendar) if told else None
         sinks += [findings] if findings else []
         sinks.append(Boards([days.add, index.add]))
@@ -440,18 +445,25 @@ def write_files(
     return Status.TOLD if reader.counts["unread"] else Status.DONE
 
 
-def read_script(words: argparse.Namespace) -> tuple[Told, Refusals]:
-    """Replays the script, and gives what its messages tell and what was refused of them, which it writes."""
-    told, refusals = Told(), Refusals()
+def read_script(words: argparse.Namespace, text: IO[bytes]) -> tuple[Told, Refusals]:
+    """Replays the script that a text is of, and gives what its messages tell and what was refused of them, which it
+    writes. Raises Mistaken where the text is of another script."""
+    told, refusals = Told(words.most_kw), Refusals()
     with opened(words.script) as file:
         if is_gzip(file):
             raise Mistaken("the script is compressed by gzip: gunzip it first")
         script = UntakenLines(file)
-        hand_on(answered(words.program, script), [told.take, refusals.take])
+        messages = answered(words.program, script, told.operators.take)
+        hand_on(messages, [told.take, refusals.take])
+    check_text(text, told.transactions, words.script)
     for refusal in script.refusals:
-        refusals.add(refusal)
+        if not told.has_taken(refusal):
+            refusals.add(refusal)
     refusals.end()
     refusals.write(Path(f"{words.out}.refused.csv"))
+    for comment in script.operators:
+        told.operators.comment(comment)
+    told.operators.write(Path(f"{words.out}.operator.csv"), told.sites())
     return told, refusals
 
 
@@ -459,13 +471,14 @@ def run(words: argparse.Namespace) -> int:
     """Writes the files of the text that the words name, or follows a server."""
     if words.follow:
         follow(words, words.follow[0], int(words.follow[1]))
-    with opened(words.text) as text:
-        if is_gzip(text):
+    with opened(words.text) as file:
+        if is_gzip(file):
             raise Mistaken("the text is compressed by gzip: gunzip -c TEXT | ocpp-board tables")
         layout = layout_of(words)
         if words.script is None:
-            return write_files(words, text, layout)
-        told, refusals = read_script(words)
+            return write_files(words, file, layout)
+        text = whole(file)
+        told, refusals = read_script(words, text)
         until = words.until or told.until()
         layout = replace(layout, until=until, refused=refusals.count())
         return write_files(words, text, layout, told)

@@ -4,9 +4,17 @@ from datetime import datetime
 
 from ocpp_board.answered import Answered
 from ocpp_board.boards import Part, Session
-from ocpp_board.quality import findings_of, order_line
+from ocpp_board.operators import Operators
+from ocpp_board.period_doubts import KnownPeriods, doubts_of, flows_of
+from ocpp_board.quality import MOST_KW, Finding, findings_of, in_order, order_option
+from ocpp_board.refusals import NOT_IN, Refusal
 from ocpp_board.session_times import times_of
+from ocpp_board.station_findings import Lived, found_in, outside
 from ocpp_board.transactions import Event, Transactions
+
+
+# Who voided an event, where no name was given.
+SOMEBODY = "an operator"
 
 
 def state_of(session: Session, events: list[Event]) -> str:
@@ -22,8 +30,10 @@ def state_of(session: Session, events: list[Event]) -> str:
 class Told:
     """Takes messages with their answers as they come, and gives each session of a board what they tell of it."""
 
-    def __init__(self) -> None:
-        self.transactions = Transactions()
+    def __init__(self, most_kw: int = MOST_KW) -> None:
+        """`most_kw`: the greatest power of an EVSE that can be."""
+        self.transactions, self.most_kw = Transactions(), most_kw
+        self.operators = Operators()
 
     def take(self, answered: Answered) -> None:
         """Takes a message with its answer."""
@@ -31,14 +41,66 @@ class Told:
 
     def mark(self, site: str, part: Part) -> None:
         """Gives each session of a station its times and findings, by the events that the board counts."""
+        lived, part.known = list[Lived](), None if part.is_site else KnownPeriods()
         for session in part.sessions:
             transaction = self.transactions.of(site, part.name, session.tx)
             events = transaction.live(session.first, session.last, session.gaps)
             session.times = times_of(events, part.is_by_time)
+            by_sequence = None if part.is_by_time else order_option(site)
             session.findings = findings_of(
-                transaction, events, session.complete, None if part.is_by_time else order_line(site)
+                transaction, events, session.complete, by_sequence, self.most_kw
             )
             session.state = state_of(session, events)
+            self.mark_voided(part.name, session)
+            session.sent = transaction.sent
+            session.details = [event.details for event in events]
+            if part.known:
+                flows = flows_of(events, part.seconds, part.is_by_time)
+                doubts = doubts_of(events, part.seconds, session.gaps)
+                part.known.add(session.evse, flows, doubts)
+            numbers = session.missing, session.gaps
+            lived.append(Lived(session.tx, session.evse, events, session.times, *numbers))
+        if not part.is_site:
+            self.mark_beside(site, part, lived)
+
+    def mark_voided(self, station: str, session: Session) -> None:
+        """Gives a session what operators voided of it, and says so where nothing else is missing."""
+        voids = self.operators.voids(station, session.tx)
+        session.voided = [
+            (number, voids[number].who, voids[number].why) for number in sorted(voids)
+        ]
+        if not session.missing:
+            return
+        inside = [one for one in session.voided if session.first < one[0] < session.last]
+        if inside:
+            said = "voided by " + ", ".join(dict.fromkeys(who or SOMEBODY for _, who, _ in inside))
+            more = "numbers missing, " if len(inside) < session.missing else ""
+            session.state = more + said
+
+    def mark_beside(self, site: str, part: Part, lived: list[Lived]) -> None:
+        """Gives the sessions of a station what is doubtful in them beside each other, and the station the rest."""
+        more = dict[str, list[Finding]]()
+        for tx, finding in found_in(lived):
+            more.setdefault(tx, []).append(finding)
+        for session in part.sessions:
+            if session.tx in more:
+                session.findings = in_order(session.findings + more[session.tx])
+        part.findings = outside(self.transactions.outside.of(site, part.name), lived)
+
+    def has_taken(self, refusal: Refusal) -> bool:
+        """Whether what could not be taken of a log was taken since: its event, or any message of a station that was in
+        no file."""
+        site = self.transactions.site_of.get(refusal.station)
+        if site is None:
+            return False
+        if not refusal.transaction:
+            return refusal.what.startswith(NOT_IN)
+        known = self.transactions.of(site, refusal.station, refusal.transaction.lower())
+        return refusal.number.isdecimal() and int(refusal.number) in known.events
+
+    def sites(self) -> dict[str, str]:
+        """The sites of the stations that something was accepted of."""
+        return self.transactions.site_of
 
     def until(self) -> datetime | None:
         """The latest receipt of a message, or time of an event whose receipt is not told."""

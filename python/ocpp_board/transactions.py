@@ -3,20 +3,19 @@
 About half a kilobyte is kept of each event.
 """
 
-import json
-import re
 from bisect import bisect_right
 from collections.abc import Iterable, Iterator
 from dataclasses import dataclass, field
 from datetime import datetime, timezone
-from decimal import Context, Decimal
-from functools import lru_cache
 from typing import Any, NamedTuple
 
 from ocpp_board.answered import Answered
+from ocpp_board.bills import NOTHING, Details, details_of
 from ocpp_board.messages import HEAD
+from ocpp_board.meter_values import EXPORT, IMPORT, JSON, MeterValues, measurand_of
+from ocpp_board.meter_values import mwh_of as mwh_of, seconds_of as seconds_of
+from ocpp_board.signed_values import unlike_plain
 
-IMPORT, EXPORT = "Energy.Active.Import.Register", "Energy.Active.Export.Register"
 # What a measurand of active energy begins with, whether its readings count or not.
 ENERGY = "Energy.Active."
 CONFLICT = '"ConflictingEvent",{}]'
@@ -24,14 +23,8 @@ CONFLICT = '"ConflictingEvent",{}]'
 FAR_AHEAD, FAR_BEHIND = 300, 3_600
 # Characters of a text of a message that are kept.
 LONGEST_TEXT = 80
-# Moments whose texts are kept, since an event and its readings often have the same.
-KEPT_MOMENTS = 1_024
 # Conflicts of a transaction that are kept. Further ones are not counted.
 MOST_CONFLICTS = 1_000
-ANNOTATION = re.compile(r"\[.*\]$")
-# Digits for a reading's value, however its exponent is written.
-EXACT = Context(prec=250)
-JSON = json.JSONDecoder(parse_int=str, parse_float=str)
 
 
 class Reading(NamedTuple):
@@ -44,7 +37,8 @@ class Reading(NamedTuple):
 
 class Event(NamedTuple):
     """An event as its message tells it. `others`: what it has of energy that doesn't count; `is_far`: whether its time
-    lies far from its receipt."""
+    lies far from its receipt; `evse`: 0 where it names none; `unlike`: signed values that differ from their plain ones.
+    """
 
     number: int
     kind: str
@@ -53,6 +47,10 @@ class Event(NamedTuple):
     others: tuple[str, ...]
     is_far: bool
     reason: str
+    evse: int = 0
+    unlike: tuple[str, ...] = ()
+    # What it tells for a bill.
+    details: Details = NOTHING
 
 
 def readings_in_order(
@@ -77,6 +75,8 @@ class Transaction:
 
     events: dict[int, Event] = field(default_factory=dict)
     conflicts: list[Event] = field(default_factory=list)
+    # Its id as it was sent first: two that differ in letters' sizes alone are one.
+    sent: str = ""
 
     def live(self, first: int, last: int, gaps: list[tuple[int, int]]) -> list[Event]:
         """The events that a board counts, which tells their first and last number and the gaps between."""
@@ -89,27 +89,9 @@ class Transaction:
         return [self.events[number] for number in sorted(self.events) if is_live(number)]
 
 
-@lru_cache(KEPT_MOMENTS)
-def seconds_of(text: str) -> float | None:
-    """A time of a message in seconds since 1970; None where Python can't read what the program took."""
-    try:
-        bare = ANNOTATION.sub("", text).upper().replace(":60", ":59")
-        return datetime.fromisoformat(bare).timestamp()
-    except (ValueError, OverflowError):
-        return None
-
-
 def moment(seconds: float | None) -> datetime | None:
     """A moment that is told in seconds since 1970, in UTC."""
     return None if seconds is None else datetime.fromtimestamp(seconds, timezone.utc)
-
-
-def mwh_of(value: str, unit: dict[str, Any]) -> int:
-    """A reading's value in whole mWh, rounded down."""
-    power = 3 + (3 if unit.get("unit") == "kWh" else 0) + int(unit.get("multiplier") or 0)
-    if value.isdigit() and power >= 0:
-        return int(value + "0" * power)
-    return int(Decimal(value).scaleb(power, EXACT))
 
 
 def sampled_values(payload: dict[str, Any]) -> Iterator[tuple[float | None, dict[str, Any]]]:
@@ -118,19 +100,6 @@ def sampled_values(payload: dict[str, Any]) -> Iterator[tuple[float | None, dict
         at = seconds_of(one["timestamp"])
         for sampled in one["sampledValue"]:
             yield at, sampled
-
-
-def measurand_of(sampled: dict[str, Any]) -> str:
-    """What is measured and where; a counted reading's is that of its register alone."""
-    if len(sampled) == 1 and "value" in sampled:
-        return IMPORT
-    named: str | None = sampled.get("measurand")
-    parts = [IMPORT if named is None else named]
-    if sampled.get("phase") is not None:
-        parts.append(f"phase {sampled['phase']}")
-    if sampled.get("location") not in (None, "Outlet"):
-        parts.append(f"location {sampled['location']}")
-    return " ".join(parts)
 
 
 def plain(value: Any) -> str:
@@ -144,12 +113,14 @@ def plain(value: Any) -> str:
 
 def event_of(payload: dict[str, Any], received: datetime | None) -> Event:
     """The event of a payload that passed the program's checks."""
-    readings, others = list[Reading](), set[str]()
+    readings, others, unlike = list[Reading](), set[str](), list[str]()
     for at, sampled in sampled_values(payload):
         measurand = measurand_of(sampled)
         if measurand in (IMPORT, EXPORT):
             mwh = mwh_of(sampled["value"], sampled.get("unitOfMeasure") or {})
             readings.append(Reading(at, mwh, measurand == EXPORT))
+            if "signedMeterValue" in sampled and (said := unlike_plain(sampled, mwh)):
+                unlike.append(said)
         elif measurand.startswith(ENERGY):
             others.add(plain(measurand))
     at = seconds_of(payload["timestamp"])
@@ -161,7 +132,16 @@ def event_of(payload: dict[str, Any], received: datetime | None) -> Event:
         tuple(sorted(others)),
         is_far(at, received, payload.get("offline") is True),
         plain(payload["transactionInfo"].get("stoppedReason")),
+        evse_of(payload),
+        tuple(unlike),
+        details_of(payload),
     )
+
+
+def evse_of(payload: dict[str, Any]) -> int:
+    """The EVSE that an event names; 0 where it names none."""
+    evse = payload.get("evse")
+    return int((evse or {}).get("id") or 0)
 
 
 def is_far(at: float | None, received: datetime | None, is_offline: bool) -> bool:
@@ -177,14 +157,21 @@ class Transactions:
 
     def __init__(self) -> None:
         self.known: dict[tuple[str, str, str], Transaction] = {}
+        self.outside = MeterValues()
+        # The sites of the stations that something was accepted of.
+        self.site_of: dict[str, str] = {}
         # The latest receipt of a message, or time of an event whose receipt is not told.
         self.latest: datetime | None = None
 
     def take(self, answered: Answered) -> None:
         """Takes a message with its answer. One that is no event, or was refused for another cause, tells nothing."""
         self.came(answered.received)
+        if answered.is_accepted:
+            self.site_of[answered.station] = answered.site
         head = HEAD.match(answered.message)
         is_conflict = answered.answer.endswith(CONFLICT)
+        if head and head[1] == "MeterValues" and answered.is_accepted:
+            self.outside.take(answered.site, answered.station, answered.message)
         if head and head[1] != "TransactionEvent" or not (answered.is_accepted or is_conflict):
             return
         try:
@@ -194,11 +181,12 @@ class Transactions:
         if action != "TransactionEvent":
             return
         event = event_of(payload, answered.received)
-        tx = payload["transactionInfo"]["transactionId"].lower()
+        sent = payload["transactionInfo"]["transactionId"]
+        tx = sent.lower()
         key = answered.site, answered.station, tx
         whole = self.known.get(key)
         if whole is None:
-            whole = self.known[key] = Transaction()
+            whole = self.known[key] = Transaction(sent=sent)
         if is_conflict:
             if len(whole.conflicts) < MOST_CONFLICTS:
                 whole.conflicts.append(event)

@@ -1,5 +1,6 @@
 """Sessions with troubles, each kind from a station of its name, as `ocpp-board traffic N troubles` writes them."""
 
+import base64
 import json
 from collections.abc import Callable, Iterator
 from datetime import datetime, timedelta, timezone
@@ -25,6 +26,7 @@ class Sent(NamedTuple):
 
     received: datetime
     payload: Payload
+    action: str = "TransactionEvent"
 
 
 Session = list[Sent]
@@ -171,6 +173,71 @@ def feeds_back(tx: str, begin: datetime) -> Session:
     return changed(sound(tx, begin), lambda one: one.update(measurand=EXPORT))
 
 
+def later(session: Session, wh: int) -> Session:
+    """The session with its registers so much higher for each session before it."""
+    number = int(session[0].payload["transactionInfo"]["transactionId"][1:])
+    return changed(session, lambda one: one.update(value=one["value"] + (number - 1) * wh))
+
+
+def power(tx: str, begin: datetime) -> Session:
+    """A session whose register rises by a megawatt-hour in ten minutes."""
+    session = sound(tx, begin)
+    changed(session[2:], lambda one: one.update(value=one["value"] + 1_000_000))
+    return later(session, 1_000_000 + 3 * RISE)
+
+
+def signed_differs(tx: str, begin: datetime) -> Session:
+    """A session whose last reading has a signed value of a kilowatt-hour more; the others are signed as they are."""
+    session = sound(tx, begin)
+    for one in session:
+        sampled = one.payload["meterValue"][0]["sampledValue"][0]
+        more = 1_000 if one is session[-1] else 0
+        rd = [
+            {"TM": "", "TX": "T", "RV": (sampled["value"] + more) / 1_000, "RU": "kWh", "ST": "G"}
+        ]
+        data = f'OCMF|{json.dumps({"FV": "1.0", "PG": tx, "RD": rd})}|{json.dumps({"SD": "00"})}'
+        sampled["signedMeterValue"] = {
+            "signedMeterData": base64.b64encode(data.encode()).decode(),
+            "signingMethod": "ECDSA-secp256r1-SHA256",
+            "encodingMethod": "OCMF",
+            "publicKey": base64.b64encode(b"oca:base16:asn1:00").decode(),
+        }
+    return session
+
+
+def reset(tx: str, begin: datetime) -> Session:
+    """A session whose meter is exchanged behind its second event."""
+    session = sound(tx, begin)
+    for one, wh in zip(session, (5_000, 10_000, 0, 4_995)):
+        changed([one], lambda value, wh=wh: value.update(value=wh))  # type: ignore[misc]
+    return session
+
+
+def rose_between(tx: str, begin: datetime) -> Session:
+    """A session before which the register rose by half a kilowatt-hour since the one before."""
+    return later(sound(tx, begin), 3 * RISE + 500)
+
+
+def outside(tx: str, begin: datetime) -> Session:
+    """A session behind which the register rises without a session."""
+    session = sound(tx, begin)
+    for number in (4, 5):
+        at = begin + number * STEP
+        payload = {"evseId": 1, "meterValue": [reading(at, START + (number - 1) * RISE)]}
+        session.append(Sent(at + DELAY, payload, "MeterValues"))
+    return session
+
+
+def one_counter(tx: str, begin: datetime) -> Session:
+    """A session of a station that counts with one counter: each second one runs at its other EVSE beside the first."""
+    is_second = int(tx[1:]) % 2 == 0
+    session = sound(tx, begin - PAUSE + STEP / 2 if is_second else begin)
+    for one in session:
+        one.payload["seqNo"] = 2 * one.payload["seqNo"] + is_second
+        one.payload["evse"] = {"id": 1 + is_second}
+    return session
+
+
 # The stations, and what a session of each is.
 KINDS: dict[str, Callable[[str, datetime], Session]] = {
     "sound": sound,
@@ -191,6 +258,12 @@ KINDS: dict[str, Callable[[str, datetime], Session]] = {
     "conflict": conflict,
     "negative": negative,
     "feeds-back": feeds_back,
+    "power": power,
+    "signed-differs": signed_differs,
+    "reset": reset,
+    "rose-between": rose_between,
+    "outside": outside,
+    "one-counter": one_counter,
 }
 # A station that sends and is not declared.
 UNKNOWN = "unknown"
@@ -198,9 +271,10 @@ UNKNOWN = "unknown"
 
 def messages(station: str, session: Session) -> Iterator[str]:
     """The lines of a session's messages, each behind when it was received."""
-    for one in session:
-        number = f"{one.payload['transactionInfo']['transactionId']}-{one.payload['seqNo']}"
-        message = json.dumps([2, number, "TransactionEvent", one.payload], separators=(",", ":"))
+    for place, one in enumerate(session):
+        info = one.payload.get("transactionInfo")
+        number = f"{info['transactionId']}-{one.payload['seqNo']}" if info else f"values-{place}"
+        message = json.dumps([2, number, one.action, one.payload], separators=(",", ":"))
         yield f"# received {one.received.strftime(MOMENT)}"
         yield f"msg {station} {message}"
 

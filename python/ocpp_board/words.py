@@ -3,14 +3,26 @@
 import argparse
 import logging
 from collections.abc import Sequence
+from typing import NoReturn
 from zoneinfo import ZoneInfo
 
 from ocpp_board import telling
+from ocpp_board.bills import TOKENS
+from ocpp_board.processes import found_program
+from ocpp_board.quality import MOST_KW
+
+
+class Parser(argparse.ArgumentParser):
+    """A parser that tells a wrong word in two lines, and not behind all words that there are."""
+
+    def error(self, message: str) -> NoReturn:
+        """Ends the program with status 2."""
+        self.exit(2, f"{self.prog}: error: {message}\n{self.prog} --help tells its words\n")
 
 
 def parser_of(prog: str, about: str | None, ending: str = "") -> argparse.ArgumentParser:
     """A parser whose help has these texts as they are laid out, with the options of all tools."""
-    parser = argparse.ArgumentParser(
+    parser = Parser(
         prog=prog,
         description=about,
         epilog=ending,
@@ -34,8 +46,37 @@ def add_program(parser: argparse.ArgumentParser) -> None:
     parser.add_argument(
         "--program",
         metavar="PATH",
-        default="ocpp_board",
-        help="the program (default: ocpp_board)",
+        default=found_program(),
+        help="the program (default: that of crates/*/out of this checkout, or else ocpp_board of the path)",
+    )
+
+
+def kilowatts(text: str) -> int:
+    """A power in whole kW."""
+    if not text.isdecimal() or not 1 <= int(text) <= 100_000:
+        raise argparse.ArgumentTypeError(f"no power from 1 to 100000 kW: {text!r}")
+    return int(text)
+
+
+def add_power(parser: argparse.ArgumentParser) -> None:
+    """The option that says which power can be."""
+    parser.add_argument(
+        "--most-kw",
+        metavar="KW",
+        type=kilowatts,
+        default=MOST_KW,
+        help=f"the greatest power of an EVSE: what is above is a finding (default: {MOST_KW})",
+    )
+
+
+def add_tokens(parser: argparse.ArgumentParser) -> None:
+    """The option that says how drivers' tokens are written."""
+    parser.add_argument(
+        "--tokens",
+        choices=TOKENS,
+        default=TOKENS[0],
+        help="how the idToken of a session is written: not at all, since it is personal, as the SHA-256 of its small "
+        "letters, or plain (default: none)",
     )
 
 

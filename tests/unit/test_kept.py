@@ -13,6 +13,7 @@ from ocpp_board.followed import GONE, Followed, Place, front_of, is_replaced, kn
 from ocpp_board.kept_script import BEGIN, KeptScript
 from ocpp_board.limits import LONGEST_LOG_LINE
 from ocpp_board.statuses import Mistaken
+from ocpp_board.telling import set_up
 
 STATIONS = b"station north A\n"
 
@@ -92,6 +93,38 @@ def test_several_rotations_while_nobody_read(tmp_path: Path) -> None:
     assert taken(Followed(log, after_a)) == [b"b\n", b"c\n", b"d\n"]
 
 
+def test_a_first_start_reads_the_rotated_files_first(
+    tmp_path: Path, capsys: pytest.CaptureFixture[str]
+) -> None:
+    set_up("live")
+    log = tmp_path / "csms.log"
+    log.write_bytes(b"f\n")
+    rotated = [
+        "csms-2026-03-01.log",
+        "csms.log.3.gz",
+        "csms.log.2",
+        "csms.log.1",
+        "csms.log-20260304",
+    ]
+    for number, name in enumerate(rotated):
+        data = b"abcde"[number : number + 1] + b"\n"
+        (tmp_path / name).write_bytes(gzip.compress(data) if name.endswith(".gz") else data)
+        # Two of one moment are put in order by their numbers.
+        age(tmp_path / name, 900 - 100 * (number - (number == 3)))
+    moment = time.time() - 700
+    for name in rotated[2:4]:
+        os.utime(tmp_path / name, (moment, moment))
+    for name in ("csms.log.lock", "csms.log.5.xz", "other.log.1", "csms.log.1.swp"):
+        (tmp_path / name).write_bytes(b"x\n")
+        age(tmp_path / name, 2_000)
+    assert b"".join(filter(None, taken(Followed(log, None)))) == b"a\nb\nc\nd\ne\nf\n"
+    said = capsys.readouterr().err
+    assert f"read first, the oldest first: {', '.join(rotated)}\n" in said
+    assert "not read, since only gzip is: csms.log.5.xz" in said
+    # Where the file that was read is gone, nothing beside it is passed over.
+    assert taken(Followed(log, Place(2, "gone")))[0] == b"a\n"
+
+
 def test_a_file_that_is_copied_and_cut_short(tmp_path: Path) -> None:
     log = tmp_path / "log"
     log.write_bytes(b"a\n")
@@ -106,6 +139,60 @@ def test_a_file_that_is_copied_and_cut_short(tmp_path: Path) -> None:
     assert taken(followed) == [b"b\n"]
     log.write_bytes(b"d\n")
     assert taken(followed) == [b"d\n"]
+
+
+def numbered(first: int, count: int) -> bytes:
+    return b"".join(b"line %d\n" % number for number in range(first, first + count))
+
+
+@pytest.mark.parametrize("is_copied", [True, False])
+def test_a_log_that_is_cut_and_outgrows_its_place_loses_nothing(
+    is_copied: bool, tmp_path: Path
+) -> None:
+    log, told = tmp_path / "log", list[str]()
+    log.write_bytes(numbered(0, 100))
+    followed = Followed(log, None, told.append)
+    lines = taken(followed)
+    assert len(lines) == 100 and not told
+    if is_copied:
+        with open(log, "ab") as file:
+            file.write(numbered(100, 50) + b"line")
+        shutil.copy(log, tmp_path / "log.1")
+        with open(tmp_path / "log.1", "ab") as file:
+            file.write(b" 150\n")
+        age(tmp_path / "log.1", 60)
+    # As `copytruncate` of logrotate leaves it, and the writer goes on: it has more than was read before.
+    with open(log, "rb+") as file:
+        file.truncate(0)
+        file.write(numbered(1_000, 400))
+    assert os.stat(log).st_size > followed.place.place
+    lines += taken(followed)
+    old = numbered(0, 151 if is_copied else 100)
+    assert b"".join(filter(None, lines)) == old + numbered(1_000, 400)
+    (text,) = told
+    assert text.startswith(f"{log} was cut") and ("from the copy" in text) == is_copied
+    assert followed.place.place == log.stat().st_size and followed.is_current()
+
+
+def test_what_was_read_before_a_cut_is_given(
+    tmp_path: Path, monkeypatch: pytest.MonkeyPatch
+) -> None:
+    log, told = tmp_path / "log", list[str]()
+    log.write_bytes(numbered(0, 20) + b"half")
+    followed = Followed(log, None, told.append)
+    read = followed.part
+
+    def part() -> bytes:
+        if found := read():
+            return found
+        monkeypatch.setattr(followed, "part", read)
+        log.write_bytes(b"x\n")  # While it is looked at.
+        return b""
+
+    monkeypatch.setattr(followed, "part", part)
+    lines = followed.lines()
+    assert b"".join(filter(None, lines)) == numbered(0, 20) + b"half" and len(told) == 1
+    assert taken(followed) == [b"x\n"]
 
 
 def test_a_log_that_is_compressed_itself(tmp_path: Path) -> None:

@@ -155,3 +155,33 @@ def test_a_log_that_is_not_there_is_told(stub: str, tmp_path: Path) -> None:
     with pytest.raises(FileNotFoundError):
         feed.feed()
     ledger.close()
+
+
+def test_a_site_that_the_file_of_stations_lacks_is_warned_of(
+    stub: str, tmp_path: Path, capsys: pytest.CaptureFixture[str]
+) -> None:
+    (tmp_path / "log").write_text(row())
+    feed, ledger, _ = feed_of(stub, tmp_path, "--order", "nroth=moment", "--period", "north=300")
+    feed.feed()
+    ledger.close()
+    (told,) = (text for text in capsys.readouterr().err.splitlines() if "nroth" in text)
+    assert told.startswith("--order names the site 'nroth', which ") and "its sites: north" in told
+    assert ledger.counts["accepted"] == 1
+
+
+def test_a_cut_is_told_with_the_last_line_before_it(
+    stub: str, tmp_path: Path, capsys: pytest.CaptureFixture[str]
+) -> None:
+    log = tmp_path / "log"
+    log.write_text(row() + row(time="2026-03-01T11:00:00Z"))
+    feed, ledger, _ = feed_of(stub, tmp_path)
+    feed.feed()
+    assert feed.followed
+    log.write_text(row(time="2026-03-01T12:00:00Z") * 3)
+    lines = feed.followed.lines() or feed.followed.lines()
+    feed.take(lines, feed.followed.place)
+    ledger.close()
+    said = capsys.readouterr().err
+    assert "was cut, and no copy is beside it" in said
+    assert "the last line before the cut that was taken is of A at 2026-03-01T11:00:00Z" in said
+    assert sum(line.startswith("msg ") for line in script_of(tmp_path)) == 5

@@ -12,7 +12,7 @@ import pytest
 from ocpp_board.answered import Answered
 from ocpp_board.calendars import Calendar
 from ocpp_board.changed_days import digests
-from ocpp_board.live import arguments
+from ocpp_board.live import arguments, keep_pages
 from ocpp_board.live_pages import Pages
 from ocpp_board.refusals import Refusal, Refusals
 from ocpp_board.told import Told
@@ -199,6 +199,8 @@ def test_what_is_no_board_writes_nothing(tmp_path: Path) -> None:
         ("script", "--state", "f"),
         ("script", "--once"),
         ("script", "--every", "0.1"),
+        ("script", "--order", "north=moment"),
+        ("script", "--period", "300"),
         ("--log", "log", "--stations", "s", "--state", "f", "--limits", "0", "1", "1", "1"),
     ],
 )
@@ -206,3 +208,26 @@ def test_wrong_words_end_with_2(words: tuple[str, ...]) -> None:
     with pytest.raises(SystemExit) as ended:
         arguments(["--out", "x", *words], "live")
     assert ended.value.code == 2
+
+
+def test_a_wrong_word_is_told_in_two_lines(capsys: pytest.CaptureFixture[str]) -> None:
+    with pytest.raises(SystemExit) as ended:
+        arguments(["--out", "x", "script", "--evry", "3"], "ocpp-board live")
+    assert ended.value.code == 2
+    assert capsys.readouterr().err == (
+        "ocpp-board live: error: unrecognized arguments: --evry 3\n"
+        "ocpp-board live --help tells its words\n"
+    )
+
+
+def test_live_says_what_it_reads_and_how_it_ends(
+    reference: str, tmp_path: Path, capsys: pytest.CaptureFixture[str]
+) -> None:
+    (tmp_path / "stations").write_text("north A\n")
+    (tmp_path / "log").write_text("")
+    names = {"--log": "log", "--stations": "stations", "--state": "state", "--out": "out"}
+    words = [word for name, path in names.items() for word in (name, str(tmp_path / path))]
+    keep_pages(arguments([*words, "--once", "--program", reference], "live"))
+    said = capsys.readouterr().err
+    assert f"reads {tmp_path / 'log'}; pages are in {tmp_path / 'out'}, written every 10 s" in said
+    assert "Ctrl-C or SIGTERM writes them once more and ends it" in said

@@ -3,6 +3,7 @@
 import argparse
 import io
 import json
+import re
 from collections import Counter
 from pathlib import Path
 from typing import Any
@@ -55,7 +56,7 @@ def test_dotted_names_lead_into_objects() -> None:
     assert JsonForm(fields).read('{"from.id":"B",' + text[1:]) == Entry(
         None, "B", "1772352000.500", "[]"
     )
-    with pytest.raises(Refused, match="'body.frame' is missing"):
+    with pytest.raises(Refused, match=r"'body.frame' is missing \(--message-field names another"):
         JsonForm(fields).read('{"from":{"id":"A"},"body":[]}')
     cut = JsonForm(fields._replace(is_json_message=True)).read(
         '{"from":{"id":"A"},"body":{ "frame" : [2,  1.50] }}'
@@ -344,6 +345,38 @@ def test_sites_have_the_orders_that_are_asked_for(tmp_path: Path) -> None:
     assert declared("--order", "moment") == every
     assert declared("--order", "moment", "--order", "a=b=sequence", "--period", "north=300") == (
         "period north 300\n" + every.replace("b moment", "b sequence")
+    )
+
+
+@pytest.mark.parametrize(
+    ("words", "why"),
+    [
+        (
+            ("--order", "nroth=moment"),
+            "--order names the site 'nroth', which the log does not have",
+        ),
+        (("--period", "south=300"), "--period names the site 'south', which the log does not have"),
+    ],
+)
+def test_a_site_that_no_line_has_is_a_fault_that_lists_the_sites(
+    words: tuple[str, ...], why: str, tmp_path: Path, capfdbinary: pytest.CaptureFixture[bytes]
+) -> None:
+    (tmp_path / "log").write_text(row() + "\n" + row(station="B", site="east") + "\n")
+    with pytest.raises(Mistaken, match=re.escape(why) + "; its sites: north, east"):
+        convert(arguments([*words, str(tmp_path / "log")], "log-to-script"))
+    with pytest.raises(Mistaken, match=re.escape(why)):
+        split = ("--split", str(tmp_path / "scripts"))
+        convert(arguments([*words, *split, str(tmp_path / "log")], "log-to-script"))
+    assert capfdbinary.readouterr().out == b"" and not list((tmp_path / "scripts").iterdir())
+    # Sites that a file of stations or a map has are known, whatever the log has.
+    (tmp_path / "stations").write_text("north A\neast B\n")
+    (tmp_path / "map").write_text(f"A north\nB {words[1].partition('=')[0]}\n")
+    stations = ("--stations", str(tmp_path / "stations"))
+    with pytest.raises(Mistaken, match="stations does not have; its sites: north, east"):
+        script_of([row()], tmp_path, *words, *stations)
+    assert (
+        "station north A"
+        in script_of([row()], tmp_path, *words, "--site-map", str(tmp_path / "map"))[0]
     )
 
 

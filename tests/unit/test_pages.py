@@ -275,7 +275,8 @@ def test_problems_are_counted_the_gravest_first() -> None:
         "down is not 0": (1, 1, ["A"]),
         "voided events": (0, 4, ["B"]),
     }
-    assert list(found)[0] == "numbers missing"
+    # A number that is wrong comes before one that lacks energy.
+    assert list(found)[0] == "readings repeated at the end"
     assert not list(problems_of([station("C", [session([], complete=True)])]))
 
 

@@ -1,5 +1,6 @@
 """What messages tell of sessions: times, registers, and what is doubtful."""
 
+import base64
 import json
 from datetime import datetime, timedelta, timezone
 from typing import Any
@@ -21,7 +22,7 @@ DECIMAL = '[4,"1","PropertyConstraintViolation","Decimal",{}]'
 
 
 def answered(sent: Sent, answer: str = '[3,"1",{}]') -> Answered:
-    message = json.dumps([2, "1", "TransactionEvent", sent.payload])
+    message = json.dumps([2, "1", sent.action, sent.payload])
     return Answered(1, "north", "CS-01", sent.received, message, answer)
 
 
@@ -66,18 +67,137 @@ def kinds(name: str, answers: dict[int, str] | None = None) -> list[tuple[Kind, 
         ("no-end", []),
         ("no-start", []),
         ("feeds-back", []),
+        ("power", [(Kind.POWER, 1)]),
+        ("signed-differs", [(Kind.SIGNED, 1)]),
+        ("reset", [(Kind.RESET, 1)]),
+        ("rose-between", []),
+        ("outside", []),
     ],
 )
 def test_each_trouble_is_found_and_no_other(name: str, wanted: list[tuple[Kind, int]]) -> None:
     assert kinds(name) == wanted
 
 
+def marked(name: str, count: int = 2) -> Part:
+    """A station of the generator with so many sessions, as a board with their messages has it."""
+    told = Told()
+    for number in range(count):
+        for place, sent in enumerate(KINDS[name](f"T{number + 1}", FIRST + 3 * number * HOUR)):
+            is_conflict = name == "id-again" and place == 4
+            told.take(answered(sent, CONFLICT if is_conflict else '[3,"1",{}]'))
+    part = Part(name, False, 900)
+    for number in range(count):
+        numbers = sorted(told.transactions.of("north", "CS-01", f"t{number + 1}").events)
+        lacking = sorted({*range(numbers[0], numbers[-1])} - {*numbers})
+        gaps = [(one, one) for one in lacking]
+        is_whole = name not in ("id-again", "no-end", "no-start") and not gaps
+        evse = 2 if name == "one-counter" and number % 2 else 1
+        count_of = (len(numbers), numbers[0], numbers[-1], is_whole, len(gaps))
+        part.sessions.append(Session(f"t{number + 1}", evse, *count_of, Flow(), gaps))
+    part.name = "CS-01"
+    told.mark("north", part)
+    return part
+
+
 def test_each_kind_is_a_trouble_of_the_generator() -> None:
-    answers = {4: CONFLICT}
-    found = {
-        kind for name in KINDS for kind, _ in kinds(name, answers if name == "id-again" else {})
-    }
-    assert found == set(Kind)
+    parts = [marked(name) for name in KINDS]
+    found = {one.kind for part in parts for session in part.sessions for one in session.findings}
+    assert found | {one.kind for part in parts for one in part.findings} == set(Kind)
+    assert marked("sound", 3).findings == [] and not any(
+        session.findings for session in marked("sound", 3).sessions
+    )
+
+
+@pytest.mark.parametrize(
+    ("name", "wanted"),
+    [
+        ("rose-between", ("t2", Kind.ROSE_BETWEEN, "0.500 kWh between t1 and t2")),
+        ("no-end", ("t1", Kind.NOT_ENDED, "t2 began")),
+        ("one-counter", ("t1", Kind.ONE_COUNTER, "with t2")),
+        ("reset", ("t1", Kind.RESET, "10.000 kWh lost: from 10.000 to 0.000 kWh")),
+        ("power", ("t1", Kind.POWER, "1,000.250 kWh in 600 s")),
+        ("signed-differs", ("t1", Kind.SIGNED, "signed 2.750 kWh, plain 1.750 kWh")),
+    ],
+)
+def test_sessions_beside_each_other(name: str, wanted: tuple[str, Kind, str]) -> None:
+    found = [
+        (session.tx, one.kind, one.detail)
+        for session in marked(name).sessions
+        for one in session.findings
+    ]
+    assert found[0] == wanted
+    assert [one for one in found if one[1] is not wanted[1]] == (
+        [("t2", Kind.NUMBERS_ABOVE_0, "the first is 1")] if name == "one-counter" else []
+    )
+
+
+def test_a_register_that_rises_outside_sessions_is_of_the_station() -> None:
+    (found,) = marked("outside", 1).findings
+    assert (found.kind, found.times) == (Kind.OUTSIDE, 1)
+    assert found.detail == "0.250 kWh at EVSE 1" and found.first == FIRST + 5 * HOUR / 6
+    # While a session goes on, and where nothing rises, MeterValues are no finding.
+    told = Told()
+    for minutes, wh in ((0, 1), (10, 900), (40, 900), (50, 900)):
+        told.take(
+            answered(
+                Sent(
+                    FIRST,
+                    {"evseId": 1, "meterValue": [reading(FIRST + minutes * HOUR / 60, wh)]},
+                    "MeterValues",
+                )
+            )
+        )
+    for sent in sound("T1", FIRST):
+        told.take(answered(sent))
+    part = Part("CS-01", False, 900, sessions=[session(0, 3, 4, True)])
+    told.mark("north", part)
+    assert part.findings == []
+
+
+def test_between_sessions_a_meter_that_reads_less_was_exchanged() -> None:
+    told = Told()
+    for tx, more in (("T1", 5_000), ("T2", 0)):
+        for sent in sound(tx, FIRST + (3 * HOUR if tx == "T2" else 0 * HOUR)):
+            sent.payload["meterValue"][0]["sampledValue"][0]["value"] += more
+            told.take(answered(sent))
+    one, two = session(0, 3, 4, True), session(0, 3, 4, True)
+    two.tx = "t2"
+    told.mark("north", Part("CS-01", False, 900, sessions=[one, two]))
+    (found,) = two.findings
+    assert one.findings == [] and found.kind is Kind.RESET
+    assert found.detail == "6.750 kWh at the end of t1, 1.000 kWh here: 5.750 kWh less"
+
+
+@pytest.mark.parametrize(("most_kw", "count"), [(29, 1), (31, 0)])
+def test_the_greatest_power_may_be_said(most_kw: int, count: int) -> None:
+    messages = sound("T1", FIRST)
+    messages[1].payload["meterValue"][0]["sampledValue"][0]["value"] = 6_000
+    messages[2:] = []
+    transaction = taken(messages)
+    found = findings_of(transaction, transaction.live(0, 9, []), False, "", most_kw)
+    assert [one.kind for one in found] == [Kind.POWER] * count
+
+
+@pytest.mark.parametrize(
+    ("signed", "is_told"),
+    [
+        ('OCMF|{"RD":[{"RV":1.750,"RU":"kWh"}]}|{}', False),
+        ('OCMF|{"RD":[{"RV":1.0,"RU":"kWh"},{"RV":1750,"RU":"Wh"}]}|{}', False),
+        ('OCMF|{"RD":[{"RV":1.7505,"RU":"kWh"}]}|{}', False),
+        ('OCMF|{"RD":[{"RV":1.752,"RU":"kWh"}]}|{}', True),
+        ('OCMF|{"RD":[{"RV":9,"RU":"mOhm"}]}|{}', False),
+        ('OCMF|{"RD":[{"RV":"9","RU":"kWh"}]}|{}', True),
+        ("OCMF|[]|{}", False),
+        ("<signedMeterValue>", False),
+        ("OCMF|", False),
+    ],
+)
+def test_signed_values_are_compared(signed: str, is_told: bool) -> None:
+    for data in (signed, base64.b64encode(signed.encode()).decode()):
+        messages = sound("T1", FIRST)
+        sampled = messages[3].payload["meterValue"][0]["sampledValue"][0]
+        sampled["signedMeterValue"] = {"signedMeterData": data}
+        assert [one.kind for one in findings(messages)] == [Kind.SIGNED] * is_told
 
 
 def test_an_id_is_used_again_by_later_numbers_and_by_later_conflicts() -> None:
@@ -194,7 +314,7 @@ def test_a_board_by_time_tells_its_sessions_so() -> None:
     assert one.findings == []
     told.mark("north", Part("CS-01", False, 900, sessions=[one]))
     assert [found.detail for found in one.findings] == [
-        "a line `order north moment` takes them by time"
+        "`--order north=moment` of log-to-script or live (in a script line `order north moment`) takes them by time"
     ]
 
 

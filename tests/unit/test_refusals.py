@@ -13,6 +13,7 @@ from ocpp_board.near_limits import NearLimits
 from ocpp_board.refusals import (
     HEADS,
     MOST_ROWS,
+    UNTAKEN,
     Refusal,
     Refusals,
     comment_of,
@@ -22,6 +23,7 @@ from ocpp_board.refusals import (
     sentence,
 )
 from ocpp_board.statuses import Mistaken
+from ocpp_board.told import Told
 
 AT = datetime(2026, 3, 1, 10, 0, 5, tzinfo=timezone.utc)
 EVENT = (
@@ -289,3 +291,24 @@ def test_what_is_declared_has_its_limits() -> None:
     ):
         assert messages.take(Line(number, line, True, b""), text) is None
     assert messages.limits == {"A": (1_024, 16_384, 16_384, 2**63), "B": (1, 2, 3, 4)}
+
+
+def test_what_was_taken_since_is_no_longer_listed(tmp_path: Path) -> None:
+    told, refusals = Told(), Refusals()
+    refusal = Refusal("", "A", "T1", "0", UNTAKEN, "", "", "a station is not in stations.txt: 'A'")
+    beat, other = (refusal._replace(transaction="", number=number) for number in ("", "x"))
+    stay = [
+        refusal._replace(number="1"),
+        refusal._replace(station="B"),
+        other._replace(what="no JSON"),
+    ]
+    for one in (refusal, refusal, beat, *stay):
+        refusals.add(one)
+    refusals.settle(told.has_taken)
+    assert refusals.count() == 6
+    message = EVENT.replace("1970", "2026")
+    told.take(Answered(1, "north", "A", AT, message, '[3,"1",{}]'))
+    refusals.settle(told.has_taken)
+    assert [*refusals.rows] == stay and refusals.count("north") == refusals.count() == 3
+    refusals.write(tmp_path / "refused.csv", "north")
+    assert (tmp_path / "refused.csv").read_text().count("\n") == 4

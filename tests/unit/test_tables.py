@@ -25,6 +25,8 @@ tx t1 evse=1 events=4 first=0 last=3 complete=yes missing=0 {FLOW}
 end
 """
 REASON = "=HYPERLINK(<b>)"
+# What the session of the script is (see `KINDS`).
+SESSION = {"kind": "clock-back"}
 
 
 @pytest.fixture(autouse=True)
@@ -32,9 +34,9 @@ def told(monkeypatch: pytest.MonkeyPatch) -> list[str]:
     """The messages of a script, with what the program was and how it begins."""
     seen = list[str]()
 
-    def answered(program: str, script: IO[bytes]) -> Iterator[Answered]:
+    def answered(program: str, script: IO[bytes], _other: object) -> Iterator[Answered]:
         seen.extend([program, script.readline().decode()])
-        session = KINDS["clock-back"]("T1", FIRST)
+        session = KINDS[SESSION["kind"]]("T1", FIRST)
         session[-1].payload["transactionInfo"]["stoppedReason"] = REASON
         lines = [line for line in messages("CS-01", session) if line.startswith("msg ")]
         for number, (sent, line) in enumerate(zip(session, lines)):
@@ -105,12 +107,47 @@ def test_texts_of_messages_are_escaped(tmp_path: Path) -> None:
     assert row["stopped reason"] == REASON
 
 
-def test_what_was_fed_back_is_a_negative_net_energy(tmp_path: Path) -> None:
-    fed = FLOW.replace("export_up=0", "export_up=1000001")
+def test_what_was_fed_back_is_a_negative_net_energy(
+    tmp_path: Path, monkeypatch: pytest.MonkeyPatch
+) -> None:
+    monkeypatch.setitem(SESSION, "kind", "feeds-back")
+    fed = "up=0 down=0 export_up=750000 export_down=0"
     board = BOARD.replace(f"missing=0 {FLOW}\nend", f"missing=0 {fed}\nend")
     words = ("--script", str(tmp_path / "script"))
     (row,) = csv.DictReader(run(tmp_path, *words, text=board)["transactions.csv"].splitlines())
-    assert row["net (kWh)"] == "-0.250001"
+    assert row["net (kWh)"] == "-0.75"
+
+
+@pytest.mark.parametrize(
+    ("text", "why"),
+    [
+        (BOARD.replace("tx t1", "tx t2"), "counts 4 of its events, and the script has none"),
+        (
+            BOARD.replace("station CS-01", "station CS-02"),
+            "session t1 of station CS-02, site north",
+        ),
+        (BOARD.replace("events=4 first=0 last=3", "events=5 first=0 last=4"), "the script has 4"),
+        (
+            BOARD.replace(f"missing=0 {FLOW}\nend", f"missing=0 {FLOW.replace('75', '76')}\nend"),
+            "its energy on the board is not that of the script's readings",
+        ),
+    ],
+)
+def test_a_text_of_another_script_is_told_and_nothing_is_written(
+    text: str,
+    why: str,
+    tmp_path: Path,
+    capsys: pytest.CaptureFixture[str],
+    monkeypatch: pytest.MonkeyPatch,
+) -> None:
+    (tmp_path / "text").write_text(text)
+    (tmp_path / "script").write_text("a script\n")
+    argv = ["--script", str(tmp_path / "script"), "--out", str(tmp_path / "x")]
+    monkeypatch.setattr("ocpp_board.statuses.drop_output", lambda: None)
+    assert tables.main([*argv, str(tmp_path / "text")], "tables") == Status.MISTAKEN
+    said = capsys.readouterr().err
+    assert "the text is not of the script" in said and why in said
+    assert list(tmp_path.glob("x.*")) == []
 
 
 def test_a_zone_stands_beside_utc(tmp_path: Path) -> None:

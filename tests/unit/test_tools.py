@@ -8,7 +8,8 @@ from pathlib import Path
 
 import pytest
 
-from ocpp_board import answered, cli, statuses
+from ocpp_board import answered, cli, processes, statuses
+from ocpp_board.answered import Replay
 from ocpp_board.escapes import csv_cell, from_copy, shown
 from ocpp_board import repeats
 from ocpp_board.explain import Plan, Run
@@ -310,3 +311,29 @@ def test_why_a_plan_has_no_room() -> None:
     assert "transactions is 5000" in plan.over(["limits", "5000", "1", "1", "1"])[0]
     assert plan.over(["period", "north", "600"])[1] == "300, 900, 1800 or 3600"
     assert plan.near("station", "s1", plan.stations) == "the nearest declared name is S1"
+
+
+def test_a_program_is_found_where_a_checkout_built_it(
+    tmp_path: Path, monkeypatch: pytest.MonkeyPatch
+) -> None:
+    monkeypatch.setattr(processes, "PACKAGES", tmp_path / "python")
+    monkeypatch.setenv("PATH", str(tmp_path / "bin"))
+    assert processes.found_program() == "ocpp_board"
+
+    def made(path: Path) -> str:
+        path.parent.mkdir(parents=True)
+        path.write_text("#!/bin/sh\n")
+        path.chmod(0o700)
+        return str(path)
+
+    made(tmp_path / "bin/ocpp_replay")
+    assert processes.found_program() == "ocpp_replay"
+    replay = made(tmp_path / "crates/ocpp_replay/out/ocpp_replay")
+    assert processes.found_program() == replay
+    board = made(tmp_path / "crates/ocpp_board/out/ocpp_board")
+    assert processes.found_program() == board
+
+
+def test_a_program_that_is_not_there_is_named_with_how_to_build_it() -> None:
+    with pytest.raises(FileNotFoundError, match="cd crates/ocpp_replay && rt run .* './nowhere'"):
+        Replay("./nowhere")
