@@ -41,7 +41,7 @@ from ocpp_board.fleet.compact import pieces  # noqa: E402
 from ocpp_board.fleet.gateway import (  # noqa: E402
     BURST,
     BYTES,
-    EVENTS,
+    FRAMES,
     Pace,
     empty_answer,
     station_in,
@@ -543,8 +543,8 @@ def test_the_station_of_a_path() -> None:
 
 def test_a_station_waits_above_its_pace() -> None:
     pace, now = Pace(), 1_000.0
-    assert all(pace.wait(100, now) == 0 for _ in range(BURST * EVENTS))
-    assert pace.wait(100, now) == pytest.approx(1 / EVENTS)
+    assert all(pace.wait(100, now) == 0 for _ in range(BURST * FRAMES))
+    assert pace.wait(100, now) == pytest.approx(1 / FRAMES)
     assert pace.wait(100, now + BURST) == 0
     assert pace.wait(BYTES * (BURST + 5), now + 3_600) == pytest.approx(5)
 

@@ -25,6 +25,7 @@ from typing import Any, NamedTuple
 from urllib.parse import unquote, urlsplit
 
 import asyncpg
+from websockets.frames import Frame
 from websockets.http11 import Request, Response
 from websockets.server import ServerConnection
 
@@ -82,8 +83,10 @@ BATCH, BATCH_BYTES, GATHERED = 1000, 4_000_000, 0.015
 ANSWER, HANDSHAKE, SILENCE, LOOKS = 10, 10, 600, 0.05
 # What one who is not let in is told, whatever of it was wrong.
 ASKED = "a station's name and its password are asked for\n"
-# What a station may have appended: events and bytes a second, and for how many seconds at once.
-EVENTS, BYTES, BURST = 20, 65_536, 60
+# What of a station is read: frames of any kind and bytes a second, and for how many seconds at once.
+FRAMES, BYTES, BURST = 20, 65_536, 60
+# Bytes of a handshake.
+LONGEST_HEAD = 16_384
 # Seconds for which an event that was accepted last is answered again without being appended. Not for ever: an operator
 # may have erased it.
 REPEATED = 60
@@ -124,7 +127,7 @@ select pg_notify('let_in', string_agg(station, ' ')) from written
 SERVED = "select station, gateway, number from served where station = any($1)"
 # Also of a station whose shard moves: it is told to come again, and not that its password is wrong.
 PASSWORDS = """
-select p.station, hash, salt, seen_at from station_password p join own_station t using (station)
+select p.station, hash, salt, cost, seen_at from station_password p join own_station t using (station)
 where p.station = any($1) and t.retired is null order by p.station, set_at desc
 """
 
@@ -155,14 +158,14 @@ def station_in(path: str) -> str:
 
 
 class Pace:
-    """How much of a station is appended: BURST seconds' worth at once, and else so many events and bytes a second."""
+    """How much of a station is read: BURST seconds' worth at once, and else so many frames and bytes a second."""
 
     def __init__(self) -> None:
         self.due = 0.0
 
     def wait(self, size: int, now: float) -> float:
-        """For how long no more of its messages are read, behind one of so many bytes."""
-        self.due = max(self.due, now - BURST) + max(1 / EVENTS, size / BYTES)
+        """For how long no more of it is read, behind a frame of so many bytes."""
+        self.due = max(self.due, now - BURST) + max(1 / FRAMES, size / BYTES)
         return max(0.0, self.due - now)
 
 
@@ -416,7 +419,9 @@ class StationLink(Link):
         super().__init__(self.server)
         self.gateway = gateway
         self.began = self.seen = time.monotonic()
-        self.has_asked = False
+        # The bytes of its handshake, whether that is whole, and whether the station is let in.
+        self.head = bytearray()
+        self.has_asked = self.is_in = False
         # Its number among those that were let in, and whether all gateways heard of it.
         self.number, self.is_told = 0, False
         self.unanswered = 0
@@ -437,11 +442,31 @@ class StationLink(Link):
 
     def data_received(self, data: bytes) -> None:
         self.seen = time.monotonic()
-        super().data_received(data)
+        if self.is_in:
+            super().data_received(data)
+        elif not self.has_asked:
+            self.greet(data)
+
+    def greet(self, data: bytes) -> None:
+        """Takes the bytes of a handshake. What comes behind it before its answer is nobody's: no more is read until
+        then."""
+        front = max(0, len(self.head) - 3)
+        self.head += data
+        end = self.head.find(b"\r\n\r\n", front)
+        if max(end, len(self.head) if end < 0 else 0) > LONGEST_HEAD:
+            self.transport.abort()
+        elif end >= 0:
+            self.has_asked = True
+            self.transport.pause_reading()
+            super().data_received(bytes(self.head[: end + 4]))
+            self.head.clear()
+
+    def is_held(self) -> bool:
+        is_full = self.unanswered >= UNANSWERED
+        return self.is_slow or self.is_paced or is_full
 
     def handshake(self, event: Request | Response) -> None:
         assert isinstance(event, Request)
-        self.has_asked = True
         self.name = station_in(event.path)
         given = passwords.taken_from(event.headers, self.name)
         is_open = self.gateway.words.open
@@ -505,13 +530,19 @@ class StationLink(Link):
             response.headers["WWW-Authenticate"] = 'Basic realm="ocpp", charset="UTF-8"'
         self.server.send_response(response)
         self.flush()
+        if not self.is_lost:
+            self.transport.resume_reading()  # It hears the end of the connection.
 
     def admit(self, event: Request) -> None:
         """Lets a station in that offers the subprotocol."""
         response = self.server.accept(event)
         self.server.send_response(response)
         self.flush()
-        if response.status_code != 101:
+        if self.is_lost:
+            return
+        self.is_in = response.status_code == 101
+        self.transport.resume_reading()
+        if not self.is_in:
             return
         if self.connection.subprotocol is None:
             self.close(1002, f"the subprotocol {SUBPROTOCOL} is not offered")
@@ -531,8 +562,6 @@ class StationLink(Link):
         except UnicodeDecodeError:
             return self.close(1007, "a text that is no UTF-8")
         self.unanswered += 1
-        if self.unanswered >= UNANSWERED:
-            self.transport.pause_reading()
         if len(data) > LONGEST_MESSAGE:
             # Of a text that is too long the front is too long as well, and gets the same answer.
             self.gateway.own.ask(
@@ -549,30 +578,37 @@ class StationLink(Link):
         return None
 
     def keep(self, text: str) -> None:
-        """Has an event appended, or answers one that was accepted right before; above its pace the station waits."""
+        """Has an event appended, or answers one that was accepted right before."""
         known, answer, since = self.last
         own, now = digest(text), time.monotonic()
         if known == own and since > now - REPEATED:
             return self.answer(answer)
-        self.gateway.keep(Wait(self, text, own, now))
+        return self.gateway.keep(Wait(self, text, own, now))
+
+    def count(self, frame: Frame) -> None:
+        """Above its pace the station waits, whatever it sends: messages, parts of one, pings and pongs."""
         pace = self.gateway.paces.get(self.name)
         if pace is None:
             pace = self.gateway.paces[self.name] = Pace()
-        if (wait := pace.wait(len(text), now)) > 0 and not self.is_paced:
+        wait = pace.wait(len(frame.data), time.monotonic())
+        if wait > 0 and not self.is_paced:
             self.is_paced = True
-            self.transport.pause_reading()
             asyncio.get_running_loop().call_later(wait, self.paced)
-        return None
 
     def paced(self) -> None:
-        """The station waited for long enough."""
+        """The station waited for long enough; what came meanwhile may be above its pace as well."""
         self.is_paced = False
         self.resume()
 
+    def read(self) -> None:
+        super().read()
+        if self.is_held() and not self.is_lost:
+            self.transport.pause_reading()
+
     def resume(self) -> None:
         """Reads again, where nothing speaks against it."""
-        is_full = self.unanswered >= UNANSWERED
-        if not (self.is_slow or self.is_paced or is_full or self.is_lost):
+        self.read()
+        if not (self.is_held() or self.is_lost):
             self.transport.resume_reading()
 
     def accepted(self, known: bytes, answer: bytes) -> None:

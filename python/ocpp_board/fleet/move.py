@@ -46,9 +46,12 @@ NUMBERING = "update numbering set taken = $2, freed = $3, told = $4, bytes = $5 
 KEPT = "select at, gateway, token, line from inbox_kept where shard = $1 order by id"
 KEEP = "insert into inbox_kept (shard, at, gateway, token, line) values ($1, $2, $3, $4, $5)"
 PASSWORDS = """
-select p.* from station_password p join own_station using (station) where shard = $1 order by station, set_at
+select p.station, hash, salt, cost, set_at, seen_at
+from station_password p join own_station using (station) where shard = $1 order by station, set_at
 """
-SET = "insert into station_password (station, hash, salt, set_at, seen_at) values ($1, $2, $3, $4, $5)"
+SET = """
+insert into station_password (station, hash, salt, cost, set_at, seen_at) values ($1, $2, $3, $4, $5, $6)
+"""
 # What goes with a shard, in an order in which it can be written.
 PARTS = (
     ("own_site", "site, period, reading_order, zone", "site"),

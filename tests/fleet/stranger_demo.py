@@ -1,0 +1,223 @@
+"""Tries on a fleet of its own what strangers, and one station among others, could stop.
+
+    tests/one fleet.stranger_demo ocpp_board
+
+It starts PostgreSQL 15 in a temporary folder, a worker and a gateway that asks for passwords. Then come: a stranger
+whose verdict is kept back and who sends empty pongs without end, and a station that is let in and does so; strangers
+who guess a station's password while the gateway begins anew; and 400 strangers at 400 addresses. Whatever they do, a
+true station waits less than a second. The status is 1 where something is not as it must be.
+"""
+
+import argparse
+import asyncio
+import secrets
+import sys
+import time
+from collections.abc import Awaitable, Callable
+
+from websockets.frames import OP_CONT, OP_PING, OP_PONG, OP_TEXT, Frame
+
+from ocpp_board.fleet.passwords import FREE, SALT, hashed
+from tests.fleet.client import Client, handshake
+from tests.fleet.trials import Trial, event, parsed, parser_of, tried
+
+# The station that is looked at, one that does harm, and one whose password strangers guess.
+TRUE, ODD, GUESSED = "CS-00000", "CS-00001", "CS-00002"
+WRONG = "wrong-0123-4567-89ab"
+# For how many seconds a stranger sends, bytes a second, and the longest wait of a true station.
+SECONDS, RATE, MOST = 5, 1_000_000, 1.0
+STRANGERS = 400
+HEARTBEAT = b'[2,"1","Heartbeat",{}]'
+
+
+def password_of(station: str) -> str:
+    """The password of a station."""
+    return f"right-{station}-0123"
+
+
+class Demo(Trial):
+    def __init__(self, words: argparse.Namespace) -> None:
+        super().__init__(words)
+        self.url = ""
+        self.addresses = 0
+
+    def address(self) -> str:
+        """An address of this machine that nobody came from yet."""
+        self.addresses += 1
+        return f"127.1.{self.addresses // 250}.{self.addresses % 250 + 1}"
+
+    async def begin(self) -> None:
+        """A worker, a gateway, and stations with passwords."""
+        await self.one_cell()
+        await self.fleet.add(self.owner, 4, 4, 0)
+        for station in (TRUE, ODD, GUESSED):
+            salt = secrets.token_bytes(SALT)
+            values = (station, hashed(password_of(station).encode(), salt), salt)
+            await self.owner.execute("select set_password($1, $2, $3)", *values)
+        self.fleet.worker("--boards", 0.5)
+        self.process, self.url = await asyncio.to_thread(self.fleet.gateway, options=())
+
+    async def comes(self, station: str, address: str = "") -> tuple[str, float, Client]:
+        """What a station is answered that comes with its password, and after how long."""
+        began = time.monotonic()
+        login = f"{station}:{password_of(station)}"
+        link = await Client.open(self.url, station, login, address or self.address())
+        heard = await link.said(30)
+        return heard, time.monotonic() - began, link
+
+    async def waits(self, work: Awaitable[object]) -> float:
+        """The longest wait of a true station while something goes on."""
+        _, _, link = await self.comes(TRUE)
+        job, longest = asyncio.ensure_future(work), 0.0
+        while not job.done():
+            began = time.monotonic()
+            link.send(HEARTBEAT)
+            await link.said(60)
+            longest = max(longest, time.monotonic() - began)
+            await asyncio.sleep(0.05)
+        job.result()
+        link.transport.abort()
+        return longest
+
+    # What is tried ----------------------------------------------------------------------------------------------------
+
+    async def sends(self, front: bytes, data: bytes, is_right: bool) -> None:
+        """Someone sends bytes again and again, a million a second, whatever is answered."""
+        host, port = self.url.removeprefix("ws://").removesuffix("/ocpp").split(":")
+        reader, writer = await asyncio.open_connection(
+            host, int(port), local_addr=(self.stranger, 0)
+        )
+        writer.write(front)
+        if is_right:
+            await reader.readline()
+        block, began, sent = data * (RATE // 50 // len(data)), time.monotonic(), 0
+        try:
+            while time.monotonic() < began + SECONDS:
+                if writer.transport.get_write_buffer_size() < RATE:
+                    writer.write(block)
+                    sent += len(block)
+                await asyncio.sleep(max(0.0, sent / RATE - (time.monotonic() - began)) or 0.01)
+        except OSError:
+            pass
+        writer.transport.abort()
+
+    async def frames(self) -> None:
+        """Frames of a stranger before the verdict, and of a station that is let in."""
+        self.stranger = self.address()
+        tries = [
+            Client.open(self.url, GUESSED, f"{GUESSED}:{WRONG}", self.stranger)
+            for _ in range(FREE + 1)
+        ]
+        links = await asyncio.gather(*tries)
+        pong = Frame(OP_PONG, b"").serialize(mask=True)
+        wait = await self.waits(self.sends(handshake(GUESSED, WRONG), pong, False))
+        self.check(
+            wait < MOST, f"a stranger sends pongs before the verdict: a station waits {wait:.2f} s"
+        )
+        for link in links:
+            link.transport.abort()
+        self.stranger = self.address()
+        part = Frame(OP_TEXT, b"", fin=False).serialize(mask=True)
+        more = Frame(OP_CONT, b"", fin=False).serialize(mask=True)
+        for what, front, data in (
+            ("pongs", b"", pong),
+            ("pings", b"", Frame(OP_PING, b"").serialize(mask=True)),
+            ("empty parts of a message", part, more),
+            ("heartbeats", b"", Frame(OP_TEXT, HEARTBEAT).serialize(mask=True)),
+        ):
+            own = handshake(ODD, password_of(ODD)) + front
+            wait = await self.waits(self.sends(own, data, True))
+            self.check(
+                wait < MOST, f"a station that is let in sends {what}: another waits {wait:.2f} s"
+            )
+
+    async def guesses(self, address: str, until: Callable[[], bool]) -> None:
+        """Someone guesses a station's password again and again."""
+        while not until():
+            try:
+                link = await Client.open(self.url, GUESSED, f"{GUESSED}:{WRONG}", address)
+                await link.said(15)
+                link.transport.abort()
+            except (OSError, asyncio.TimeoutError):
+                await asyncio.sleep(0.05)
+
+    async def begun_anew(self) -> None:
+        """A gateway that begins anew while strangers guess: the station that they guess is let in at once."""
+        is_over = False
+        jobs = [
+            asyncio.create_task(self.guesses(self.address(), lambda: is_over)) for _ in range(120)
+        ]
+        await asyncio.sleep(2)
+        port = int(self.url.removesuffix("/ocpp").rpartition(":")[2])
+        self.process.kill()
+        self.process.wait()
+        self.process, self.url = await asyncio.to_thread(self.fleet.gateway, port=port, options=())
+        await asyncio.sleep(1)
+        found = list[tuple[str, float]]()
+        for _ in range(12):
+            # What was right is forgotten, as where a gateway begins anew.
+            await self.owner.execute("select pg_notify('password', $1)", GUESSED)
+            await asyncio.sleep(0.2)
+            heard, took, link = await self.comes(GUESSED)
+            found.append((heard, took))
+            link.transport.abort()
+        is_over = True
+        await asyncio.gather(*jobs)
+        refused = [heard for heard, _ in found if heard != "101"]
+        longest = max(took for _, took in found)
+        self.check(
+            not refused and longest < MOST,
+            f"a station whose password 120 strangers guess: {len(refused)} of 12 tries are refused, "
+            f"and the longest takes {longest:.2f} s",
+        )
+
+    async def many(self) -> None:
+        """Strangers at as many addresses, with names that are none and with a station's."""
+        addresses = [self.address() for _ in range(STRANGERS)]
+
+        host, port = self.url.removeprefix("ws://").removesuffix("/ocpp").split(":")
+
+        async def stranger(number: int) -> None:
+            name = GUESSED if number % 2 else f"NOBODY-{number}"
+            reader, writer = await asyncio.open_connection(
+                host, int(port), local_addr=(addresses[number], 0)
+            )
+            writer.write(handshake(name, WRONG))
+            await reader.read(1)
+            writer.transport.abort()
+
+        jobs = [asyncio.create_task(stranger(number)) for number in range(STRANGERS)]
+        await asyncio.sleep(0.05)
+        waits = list[float]()
+        for station in (TRUE, GUESSED, ODD):
+            heard, took, link = await self.comes(station)
+            self.check(heard == "101", f"{station} among {STRANGERS} strangers: {heard}")
+            waits.append(took)
+            link.transport.abort()
+        await asyncio.gather(*jobs)
+        self.check(max(waits) < MOST, f"and is let in after {max(waits):.2f} s at most")
+
+    async def answered(self) -> None:
+        """An event is answered in the end."""
+        _, _, link = await self.comes(TRUE)
+        link.send(event("TX-1", 0, "Started", "2026-03-01T10:00:00Z", 1000).encode())
+        heard = await link.said(20)
+        self.check(heard.startswith("[3,"), f"an event behind all that: {heard}")
+
+    async def run(self) -> None:
+        await self.begin()
+        await self.frames()
+        await self.begun_anew()
+        await self.many()
+        await self.answered()
+        await self.owner.close()
+
+
+def main() -> int:
+    """Tries it, and gives the exit status."""
+    words = parsed(parser_of(__doc__))
+    return tried("strangers", lambda: Demo(words))
+
+
+if __name__ == "__main__":
+    sys.exit(main())
