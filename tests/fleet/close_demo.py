@@ -86,9 +86,12 @@ class Demo(ClosingTrial):
             "a conflict with an archived event", "2026-03-03", "; 0 taken", "1 refused ones"
         )
         text = "".join(path.read_text() for path in self.archives.iterdir())
+        told = await self.owner.fetchval(
+            "select sum(times)::bigint from own_refusal where (cause, number) = ('ConflictingEvent', '3')"
+        )
         self.check(
-            "ConflictingEvent" in text and "7777" in text,
-            "a refused line is a comment of an archive",
+            "#" not in text and "7777" not in text and told == 1,
+            f"a refused line is in no archive, and has its row: {told}",
         )
         await self.came("void A TX-1 2")
         await self.closed(

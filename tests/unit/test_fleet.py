@@ -127,7 +127,9 @@ class Ended:
 
 def test_a_worker_whose_session_is_ended_beats_until_it_is_told() -> None:
     async def beaten() -> None:
-        words = argparse.Namespace(hang=1.0, name="worker_1", seen=metrics.WorkerSeen(1.0))
+        words = argparse.Namespace(
+            program="none", hang=1.0, name="worker_1", seen=metrics.WorkerSeen(1.0)
+        )
         session = Session(words, [Ended(), Ended(), Ended()])
         for _ in range(2):
             with pytest.raises(asyncpg.InterfaceError):
@@ -157,7 +159,9 @@ def test_a_commit_that_waits_for_a_standby_is_told_at_once_and_waited_for(
     waits: bool, monkeypatch: pytest.MonkeyPatch
 ) -> None:
     async def committed() -> None:
-        words = argparse.Namespace(hang=1.0, name="worker_1", seen=metrics.WorkerSeen(1.0))
+        words = argparse.Namespace(
+            program="none", hang=1.0, name="worker_1", seen=metrics.WorkerSeen(1.0)
+        )
         session = Session(words, [Slow(0.5, waits), Slow(0.5, waits), Slow(0.5, waits)])
         session.patience = 0.2
         job = asyncio.ensure_future(session.committed("commit"))

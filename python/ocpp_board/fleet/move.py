@@ -106,6 +106,7 @@ PARTS = (
         "corrects_transactions, corrects_complete, corrects_missing",
         "closing",
     ),
+    ("own_open_period", "station, starts", "starts"),
     ("own_archived_lines", "site, closing, station, transaction, lines", "transaction"),
     (
         "own_deed",

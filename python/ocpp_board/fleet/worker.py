@@ -26,7 +26,7 @@ from typing import Any
 import asyncpg
 
 from ocpp_board.fleet import metrics, parts
-from ocpp_board.fleet.archives import HAS_ARCHIVED, Late
+from ocpp_board.fleet.archives import HAS_ARCHIVED, KeptReplays, Late
 from ocpp_board.fleet.board_writer import Board, BoardWriter, Shown
 from ocpp_board.fleet.database import (
     BY_INDEX,
@@ -42,6 +42,7 @@ from ocpp_board.fleet.database import (
     within,
     woken_by,
 )
+from ocpp_board.fleet.lines import Transaction
 from ocpp_board.fleet.orders import (
     CONTESTED,
     INBOXES,
@@ -59,6 +60,7 @@ from ocpp_board.fleet.orders import (
 )
 from ocpp_board.fleet.plans import Plan, known_lines
 from ocpp_board.fleet.replays import Replay, ReplayEnded
+from ocpp_board.fleet.surplus import Surplus
 from ocpp_board.fleet.watched import STANDING, Watched
 from ocpp_board.limits import LONGEST_SCRIPT
 from ocpp_board.processes import run_tool
@@ -119,7 +121,9 @@ class Shard:
         self.shown: dict[str, Shown] = {}
         self.began = asyncio.get_running_loop().time()
         self.answered = time.monotonic()
-        self.lines = self.bytes = 0
+        self.surplus = Surplus()
+        # Lines that were read, bytes of the log, and bytes that its replay was handed, which has an end as well.
+        self.lines = self.bytes = self.handed = 0
         self.changed, self.due = True, 0.0
         self.is_loaded = self.is_answering = self.is_showing = False
         self.busy = asyncio.Lock()
@@ -141,6 +145,7 @@ class Session:
         # another one, and boards, which are many rows, a third.
         self.holder, self.beats, self.boards = (Asked(one, self.patience) for one in databases)
         self.writer = BoardWriter(self.boards, self.is_answering)
+        self.late = KeptReplays(words.program, words.hang)
         # When lines were read last.
         self.read_at = 0.0
         self.living = 0
@@ -190,6 +195,7 @@ class Session:
                 task.cancel()
             for shard in self.shards.values():
                 shard.replay.kill()
+            self.late.close()
             for database in self.databases:
                 database.terminate()
 
@@ -338,6 +344,7 @@ class Session:
             replay = await Replay.start(self.words.program)
             await asyncio.wait_for(replay.open(plan), OPENING_TIME)
             late = Late(number, plan.rows, bool(await self.ask(HAS_ARCHIVED, number)))
+            self.late.forget(number)
             standing = [row["place"] for row in await self.ask(STANDING, number)]
             watched = Watched(number, plan.rows, standing, self.words.told)
         except Fault as fault:
@@ -500,8 +507,9 @@ class Session:
         shard.read, shard.changed = row["place"], shard.changed or is_live
         shard.lines += row["rows"]
         said = [answer.decode("utf-8", "replace") for answer in answers]
-        for place, text, answer in zip(row["places"], row["text"].split("\n"), said):
-            shard.watched.take(place, text, answer)
+        texts = row["text"].split("\n")
+        for number, (place, text) in enumerate(zip(row["places"], texts)):
+            shard.watched.take(place, text, said[number])
         self.weigh(shard, len(row["text"].encode()) + 1)
         front = row["silent"]
         parts = zip(row["gateways"][front:], row["tokens"][front:], said[front:])
@@ -513,16 +521,21 @@ class Session:
         return shard, told
 
     def weigh(self, shard: Shard, size: int) -> None:
-        """Counts so many bytes of the shard's log. It is told where that is half full, and compacted where nearly."""
+        """Counts so many bytes of the shard's log. It is told where that is half full, and compacted where nearly.
+        A replay that was handed nearly as much as it reads begins anew."""
         had, shard.bytes = shard.bytes, shard.bytes + size
-        for part, is_nearly in ((LONGEST_SCRIPT // 2, False), (LONGEST_SCRIPT * 9 // 10, True)):
+        read, shard.handed = shard.handed, shard.handed + size
+        half, most = LONGEST_SCRIPT // 2, LONGEST_SCRIPT * 9 // 10
+        for part in (half, most):
             if had < part <= shard.bytes:
                 log.warning(
                     "shard %d: its log has %s bytes of %s",
                     *(shard.number, f"{shard.bytes:,}", f"{LONGEST_SCRIPT:,}"),
                 )
-                if is_nearly:
-                    self.spawn(self.compact(shard.number))
+        if had < most <= shard.bytes:
+            self.spawn(self.compact(shard.number))
+        elif read < most <= shard.handed and shard.bytes < half and shard.is_loaded:
+            self.reopen(shard)
 
     async def compact(self, number: int) -> None:
         """Compacts a shard in a process of its own. Its plan then changes, and its replay begins anew."""
@@ -546,10 +559,32 @@ class Session:
                 shard.replay.write("\n".join([*live, ""]).encode())
                 answers = await shard.replay.answers(len(live))
         if late:
-            job = shard.late.answers(self.words.program, texts, late, row["silent"])
-            told, own = await asyncio.wait_for(job, self.words.hang), iter(answers)
+            told, own = await self.late_answers(shard, row, texts, late), iter(answers)
             answers = [told.get(n, b"") if n in late else next(own) for n in range(len(texts))]
+        for number, answer in enumerate(answers):
+            if number not in late:
+                shard.surplus.take(row["places"][number], texts[number], answer, False)
         return answers, bool(live)
+
+    async def late_answers(
+        self, shard: Shard, row: Any, texts: list[str], late: Mapping[int, Transaction]
+    ) -> dict[int, bytes]:
+        """The answers to lines for archived transactions, but for those in front that were told before. What of them
+        changed nothing may leave the log."""
+        found, places = dict[int, bytes](), row["places"]
+        numbers = {place: number for number, place in enumerate(places)}
+        for number in [number for number in late if number < row["silent"]]:
+            shard.late.answered(places[number], texts[number], late[number])
+        new = [number for number in late if number >= row["silent"]]
+        for one in dict.fromkeys(late[number] for number in new):
+            lines = [(places[number], texts[number]) for number in new if late[number] == one]
+            said = await shard.late.said(self.ask, self.late, one, lines)
+            for place, (text, (answer, is_change)) in said.items():
+                if place in numbers:
+                    found[numbers[place]] = answer
+                if not is_change:
+                    shard.surplus.take(place, text, answer, True)
+        return found
 
     async def is_replanned(self, shard: Shard) -> bool:
         """Whether the plan changed under a shard: the station may be new."""
@@ -587,6 +622,7 @@ class Session:
             await asyncio.sleep(NOTING)
             for shard in list(self.shards.values()):
                 await shard.watched.write(self.boards.ask)
+                shard.bytes -= await shard.surplus.leave(self.ask, shard.number, shard.taken)
             new = [(one, one.told) for one in self.shards.values() if one.told != one.noted]
             if new:
                 columns = zip(*((shard.number, told, shard.bytes) for shard, told in new))
