@@ -21,8 +21,8 @@ from tests.fleet.fleet import FILL, ended
 from tests.fleet.trials import parsed, parser_of, tried
 
 STATIONS = 64
-# Blocks of tables that a closing reads at most, the bytes that it takes, and seconds for which a shard that moves takes no
-# lines. How long it takes depends on what else the machine does.
+# Blocks of tables that a closing reads at most, the bytes that it takes, and seconds for which a shard that moves takes
+# no lines. How long it takes depends on what else the machine does.
 BLOCKS, MEMORY, MOVE = 8_000, 200_000_000, 2.0
 READ = "select blks_hit + blks_read from pg_stat_database where datname = current_database()"
 # The days before 2026-03-01: 40 periods and 4 sessions each of every station.

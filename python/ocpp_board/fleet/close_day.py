@@ -26,10 +26,13 @@ import argparse
 import logging
 import os
 from collections.abc import Collection, Iterable, Mapping, Sequence
+from contextlib import suppress
 from datetime import date, datetime, time, timedelta
 from pathlib import Path
 from typing import Any, NamedTuple
 from zoneinfo import ZoneInfo
+
+import asyncpg
 
 from ocpp_board.energies import FLOW, Flow, flow_of
 from ocpp_board.fleet import compact, findings, parts
@@ -65,19 +68,28 @@ REMOVE = "delete from own_log where shard = $1 and place = any($2::bigint[])"
 # Its worker begins a replay anew from what is left; the plan that lines were replayed under is still that.
 REPLAN = "update own_shard set plan = plan + 1 where shard = $1 and plan = $2 and moving_to is null"
 # The same where lines came to be known: it tells the worker.
-ANEW = "with one as (update own_shard set plan = plan + 1 where shard = $1) select pg_notify('plan', $1::text)"
+ANEW = "with one as (update own_shard set plan = plan + 1 where shard = $1) select tell('plan', $1::text)"
 BEFORE = "select day, period, reading_order from own_closing where shard = $1 and site = $2 order by closing"
 # Which of these transactions are archived.
 HAD = """
 select station, transaction from own_archived_transaction
 where shard = $1 and (station, transaction) in (select * from unnest($2::text[], $3::text[]))
 """
-# What a version before these were counted archived, whose lines are in its files alone.
+# What an earlier version archived, whose lines are in its files alone.
 UNPACKED = """
 select t.station, t.transaction, t.site, t.closing, c.archive
 from own_archived_transaction t join own_closing c using (shard, site, closing)
-where c.shard = $1 and c.plan = 0 and t.station = any($2) and not exists (
+where c.shard = $1 and not c.packed and t.station = any($2) and not exists (
     select from own_archived_lines l where (l.shard, l.station, l.transaction) = (t.shard, t.station, t.transaction))
+"""
+MAY_BE_UNPACKED = "select from own_closing where shard = $1 and not packed limit 1"
+# Closings all lines of which are packed; they are not looked at again.
+ARE_PACKED = """
+update own_closing c set packed = true where shard = $1 and not packed and not exists (
+    select from own_archived_transaction t
+    where (t.shard, t.site, t.closing) = (c.shard, c.site, c.closing) and not exists (
+        select from own_archived_lines l
+        where (l.shard, l.station, l.transaction) = (t.shard, t.station, t.transaction)))
 """
 # What is settled and archived is a station's, whichever site it was given to before; of stations that are not in the
 # plan nothing is corrected, since nothing of theirs was replayed. Both tables have their rows by site first.
@@ -100,8 +112,8 @@ delete from own_open_period o using unnest($2::text[], $3::timestamptz[]) as w (
 where o.shard = $1 and (o.station, o.starts) = (w.station, w.starts)
 """
 CLOSING = """
-insert into own_closing (shard, site, closing, day, period, reading_order, place, archive, plan)
-values ($1, $2, $3, $4, $5, $6, $7, $8, $9)
+insert into own_closing (shard, site, closing, day, period, reading_order, place, archive, plan, packed)
+values ($1, $2, $3, $4, $5, $6, $7, $8, $9, true)
 """
 CLOSED = """
 insert into own_closed_period (shard, site, closing, station, starts, day, up, down, export_up, export_down)
@@ -332,6 +344,8 @@ class Closing:
                     PACKED, [(*place, text) for place, text in zip(places, texts)]
                 )
                 await self.session.execute(ANEW, self.shard)
+        if await self.fetch(MAY_BE_UNPACKED):
+            await self.session.execute(ARE_PACKED, self.shard)
 
     async def archived(self, rows: list[Any]) -> dict[Transaction, list[str]]:
         """The archived transactions that these rows are of, with their lines. Raises Fault where these are missing."""
@@ -434,8 +448,9 @@ class Closing:
             found = await self.write_findings(log_lines)
             await self.write_transactions(head, in_file, leaving, found)
             await self.take_out(plan, removed)
-        # Behind the commit: to be told, others would wait for it.
-        await self.session.execute("select pg_notify('plan', $1)", str(self.shard))
+        # Behind the commit: to be told, others would wait for it. Its worker looks by itself, too.
+        with suppress(asyncpg.ProgramLimitExceededError):
+            await self.session.execute("select tell('plan', $1)", str(self.shard))
         self.tell_late(log_lines.late)
         return self.told(day, log_lines, settled, [row["day"] for row in before], name)
 

@@ -230,6 +230,8 @@ class Passwords:
         # What was right last, by a key of this process, so that a station that comes again costs no hash.
         self.key = secrets.token_bytes(32)
         self.right: dict[str, bytes] = {}
+        # The hash of the plan by which a station was let in last.
+        self.hashes: dict[str, bytes] = {}
         # How often something of this was forgotten.
         self.changes = 0
 
@@ -301,6 +303,7 @@ class Passwords:
         """The password is right. `changes` is from before those of the plan were looked for."""
         if found.is_news and not await found.cell.saw(station, found.hash):
             return Verdict.UNSURE
+        self.hashes[station] = found.hash
         if changes == self.changes:
             self.right[station] = self.digest(given.password or b"")
         return Verdict.RIGHT

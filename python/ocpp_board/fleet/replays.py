@@ -4,7 +4,7 @@ import asyncio
 from collections.abc import Iterator
 from contextlib import contextmanager
 
-from ocpp_board.fleet.database import Fault, seen
+from ocpp_board.fleet.database import Fault, seen, without_secrets
 from ocpp_board.fleet.plans import Plan
 from ocpp_board.processes import replay_environment
 
@@ -39,7 +39,7 @@ class Replay:
             stdin=pipe,
             stdout=pipe,
             start_new_session=True,
-            env=replay_environment(),
+            env=without_secrets(replay_environment()),
         )
         # That its input broke is told by its output, which ends.
         assert process.stdin

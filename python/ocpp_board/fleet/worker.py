@@ -21,6 +21,8 @@ import random
 import secrets
 import time
 from collections.abc import Coroutine, Mapping, Sequence
+from contextlib import suppress
+from functools import partial
 from typing import Any
 
 import asyncpg
@@ -37,8 +39,10 @@ from ocpp_board.fleet.database import (
     Fault,
     Unreachable,
     connect,
+    listen,
     said,
     seen,
+    until_ended,
     within,
     woken_by,
 )
@@ -46,6 +50,7 @@ from ocpp_board.fleet.lines import Transaction
 from ocpp_board.fleet.orders import (
     CONTESTED,
     INBOXES,
+    KEEP_UNTOLD,
     LOOK,
     MOST_BYTES,
     MOST_ROWS,
@@ -75,7 +80,7 @@ with beat as (
     select $1, pid, backend_start, clock_timestamp(), $2 from pg_stat_get_activity($3)
     on conflict (worker) do update
         set pid = excluded.pid, began = excluded.began, beat = excluded.beat, shards = excluded.shards)
-select living_workers() as living
+select living_workers() as living, pg_notification_queue_usage() as queue
 """
 # All sessions of a worker have its name.
 FENCE = """
@@ -83,6 +88,12 @@ with hung as (delete from worker where beat < clock_timestamp() - make_interval(
 select worker, count(pg_terminate_backend(a.pid)) from hung left join pg_stat_activity a
 on a.application_name = worker and a.datname = current_database() and a.usename = current_user group by worker
 """
+# Other databases that this role may enter.
+DOORS = """
+select string_agg(datname, ', ' order by datname) from pg_database
+where datallowconn and datname <> current_database() and has_database_privilege(datname, 'connect')
+"""
+SHUT = "revoke connect on database .. from public"
 HOLD = "select shard from unnest($1::int[]) as s (shard) where hold_shard(shard) limit $2"
 # Shards that are read at once, and those among them that still read their log from the start.
 AT_ONCE, OPENING = 64, 2
@@ -98,6 +109,8 @@ SWEEP, SETTLING, FENCING = 20, 5, 5
 NOTING, CONTEST = 0.5, 0.05
 # Shards whose boards are made at once.
 SHOWN = 8
+# From which part of the queue of notifications on answers take the other way, by a table.
+SLOW_QUEUE = 0.005
 # Shards taken at once, and seconds in which the program has to open a plan.
 TAKEN, OPENING_TIME = 16, 60
 # Seconds in which the database has to answer at least, however soon workers that hang are ended, and after which a
@@ -142,13 +155,16 @@ class Session:
         self.patience = max(ANSWER, words.hang)
         self.seen: metrics.WorkerSeen = words.seen
         # One holds the shards, moves their lines and tells answers; its commits may wait for a standby. So beats have
-        # another one, and boards, which are many rows, a third.
-        self.holder, self.beats, self.boards = (Asked(one, self.patience) for one in databases)
+        # another one, and boards, which are many rows, a third. A fourth listens, and is slow while many notifications
+        # come.
+        self.holder, self.beats, self.boards = (Asked(one, self.patience) for one in databases[:3])
         self.writer = BoardWriter(self.boards, self.is_answering)
         self.late = KeptReplays(words.program, words.hang)
         # When lines were read last.
         self.read_at = 0.0
         self.living = 0
+        # Whether the queue of notifications has so much in it that what is told there comes late.
+        self.is_queue_slow = False
         self.shards: dict[int, Shard] = {}
         # Shards whose lock is held and that are not open yet.
         self.opening: set[int] = set()
@@ -178,9 +194,11 @@ class Session:
     async def run(self) -> None:
         """Works until the session is lost. Raises what it was lost by."""
         try:
+            listener = self.databases[-1]
             for channel in INBOXES:
-                await self.holder.database.add_listener(channel, self.wake)
-            await self.holder.database.add_listener("plan", lambda *_: self.planned.set())
+                await listen(listener, channel, partial(self.wake, channel))
+            await listen(listener, "plan", lambda *_: self.planned.set())
+            self.spawn(until_ended(listener))
             await self.beat_once()
             self.seen.session = self
             jobs = [self.beat(), self.keep_share(), self.read(), self.show(), self.note()]
@@ -223,8 +241,8 @@ class Session:
         """How shards stand, once they are taken."""
         return {row["shard"]: row for row in await self.ask(STATE, numbers)}
 
-    def wake(self, _session: Any, _pid: int, channel: str, payload: str) -> None:
-        """Lines of shards came."""
+    def wake(self, channel: str, _session: Any, _pid: int, _name: str, payload: str) -> None:
+        """Lines of shards came, as is told on a channel."""
         self.wake_all(channel, woken_by(payload))
 
     def wake_all(self, channel: str, firsts: Mapping[int, int]) -> None:
@@ -241,6 +259,8 @@ class Session:
         """Tells that this worker lives, and looks how many do."""
         rows = await self.beats.ask(BEAT, self.words.name, len(self.shards), self.pid)
         self.living, self.seen.beat = rows[0]["living"], time.monotonic()
+        self.seen.queue = rows[0]["queue"]
+        self.is_queue_slow = self.seen.queue > SLOW_QUEUE
 
     async def beat(self) -> None:
         """Tells again and again that this worker lives, and ends those that hang. Where it just began, or its own beats
@@ -269,7 +289,7 @@ class Session:
             self.planned.clear()
             if settling or beats % SWEEP == 0:
                 settling = SETTLING if await self.share(max(1, lived)) else max(0, settling - 1)
-            if beats % SWEEP == 0:
+            if beats % SWEEP == 0 or self.is_queue_slow:
                 await self.sweep()
             try:
                 await asyncio.wait_for(self.planned.wait(), self.words.beat)
@@ -595,7 +615,9 @@ class Session:
         """Tells answers to the gateways that wait for them."""
         places = [shard.read for shard, _ in answered]
         channels, payloads = payloads_of([answer for _, answers in answered for answer in answers])
-        if channels:
+        if channels and self.is_queue_slow:
+            await self.keep_untold(channels, payloads)
+        elif channels:
             await self.notify(channels, payloads)
         self.seen.counts["answers"] += sum(len(answers) for _, answers in answered)
         now = time.monotonic()
@@ -609,12 +631,22 @@ class Session:
         """Tells these payloads; one that can't be told costs no other."""
         try:
             await self.ask(TELL, channels, payloads)
+        except asyncpg.ProgramLimitExceededError:
+            await self.keep_untold(channels, payloads)
         except UNTOLD as fault:
             if len(channels) == 1:
                 log.warning("answers can't be told on the channel %r: %s", channels[0], fault)
                 return
             for channel, payload in zip(channels, payloads):
                 await self.notify([channel], [payload])
+
+    async def keep_untold(self, channels: list[str], payloads: list[str]) -> None:
+        """Leaves payloads where gateways look for them. Whoever else listens is told, if the queue has room."""
+        await self.ask(KEEP_UNTOLD, channels, payloads)
+        for channel, payload in zip(channels, payloads):
+            if not channel.startswith("gateway_"):
+                with suppress(*UNTOLD):
+                    await self.ask(TELL, [channel], [payload])
 
     async def note(self) -> None:
         """Notes again and again up to which places answers were told, and what was refused."""
@@ -694,7 +726,7 @@ async def opened(words: argparse.Namespace) -> list[Any]:
     """The sessions of a worker, once those that it had before are ended."""
     databases = list[Any]()
     try:
-        for _ in range(3):
+        for _ in range(4):
             databases.append(
                 await connect(
                     words.db, application_name=words.name, synchronous_commit="off", **BY_INDEX
@@ -709,6 +741,13 @@ async def opened(words: argparse.Namespace) -> list[Any]:
     return databases
 
 
+async def tell_doors(database: Any) -> None:
+    """Tells which other databases of the server this role may enter: it holds their sessions there."""
+    names = await within(ANSWER, database, "fetchval", DOORS)
+    if names:
+        log.warning("this role may enter other databases, too: %s; %s", names, SHUT)
+
+
 async def work(words: argparse.Namespace) -> None:
     """Sessions, one after the other: where one is lost the next begins anew."""
     metrics.serve(words.metrics, words.seen.watch())
@@ -719,6 +758,7 @@ async def work(words: argparse.Namespace) -> None:
             databases = await opened(words)
             has_sessions = True
             if is_first:
+                await tell_doors(databases[1])
                 print("ready", flush=True)
             elif last:
                 log.info("connected")

@@ -54,3 +54,67 @@ insert into own_open_period
 grant select on own_open_period to ledger_reader;
 grant select, insert, delete on own_open_period to ledger_closer;
 grant select, insert, update, delete on own_open_period to ledger_mover;
+-- Whether the lines of all that a closing archived are packed, which earlier versions did not do.
+alter table closing add column packed boolean not null default false;
+grant update (packed) on own_closing to ledger_closer;
+
+-- Moves ----------------------------------------------------------------------------------------------------------------
+
+-- Shards of which no view has the rows that are here: another cell has all of theirs by now, and a move that has not ended
+-- left some; or they are on their way to this cell, as one that moves to the cell where it is.
+create or replace view moved_shard as
+    select cell, shard from shard s
+    where s.moving_to = s.cell
+        or exists (select from shard t where t.cell = s.moving_to and t.shard = s.shard and t.moving_to is distinct from t.cell);
+
+-- Roles ----------------------------------------------------------------------------------------------------------------
+
+-- The tools' roles enter this database alone: whoever is let into another one of the server holds its sessions there.
+do $$
+declare
+    name text;
+begin
+    for name in select datname from pg_database where datname in ('postgres', 'template1') loop
+        execute format('revoke connect, temporary on database %I from public', name);
+    end loop;
+end $$;
+
+-- Notifications --------------------------------------------------------------------------------------------------------
+
+-- Answers that no notification could tell, since the queue of these has no room, or so much in it that they would come late:
+-- anybody who is let in may fill it. Gateways look here each second.
+create unlogged table untold (
+    gateway text not null,
+    at timestamptz not null default now(),
+    payload text not null
+);
+create index untold_gateway_idx on untold (gateway);
+grant insert on untold to ledger_worker;
+grant select, delete on untold to ledger_gateway;
+-- The channels of the tools have a name that who only reads does not know: what it notifies wakes nobody.
+create table own_channel (
+    secret text not null
+);
+create unique index own_channel_is_one on own_channel ((true));
+insert into own_channel values (replace(gen_random_uuid()::text, '-', ''));
+create function channel_of(channel text) returns text language sql stable security definer set search_path = public, pg_temp as $$
+    select channel || '_' || secret from own_channel;
+$$;
+create function tell(channel text, payload text) returns void language plpgsql security definer
+    set search_path = public, pg_temp as $$
+begin
+    perform pg_notify(channel_of(channel), payload);
+end $$;
+revoke execute on function channel_of(text), tell(text, text) from public;
+grant execute on function channel_of(text) to ledger_gateway, ledger_worker, ledger_feed;
+grant execute on function tell(text, text) to ledger_gateway, ledger_worker, ledger_feed, ledger_operator, ledger_provisioner,
+    ledger_closer, ledger_compactor, ledger_mover;
+do $do$
+declare
+    one oid;
+begin
+    for one in select oid from pg_proc where pronamespace = 'public'::regnamespace
+            and prosrc ~ $$perform pg_notify\('(plan|password|wake_kept)'$$ loop
+        execute regexp_replace(pg_get_functiondef(one), $$pg_notify\('(plan|password|wake_kept)'$$, $$tell('\1'$$, 'g');
+    end loop;
+end $do$;
