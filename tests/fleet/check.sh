@@ -1,11 +1,12 @@
 #!/usr/bin/env bash
 # Installs what is missing and runs demo.py here: a fleet on a database of its own, with faults, and each board compared.
-# Beside it order_demo.py, of a site whose readings are taken by moment.
+# Beside it order_demo.py, of a site whose readings are taken by moment; surplus_demo.py, of what changes nothing and comes
+# without end; and stranger_demo.py, of strangers, of one station and of one reader who could stop others.
 #     tests/fleet/check.sh PROGRAM [WORD..]      such as crates/ocpp_board/out/ocpp_board; further words are demo.py's
 # Status: 0 where all is right, 1 where something is wrong, 2 for wrong words, and 77 where packages are missing and can't
 # be installed, so that nothing was tried. Packages that it installs stay; the database and all processes do not.
 set -u
-[ "${1-}" != --help ] && [ "${1-}" != -h ] || { sed -n '2,6s/^# \?//p' "$0"; exit 0; }
+[ "${1-}" != --help ] && [ "${1-}" != -h ] || { sed -n '2,8s/^# \?//p' "$0"; exit 0; }
 [ $# -ge 1 ] && [ -x "$1" ] && [ -f "$1" ] || { echo "check.sh: the built program is its first word" >&2; exit 2; }
 here=$(cd "$(dirname "$0")" && pwd)
 
@@ -43,14 +44,16 @@ fi
 memory=/dev/shm
 room=$(df -k --output=avail $memory 2> /dev/null | tail -n 1)
 [ -n "${TMPDIR-}" ] || [ "${room:-0}" -lt 4194304 ] || export TMPDIR=$memory
-told=$(mktemp) && more=$(mktemp) || exit 1
-trap 'rm -f "$told" "$more"' EXIT
+told=$(mktemp) && more=$(mktemp) && others=$(mktemp) || exit 1
+trap 'rm -f "$told" "$more" "$others"' EXIT
 # They begin once the words of demo.py were found to be right. Where it has none, its faults are tried by two fleets.
 { sleep 2; exec "$here/../one" fleet.order_demo "$1"; } > "$told" 2>&1 &
 beside=($!) half=()
 if [ $# = 1 ]; then
     half=(--half 1)
     { sleep 2; exec "$here/../one" fleet.demo "$1" --half 2; } > "$more" 2>&1 &
+    beside+=($!)
+    { sleep 2; "$here/../one" fleet.surplus_demo "$1" && exec "$here/../one" fleet.stranger_demo "$1"; } > "$others" 2>&1 &
     beside+=($!)
 fi
 "$here/../one" fleet.demo "$@" "${half[@]}"
@@ -59,5 +62,5 @@ status=$?
 for one in "${beside[@]}"; do
     wait "$one" || status=1
 done
-cat "$more" "$told"
+cat "$more" "$told" "$others"
 exit $status

@@ -1,12 +1,26 @@
 """A station that sends to a gateway what it is told to."""
 
 import asyncio
+import base64
 import ssl
 
 from websockets.http11 import Request, Response
 from websockets.uri import parse_uri
 
 from ocpp_board.fleet.websocket import ClientLink
+
+HANDSHAKE = (
+    "GET /ocpp/{} HTTP/1.1\r\nHost: a\r\nUpgrade: websocket\r\nConnection: Upgrade\r\n"
+    "Sec-WebSocket-Version: 13\r\nSec-WebSocket-Key: AAAAAAAAAAAAAAAAAAAAAA==\r\n"
+    "Sec-WebSocket-Protocol: ocpp2.0.1\r\nAuthorization: Basic {}\r\n\r\n"
+)
+
+
+def handshake(station: str, password: str) -> bytes:
+    """The bytes of a handshake with a password."""
+    return HANDSHAKE.format(
+        station, base64.b64encode(f"{station}:{password}".encode()).decode()
+    ).encode()
 
 
 class Client(ClientLink):

@@ -86,9 +86,12 @@ class Demo(ClosingTrial):
             "a conflict with an archived event", "2026-03-03", "; 0 taken", "1 refused ones"
         )
         text = "".join(path.read_text() for path in self.archives.iterdir())
+        told = await self.owner.fetchval(
+            "select sum(times)::bigint from own_refusal where (cause, number) = ('ConflictingEvent', '3')"
+        )
         self.check(
-            "ConflictingEvent" in text and "7777" in text,
-            "a refused line is a comment of an archive",
+            "#" not in text and "7777" not in text and told == 1,
+            f"a refused line is in no archive, and has its row: {told}",
         )
         await self.came("void A TX-1 2")
         await self.closed(
@@ -242,6 +245,7 @@ class Demo(ClosingTrial):
             await self.came(f"void {row['station']} {row['transaction']} 1")
             # As an earlier version left it, which had its lines in the file alone.
             await self.owner.execute("delete from own_archived_lines where shard = 0")
+            await self.owner.execute("update own_closing set packed = false")
             status, said = await self.close_day("2026-11-05")
             self.check(status == 2 and name in said, f"an archive that is not there: {said}")
         moved.rename(path)

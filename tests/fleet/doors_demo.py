@@ -65,7 +65,13 @@ WORK: dict[str, str] = {
     "insert into own_closing (shard, site, closing, day, period) values (0, 'north', 9, now(), 900)": "closer mover",
     "delete from own_log": "closer mover",
     "update own_shard set plan = plan + 1": "closer mover",
-    "select remove_repeats(0, 0, '{}')": "compactor worker",
+    "select remove_repeats(0, 0, '{}')": "closer compactor worker",
+    "select drop_lines(0, 0, '{}')": "worker",
+    "select channel_of('plan')": "feed gateway worker",
+    "select tell('plan', '')": "closer compactor feed gateway mover operator provisioner worker",
+    "insert into untold (gateway, payload) values ('x', '')": "worker",
+    "delete from untold": "gateway",
+    "select from own_channel": "",
     "select reserve_shard(0)": "compactor worker closer mover keeper",
     "update own_shard set moving_to = 2": "mover",
     "delete from own_shard": "mover",
@@ -190,8 +196,10 @@ class Demo(Trial):
     async def forged(self, reader: Any, station: Client) -> None:
         """What the reading role notifies as if it were a gateway or a worker."""
         for channel, payloads in FORGED.items():
+            # A reader does not know the name, and may have it from somebody.
+            name = await self.owner.fetchval("select channel_of($1)", channel)
             for payload in payloads:
-                await reader.execute("select pg_notify($1, $2)", channel, payload)
+                await reader.execute("select pg_notify($1, $2)", name, payload)
         await asyncio.sleep(1)
         told = [
             line
@@ -206,7 +214,8 @@ class Demo(Trial):
         )
         gateway = await connect(self.fleet.dsn("ledger_gateway"))
         await gateway.execute(SERVED, "A")
-        await reader.execute("select pg_notify('let_in', 'A')")
+        name = await self.owner.fetchval("select channel_of('let_in')")
+        await reader.execute("select pg_notify($1, 'A')", name)
         heard = await station.said()
         self.check(heard == "closed 1000", f"where a gateway wrote that, it ends: {heard}")
         await gateway.close()

@@ -43,7 +43,7 @@ with added as (
     select w.shard, $2, w.token, w.line
     from unnest($1::int[], $3::bigint[], $4::text[]) with ordinality as w (shard, token, line, place)
     order by w.place returning shard, id)
-select count(pg_notify('wake_kept', shard || ':' || id)) from added
+select count(tell('wake_kept', shard || ':' || id)) from added
 """
 # Lines of a log, of which nobody is told.
 FILL = """

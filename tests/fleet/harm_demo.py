@@ -143,7 +143,7 @@ class Demo(Trial):
             await self.owner.execute(APPEND, "harm", token)
             await self.owner.execute(APPEND, long, token)
             await self.owner.execute(APPEND, "harm", None)
-        await self.owner.execute("select pg_notify('wake_kept', '0:0')")
+        await self.owner.execute("select tell('wake_kept', '0:0')")
 
         async def are_told() -> bool:
             return len(self.answers) == 3

@@ -233,7 +233,7 @@ class Demo(ClosingTrial):
         self.owner = await self.fleet.owner(copy.port)
         await self.owner.add_listener("closings", self.told)
         await self.owner.execute("delete from own_board")
-        await self.owner.execute("select pg_notify('plan', '')")
+        await self.owner.execute("select tell('plan', '')")
         await self.until("select count(*) from own_board", 1)
         await self.until("select count(*) from own_board_transaction where transaction = 'tx-3'", 1)
         self.check(

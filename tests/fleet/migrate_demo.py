@@ -58,6 +58,11 @@ KEPT = """
 insert into own_archived_lines (shard, site, closing, station, transaction, lines)
 values (0, 'north', 1, 'A', 'tx-1', $1)
 """
+ARCHIVED_TOTAL = """
+insert into own_archived_total (shard, site, closing, station, transactions, complete, missing, up, down, export_up,
+    export_down, corrects_transactions, corrects_complete, corrects_missing)
+values (0, 'north', 1, 'A', 1, 1, 0, 750000, 0, 0, 0, false, false, false)
+"""
 ARCHIVE = "north.shard-0.1.script"
 # Answers were told up to the first line.
 MARK = "update own_shard set (xid, id) = (select xid, id from own_log order by xid, id limit 1)"
@@ -146,6 +151,8 @@ class Demo(ClosingTrial):
         )
         if self.version:
             await self.owner.execute(KEPT, packed(first))
+        if self.version >= 5:
+            await self.owner.execute(ARCHIVED_TOTAL)
 
     async def rows(self, columns: dict[str, str]) -> dict[str, list[Any]]:
         """All rows of all tables, by the columns that they had before."""

@@ -23,7 +23,7 @@ from websockets.http11 import Request, Response
 
 from ocpp_board.fleet.database import connect
 from ocpp_board.fleet.passwords import FREE, PAUSE, SALT, hashed
-from tests.fleet.client import Client
+from tests.fleet.client import Client, handshake
 from tests.fleet.fleet import REASON, tool
 from tests.fleet.trials import Trial, event, parsed, parser_of, tried
 
@@ -35,11 +35,6 @@ SECOND, THIRD, WRONG = "second-4567-89ab-cdef", "third-89ab-cdef-0123", "wrong-0
 BESIDE = 150
 # Seconds in which a gateway hears of what was changed.
 HEARD = 0.3
-HANDSHAKE = (
-    "GET /ocpp/{} HTTP/1.1\r\nHost: a\r\nUpgrade: websocket\r\nConnection: Upgrade\r\n"
-    "Sec-WebSocket-Version: 13\r\nSec-WebSocket-Key: AAAAAAAAAAAAAAAAAAAAAA==\r\n"
-    "Sec-WebSocket-Protocol: ocpp2.0.1\r\nAuthorization: Basic {}\r\n\r\n"
-)
 OPEN = "--open: each station of the plan is let in without a password"
 
 
@@ -168,9 +163,8 @@ class Demo(Trial):
         text = event("TX-HASTY", 0, "Started", "2026-03-01T10:00:00Z", 1000)
         for password, wanted in ((WRONG, b" 401 "), (FIRST[A], b" 101 ")):
             reader, writer = await asyncio.open_connection(host, int(port))
-            login = base64.b64encode(f"{A}:{password}".encode()).decode()
             frame = Frame(OP_TEXT, text.encode()).serialize(mask=True)
-            writer.write(HANDSHAKE.format(A, login).encode() + frame)
+            writer.write(handshake(A, password) + frame)
             line = await asyncio.wait_for(reader.readline(), 10)
             await asyncio.sleep(HEARD)
             lines = await self.owner.fetchval("select count(*) from inbox")
@@ -228,7 +222,7 @@ class Demo(Trial):
         await self.is_answered("the same one, deleted by hand", 401, C, SECOND)
 
     async def slowed(self) -> None:
-        """Wrong passwords slow down their name and their address, and nobody else."""
+        """Wrong passwords slow down what comes with their name from their address, and nobody else."""
         attacker = self.address()
         await self.is_answered("a station that is known", 101, B, THIRD, address=attacker)
         tries = [self.heard(E, WRONG, address=attacker) for _ in range(FREE)]
@@ -250,11 +244,38 @@ class Demo(Trial):
             return seconds < PAUSE / 2
 
         await asyncio.gather(
-            took("then this name, from another address", is_slow, E, FIRST[E]),
-            took("another name from this address", is_slow, D, FIRST[D], address=attacker),
+            took("then this name, from another address", is_quick, E, FIRST[E]),
+            took("another name from this address", is_quick, D, FIRST[D], address=attacker),
             took("one that was let in before from there", is_quick, B, THIRD, address=attacker),
         )
         await took("another name from another address", is_quick, D, FIRST[D])
+        status, seconds = await self.heard(E, WRONG, address=attacker)
+        self.check(
+            status == 401 and is_slow(seconds),
+            f"one more wrong one: {status} after {seconds:.1f} s",
+        )
+
+    async def revoked(self) -> None:
+        """A connection ends where its password ends, and where its station is retired; it stays where a new password
+        is set beside that of today."""
+        link = await Client.open(self.url, D, f"{D}:{FIRST[D]}", self.address())
+        self.check(await link.said() == "101", "a station is let in")
+        await self.sets(D, SECOND)
+        link.send(b'[2,"1","Heartbeat",{}]')
+        heard = await link.said(5)
+        self.check(heard.startswith('[3,"1"'), f"with a second password it goes on: {heard}")
+        await self.sets(D, FIRST[D], True)
+        heard, reason = await link.said(5), link.connection.close_reason
+        self.check(
+            heard == "closed 1008", f"and ends with one that is set at once: {heard}, {reason}"
+        )
+        link = await Client.open(self.url, D, f"{D}:{FIRST[D]}", self.address())
+        self.check(await link.said() == "101", "it comes again with that")
+        await self.owner.execute("select retire_station($1)", D)
+        heard, reason = await link.said(5), link.connection.close_reason
+        self.check(heard == "closed 1008", f"and ends where it is retired: {heard}, {reason}")
+        await self.owner.execute("update own_station set retired = null where station = $1", D)
+        await asyncio.sleep(HEARD)
 
     async def connected_again(self) -> None:
         """The newer connection of a station is served, and the older one is closed."""
@@ -289,7 +310,7 @@ class Demo(Trial):
         coded = [base64.b64encode(pair.encode()).decode() for pair in pairs]
         shown = [word for word in [*words, *coded] if word in text]
         self.check(not shown, f"passwords in the log: {shown}")
-        told = f"station {E} had {FREE}, and is slowed down"
+        told = f"had {FREE}, and is slowed down"
         lines = [line for line in text.splitlines() if told in line]
         self.check(len(lines) == 1, f"who is slowed down: {lines}")
         self.check(
@@ -330,6 +351,7 @@ class Demo(Trial):
         await self.rotation()
         await self.changes()
         await self.slowed()
+        await self.revoked()
         await self.connected_again()
         await self.log()
         process.kill()

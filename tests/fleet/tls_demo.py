@@ -217,7 +217,7 @@ class Demo(Trial):
         values = {"folder": self.fleet.folder, "port": port, "gateway": behind}
         text = PROXY.format(header=HEADER, secret=SECRET, **values)
         self.file("nginx.conf").write_text(text)
-        self.fleet.start(NGINX, "-e", self.file("nginx.log"), "-c", self.file("nginx.conf"))
+        nginx = self.fleet.start(NGINX, "-e", self.file("nginx.log"), "-c", self.file("nginx.conf"))
         for _ in range(100):
             try:
                 (await asyncio.open_connection("127.0.0.1", port))[1].close()
@@ -256,6 +256,9 @@ class Demo(Trial):
         self.check(heard.startswith("403 "), f"a password in place of a certificate: {heard}")
         del os.environ["PROXY_SECRET"]
         gateway.kill()
+        # Killed, it would leave its own process behind.
+        nginx.terminate()
+        await asyncio.to_thread(nginx.wait, 10)
 
     def ending(self, *more: str) -> str:
         """How a gateway ends with these words."""

@@ -352,7 +352,7 @@ class Demo(Trial):
         copy.start()
         self.owner = await self.fleet.owner(copy.port)
         await self.owner.execute("delete from own_board")
-        await self.owner.execute("select pg_notify('plan', '')")
+        await self.owner.execute("select tell('plan', '')")
         # Workers that were there go on with the copy.
         differ = await self.fleet.compared(self.owner, seconds=30)
         self.check(

@@ -61,7 +61,7 @@ class Waits(Trial):
         await self.owner.execute(FILL, shard, lines)
         # Its replay begins anew, with these.
         await self.owner.execute("update own_shard set plan = plan + 1 where shard = $1", shard)
-        await self.owner.execute("select pg_notify('plan', $1)", str(shard))
+        await self.owner.execute("select tell('plan', $1)", str(shard))
         return shard, lines
 
     async def loaded(self, shard: int, lines: list[str]) -> bool:
@@ -121,7 +121,7 @@ class Waits(Trial):
             began = time.monotonic()
             await session.execute("update own_shard set plan = plan + 1 where shard = $1", shard)
             await session.execute("delete from own_board_period where shard = $1", shard)
-            await session.execute("select pg_notify('plan', $1)", str(shard))
+            await session.execute("select tell('plan', $1)", str(shard))
             while await session.fetchval(WRITTEN, shard) < FULL and not waiting.done():
                 await asyncio.sleep(0.2)
             tooks.append(time.monotonic() - began)

@@ -40,6 +40,7 @@ COMMON = {
     "replay": "OcppBoardReplayEnded",
     "order": "OcppBoardRestarted",
     "open": "OcppBoardTransactionOpen",
+    "queue": "OcppBoardNotificationsWait",
     "server": "OcppBoardSessionsLost",
     "stopped": "OcppBoardPartDown",
     "twice": "OcppBoardConnectedTwice",

@@ -221,6 +221,20 @@ class WatchedTrial(Trial):
         self.held = await connect(self.fleet.dsn("owner"))
         await self.held.execute("set idle_in_transaction_session_timeout = 0; begin; select 1")
 
+    async def queue(self) -> None:
+        """A session that listens is in an open transaction, and 64 MB are told."""
+        self.held = await connect(self.fleet.dsn("owner"))
+        for statement in (
+            "set idle_in_transaction_session_timeout = 0",
+            "listen nothing",
+            "begin",
+            "select 1",
+        ):
+            await self.held.execute(statement)
+        await self.owner.execute(
+            "select count(pg_notify('nothing', n || repeat('x', 7000))) from generate_series(1, 9000) n"
+        )
+
     async def server(self) -> None:
         self.fleet.databases[0].kill()
         await asyncio.sleep(2)
@@ -375,7 +389,7 @@ class WatchedTrial(Trial):
 
     async def healed(self, name: str) -> None:
         """All as it was before a fault."""
-        if name in ("open", "table", "shards"):
+        if name in ("open", "queue", "table", "shards"):
             await self.held.close()
         elif name == "no-standby":
             await self.owner.execute("alter system reset synchronous_standby_names")

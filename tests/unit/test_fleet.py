@@ -41,7 +41,7 @@ from ocpp_board.fleet.compact import pieces  # noqa: E402
 from ocpp_board.fleet.gateway import (  # noqa: E402
     BURST,
     BYTES,
-    EVENTS,
+    FRAMES,
     Pace,
     empty_answer,
     station_in,
@@ -127,7 +127,9 @@ class Ended:
 
 def test_a_worker_whose_session_is_ended_beats_until_it_is_told() -> None:
     async def beaten() -> None:
-        words = argparse.Namespace(hang=1.0, name="worker_1", seen=metrics.WorkerSeen(1.0))
+        words = argparse.Namespace(
+            program="none", hang=1.0, name="worker_1", seen=metrics.WorkerSeen(1.0)
+        )
         session = Session(words, [Ended(), Ended(), Ended()])
         for _ in range(2):
             with pytest.raises(asyncpg.InterfaceError):
@@ -157,7 +159,9 @@ def test_a_commit_that_waits_for_a_standby_is_told_at_once_and_waited_for(
     waits: bool, monkeypatch: pytest.MonkeyPatch
 ) -> None:
     async def committed() -> None:
-        words = argparse.Namespace(hang=1.0, name="worker_1", seen=metrics.WorkerSeen(1.0))
+        words = argparse.Namespace(
+            program="none", hang=1.0, name="worker_1", seen=metrics.WorkerSeen(1.0)
+        )
         session = Session(words, [Slow(0.5, waits), Slow(0.5, waits), Slow(0.5, waits)])
         session.patience = 0.2
         job = asyncio.ensure_future(session.committed("commit"))
@@ -543,8 +547,8 @@ def test_the_station_of_a_path() -> None:
 
 def test_a_station_waits_above_its_pace() -> None:
     pace, now = Pace(), 1_000.0
-    assert all(pace.wait(100, now) == 0 for _ in range(BURST * EVENTS))
-    assert pace.wait(100, now) == pytest.approx(1 / EVENTS)
+    assert all(pace.wait(100, now) == 0 for _ in range(BURST * FRAMES))
+    assert pace.wait(100, now) == pytest.approx(1 / FRAMES)
     assert pace.wait(100, now + BURST) == 0
     assert pace.wait(BYTES * (BURST + 5), now + 3_600) == pytest.approx(5)
 

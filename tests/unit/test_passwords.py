@@ -21,8 +21,11 @@ from ocpp_board.fleet.passwords import (  # noqa: E402
     SALT,
     SLOWED,
     SLOWEST,
+    STATION,
+    Cost,
     Given,
     Passwords,
+    Places,
     Stored,
     Tries,
     Verdict,
@@ -98,9 +101,9 @@ def test_what_a_header_says() -> None:
 def test_wrong_ones_take_as_many_hashes_for_each_station(monkeypatch: pytest.MonkeyPatch) -> None:
     both, asked = known(RIGHT, b"older-0123456789"), list[bytes]()
 
-    def counted(password: bytes, salt: bytes) -> bytes:
+    def counted(password: bytes, salt: bytes, cost: Cost = STATION) -> bytes:
         asked.append(password)
-        return hashed(password, salt)
+        return hashed(password, salt, cost)
 
     monkeypatch.setattr(passwords, "hashed", counted)
     for rows in (both[:0], both[:1], both):
@@ -111,7 +114,7 @@ def test_wrong_ones_take_as_many_hashes_for_each_station(monkeypatch: pytest.Mon
 
 def test_what_changes_once_a_password_is_seen() -> None:
     def row(seen: object) -> dict[str, object]:
-        return {"hash": b"", "salt": b"", "seen_at": seen}
+        return {"hash": b"", "salt": b"", "cost": 256, "seen_at": seen}
 
     assert [one.is_news for one in stored(None, [row(1)])] == [False]
     assert [one.is_news for one in stored(None, [row(None)])] == [True]
@@ -210,15 +213,72 @@ def test_with_a_cell_down_nobody_is_told_that_a_password_is_wrong() -> None:
     assert judged(Passwords(), known(RIGHT), RIGHT, all_up=False) == [Verdict.RIGHT]
 
 
-def test_who_is_slowed_down_waits_and_the_right_password_is_still_right(
+def test_a_password_of_an_earlier_version_is_right() -> None:
+    older = Cost(4096, 8, 1)
+    rows = [{"hash": hashed(RIGHT, bytes(SALT), older), "salt": bytes(SALT), "seen_at": 1}]
+    known = stored(None, [row | {"cost": older.n} for row in rows])
+    assert matching(RIGHT, known) == known[0] and matching(WRONG, known) is None
+
+
+def test_who_fails_often_waits_and_the_right_password_is_let_in_at_once(
     monkeypatch: pytest.MonkeyPatch,
 ) -> None:
-    monkeypatch.setattr(passwords, "PAUSE", 2.0)
+    monkeypatch.setattr(passwords, "PAUSE", 0.5)
     door = Passwords()
+    began = time.monotonic()
     assert judged(door, known(RIGHT), *(FREE * [WRONG])) == FREE * [Verdict.WRONG]
+    assert 0.4 < time.monotonic() - began
     began = time.monotonic()
     assert judged(door, known(RIGHT), RIGHT) == [Verdict.RIGHT]
-    assert time.monotonic() - began > 0.1
-    door.slowed = SLOWED
-    judged(door, known(RIGHT), WRONG)
-    assert judged(door, known(RIGHT), RIGHT) == [Verdict.BUSY]
+    assert time.monotonic() - began < 0.4
+    door.waiting["10.0.0.1"] = SLOWED
+    assert judged(door, known(RIGHT), WRONG) == [Verdict.BUSY]
+
+
+def test_strangers_at_one_address_stop_no_other_name_or_address(
+    monkeypatch: pytest.MonkeyPatch,
+) -> None:
+    monkeypatch.setattr(passwords, "PAUSE", 5.0)
+    door, rows = Passwords(), {"A": known(RIGHT), "B": known(RIGHT)}
+
+    async def judge(name: str, address: str, text: bytes) -> Verdict:
+        async def find() -> tuple[bool, list[Stored]]:
+            return True, rows.get(name, [])
+
+        return await door.judge(name, address, Given(True, text), find)
+
+    async def tries() -> None:
+        strangers = [
+            asyncio.create_task(judge(name, "10.0.0.1", WRONG))
+            for name in ("A", *(f"X-{number}" for number in range(60)))
+        ]
+        await asyncio.sleep(0.2)
+        for name, address in (("A", "10.0.0.2"), ("B", "10.0.0.1")):
+            began = time.monotonic()
+            assert await judge(name, address, RIGHT) is Verdict.RIGHT
+            assert time.monotonic() - began < 2
+        assert door.slowed and len(door.turns) < 3
+        for job in strangers:
+            job.cancel()
+        await asyncio.gather(*strangers, return_exceptions=True)
+        assert not door.turns and not door.waiting and not door.slowed
+
+    asyncio.run(tries())
+
+
+def test_addresses_take_turns() -> None:
+    got = list[str]()
+
+    async def one(places: Places, address: str) -> None:
+        async with places.one_of(address):
+            got.append(address)
+            await asyncio.sleep(0)
+
+    async def all_of() -> None:
+        places = Places(1)
+        jobs = [asyncio.create_task(one(places, name)) for name in "aaaabac"]
+        await asyncio.gather(*jobs)
+        assert places.free == 1 and not places.waiting
+
+    asyncio.run(all_of())
+    assert "".join(got) == "aabcaaa"

@@ -25,7 +25,7 @@ from ocpp_board.fleet.api_schema import OPENAPI, SCHEMAS
 from ocpp_board.fleet.cells import Site, Wrong, merged
 from ocpp_board.fleet.histories import Entry, History, history_of, stations_of
 from ocpp_board.fleet.operators import SEES
-from ocpp_board.fleet.page_app import Asked, desk_of
+from ocpp_board.fleet.page_app import Asked, desk_of, text_or_wrong
 from ocpp_board.fleet.page_render import zone_of
 from ocpp_board.fleet.states import energy_state, settled_of, state_of, station_states
 from ocpp_board.limits import TRANSACTION
@@ -105,7 +105,7 @@ def key_of(cursor: str, length: int) -> list[str]:
         key = None
     if not isinstance(key, list) or len(key) != length or not all(isinstance(k, str) for k in key):
         raise Wrong(HTTPStatus.BAD_REQUEST, "no cursor of this list")
-    return key
+    return [text_or_wrong(one) for one in key]
 
 
 def moment_key(text: str) -> datetime:

@@ -8,12 +8,13 @@ an operator's void, it adds a row with the difference; settled_period has the su
 any time, and a day that was left out is settled with the next one.
 
 Transactions that are complete, and of which every moment lies before the day, leave the log for a file in FOLDER: a
-script, which any `replay` reads, with what was refused as comments; what was refused for want of room stays in the
-log, and is taken once there is some. A transaction that never becomes complete keeps its room: `--incomplete CS-1
-TX-9` archives it as it is, and archived_transaction has it as not complete. A line that comes later for an archived
-transaction is told here, and replayed behind its archived ones; the file of this closing has it whole again. Repeats
-are removed, as `ocpp-board compact` does. Before anything is taken from the log, the file and the lines that are left
-are replayed, and their figures together have to be those of the log.
+script, which any `replay` reads. What was refused leaves the log, too, and has its row in `refusal`; what was refused
+for want of room stays there, and is taken once there is some. A transaction that never becomes complete keeps its
+room: `--incomplete CS-1 TX-9` archives it as it is, and archived_transaction has it as not complete. A line that comes
+later for an archived transaction is told here, and replayed behind its archived ones; the file of this closing has it
+whole again. Repeats are removed, as `ocpp-board compact` does, which comes first where a log is large. Before anything
+is taken from the log, the file and the lines that are left are replayed, and their figures together have to be those
+of the log.
 
 It may end at any time: call it again. Where its session with the database is lost it begins anew by itself, up to five
 times and for two minutes without any, and it waits as long for another program that has the shard. A line that the
@@ -22,14 +23,16 @@ transaction stays in the log.
 """
 
 import argparse
-import asyncio
 import logging
 import os
-from collections.abc import Collection, Mapping, Sequence
+from collections.abc import Collection, Iterable, Mapping, Sequence
+from contextlib import suppress
 from datetime import date, datetime, time, timedelta
 from pathlib import Path
 from typing import Any, NamedTuple
 from zoneinfo import ZoneInfo
+
+import asyncpg
 
 from ocpp_board.energies import FLOW, Flow, flow_of
 from ocpp_board.fleet import compact, findings, parts
@@ -49,19 +52,23 @@ from ocpp_board.fleet.lines import (
     transaction_of,
 )
 from ocpp_board.fleet.plans import Plan, Reckoning, known_lines
+from ocpp_board.fleet.replays import Replay
 from ocpp_board.fleet.states import SESSIONS
-from ocpp_board.processes import replay_environment
+from ocpp_board.limits import LONGEST_SCRIPT
 from ocpp_board.session_times import SessionTimes
 from ocpp_board.words import add_program, parser_of
 
 log = logging.getLogger(__name__)
 
 NAME = "ocpp-board close-day"
+# Bytes of a log that is compacted before it is closed.
+LARGE = LONGEST_SCRIPT // 16
+BYTES = "select bytes from numbering where shard = $1"
 REMOVE = "delete from own_log where shard = $1 and place = any($2::bigint[])"
 # Its worker begins a replay anew from what is left; the plan that lines were replayed under is still that.
 REPLAN = "update own_shard set plan = plan + 1 where shard = $1 and plan = $2 and moving_to is null"
 # The same where lines came to be known: it tells the worker.
-ANEW = "with one as (update own_shard set plan = plan + 1 where shard = $1) select pg_notify('plan', $1::text)"
+ANEW = "with one as (update own_shard set plan = plan + 1 where shard = $1) select tell('plan', $1::text)"
 BEFORE = "select day, period, reading_order from own_closing where shard = $1 and site = $2 order by closing"
 # Which of these transactions are archived.
 HAD = """
@@ -72,24 +79,41 @@ where shard = $1 and (station, transaction) in (select * from unnest($2::text[],
 UNPACKED = """
 select t.station, t.transaction, t.site, t.closing, c.archive
 from own_archived_transaction t join own_closing c using (shard, site, closing)
-where t.shard = $1 and t.station = any($2) and not exists (
+where c.shard = $1 and not c.packed and t.station = any($2) and not exists (
     select from own_archived_lines l where (l.shard, l.station, l.transaction) = (t.shard, t.station, t.transaction))
 """
-# What is settled and archived is a station's, whichever site it was given to before; of stations that are not in the
-# plan nothing is corrected, since nothing of theirs was replayed.
-KEPT = """
-select station, starts, sum(up)::bigint as up, sum(down)::bigint as down, sum(export_up)::bigint as export_up,
-    sum(export_down)::bigint as export_down from own_archived_period
-where shard = $1 and station = any($2) group by station, starts
+MAY_BE_UNPACKED = "select from own_closing where shard = $1 and not packed limit 1"
+# Closings all lines of which are packed; they are not looked at again.
+ARE_PACKED = """
+update own_closing c set packed = true where shard = $1 and not packed and not exists (
+    select from own_archived_transaction t
+    where (t.shard, t.site, t.closing) = (c.shard, c.site, c.closing) and not exists (
+        select from own_archived_lines l
+        where (l.shard, l.station, l.transaction) = (t.shard, t.station, t.transaction)))
 """
-SETTLED = """
+# What is settled and archived is a station's, whichever site it was given to before; of stations that are not in the
+# plan nothing is corrected, since nothing of theirs was replayed. Both tables have their rows by site first.
+SUMS = """
 select station, starts, sum(up)::bigint as up, sum(down)::bigint as down, sum(export_up)::bigint as export_up,
-    sum(export_down)::bigint as export_down from own_closed_period
-where shard = $1 and station = any($2) group by station, starts
+    sum(export_down)::bigint as export_down
+from unnest($2::text[], $3::timestamptz[]) as w (station, starts)
+cross join (select distinct site from own_closing where shard = $1) s
+join {} f using (site, station, starts) where f.shard = $1 group by station, starts
+"""
+KEPT, SETTLED = SUMS.format("own_archived_period"), SUMS.format("own_closed_period")
+# Periods that differ from what archives have, since the log had something of them or they were not over.
+OPEN = "select station, starts from own_open_period where shard = $1 and station = any($2)"
+OPENED = """
+insert into own_open_period (shard, station, starts)
+select $1, * from unnest($2::text[], $3::timestamptz[]) on conflict do nothing
+"""
+OVER = """
+delete from own_open_period o using unnest($2::text[], $3::timestamptz[]) as w (station, starts)
+where o.shard = $1 and (o.station, o.starts) = (w.station, w.starts)
 """
 CLOSING = """
-insert into own_closing (shard, site, closing, day, period, reading_order, place, archive, plan)
-values ($1, $2, $3, $4, $5, $6, $7, $8, $9)
+insert into own_closing (shard, site, closing, day, period, reading_order, place, archive, plan, packed)
+values ($1, $2, $3, $4, $5, $6, $7, $8, $9, true)
 """
 CLOSED = """
 insert into own_closed_period (shard, site, closing, station, starts, day, up, down, export_up, export_down)
@@ -120,6 +144,10 @@ insert into own_archived_lines (shard, site, closing, station, transaction, line
 on conflict (shard, station, transaction) do update
     set site = excluded.site, closing = excluded.closing, lines = excluded.lines
 """
+
+
+# A station, and when its period begins.
+Period = tuple[str, datetime]
 
 
 class Line(NamedTuple):
@@ -290,6 +318,14 @@ class Closing:
             *(self.shard, line.row["place"], fault, name, station),
         )
 
+    async def make_small(self) -> None:
+        """Compacts a large log first: what is left of it is read at once."""
+        if (await self.fetch(BYTES))[0]["bytes"] > LARGE:
+            told = await compact.compacted(
+                self.words.program, self.words.known, self.session, self.shard
+            )
+            log.info("%s", told)
+
     async def pack(self) -> None:
         """Packs the lines of what an earlier version archived, where the archives are there."""
         names = dict[str, dict[Transaction, Any]]()
@@ -308,6 +344,8 @@ class Closing:
                     PACKED, [(*place, text) for place, text in zip(places, texts)]
                 )
                 await self.session.execute(ANEW, self.shard)
+        if await self.fetch(MAY_BE_UNPACKED):
+            await self.session.execute(ARE_PACKED, self.shard)
 
     async def archived(self, rows: list[Any]) -> dict[Transaction, list[str]]:
         """The archived transactions that these rows are of, with their lines. Raises Fault where these are missing."""
@@ -322,16 +360,12 @@ class Closing:
             found[row["station"], row["transaction"]] = unpacked(row["lines"])
         return found
 
-    async def archive(self, name: str, lines: list[str], refused: list[Line]) -> Figures:
+    async def archive(self, name: str, lines: list[str]) -> Figures:
         """Writes an archive, and gives its figures as they are read again from the disk."""
-        comments = [
-            f"# {line.row['at']:%Y-%m-%dT%H:%M:%SZ} {line.answer.decode()}\n#{line.text}"
-            for line in refused
-        ]
-        script = self.plan(lines).lines + "".join(line + "\n" for line in lines + comments).encode()
         path, fresh = self.words.archive / name, self.words.archive / f"{name}.part"
         with open(fresh, "wb") as file:
-            file.write(script)
+            file.write(self.plan(lines).lines)
+            file.writelines(f"{line}\n".encode() for line in lines)
             file.flush()
             os.fsync(file.fileno())
         os.replace(fresh, path)
@@ -340,15 +374,20 @@ class Closing:
             os.fsync(folder)
         finally:
             os.close(folder)
-        replay = await asyncio.create_subprocess_exec(
-            self.words.program,
-            "replay",
-            stdin=asyncio.subprocess.PIPE,
-            stdout=asyncio.subprocess.PIPE,
-            env=replay_environment(),
-        )
-        text, _ = await replay.communicate(path.read_bytes() + f"board {self.site}\n".encode())
-        return figures(text[text.rindex(b"\nboard ") if b"\nboard " in text else 0 :].decode())
+        return await self.read_again(path)
+
+    async def read_again(self, path: Path) -> Figures:
+        """The figures of an archive, which is read some lines at a time."""
+        commands = tuple(command.encode() for command in COMMANDS)
+        replay = await Replay.start(self.words.program)
+        try:
+            with open(path, "rb") as file:
+                while block := file.readlines(compact.BLOCK_BYTES):
+                    replay.write(b"".join(block))
+                    await replay.answers(sum(line.startswith(commands) for line in block))
+            return figures((await replay.board(self.site)).decode())
+        finally:
+            replay.kill()
 
     async def sorted_all(self, rows: list[Any], day: date) -> Sorted:
         """What becomes of the log's lines: what came for archived transactions, and what the others do without that."""
@@ -369,6 +408,7 @@ class Closing:
         """Closes the day, and says in one line what that was."""
         await self.reserve()
         await self.pack()
+        await self.make_small()
         plan, place, rows = await self.read()
         before = await self.fetch(BEFORE, self.site)
         if before and (had := Reckoning.of(before[-1])) != self.reckoning:
@@ -378,14 +418,18 @@ class Closing:
             )
         day = max([day, *(row["day"] for row in before)])
         log_lines = await self.sorted_all(rows, day)
-        leaving, refused = log_lines.leaving(), log_lines.refused()
+        leaving = log_lines.leaving()
         head = (self.shard, self.site, len(before) + 1)
-        name = f"{self.site}.shard-{self.shard}.{head[2]}.script" if leaving or refused else None
+        name = f"{self.site}.shard-{self.shard}.{head[2]}.script" if leaving else None
         lines = [line for own in leaving.values() for line in own]
-        in_file = await self.archive(name, lines, refused) if name else {}
+        in_file = await self.archive(name, lines) if name else {}
         self.compare(log_lines, in_file)
         moved = differences(periods(in_file), periods(log_lines.was))
-        settled, removed = await self.unsettled(day, log_lines.rest, moved), log_lines.removed()
+        flows = periods(log_lines.rest)
+        for key, flow in moved.items():
+            flows[key] = flows.get(key, Flow()).plus(flow)
+        opened = await self.opened()
+        settled, removed = await self.unsettled(day, flows, opened), log_lines.removed()
         if not (settled or removed) and before and before[-1]["day"] == day:
             return (
                 f"{self.site}, shard {self.shard}: {day} is closed already, and nothing came since"
@@ -400,11 +444,13 @@ class Closing:
             await self.session.executemany(
                 ARCHIVED_TOTAL, [(*head, *row) for row in totals(log_lines, in_file)]
             )
+            await self.note_open(day, flows.keys() | opened, periods(log_lines.rest))
             found = await self.write_findings(log_lines)
             await self.write_transactions(head, in_file, leaving, found)
             await self.take_out(plan, removed)
-        # Behind the commit: to be told, others would wait for it.
-        await self.session.execute("select pg_notify('plan', $1)", str(self.shard))
+        # Behind the commit: to be told, others would wait for it. Its worker looks by itself, too.
+        with suppress(asyncpg.ProgramLimitExceededError):
+            await self.session.execute("select tell('plan', $1)", str(self.shard))
         self.tell_late(log_lines.late)
         return self.told(day, log_lines, settled, [row["day"] for row in before], name)
 
@@ -476,23 +522,42 @@ class Closing:
             f"{name or 'no archive needed'}"
         )
 
-    async def unsettled(self, day: date, rest: Figures, moved: Flows) -> list[tuple[Any, ...]]:
-        """The rows by which what is settled comes to be what log and archives say, up to this day."""
-        actual = dict(periods(rest))
-        kept = await self.fetch(KEPT, self.names())
-        for key, flow in [((row["station"], row["starts"]), flow_of(row)) for row in kept] + [
-            *moved.items()
-        ]:
-            actual[key] = actual.get(key, Flow()).plus(flow)
-        settled = {
-            (row["station"], row["starts"]): flow_of(row)
-            for row in await self.fetch(SETTLED, self.names())
+    async def opened(self) -> set[Period]:
+        """The periods that differed from what archives have when they were settled."""
+        rows = await self.fetch(OPEN, self.names())
+        return {(row["station"], row["starts"]) for row in rows}
+
+    async def sums(self, query: str, keys: Iterable[Period]) -> Flows:
+        """What is archived, or settled, of periods; those that are not are not among them."""
+        rows = await self.fetch(query, *columns(keys))
+        return {(row["station"], row["starts"]): flow_of(row) for row in rows}
+
+    async def unsettled(
+        self, day: date, flows: Flows, opened: set[Period]
+    ) -> list[tuple[Any, ...]]:
+        """The rows by which what is settled comes to be what log and archives say, up to this day. `flows`: what is in
+        the log and what this closing archives. Only these periods may differ, and those that did before.
+        """
+        touched = flows.keys() | opened
+        kept, settled = await self.sums(KEPT, touched), await self.sums(SETTLED, touched)
+        actual = {
+            key: flows.get(key, Flow()).plus(kept.get(key, Flow()))
+            for key in flows.keys() | kept.keys()
         }
         rows = list[tuple[Any, ...]]()
         for (station, starts), flow in sorted(differences(actual, settled).items()):
             if (local := starts.astimezone(self.zone).date()) <= day:
                 rows.append((station, starts, local, *flow))
         return rows
+
+    async def note_open(self, day: date, touched: set[Period], in_log: Collection[Period]) -> None:
+        """Notes which periods the next closing has to look at, whatever comes: those of the log, and those behind the
+        day."""
+        still = {
+            key for key in touched if key in in_log or key[1].astimezone(self.zone).date() > day
+        }
+        await self.session.execute(OPENED, self.shard, *columns(still))
+        await self.session.execute(OVER, self.shard, *columns(touched - still))
 
     def tell_late(self, late: list[Line]) -> None:
         """Tells of each archived transaction which lines came late for it."""
@@ -519,6 +584,12 @@ def archived_lines(path: Path, ones: Collection[Transaction]) -> dict[Transactio
         if line.startswith(COMMANDS) and (one := transaction_of(line)) in lines:
             lines[one].append(line)
     return lines
+
+
+def columns(keys: Iterable[Period]) -> tuple[list[str], list[datetime]]:
+    """The stations and the begins of periods."""
+    pairs = list(keys)
+    return [station for station, _ in pairs], [starts for _, starts in pairs]
 
 
 def differences(new: Flows, old: Flows) -> Flows:

@@ -1,29 +1,31 @@
-"""Removes the lines of a shard's log that changed nothing: messages that were taken before.
+"""Removes lines of a shard's log that changed nothing: messages that were taken before, and refused ones of a station
+that has many.
 
     PGPASSWORD=.. ocpp-board compact --db postgresql://ledger_compactor@a/ledger --program ocpp_board --shard 7
     PGPASSWORD=.. ocpp-board compact --db postgresql://ledger_compactor@a/ledger --program ocpp_board --all
 
 The log is replayed under the plan's limits, and after each message the station's total is asked for. A message that
-was taken and left the total as it was is a repeat, since each accepted change counts in it. What was refused stays,
-since it tells of a conflict; so does what came for archived transactions, which the next closing takes. Before
-anything is removed the lines that are left are replayed, and their boards must be the same. A log of more than a
-replay reads is replayed in parts.
+was taken and left the total as it was is a repeat, since each accepted change counts in it. Of what was refused 1 MiB
+of a station stays, and 4 MiB of what waits for room. What came for archived transactions is replayed behind their own
+lines. Before anything is removed the lines that are left are replayed, and their boards must be the same. A log is
+read in parts, and one of more than a replay reads is replayed in parts.
 """
 
 import argparse
 import logging
-from collections.abc import Awaitable, Iterator, Sequence
+from collections.abc import AsyncIterator, Awaitable, Collection, Iterator, Sequence
 from typing import Any, NamedTuple
 
 import asyncpg
 
 from ocpp_board.fleet import parts
-from ocpp_board.fleet.archives import Late
+from ocpp_board.fleet.archives import KeptReplays, Late
 from ocpp_board.fleet.begun_anew import begun_anew, entered, reserve
 from ocpp_board.fleet.database import Fault, said
 from ocpp_board.fleet.lines import is_repeat, station_of
 from ocpp_board.fleet.plans import Plan, known_lines
 from ocpp_board.fleet.replays import Replay, ReplayEnded
+from ocpp_board.fleet.surplus import Surplus
 from ocpp_board.limits import LONGEST_SCRIPT
 from ocpp_board.statuses import Status
 from ocpp_board.words import add_program, parser_of
@@ -33,6 +35,10 @@ log = logging.getLogger(__name__)
 NAME = "ocpp-board compact"
 # Lines come behind these alone, whatever is open elsewhere.
 READ = "select place, at, gateway, line from own_log where shard = $1 order by place"
+# The same part by part, each of so many lines.
+PART = "select place, line from own_log where shard = $1 and place > $2 order by place limit 200"
+# Seconds in which the replay of an archived transaction has to answer.
+PATIENCE = 60.0
 # Not under limits other than those that they were found under.
 REMOVE = "select remove_repeats($1, $2, $3)"
 # Bytes of a log that are handed to one replay, which reads three times as many with totals and what came before; and
@@ -93,25 +99,114 @@ class Replayed(NamedTuple):
     boards: list[bytes]
 
 
-async def replayed(program: str, plan: Plan, lines: list[str]) -> Replayed:
-    """Replays a log of any length: of more than a replay reads in parts, each behind what changed something before.
+class Replaying:
+    """A log of any length that is replayed: of more than a replay reads in parts, each behind what changed something
+    before."""
 
-    Raises ReplayEnded, and Fault where what changed something is more than a replay reads.
-    """
-    found, kept, shown = list[tuple[bytes, bool]](), list[str](), list[bytes]()
-    for front, end in pieces(lines, PIECE):
-        if front and sum(len(line.encode()) + 1 for line in kept) > PIECE:
+    def __init__(self, program: str, plan: Plan) -> None:
+        self.program, self.plan = program, plan
+        self.piece: Piece | None = None
+        # Lines that changed something, and bytes that the piece was handed.
+        self.kept, self.handed = list[str](), 0
+
+    async def answered(self, lines: list[str]) -> list[tuple[bytes, bool]]:
+        """The answer to each of the next lines, and whether it changed its station. Raises ReplayEnded, and Fault where
+        what changed something is more than a replay reads."""
+        size = sum(len(line.encode()) + 1 for line in lines)
+        if self.piece is None or self.handed and self.handed + size > PIECE:
+            await self.begin()
+        assert self.piece
+        self.handed += size
+        answers = await self.piece.answered(lines)
+        self.kept += [line for line, (_, is_change) in zip(lines, answers) if is_change]
+        return answers
+
+    async def begin(self) -> None:
+        """Begins a piece behind what is kept."""
+        self.close()
+        if sum(len(line.encode()) + 1 for line in self.kept) > PIECE:
             raise Fault(f"the lines that changed something have more than {PIECE:,} bytes")
-        piece = Piece(await Replay.start(program), plan)
+        self.piece = Piece(await Replay.start(self.program), self.plan)
+        self.handed = 0
+        await self.piece.open(self.kept)
+
+    async def boards(self) -> list[bytes]:
+        """The boards of the sites."""
+        if self.piece is None:
+            await self.begin()
+        assert self.piece
+        return [await self.piece.replay.board(site) for site in self.plan.sites]
+
+    def close(self) -> None:
+        """Ends the replay."""
+        if self.piece:
+            self.piece.replay.kill()
+
+
+async def replayed(program: str, plan: Plan, lines: list[str]) -> Replayed:
+    """Replays a log of any length. Raises as Replaying does."""
+    replaying, found = Replaying(program, plan), list[tuple[bytes, bool]]()
+    try:
+        for front, end in pieces(lines, min(PIECE, BLOCK_BYTES)):
+            found += await replaying.answered(lines[front:end])
+        return Replayed(found, await replaying.boards())
+    finally:
+        replaying.close()
+
+
+class Whole:
+    """A shard's log that is replayed whole, part by part: what of it may go, and what it shows."""
+
+    def __init__(self, program: str, plan: Plan, session: Any, shard: int) -> None:
+        self.session, self.shard = session, shard
+        self.replaying, self.late = Replaying(program, plan), Late(shard, plan.rows, True)
+        self.replays, self.surplus = KeptReplays(program, PATIENCE), Surplus()
+        self.lines = self.repeats = 0
+        # The places of what may go.
+        self.gone = set[int]()
+        self.boards = list[bytes]()
+
+    async def run(self, without: Collection[int] = ()) -> None:
+        """Replays it, without the lines of these places."""
         try:
-            await piece.open(kept)
-            answers = await piece.answered(lines[front:end])
-            shown = [await piece.replay.board(site) for site in plan.sites]
+            async for rows in self.parts():
+                await self.take([row for row in rows if row["place"] not in without])
+            self.boards = await self.replaying.boards()
         finally:
-            piece.replay.kill()
-        kept += [line for line, (_, is_change) in zip(lines[front:end], answers) if is_change]
-        found += answers
-    return Replayed(found, shown)
+            self.replaying.close()
+            self.replays.close()
+
+    async def parts(self) -> AsyncIterator[list[Any]]:
+        """The rows of the log, some at a time."""
+        place = 0
+        while rows := await self.session.fetch(PART, self.shard, place):
+            yield rows
+            place = rows[-1]["place"]
+
+    async def take(self, rows: list[Any]) -> None:
+        """Takes the next rows."""
+        texts = [row["line"] for row in rows]
+        late = await self.late.places(self.session.fetch, texts)
+        live = [number for number in range(len(rows)) if number not in late]
+        for front, end in pieces([texts[number] for number in live], min(PIECE, BLOCK_BYTES)):
+            part = live[front:end]
+            answers = await self.replaying.answered([texts[number] for number in part])
+            for number, answer in zip(part, answers):
+                self.judge(rows[number]["place"], texts[number], answer)
+        for one in dict.fromkeys(late.values()):
+            own = [(row["place"], row["line"]) for n, row in enumerate(rows) if late.get(n) == one]
+            said = await self.late.said(self.session.fetch, self.replays, one, own)
+            for place, (text, answer) in said.items():
+                self.judge(place, text, (answer.answer, answer.is_change))
+
+    def judge(self, place: int, text: str, answer: tuple[bytes, bool]) -> None:
+        """Notes whether a line may go."""
+        self.lines += 1
+        if text.startswith("msg ") and is_repeat(*answer):
+            self.repeats += 1
+            self.gone.add(place)
+        elif self.surplus.is_more(text, answer[0], False):
+            self.gone.add(place)
 
 
 async def compact(words: argparse.Namespace, shard: int) -> None:
@@ -131,17 +226,20 @@ async def compacted(program: str, known: frozenset[str], session: Any, shard: in
     if number is None:
         raise Fault(f"no shard {shard} in this cell")
     plan = await Plan.of(session.fetch, shard, known)
-    rows = await session.fetch(READ, shard)
-    late = await Late(shard, plan.rows, True).places(session.fetch, [row["line"] for row in rows])
-    rows = [row for place, row in enumerate(rows) if place not in late]
-    whole = await replayed(program, plan, [row["line"] for row in rows])
-    gone = [row for row, answer in zip(rows, whole.answers) if is_repeat(*answer)]
-    places = {row["place"] for row in gone}
-    left = [row["line"] for row in rows if row["place"] not in places]
-    if whole.boards != (await replayed(program, plan, left)).boards:
+    whole, left = (Whole(program, plan, session, shard) for _ in range(2))
+    await whole.run()
+    await left.run(whole.gone)
+    # A transaction for which repeats alone came is as it was archived.
+    totals = left.late.totals
+    is_same = all(totals.get(one, total) == total for one, total in whole.late.totals.items())
+    if whole.boards != left.boards or not is_same:
         raise Fault(f"shard {shard}: the boards would change, so nothing was removed")
-    await session.execute(REMOVE, shard, number, sorted(places))
-    return f"shard {shard}: {len(rows)} lines, {len(gone)} repeats removed, boards as before"
+    await session.execute(REMOVE, shard, number, sorted(whole.gone))
+    refused = len(whole.gone) - whole.repeats
+    return (
+        f"shard {shard}: {whole.lines} lines, {whole.repeats} repeats removed, {refused} refused ones removed, "
+        "boards as before"
+    )
 
 
 async def run(words: argparse.Namespace) -> int:

@@ -3,7 +3,7 @@
 import asyncio
 import os
 import secrets
-from collections.abc import Container, Iterator, Mapping
+from collections.abc import Callable, Container, Iterator, Mapping
 from pathlib import Path
 from typing import Any
 from urllib.parse import unquote, urlsplit
@@ -41,6 +41,8 @@ HOST = """
 select pg_is_in_recovery() as is_standby, current_setting('fsync') = 'on' as has_fsync,
     current_setting('full_page_writes') = 'on' as has_full_pages, getdatabaseencoding() as encoding
 """
+# The secrets that parts take, by their names in the environment.
+SECRETS = ("PGPASSWORD", "SOURCE_PASSWORD", "PROXY_SECRET")
 LAST_VERSION = "select max(version) from schema_version"
 # The version of the schema that the tools are for: that of the last file of schema/.
 VERSION = max(int(path.name[:4]) for path in (Path(__file__).parent / "schema").glob("0*.sql"))
@@ -51,7 +53,7 @@ ADMISSION = 5.0
 # Bytes of a notification, which PostgreSQL ends at 7,999.
 PAYLOAD = 7_900
 # A wake tells nothing that inboxes do not, so it waits for no disk.
-WAKE = "select set_config('synchronous_commit', 'off', true), pg_notify('wake_kept', $1)"
+WAKE = "select set_config('synchronous_commit', 'off', true), tell('wake_kept', $1)"
 # Ends the sessions that a program of this name left behind: they may hold locks still, and wait for a standby.
 FORMER = """
 select pg_terminate_backend(pid) from pg_stat_activity
@@ -258,6 +260,20 @@ async def within(seconds: float, session: Any, call: str, *values: Any) -> Any:
     return job.result()
 
 
+async def listen(session: Any, channel: str, heard: Callable[..., None]) -> None:
+    """Has a session hear what is told on a channel of the tools, whose name who only reads does not know."""
+    name = await within(ADMISSION, session, "fetchval", "select channel_of($1)", channel)
+    await session.add_listener(name, heard)
+
+
+async def until_ended(session: Any) -> None:
+    """Waits until a session that is asked nothing ends. Raises ConnectionResetError then."""
+    ended = asyncio.Event()
+    session.add_termination_listener(lambda _: ended.set())
+    await ended.wait()
+    raise ConnectionResetError("the session that listens ended")
+
+
 class Asked:
     """A session that is asked one thing at a time, each with an end to waiting."""
 
@@ -292,6 +308,11 @@ def woken_by(payload: str) -> dict[int, int]:
 def is_number(text: str) -> bool:
     """Whether a text is a number from 0 on that PostgreSQL has room for."""
     return text.isascii() and text.isdigit() and len(text) < 19
+
+
+def without_secrets(environment: Mapping[str, str]) -> dict[str, str]:
+    """An environment as a program gets it that has no use for the secrets of the one that starts it."""
+    return {name: text for name, text in environment.items() if name not in SECRETS}
 
 
 def password_or_fault() -> None:

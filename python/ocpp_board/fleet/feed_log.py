@@ -4,11 +4,12 @@ import asyncio
 import logging
 import time
 from collections.abc import Awaitable, Callable
+from contextlib import suppress
 from typing import Any, NamedTuple
 
 import asyncpg
 
-from ocpp_board.fleet.database import LOST, WAKE, Unreachable, connect, said, wakes, within
+from ocpp_board.fleet.database import LOST, WAKE, Unreachable, connect, listen, said, wakes, within
 from ocpp_board.fleet.events import Event
 from ocpp_board.messages import Refused
 
@@ -91,7 +92,7 @@ class Cell:
         """A session, and the stations as the plan has them now."""
         if self.session is None or self.session.is_closed():
             self.session = await connect(self.dsn, application_name=NAME)
-            await self.session.add_listener("plan", self.planned)
+            await listen(self.session, "plan", self.planned)
             self.is_stale = True
         if self.is_stale:
             self.is_stale = False
@@ -150,7 +151,9 @@ class Cell:
         is_whole = bool(sum(row["rows"] for row in rows) == len(events))
         self.is_stale |= not is_whole
         for payload in wakes({row["shard"]: row["first"] for row in rows}):
-            await self.within("execute", WAKE, payload)
+            # Where the queue of notifications has no room workers look into their inboxes by themselves.
+            with suppress(asyncpg.ProgramLimitExceededError):
+                await self.within("execute", WAKE, payload)
         return is_whole
 
 

@@ -28,7 +28,7 @@ from ocpp_board.fleet import compact, parts
 from ocpp_board.fleet.archives import Late, packed, unpacked, widened
 from ocpp_board.fleet.backup import at_least_one
 from ocpp_board.fleet.begun_anew import reserve
-from ocpp_board.fleet.database import Fault, connect, said
+from ocpp_board.fleet.database import Fault, connect, said, without_secrets
 from ocpp_board.fleet.lines import station_of
 from ocpp_board.fleet.plans import Plan, known_lines
 from ocpp_board.fleet.replays import ReplayEnded
@@ -205,7 +205,7 @@ def replayed(program: str, lines: list[str]) -> bytes:
         [program, "replay"],
         input=script.encode(),
         stdout=subprocess.PIPE,
-        env=replay_environment(),
+        env=without_secrets(replay_environment()),
         check=False,
     )
     return made.stdout

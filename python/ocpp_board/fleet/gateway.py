@@ -25,6 +25,7 @@ from typing import Any, NamedTuple
 from urllib.parse import unquote, urlsplit
 
 import asyncpg
+from websockets.frames import Frame
 from websockets.http11 import Request, Response
 from websockets.server import ServerConnection
 
@@ -37,8 +38,10 @@ from ocpp_board.fleet.database import (
     answers_in,
     connect,
     is_number,
+    listen,
     new_token,
     said,
+    until_ended,
     within,
 )
 from ocpp_board.fleet.own_replay import OwnReplay
@@ -78,12 +81,18 @@ LONGEST_ID = 36
 # costs more than to append it together.
 BATCH, BATCH_BYTES, GATHERED = 1000, 4_000_000, 0.015
 # Seconds: for the database to answer, for a handshake from its connection on, and without a byte from a
-# station, twice its heartbeat interval; between looks for stations that the plan did not have.
+# station, twice its heartbeat interval; between looks for stations that the plan did not have, and for answers that no
+# notification told, which come one after the other where there are some.
 ANSWER, HANDSHAKE, SILENCE, LOOKS = 10, 10, 600, 0.05
+POLLS, FAST_POLLS = 1.0, 0.1
+# Shards of which a change of the plan was heard that are read by their numbers; of more all are read.
+REPLANNED = 1_000
 # What one who is not let in is told, whatever of it was wrong.
 ASKED = "a station's name and its password are asked for\n"
-# What a station may have appended: events and bytes a second, and for how many seconds at once.
-EVENTS, BYTES, BURST = 20, 65_536, 60
+# What of a station is read: frames of any kind and bytes a second, and for how many seconds at once.
+FRAMES, BYTES, BURST = 20, 65_536, 60
+# Bytes of a handshake.
+LONGEST_HEAD = 16_384
 # Seconds for which an event that was accepted last is answered again without being appended. Not for ever: an operator
 # may have erased it.
 REPEATED = 60
@@ -101,9 +110,23 @@ firsts as (
     select shard, min(id) as first, count(*) as rows, row_number() over () / 250 as part
     from added group by shard),
 woken as (
-    select pg_notify('wake', string_agg(shard || ':' || first, ' ')) as told, sum(rows) as rows
+    select tell('wake', string_agg(shard || ':' || first, ' ')) as told, sum(rows) as rows
     from firsts group by part)
 select coalesce(sum(rows), 0)::int as rows, count(told) from woken
+"""
+# The same where the queue of notifications has no room: workers then look into their inboxes again and again.
+APPEND_UNTOLD = """
+with added as (
+    insert into inbox (shard, gateway, token, line)
+    select w.shard, $1, w.token, w.line
+    from unnest($2::int[], $3::bigint[], $4::text[]) with ordinality as w (shard, token, line, place)
+    join own_shard s on s.shard = w.shard where s.moving_to is null order by w.place
+    returning shard)
+select count(*)::int from added
+"""
+# Answers that no notification could tell. Those of gateways that are gone go, too.
+UNTOLD = """
+delete from untold where gateway = $1 or at < now() - interval '1 minute' returning gateway, payload
 """
 STATIONS = """
 select t.shard, t.station from own_station t join own_shard s using (shard)
@@ -119,12 +142,20 @@ with written as (
     insert into served (station, gateway, number)
     select w.station, $1, w.number from unnest($2::text[], $3::bigint[]) as w (station, number) order by 1
     on conflict (station) do update set gateway = excluded.gateway, number = excluded.number returning station)
-select pg_notify('let_in', string_agg(station, ' ')) from written
+select tell('let_in', string_agg(station, ' ')) from written
 """
+SERVE_UNTOLD = """
+insert into served (station, gateway, number)
+select w.station, $1, w.number from unnest($2::text[], $3::bigint[]) as w (station, number) order by 1
+on conflict (station) do update set gateway = excluded.gateway, number = excluded.number
+"""
+# Of these stations those that are retired, and the hashes of those that have passwords.
+RETIRED = "select station from own_station where station = any($1) and retired is not null"
+HASHES = "select station, hash from station_password where station = any($1)"
 SERVED = "select station, gateway, number from served where station = any($1)"
 # Also of a station whose shard moves: it is told to come again, and not that its password is wrong.
 PASSWORDS = """
-select p.station, hash, salt, seen_at from station_password p join own_station t using (station)
+select p.station, hash, salt, cost, seen_at from station_password p join own_station t using (station)
 where p.station = any($1) and t.retired is null order by p.station, set_at desc
 """
 
@@ -155,14 +186,14 @@ def station_in(path: str) -> str:
 
 
 class Pace:
-    """How much of a station is appended: BURST seconds' worth at once, and else so many events and bytes a second."""
+    """How much of a station is read: BURST seconds' worth at once, and else so many frames and bytes a second."""
 
     def __init__(self) -> None:
         self.due = 0.0
 
     def wait(self, size: int, now: float) -> float:
-        """For how long no more of its messages are read, behind one of so many bytes."""
-        self.due = max(self.due, now - BURST) + max(1 / EVENTS, size / BYTES)
+        """For how long no more of it is read, behind a frame of so many bytes."""
+        self.due = max(self.due, now - BURST) + max(1 / FRAMES, size / BYTES)
         return max(0.0, self.due - now)
 
 
@@ -198,23 +229,30 @@ class Cell:
         self.let_in: dict[str, int] = {}
         self.heard = set[str]()
         self.has_let_in, self.has_heard = asyncio.Event(), asyncio.Event()
+        # Stations whose passwords changed, as somebody told, or that may be retired.
+        self.changed = set[str]()
+        self.has_changed = asyncio.Event()
+        # Shards whose plan changed, as somebody told.
+        self.replanned = set[int]()
+        self.has_plan = asyncio.Event()
         self.second: Any = None
         self.is_up = False
         self.asking = asyncio.Lock()
         self.last_told = ""
 
     async def run(self) -> None:
-        """Keeps sessions with the database: one appends, one reads the plan, one looks for strangers."""
+        """Keeps sessions with the database: one appends, one reads the plan, one looks for strangers, one listens. The
+        last one does nothing else: while many notifications come it is slow."""
         while True:
             sessions: list[Any] = []
             try:
                 # One after the other: of several at once, one that fails would leave the others behind.
-                for _ in range(3):
+                for _ in range(4):
                     name, more = self.gateway.name, {"synchronous_commit": "off", **BY_INDEX}
                     sessions.append(await connect(self.dsn, application_name=name, **more))
                     if len(sessions) == 1:
                         await within(ANSWER, sessions[0], "fetch", FORMER, name)
-                await self.open(sessions[1])
+                await self.open(sessions[1], sessions[3])
                 jobs = [
                     asyncio.create_task(job)
                     for job in (
@@ -222,6 +260,10 @@ class Cell:
                         self.look(sessions[2]),
                         self.tell_let_in(),
                         self.look_at_served(),
+                        self.replan(),
+                        self.look_at_changed(),
+                        self.poll(),
+                        until_ended(sessions[3]),
                     )
                 ]
                 try:
@@ -248,14 +290,17 @@ class Cell:
             log.warning("%s", text)
         self.last_told = text
 
-    async def open(self, second: Any) -> None:
+    async def open(self, second: Any, listener: Any) -> None:
         """Listens, reads the plan, and appends again what still waits: of what was appended the outcome is unknown."""
         self.second = second
-        await second.add_listener(self.gateway.name, self.gateway.answered)
-        await second.add_listener("plan", lambda *words: self.heard_plan(words[3]))
-        await second.add_listener("password", lambda *words: self.gateway.door.forget(words[3]))
-        await second.add_listener("let_in", lambda *words: self.heard_let_in(words[3].split(" ")))
+        await listener.add_listener(self.gateway.channel, self.gateway.answered)
+        await listen(listener, "plan", lambda *words: self.heard_plan(words[3]))
+        await listen(listener, "password", lambda *words: self.heard_password(words[3]))
+        await listen(listener, "let_in", lambda *words: self.heard_let_in(words[3].split(" ")))
         self.gateway.door.forget_all()
+        # Changes may have been missed.
+        self.changed.update(self.gateway.served)
+        self.has_changed.set()
         self.has_let_in.set()
         self.heard_let_in(self.gateway.served)
         await self.load(None)
@@ -284,16 +329,60 @@ class Cell:
         self.gateway.move_in(self, found, None if shards is None else set(shards))
 
     def heard_plan(self, payload: str) -> None:
-        """The plan of a shard changed, as anybody may tell."""
-        if is_number(payload) and len(payload) < 10:
-            self.gateway.spawn(self.replan([int(payload)]))
+        """The plan of a shard changed, as anybody may tell, and as often as they like."""
+        if is_number(payload) and len(payload) < 10 and len(self.replanned) <= REPLANNED:
+            self.replanned.add(int(payload))
+            self.has_plan.set()
 
-    async def replan(self, shards: list[int]) -> None:
-        """The plan of these shards changed."""
-        try:
-            await self.load(shards)
-        except (*LOST, asyncpg.PostgresError):
-            pass  # The session is lost, and the next one reads all.
+    async def replan(self) -> None:
+        """Reads the plans of shards that changed, of all that were told since the last time at once."""
+        while True:
+            await self.has_plan.wait()
+            self.has_plan.clear()
+            shards, self.replanned = self.replanned, set()
+            await self.load(sorted(shards) if len(shards) <= REPLANNED else None)
+            self.changed.update(name for name in self.gateway.served if not self.is_home(name))
+            self.has_changed.set()
+            await asyncio.sleep(LOOKS)
+
+    def heard_password(self, station: str) -> None:
+        """A station's passwords changed, as anybody may tell."""
+        self.gateway.door.forget(station)
+        if station in self.gateway.served:
+            self.changed.add(station)
+            self.has_changed.set()
+
+    async def look_at_changed(self) -> None:
+        """Ends connections of stations that are retired, and of those whose password is none any more."""
+        while True:
+            await self.has_changed.wait()
+            self.has_changed.clear()
+            names, self.changed = list(self.changed), set()
+            if names:
+                for row in await self.ask("fetch", RETIRED, names):
+                    self.gateway.end(row["station"], "the station is retired")
+                await self.look_at_passwords([name for name in names if self.is_home(name)])
+            await asyncio.sleep(LOOKS)
+
+    async def look_at_passwords(self, names: list[str]) -> None:
+        """The same of these stations that came with a password here."""
+        hashes = self.gateway.door.hashes
+        names = [name for name in names if name in hashes]
+        had = {name: hashes[name] for name in names}
+        rows = await self.ask("fetch", HASHES, names) if names else []
+        there = {(row["station"], row["hash"]) for row in rows}
+        for name, known in had.items():
+            if (name, known) not in there and hashes.get(name) == known:
+                self.gateway.end(name, "its password was changed")
+
+    async def poll(self) -> None:
+        """Takes answers that no notification told."""
+        while True:
+            rows = await self.ask("fetch", UNTOLD, self.gateway.channel)
+            for row in rows:
+                if row["gateway"] == self.gateway.channel:
+                    self.gateway.answered(None, 0, "", row["payload"])
+            await asyncio.sleep(FAST_POLLS if rows else POLLS)
 
     async def saw(self, station: str, known: bytes) -> bool:
         """Notes that a station came with this password. Whether it has it still, and the cell answers."""
@@ -346,7 +435,11 @@ class Cell:
                 # One that is gone is not told: its station may be elsewhere by now.
                 there = [one for one in some if self.gateway.is_served(*one)]
                 if there:
-                    await self.ask("execute", SERVE, self.gateway.name, *map(list, zip(*there)))
+                    values = (self.gateway.name, *map(list, zip(*there)))
+                    try:
+                        await self.ask("execute", SERVE, *values)
+                    except asyncpg.ProgramLimitExceededError:
+                        await self.ask("execute", SERVE_UNTOLD, *values)
                 for station, number in some:
                     if self.let_in.get(station) == number:
                         del self.let_in[station]
@@ -399,8 +492,12 @@ class Cell:
                 size += len(wait.text)
         if not tokens:
             return
-        values = (self.gateway.name, shards, tokens, lines)
-        if await within(ANSWER, session, "fetchval", APPEND, *values) != len(tokens):
+        values = (self.gateway.channel, shards, tokens, lines)
+        try:
+            count = await within(ANSWER, session, "fetchval", APPEND, *values)
+        except asyncpg.ProgramLimitExceededError:
+            count = await within(ANSWER, session, "fetchval", APPEND_UNTOLD, *values)
+        if count != len(tokens):
             # A shard is moving. What was appended may be so again.
             await self.load(sorted(set(shards)))
             self.gateway.queue_again(tokens)
@@ -416,7 +513,9 @@ class StationLink(Link):
         super().__init__(self.server)
         self.gateway = gateway
         self.began = self.seen = time.monotonic()
-        self.has_asked = False
+        # The bytes of its handshake, whether that is whole, and whether the station is let in.
+        self.head = bytearray()
+        self.has_asked = self.is_in = False
         # Its number among those that were let in, and whether all gateways heard of it.
         self.number, self.is_told = 0, False
         self.unanswered = 0
@@ -437,11 +536,31 @@ class StationLink(Link):
 
     def data_received(self, data: bytes) -> None:
         self.seen = time.monotonic()
-        super().data_received(data)
+        if self.is_in:
+            super().data_received(data)
+        elif not self.has_asked:
+            self.greet(data)
+
+    def greet(self, data: bytes) -> None:
+        """Takes the bytes of a handshake. What comes behind it before its answer is nobody's: no more is read until
+        then."""
+        front = max(0, len(self.head) - 3)
+        self.head += data
+        end = self.head.find(b"\r\n\r\n", front)
+        if max(end, len(self.head) if end < 0 else 0) > LONGEST_HEAD:
+            self.transport.abort()
+        elif end >= 0:
+            self.has_asked = True
+            self.transport.pause_reading()
+            super().data_received(bytes(self.head[: end + 4]))
+            self.head.clear()
+
+    def is_held(self) -> bool:
+        is_full = self.unanswered >= UNANSWERED
+        return self.is_slow or self.is_paced or is_full
 
     def handshake(self, event: Request | Response) -> None:
         assert isinstance(event, Request)
-        self.has_asked = True
         self.name = station_in(event.path)
         given = passwords.taken_from(event.headers, self.name)
         is_open = self.gateway.words.open
@@ -505,13 +624,19 @@ class StationLink(Link):
             response.headers["WWW-Authenticate"] = 'Basic realm="ocpp", charset="UTF-8"'
         self.server.send_response(response)
         self.flush()
+        if not self.is_lost:
+            self.transport.resume_reading()  # It hears the end of the connection.
 
     def admit(self, event: Request) -> None:
         """Lets a station in that offers the subprotocol."""
         response = self.server.accept(event)
         self.server.send_response(response)
         self.flush()
-        if response.status_code != 101:
+        if self.is_lost:
+            return
+        self.is_in = response.status_code == 101
+        self.transport.resume_reading()
+        if not self.is_in:
             return
         if self.connection.subprotocol is None:
             self.close(1002, f"the subprotocol {SUBPROTOCOL} is not offered")
@@ -531,8 +656,6 @@ class StationLink(Link):
         except UnicodeDecodeError:
             return self.close(1007, "a text that is no UTF-8")
         self.unanswered += 1
-        if self.unanswered >= UNANSWERED:
-            self.transport.pause_reading()
         if len(data) > LONGEST_MESSAGE:
             # Of a text that is too long the front is too long as well, and gets the same answer.
             self.gateway.own.ask(
@@ -549,30 +672,37 @@ class StationLink(Link):
         return None
 
     def keep(self, text: str) -> None:
-        """Has an event appended, or answers one that was accepted right before; above its pace the station waits."""
+        """Has an event appended, or answers one that was accepted right before."""
         known, answer, since = self.last
         own, now = digest(text), time.monotonic()
         if known == own and since > now - REPEATED:
             return self.answer(answer)
-        self.gateway.keep(Wait(self, text, own, now))
+        return self.gateway.keep(Wait(self, text, own, now))
+
+    def count(self, frame: Frame) -> None:
+        """Above its pace the station waits, whatever it sends: messages, parts of one, pings and pongs."""
         pace = self.gateway.paces.get(self.name)
         if pace is None:
             pace = self.gateway.paces[self.name] = Pace()
-        if (wait := pace.wait(len(text), now)) > 0 and not self.is_paced:
+        wait = pace.wait(len(frame.data), time.monotonic())
+        if wait > 0 and not self.is_paced:
             self.is_paced = True
-            self.transport.pause_reading()
             asyncio.get_running_loop().call_later(wait, self.paced)
-        return None
 
     def paced(self) -> None:
-        """The station waited for long enough."""
+        """The station waited for long enough; what came meanwhile may be above its pace as well."""
         self.is_paced = False
         self.resume()
 
+    def read(self) -> None:
+        super().read()
+        if self.is_held() and not self.is_lost:
+            self.transport.pause_reading()
+
     def resume(self) -> None:
         """Reads again, where nothing speaks against it."""
-        is_full = self.unanswered >= UNANSWERED
-        if not (self.is_slow or self.is_paced or is_full or self.is_lost):
+        self.read()
+        if not (self.is_held() or self.is_lost):
             self.transport.resume_reading()
 
     def accepted(self, known: bytes, answer: bytes) -> None:
@@ -609,6 +739,8 @@ class Gateway:
     def __init__(self, words: argparse.Namespace) -> None:
         self.words = words
         self.name = f"gateway_{secrets.token_hex(6)}"
+        # On which it is told answers. Its name is known to all who see sessions.
+        self.channel = f"gateway_{secrets.token_hex(16)}"
         self.cells = [Cell(self, dsn) for dsn in words.db]
         self.own = OwnReplay(words.program)
         self.door = Passwords()
@@ -630,7 +762,13 @@ class Gateway:
         """Begins a job that nobody waits for."""
         task = asyncio.create_task(job)
         self.jobs.add(task)
-        task.add_done_callback(self.jobs.discard)
+        task.add_done_callback(self.ended)
+
+    def ended(self, task: "asyncio.Task[None]") -> None:
+        """A job ended; its fault is of one station alone, and is told."""
+        self.jobs.discard(task)
+        if not task.cancelled() and (fault := task.exception()):
+            log.error("a station was not let in: %s", said(fault))
 
     def serve(self, link: StationLink) -> None:
         """Serves a station by this connection, which ends an older one here, and by a notification elsewhere."""
@@ -642,6 +780,12 @@ class Gateway:
         cell, _ = self.homes[link.name]
         cell.let_in[link.name] = link.number
         cell.has_let_in.set()
+
+    def end(self, station: str, why: str) -> None:
+        """Ends a station's connection."""
+        if link := self.served.get(station):
+            log.info("station %s: its connection ends: %s", station, why)
+            link.close(1008, why)
 
     def is_served(self, station: str, number: int) -> bool:
         """Whether the connection of this number is still the one by which the station is served here."""

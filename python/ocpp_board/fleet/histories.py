@@ -53,9 +53,10 @@ where station = $1 and transaction = $2 order by at
 WHO = "select * from places_of_deeds($1, $2)"
 # The stations that have a transaction of an id.
 STATIONS = """
-select distinct station from (
+select distinct t.station, s.site from (
     select station from own_board_transaction where transaction = $1
-    union all select station from own_archived_transaction where transaction = $1) as t order by station
+    union all select station from own_archived_transaction where transaction = $1) as t
+join own_station s on s.station = t.station
 """
 
 
@@ -290,10 +291,4 @@ def gap_of(name: str) -> tuple[int, int]:
 async def stations_of(cells: Cells, operator: Operator, name: str) -> list[str]:
     """The stations that have a session of this id, as far as the operator sees them."""
     found = await cells.ask_all(STATIONS, name.lower())
-    stations = sorted({row["station"] for _, row in found.pairs()})
-    seen = []
-    for station in stations:
-        with suppress(Wrong):
-            await cells.station(operator, station)
-            seen.append(station)
-    return seen
+    return sorted({row["station"] for _, row in found.pairs() if operator.sees(row["site"])})

@@ -68,6 +68,7 @@ HELP = {
     "cell_workers": "Workers of the cell that live.",
     "cell_oldest_transaction_seconds": "For how long the oldest transaction of the server is open.",
     "cell_standby_waiters": "Sessions of the server whose commit waits for a standby.",
+    "cell_notification_queue_ratio": "Of the server's queue of notifications, the part that waits for who listens.",
     "cell_strays": "Events of stations that no plan has.",
     "cell_oldest_stray_seconds": "Since when the oldest of them waits for its station.",
     "site_closing_age_seconds": "Seconds since the site's last closing, or since its first line.",
@@ -327,6 +328,7 @@ class WorkerSeen:
         self.session: "Session | None" = None
         self.beat = time.monotonic()
         self.standby_since: float | None = None
+        self.queue = 0.0
         self.cell: dict[str, Any] = {}
         self.sites: list[dict[str, Any]] = []
         self.inboxes: list[dict[str, Any]] = []
@@ -436,6 +438,7 @@ class WorkerSeen:
             ("cell_oldest_stray_seconds", "oldest_stray"),
         ):
             yield family(name, cell[column], cell=cell["cell"])
+        yield family("cell_notification_queue_ratio", self.queue, cell=cell["cell"])
 
 
 def near_limits(shards: "Iterable[Shard]") -> Family:

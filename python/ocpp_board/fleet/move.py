@@ -3,9 +3,10 @@
     PGPASSWORD=.. ocpp-board move --shard 7 --from postgresql://ledger_mover@a/ledger \\
         --to postgresql://ledger_mover@c/ledger --reason 'a is full'
 
-Most of its log is copied while it grows, each line with its place. Then the shard takes no lines: what its stations
-send waits in the gateways; its worker gives it back; the rest of the log, lines of operators and feeds that have no
-place yet, and the plan are copied, and the shard is there. Gateways, which hear of it from both cells, append what
+Most of its log is copied while it grows, each line with its place, and what closings settled and archived, which nobody
+changes meanwhile. Then the shard takes no lines: what its stations send waits in the gateways; its worker gives it
+back; the rest of the log, lines of operators and feeds that have no place yet, and the plan are copied, and the shard
+is there. Gateways, which hear of it from both cells, append what
 waited, and a worker of the other cell answers, too, what was not answered yet.
 
 It may end at any time: call it again, and it goes on.
@@ -13,7 +14,7 @@ It may end at any time: call it again, and it goes on.
 
 import argparse
 import time
-from collections.abc import Sequence
+from collections.abc import Iterable, Sequence
 from typing import Any
 
 from ocpp_board.boards import TOTAL
@@ -24,8 +25,8 @@ from ocpp_board.fleet.database import Fault, connect
 from ocpp_board.words import parser_of
 
 NAME = "ocpp-board move"
-# Lines that are copied at once.
-COPIED = 2_000
+# Lines, and rows of other tables, that are copied at once.
+COPIED, ROWS = 2_000, 5_000
 READ = """
 select place, at, gateway, token, line from own_log where shard = $1 and place > $2 order by place limit $3
 """
@@ -37,8 +38,13 @@ select $1, w.* from unnest($2::bigint[], $3::timestamptz[], $4::text[], $5::bigi
 CUT = "select from own_shard where shard = $1 for update"
 # From here on nobody who held the shard gives a line its place.
 FENCE = "update numbering set taken = taken + 1 where shard = $1"
+# A shard that arrives moves to the cell where it is: so nobody takes it, and no view has its rows.
+BEGIN = "insert into own_shard (shard, moving_to) select $1, cell from own_cell"
 # Its plan goes on: boards and closings of earlier ones are told by it.
-BEGIN = "insert into own_shard (shard, plan) values ($1, $2)"
+ARRIVE = "update own_shard set plan = $2, moving_to = null where shard = $1"
+LANDED = """
+select count(*) from own_shard where shard = $1 and moving_to is distinct from (select cell from own_cell)
+"""
 STATE = """
 select plan + 1 as plan, taken, freed, told, bytes from own_shard join numbering using (shard) where shard = $1
 """
@@ -46,10 +52,44 @@ NUMBERING = "update numbering set taken = $2, freed = $3, told = $4, bytes = $5 
 KEPT = "select at, gateway, token, line from inbox_kept where shard = $1 order by id"
 KEEP = "insert into inbox_kept (shard, at, gateway, token, line) values ($1, $2, $3, $4, $5)"
 PASSWORDS = """
-select p.* from station_password p join own_station using (station) where shard = $1 order by station, set_at
+select p.station, hash, salt, cost, set_at, seen_at
+from station_password p join own_station using (station) where shard = $1 order by station, set_at
 """
-SET = "insert into station_password (station, hash, salt, set_at, seen_at) values ($1, $2, $3, $4, $5)"
-# What goes with a shard, in an order in which it can be written.
+SET = """
+insert into station_password (station, hash, salt, cost, set_at, seen_at) values ($1, $2, $3, $4, $5, $6)
+"""
+# What closings settled and archived, which goes first, and what else goes with a shard; each in an order in which it
+# can be written.
+HISTORY = (
+    (
+        "own_closing",
+        "site, closing, day, period, reading_order, at, archive, plan, place, packed",
+        "closing",
+    ),
+    (
+        "own_closed_period",
+        "site, closing, station, starts, day, up, down, export_up, export_down",
+        "starts",
+    ),
+    (
+        "own_archived_period",
+        "site, closing, station, starts, up, down, export_up, export_down",
+        "starts",
+    ),
+    (
+        "own_archived_transaction",
+        "site, closing, station, transaction, complete, missing, up, down, export_up, export_down, evse, events, "
+        "first, last, begun, started, ended, corrections",
+        "transaction",
+    ),
+    (
+        "own_archived_total",
+        "site, closing, station, transactions, complete, missing, up, down, export_up, export_down, "
+        "corrects_transactions, corrects_complete, corrects_missing",
+        "closing",
+    ),
+    ("own_archived_lines", "site, closing, station, transaction, lines", "transaction"),
+)
 PARTS = (
     ("own_site", "site, period, reading_order, zone", "site"),
     ("own_station", "site, station, transactions, events, readings, changes, retired", "place"),
@@ -76,34 +116,7 @@ PARTS = (
         "site, station, transaction, finding, times, first, detail, meaning",
         "station",
     ),
-    (
-        "own_closing",
-        "site, closing, day, period, reading_order, at, archive, plan, place",
-        "closing",
-    ),
-    (
-        "own_closed_period",
-        "site, closing, station, starts, day, up, down, export_up, export_down",
-        "starts",
-    ),
-    (
-        "own_archived_period",
-        "site, closing, station, starts, up, down, export_up, export_down",
-        "starts",
-    ),
-    (
-        "own_archived_transaction",
-        "site, closing, station, transaction, complete, missing, up, down, export_up, export_down, evse, events, "
-        "first, last, begun, started, ended, corrections",
-        "transaction",
-    ),
-    (
-        "own_archived_total",
-        "site, closing, station, transactions, complete, missing, up, down, export_up, export_down, "
-        "corrects_transactions, corrects_complete, corrects_missing",
-        "closing",
-    ),
-    ("own_archived_lines", "site, closing, station, transaction, lines", "transaction"),
+    ("own_open_period", "station, starts", "starts"),
     (
         "own_deed",
         "token, form, at, operator, login, address, reason, command, site, station, transaction, number, answer",
@@ -139,9 +152,25 @@ class Move:
             await self.source.execute(
                 "update own_shard set moving_to = $2 where shard = $1", self.shard, cell
             )
-            await self.source.execute("select pg_notify('plan', $1)", str(self.shard))
+            await self.source.execute("select tell('plan', $1)", str(self.shard))
         await self.source.execute("select take_moving_shard($1)", self.shard, timeout=60)
         await self.source.execute(FENCE, self.shard)
+
+    async def begin(self) -> None:
+        """Begins where it arrives, without what an earlier try left there."""
+        await self.remove(self.target)
+        await self.target.execute(BEGIN, self.shard)
+
+    async def carry(self, parts: Iterable[tuple[str, str, str]]) -> None:
+        """Copies the shard's rows of these tables, some thousands by a statement."""
+        for table, columns, order in parts:
+            query = f"select shard, {columns} from {table} where shard = $1 order by {order}"
+            names = ["shard", *columns.split(", ")]
+            async with self.source.transaction():
+                cursor = await self.source.cursor(query, self.shard)
+                while rows := await cursor.fetch(ROWS):
+                    records = [tuple(row) for row in rows]
+                    await self.target.copy_records_to_table(table, records=records, columns=names)
 
     async def land(self) -> None:
         """The rest of the log, what has no place yet, the plan and the boards, at once."""
@@ -149,30 +178,23 @@ class Move:
             while await self.copy():
                 pass
             plan, *numbering = await self.source.fetchrow(STATE, self.shard)
-            await self.target.execute(BEGIN, self.shard, plan)
+            await self.target.execute(ARRIVE, self.shard, plan)
             await self.target.execute(NUMBERING, self.shard, *numbering)
-            for table, columns, order in PARTS:
-                names = columns.split(", ")
-                rows = await self.source.fetch(
-                    f"select {columns} from {table} where shard = $1 order by {order}", self.shard
-                )
-                marks = ", ".join(f"${place}" for place in range(2, len(names) + 2))
-                await self.target.executemany(
-                    f"insert into {table} (shard, {columns}) values ($1, {marks})",
-                    [(self.shard, *row.values()) for row in rows],
-                )
+            await self.carry(PARTS)
             passwords = await self.source.fetch(PASSWORDS, self.shard)
             await self.target.executemany(SET, [tuple(row) for row in passwords])
             kept = await self.source.fetch(KEPT, self.shard)
             await self.target.executemany(KEEP, [(self.shard, *row) for row in kept])
 
-    async def leave(self) -> None:
-        """Removes the shard from the cell where it was."""
-        async with self.source.transaction():
-            await self.source.execute("delete from own_shard where shard = $1", self.shard)
-            for table in ("own_log", "own_closing", "inbox", "inbox_kept"):
-                await self.source.execute(f"delete from {table} where shard = $1", self.shard)
-            await self.source.execute("select pg_notify('plan', $1)", str(self.shard))
+    async def remove(self, session: Any) -> None:
+        """Removes the shard from a cell: its history table by table, and then all else at once."""
+        for table, _, _ in reversed(HISTORY):
+            await session.execute(f"delete from {table} where shard = $1", self.shard)
+        async with session.transaction():
+            await session.execute("delete from own_shard where shard = $1", self.shard)
+            for table in ("own_log", "inbox", "inbox_kept"):
+                await session.execute(f"delete from {table} where shard = $1", self.shard)
+            await session.execute("select tell('plan', $1)", str(self.shard))
 
 
 async def run(words: argparse.Namespace) -> None:
@@ -188,9 +210,7 @@ async def run(words: argparse.Namespace) -> None:
         raise Fault(f"both are cell {here}")
     await reserve(source, words.shard)
     row = await source.fetchrow("select moving_to from own_shard where shard = $1", words.shard)
-    has_landed = (
-        await target.fetchval("select count(*) from own_shard where shard = $1", words.shard) > 0
-    )
+    has_landed = await target.fetchval(LANDED, words.shard) > 0
     if row is None and has_landed:
         print(f"shard {words.shard} is in cell {there} already")
         return
@@ -202,16 +222,15 @@ async def run(words: argparse.Namespace) -> None:
         raise Fault(f"cell {there} has a shard {words.shard} of its own")
     move, stopped = Move(source, target, words.shard), time.monotonic()
     if not has_landed:
-        await target.execute(
-            "delete from own_log where shard = $1", words.shard
-        )  # What an earlier try left.
+        await move.begin()
+        await move.carry(HISTORY)
         while await move.copy() == COPIED:
             pass
         stopped = time.monotonic()
         await move.cut(there)
         await move.land()
-    await move.leave()
     took = time.monotonic() - stopped
+    await move.remove(source)
     print(
         f"shard {words.shard}: {move.lines} lines, from cell {here} to {there}; it took no lines for {took:.2f} s"
     )

@@ -91,7 +91,9 @@ from unnest($1::int[], $2::bigint[]) as w (shard, oldest)
 # Whether a session's commit waits for a synchronous standby.
 WAITS = "select from pg_stat_activity where pid = $1 and wait_event = 'SyncRep'"
 TELL = "select count(pg_notify(channel, payload)) from unnest($1::text[], $2::text[]) as n (channel, payload)"
-# What pg_notify refuses: a channel or a payload that can't be, and what its queue has no room for.
+# Where the queue of notifications has no room, or much in it: gateways look here.
+KEEP_UNTOLD = "insert into untold (gateway, payload) select * from unnest($1::text[], $2::text[])"
+# What pg_notify refuses: a channel or a payload that can't be.
 UNTOLD = (asyncpg.DataError, asyncpg.ProgramLimitExceededError)
 # Up to where answers were told. It needs no disk: what they speak of is on it, and whoever comes after reads the log
 # again, and tells at most some answers twice. A row is not written for each answer, since a snapshot that stays open

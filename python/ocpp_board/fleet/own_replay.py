@@ -6,6 +6,7 @@ import time
 from collections import deque
 from typing import Protocol
 
+from ocpp_board.fleet.database import seen
 from ocpp_board.fleet.replays import Replay, ReplayEnded
 from ocpp_board.limits import FIRST_MOMENT, MOMENT, PAST_MOMENTS
 
@@ -59,6 +60,7 @@ class OwnReplay:
     async def next_answer(self, replay: Replay) -> bytes:
         """The next answer. Raises ReplayEnded where one is waited for too long."""
         job = asyncio.ensure_future(replay.answers(1))
+        job.add_done_callback(seen)
         while not (await asyncio.wait([job], timeout=1))[0]:
             if self.asked and self.since < time.monotonic() - ANSWER:
                 job.cancel()

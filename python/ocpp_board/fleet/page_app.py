@@ -63,6 +63,16 @@ LINKS = (
 AGAIN, AGAIN_WORD = 60, "again"
 
 
+def text_or_wrong(text: str) -> str:
+    """A text of a request, where the database can look for it. Raises Wrong where it has a NUL or half a surrogate
+    pair."""
+    if "\0" in text or any("\ud800" <= letter <= "\udfff" for letter in text):
+        raise Wrong(
+            HTTPStatus.BAD_REQUEST, "a text of the request has a NUL or half a surrogate pair"
+        )
+    return text
+
+
 class Desk:
     """What all requests share."""
 
@@ -127,11 +137,11 @@ class Asked(NamedTuple):
 
     def word(self, name: str) -> str:
         """A word of the query; empty where it is not there."""
-        return self.request.query_params.get(name, "").strip()
+        return text_or_wrong(self.request.query_params.get(name, "").strip())
 
     def path(self, name: str) -> str:
         """A part of the path."""
-        return str(self.request.path_params[name])
+        return text_or_wrong(str(self.request.path_params[name]))
 
     @property
     def address(self) -> str:

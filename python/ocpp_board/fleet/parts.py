@@ -14,15 +14,13 @@ from typing import Any
 import asyncpg
 
 from ocpp_board import words
-from ocpp_board.fleet.database import LOST, Fault, Unreachable, password_or_fault, said
+from ocpp_board.fleet.database import SECRETS, LOST, Fault, Unreachable, password_or_fault, said
 from ocpp_board.fleet.replays import ReplayEnded
 from ocpp_board.processes import MODULE, environment
 from ocpp_board.statuses import Mistaken, Status
 
 log = logging.getLogger(__name__)
 
-# The secrets that parts take, by their names in the environment.
-SECRETS = ("PGPASSWORD", "SOURCE_PASSWORD", "PROXY_SECRET")
 ADDRESS = "postgresql://USER@HOST:PORT,HOST:PORT/DATABASE"
 # Characters of a password's line that are read at most: a longer one is no password.
 LONGEST_READ = 4096

@@ -10,8 +10,10 @@ import ipaddress
 import logging
 import secrets
 import time
-from collections.abc import Awaitable, Callable, Sequence
+from collections import Counter, deque
+from collections.abc import AsyncIterator, Awaitable, Callable, Sequence
 from concurrent.futures import ThreadPoolExecutor
+from contextlib import asynccontextmanager
 from enum import Enum
 from typing import Any, NamedTuple
 
@@ -25,12 +27,11 @@ SHORTEST, LONGEST = 16, 40
 SALT, HASH, MEMORY = 16, 32, 1 << 26
 # Passwords that a station may have, for the time in which it changes to another one.
 KEPT = 2
-# Hashes at once, and besides one for those who are slowed down.
+# Hashes at once.
 THREADS = 4
-# So many failures of a name or an address are free within some time, and each one more costs so many seconds, up to so
-# many at once.
+# So many failures are free within some time, and each one more costs so many seconds, up to so many at once.
 FREE, PAUSE, SLOWEST = 10, 2.0, 10.0
-# Names and addresses whose failures are known; those who may wait because they are slowed down.
+# Whose failures are known, and how many tries of one address may wait.
 FAILED, SLOWED = 20_000, 100
 # While someone is slowed down one failure of so many is told.
 TOLD = 100
@@ -44,9 +45,10 @@ class Cost(NamedTuple):
     p: int
 
 
-# A guess need not be dear, since stations' passwords are long and chosen at random; but all stations of a gateway that
-# failed come to another one at once, and each costs it one hash.
-STATION = Cost(4096, 8, 1)
+# A guess need not be dear: nobody guesses a password of 16 random characters, whatever a guess costs.
+# A dear one serves strangers, since each of their tries costs a gateway as much as a station's. And all stations of a
+# gateway that failed come to another one at once.
+STATION = Cost(256, 8, 1)
 
 
 def hashed(password: bytes, salt: bytes, cost: Cost = STATION) -> bytes:
@@ -96,20 +98,26 @@ class Stored(NamedTuple):
     hash: bytes
     salt: bytes
     is_news: bool
+    # What its hash cost: earlier versions had dearer ones.
+    cost: Cost = STATION
 
 
 def stored(cell: Any, rows: Sequence[Any]) -> list[Stored]:
     """A station's passwords from their rows, the newest one first."""
     return [
-        Stored(cell, row["hash"], row["salt"], row["seen_at"] is None or place < len(rows) - 1)
+        Stored(
+            *(cell, row["hash"], row["salt"], row["seen_at"] is None or place < len(rows) - 1),
+            STATION._replace(n=row["cost"]),
+        )
         for place, row in enumerate(rows)
     ]
 
 
 def matching(password: bytes, known: Sequence[Stored]) -> Stored | None:
-    """The one of these that it is. Where it is none this takes as long for every station, known or not."""
+    """The one of these that it is. Where it is none this takes as long for every station, known or not, but for
+    passwords that an earlier version set."""
     for one in known:
-        if hmac.compare_digest(hashed(password, one.salt), one.hash):
+        if hmac.compare_digest(hashed(password, one.salt, one.cost), one.hash):
             return one
     for _ in range(len(known), KEPT):
         hashed(password, bytes(SALT))
@@ -136,7 +144,7 @@ def network_of(address: str) -> str:
 
 
 class Tries:
-    """The failures of names and addresses, and for how long the next try of each has to wait."""
+    """Failures by what they are counted by, and for how long each has to wait."""
 
     def __init__(self) -> None:
         # Until when one waits, and how many failures there were since the last time that all was forgotten.
@@ -159,6 +167,39 @@ class Tries:
         return count
 
 
+class Places:
+    """So many hashes at once. Addresses get a place by turns, so that who asks for many waits for its own ones."""
+
+    def __init__(self, count: int) -> None:
+        self.free = count
+        self.waiting: dict[str, deque[asyncio.Future[None]]] = {}
+
+    @asynccontextmanager
+    async def one_of(self, address: str) -> AsyncIterator[None]:
+        """A place for one of this address."""
+        if self.free:
+            self.free -= 1
+        else:
+            place = asyncio.get_running_loop().create_future()
+            self.waiting.setdefault(address, deque()).append(place)
+            await place
+        try:
+            yield
+        finally:
+            self.give()
+
+    def give(self) -> None:
+        """Gives a place to the address that waits longest for its turn."""
+        if not self.waiting:
+            self.free += 1
+            return
+        address = next(iter(self.waiting))
+        places = self.waiting.pop(address)
+        places.popleft().set_result(None)
+        if places:
+            self.waiting[address] = places
+
+
 class Verdict(Enum):
     """What becomes of one who asks to be let in."""
 
@@ -169,17 +210,28 @@ Find = Callable[[], Awaitable[tuple[bool, list[Stored]]]]
 
 
 class Passwords:
-    """Judges what stations come with."""
+    """Judges what stations come with.
+
+    Failures count against the address that they come from, and against a name only where they come with it from there:
+    so whoever comes from elsewhere, or with another name, has no part in them. Where there were many the next answer is
+    kept back, and the next try of that name from that address waits for it; who has the right password waits for
+    nothing that is kept back but such a try.
+    """
 
     def __init__(self) -> None:
         self.tries = Tries()
-        self.pool = ThreadPoolExecutor(THREADS + 1, "password")
-        self.places, self.slow_place = asyncio.Semaphore(THREADS), asyncio.Semaphore(1)
-        # Who waits now, and how many failed, for who watches.
+        self.pool = ThreadPoolExecutor(THREADS, "password")
+        self.places = Places(THREADS)
+        # Tries of each address, and of each name from an address those that wait for one another.
+        self.waiting = Counter[str]()
+        self.turns: dict[str, tuple[asyncio.Lock, int]] = {}
+        # Whose answers are kept back now, and how many failed, for who watches.
         self.slowed = self.wrong = 0
         # What was right last, by a key of this process, so that a station that comes again costs no hash.
         self.key = secrets.token_bytes(32)
         self.right: dict[str, bytes] = {}
+        # The hash of the plan by which a station was let in last.
+        self.hashes: dict[str, bytes] = {}
         # How often something of this was forgotten.
         self.changes = 0
 
@@ -206,59 +258,72 @@ class Passwords:
 
     async def judge(self, station: str, address: str, given: Given, find: Find) -> Verdict:
         """Whether a station may come in. `find` looks for its passwords, and says whether all cells answered."""
-        keys = (f"station {station}", f"address {network_of(address)}")
-        if not self.wait(keys):
-            changes, (are_all_up, known) = self.changes, await find()
-            async with self.places:
-                if not self.wait(keys):
-                    return await self.compare(keys, given, known, are_all_up, changes)
-        if self.slowed >= SLOWED:
+        network = network_of(address)
+        if self.waiting[network] >= SLOWED:
             return Verdict.BUSY
-        self.slowed += 1
+        self.waiting[network] += 1
         try:
-            await asyncio.sleep(self.wait(keys))
             changes, (are_all_up, known) = self.changes, await find()
-            async with self.slow_place:
-                return await self.compare(keys, given, known, are_all_up, changes)
+            # All names that have no password count as one.
+            pair = f"{station if known else ''} {network}"
+            async with self.turn(pair):
+                async with self.places.one_of(network):
+                    found = await self.found(given, known)
+                if found:
+                    return await self.let_in(station, given, found, changes)
+                if not are_all_up:
+                    return Verdict.UNSURE
+                await self.fail(station, network, pair, bool(known))
+                return Verdict.WRONG
         finally:
-            self.slowed -= 1
+            self.waiting[network] -= 1
+            if not self.waiting[network]:
+                del self.waiting[network]
 
-    def wait(self, keys: tuple[str, str]) -> float:
-        """For how long one of this name and this address has to wait."""
-        now = time.monotonic()
-        return max(self.tries.wait(key, now) for key in keys)
+    @asynccontextmanager
+    async def turn(self, pair: str) -> AsyncIterator[None]:
+        """The turn of a try among those of this name from this address."""
+        lock, count = self.turns.get(pair, (asyncio.Lock(), 0))
+        self.turns[pair] = (lock, count + 1)
+        try:
+            async with lock:
+                yield
+        finally:
+            lock, count = self.turns.pop(pair)
+            if count > 1:
+                self.turns[pair] = (lock, count - 1)
 
-    async def compare(
-        self,
-        keys: tuple[str, str],
-        given: Given,
-        known: list[Stored],
-        are_all_up: bool,
-        changes: int,
-    ) -> Verdict:
-        """Compares a password with those of the plan. `changes` is from before these were looked for."""
-        password = given.password or b""
-        loop = asyncio.get_running_loop()
+    async def found(self, given: Given, known: list[Stored]) -> Stored | None:
+        """Which of these passwords this is."""
+        loop, password = asyncio.get_running_loop(), given.password or b""
         found = await loop.run_in_executor(self.pool, matching, password, known[:KEPT])
-        if found and given.password is not None:
-            station = keys[0].removeprefix("station ")
-            if found.is_news and not await found.cell.saw(station, found.hash):
-                return Verdict.UNSURE
-            if changes == self.changes:
-                self.right[station] = self.digest(password)
-            return Verdict.RIGHT
-        if not are_all_up:
-            return Verdict.UNSURE
-        self.tell(keys, "no password of this name" if not known else "a wrong password")
-        return Verdict.WRONG
+        return found if given.password is not None else None
 
-    def tell(self, keys: tuple[str, str], what: str) -> None:
-        """Counts a failure for the name and the address, and tells it; not each one of who is slowed down."""
+    async def let_in(self, station: str, given: Given, found: Stored, changes: int) -> Verdict:
+        """The password is right. `changes` is from before those of the plan were looked for."""
+        if found.is_news and not await found.cell.saw(station, found.hash):
+            return Verdict.UNSURE
+        self.hashes[station] = found.hash
+        if changes == self.changes:
+            self.right[station] = self.digest(given.password or b"")
+        return Verdict.RIGHT
+
+    async def fail(self, station: str, network: str, pair: str, has_password: bool) -> None:
+        """Counts a failure and tells it, but not each one of many; behind many it takes its time."""
+        keys = (pair, f"address {network}")
         now = time.monotonic()
         self.wrong += 1
         counts = [self.tries.fail(key, now) for key in keys]
+        what = "a wrong password" if has_password else "no password of this name"
+        told = (f"station {station}", keys[1], what)
         if max(counts) < FREE:
-            log.warning("%s, %s: %s", *keys, what)
-        for key, count in zip(keys, counts):
-            if count == FREE or count > FREE and count % TOLD == 0:
-                log.warning("%s, %s: %s; %s had %d, and is slowed down", *keys, what, key, count)
+            log.warning("%s, %s: %s", *told)
+        elif counts[1] == FREE or counts[1] % TOLD == 0:
+            log.warning("%s, %s: %s; %s had %d, and is slowed down", *told, keys[1], counts[1])
+        wait = max(self.tries.wait(key, now) for key in keys)
+        if wait > 0:
+            self.slowed += 1
+            try:
+                await asyncio.sleep(wait)
+            finally:
+                self.slowed -= 1

@@ -1,10 +1,11 @@
 """The plan of a shard: its stations with their limits, how its sites are reckoned, as lines of a script."""
 
+import os
 import subprocess
 from collections.abc import Awaitable, Callable, Iterable, Mapping
 from typing import Any, NamedTuple
 
-from ocpp_board.fleet.database import Fault
+from ocpp_board.fleet.database import Fault, without_secrets
 
 # What a site has that has no line `period` or `order`.
 DEFAULT_PERIOD, DEFAULT_ORDER = 900, "sequence"
@@ -46,7 +47,12 @@ def known_lines(program: str) -> frozenset[str]:
     Raises Fault where it can't be started.
     """
     try:
-        text = subprocess.run([program, "--help"], stdout=subprocess.PIPE, check=False).stdout
+        text = subprocess.run(
+            [program, "--help"],
+            stdout=subprocess.PIPE,
+            env=without_secrets(os.environ),
+            check=False,
+        ).stdout
     except OSError as fault:
         raise Fault(f"{program}: {fault.strerror}") from None
     return frozenset(name for name in MEANINGS if f"{name} <site>".encode() in text)

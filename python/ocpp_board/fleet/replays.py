@@ -4,7 +4,7 @@ import asyncio
 from collections.abc import Iterator
 from contextlib import contextmanager
 
-from ocpp_board.fleet.database import Fault
+from ocpp_board.fleet.database import Fault, seen, without_secrets
 from ocpp_board.fleet.plans import Plan
 from ocpp_board.processes import replay_environment
 
@@ -33,16 +33,18 @@ class Replay:
     async def start(cls, program: str) -> "Replay":
         """A replay that begins. Raises OSError where the program can't be started."""
         pipe = asyncio.subprocess.PIPE
-        return cls(
-            await asyncio.create_subprocess_exec(
-                program,
-                "replay",
-                stdin=pipe,
-                stdout=pipe,
-                start_new_session=True,
-                env=replay_environment(),
-            )
+        process = await asyncio.create_subprocess_exec(
+            program,
+            "replay",
+            stdin=pipe,
+            stdout=pipe,
+            start_new_session=True,
+            env=without_secrets(replay_environment()),
         )
+        # That its input broke is told by its output, which ends.
+        assert process.stdin
+        asyncio.ensure_future(process.stdin.wait_closed()).add_done_callback(seen)
+        return cls(process)
 
     def write(self, data: bytes) -> None:
         """Hands lines to the replay, without waiting for it."""

@@ -21,7 +21,7 @@
 \endif
 \if :{?to}
 \else
-    \set to 5
+    \set to 6
 \endif
 
 begin;
@@ -1052,6 +1052,11 @@ select :to >= 5 and not exists (select from schema_version where version = 5) as
 \if :is_due
     \ir schema/0005_settled.sql
     insert into schema_version (version) values (5);
+\endif
+select :to >= 6 and not exists (select from schema_version where version = 6) as is_due \gset
+\if :is_due
+    \ir schema/0006_nobody_stops_another.sql
+    insert into schema_version (version) values (6);
 \endif
 
 -- Passwords of the roles ----------------------------------------------------------------------------------------------

@@ -1,6 +1,7 @@
 """One end of a WebSocket connection: what `websockets` knows of the protocol, on a transport of asyncio."""
 
 import asyncio
+from collections import deque
 from typing import cast
 
 from websockets.client import ClientConnection
@@ -17,6 +18,8 @@ SUBPROTOCOL = Subprotocol(PROTOCOL)
 MOST = 524_288
 # Seconds until a connection that was closed from this side is cut.
 CLOSING = 5.0
+# Bytes that are read at once. Behind each part the reader may stop, however small the frames in it are.
+PART = 4096
 
 
 class Link(asyncio.Protocol):
@@ -27,7 +30,9 @@ class Link(asyncio.Protocol):
     def __init__(self, connection: Connection) -> None:
         self.connection = connection
         self.opcode, self.parts = OP_TEXT, list[bytes]()
-        self.is_lost = False
+        # What came and is not read yet.
+        self.unread = deque[bytes]()
+        self.is_lost = self.is_reading = False
 
     def handshake(self, event: Request | Response) -> None:
         """The other end asks to be let in, or answers that."""
@@ -41,19 +46,41 @@ class Link(asyncio.Protocol):
         """The connection is there."""
         self.transport = cast(asyncio.Transport, transport)
 
+    def is_held(self) -> bool:
+        """Whether something speaks against reading more."""
+        return False
+
+    def count(self, frame: Frame) -> None:
+        """A frame of any kind came."""
+
     def data_received(self, data: bytes) -> None:
         """Bytes came."""
-        if self.is_lost:
-            return
-        self.connection.receive_data(data)
-        for event in self.connection.events_received():
-            if not isinstance(event, Frame):
-                self.handshake(event)
-            elif self.connection.state is State.CONNECTING:
-                continue  # What comes before the other end is let in is nobody's.
-            elif event.opcode in (OP_TEXT, OP_BINARY, OP_CONT):
-                self.frame(event)
+        if len(data) <= PART:
+            self.unread.append(data)
+        else:
+            self.unread.extend(data[at : at + PART] for at in range(0, len(data), PART))
+        self.read()
+
+    def read(self) -> None:
+        """Reads what came, up to where something speaks against it."""
+        if self.is_reading:
+            return  # An answer to what is being read.
+        self.is_reading = True
+        while self.unread and not (self.is_lost or self.is_held()):
+            self.connection.receive_data(self.unread.popleft())
+            for event in self.connection.events_received():
+                self.take(event)
+        self.is_reading = False
         self.flush()
+
+    def take(self, event: Request | Response | Frame) -> None:
+        """Takes what was read."""
+        if not isinstance(event, Frame):
+            self.handshake(event)
+            return
+        self.count(event)
+        if event.opcode in (OP_TEXT, OP_BINARY, OP_CONT):
+            self.frame(event)
 
     def frame(self, frame: Frame) -> None:
         """A whole message, or a part of one; those that are too long were refused before."""

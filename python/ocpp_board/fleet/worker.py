@@ -21,12 +21,14 @@ import random
 import secrets
 import time
 from collections.abc import Coroutine, Mapping, Sequence
+from contextlib import suppress
+from functools import partial
 from typing import Any
 
 import asyncpg
 
 from ocpp_board.fleet import metrics, parts
-from ocpp_board.fleet.archives import HAS_ARCHIVED, Late
+from ocpp_board.fleet.archives import HAS_ARCHIVED, KeptReplays, Late
 from ocpp_board.fleet.board_writer import Board, BoardWriter, Shown
 from ocpp_board.fleet.database import (
     BY_INDEX,
@@ -37,14 +39,18 @@ from ocpp_board.fleet.database import (
     Fault,
     Unreachable,
     connect,
+    listen,
     said,
     seen,
+    until_ended,
     within,
     woken_by,
 )
+from ocpp_board.fleet.lines import Transaction
 from ocpp_board.fleet.orders import (
     CONTESTED,
     INBOXES,
+    KEEP_UNTOLD,
     LOOK,
     MOST_BYTES,
     MOST_ROWS,
@@ -59,6 +65,7 @@ from ocpp_board.fleet.orders import (
 )
 from ocpp_board.fleet.plans import Plan, known_lines
 from ocpp_board.fleet.replays import Replay, ReplayEnded
+from ocpp_board.fleet.surplus import Surplus
 from ocpp_board.fleet.watched import STANDING, Watched
 from ocpp_board.limits import LONGEST_SCRIPT
 from ocpp_board.processes import run_tool
@@ -73,7 +80,7 @@ with beat as (
     select $1, pid, backend_start, clock_timestamp(), $2 from pg_stat_get_activity($3)
     on conflict (worker) do update
         set pid = excluded.pid, began = excluded.began, beat = excluded.beat, shards = excluded.shards)
-select living_workers() as living
+select living_workers() as living, pg_notification_queue_usage() as queue
 """
 # All sessions of a worker have its name.
 FENCE = """
@@ -81,6 +88,12 @@ with hung as (delete from worker where beat < clock_timestamp() - make_interval(
 select worker, count(pg_terminate_backend(a.pid)) from hung left join pg_stat_activity a
 on a.application_name = worker and a.datname = current_database() and a.usename = current_user group by worker
 """
+# Other databases that this role may enter.
+DOORS = """
+select string_agg(datname, ', ' order by datname) from pg_database
+where datallowconn and datname <> current_database() and has_database_privilege(datname, 'connect')
+"""
+SHUT = "revoke connect on database .. from public"
 HOLD = "select shard from unnest($1::int[]) as s (shard) where hold_shard(shard) limit $2"
 # Shards that are read at once, and those among them that still read their log from the start.
 AT_ONCE, OPENING = 64, 2
@@ -96,6 +109,8 @@ SWEEP, SETTLING, FENCING = 20, 5, 5
 NOTING, CONTEST = 0.5, 0.05
 # Shards whose boards are made at once.
 SHOWN = 8
+# From which part of the queue of notifications on answers take the other way, by a table.
+SLOW_QUEUE = 0.005
 # Shards taken at once, and seconds in which the program has to open a plan.
 TAKEN, OPENING_TIME = 16, 60
 # Seconds in which the database has to answer at least, however soon workers that hang are ended, and after which a
@@ -119,7 +134,9 @@ class Shard:
         self.shown: dict[str, Shown] = {}
         self.began = asyncio.get_running_loop().time()
         self.answered = time.monotonic()
-        self.lines = self.bytes = 0
+        self.surplus = Surplus()
+        # Lines that were read, bytes of the log, and bytes that its replay was handed, which has an end as well.
+        self.lines = self.bytes = self.handed = 0
         self.changed, self.due = True, 0.0
         self.is_loaded = self.is_answering = self.is_showing = False
         self.busy = asyncio.Lock()
@@ -138,12 +155,16 @@ class Session:
         self.patience = max(ANSWER, words.hang)
         self.seen: metrics.WorkerSeen = words.seen
         # One holds the shards, moves their lines and tells answers; its commits may wait for a standby. So beats have
-        # another one, and boards, which are many rows, a third.
-        self.holder, self.beats, self.boards = (Asked(one, self.patience) for one in databases)
+        # another one, and boards, which are many rows, a third. A fourth listens, and is slow while many notifications
+        # come.
+        self.holder, self.beats, self.boards = (Asked(one, self.patience) for one in databases[:3])
         self.writer = BoardWriter(self.boards, self.is_answering)
+        self.late = KeptReplays(words.program, words.hang)
         # When lines were read last.
         self.read_at = 0.0
         self.living = 0
+        # Whether the queue of notifications has so much in it that what is told there comes late.
+        self.is_queue_slow = False
         self.shards: dict[int, Shard] = {}
         # Shards whose lock is held and that are not open yet.
         self.opening: set[int] = set()
@@ -173,9 +194,11 @@ class Session:
     async def run(self) -> None:
         """Works until the session is lost. Raises what it was lost by."""
         try:
+            listener = self.databases[-1]
             for channel in INBOXES:
-                await self.holder.database.add_listener(channel, self.wake)
-            await self.holder.database.add_listener("plan", lambda *_: self.planned.set())
+                await listen(listener, channel, partial(self.wake, channel))
+            await listen(listener, "plan", lambda *_: self.planned.set())
+            self.spawn(until_ended(listener))
             await self.beat_once()
             self.seen.session = self
             jobs = [self.beat(), self.keep_share(), self.read(), self.show(), self.note()]
@@ -190,6 +213,7 @@ class Session:
                 task.cancel()
             for shard in self.shards.values():
                 shard.replay.kill()
+            self.late.close()
             for database in self.databases:
                 database.terminate()
 
@@ -217,8 +241,8 @@ class Session:
         """How shards stand, once they are taken."""
         return {row["shard"]: row for row in await self.ask(STATE, numbers)}
 
-    def wake(self, _session: Any, _pid: int, channel: str, payload: str) -> None:
-        """Lines of shards came."""
+    def wake(self, channel: str, _session: Any, _pid: int, _name: str, payload: str) -> None:
+        """Lines of shards came, as is told on a channel."""
         self.wake_all(channel, woken_by(payload))
 
     def wake_all(self, channel: str, firsts: Mapping[int, int]) -> None:
@@ -235,6 +259,8 @@ class Session:
         """Tells that this worker lives, and looks how many do."""
         rows = await self.beats.ask(BEAT, self.words.name, len(self.shards), self.pid)
         self.living, self.seen.beat = rows[0]["living"], time.monotonic()
+        self.seen.queue = rows[0]["queue"]
+        self.is_queue_slow = self.seen.queue > SLOW_QUEUE
 
     async def beat(self) -> None:
         """Tells again and again that this worker lives, and ends those that hang. Where it just began, or its own beats
@@ -263,7 +289,7 @@ class Session:
             self.planned.clear()
             if settling or beats % SWEEP == 0:
                 settling = SETTLING if await self.share(max(1, lived)) else max(0, settling - 1)
-            if beats % SWEEP == 0:
+            if beats % SWEEP == 0 or self.is_queue_slow:
                 await self.sweep()
             try:
                 await asyncio.wait_for(self.planned.wait(), self.words.beat)
@@ -338,6 +364,7 @@ class Session:
             replay = await Replay.start(self.words.program)
             await asyncio.wait_for(replay.open(plan), OPENING_TIME)
             late = Late(number, plan.rows, bool(await self.ask(HAS_ARCHIVED, number)))
+            self.late.forget(number)
             standing = [row["place"] for row in await self.ask(STANDING, number)]
             watched = Watched(number, plan.rows, standing, self.words.told)
         except Fault as fault:
@@ -500,8 +527,9 @@ class Session:
         shard.read, shard.changed = row["place"], shard.changed or is_live
         shard.lines += row["rows"]
         said = [answer.decode("utf-8", "replace") for answer in answers]
-        for place, text, answer in zip(row["places"], row["text"].split("\n"), said):
-            shard.watched.take(place, text, answer)
+        texts = row["text"].split("\n")
+        for number, (place, text) in enumerate(zip(row["places"], texts)):
+            shard.watched.take(place, text, said[number])
         self.weigh(shard, len(row["text"].encode()) + 1)
         front = row["silent"]
         parts = zip(row["gateways"][front:], row["tokens"][front:], said[front:])
@@ -513,16 +541,21 @@ class Session:
         return shard, told
 
     def weigh(self, shard: Shard, size: int) -> None:
-        """Counts so many bytes of the shard's log. It is told where that is half full, and compacted where nearly."""
+        """Counts so many bytes of the shard's log. It is told where that is half full, and compacted where nearly.
+        A replay that was handed nearly as much as it reads begins anew."""
         had, shard.bytes = shard.bytes, shard.bytes + size
-        for part, is_nearly in ((LONGEST_SCRIPT // 2, False), (LONGEST_SCRIPT * 9 // 10, True)):
+        read, shard.handed = shard.handed, shard.handed + size
+        half, most = LONGEST_SCRIPT // 2, LONGEST_SCRIPT * 9 // 10
+        for part in (half, most):
             if had < part <= shard.bytes:
                 log.warning(
                     "shard %d: its log has %s bytes of %s",
                     *(shard.number, f"{shard.bytes:,}", f"{LONGEST_SCRIPT:,}"),
                 )
-                if is_nearly:
-                    self.spawn(self.compact(shard.number))
+        if had < most <= shard.bytes:
+            self.spawn(self.compact(shard.number))
+        elif read < most <= shard.handed and shard.bytes < half and shard.is_loaded:
+            self.reopen(shard)
 
     async def compact(self, number: int) -> None:
         """Compacts a shard in a process of its own. Its plan then changes, and its replay begins anew."""
@@ -546,10 +579,32 @@ class Session:
                 shard.replay.write("\n".join([*live, ""]).encode())
                 answers = await shard.replay.answers(len(live))
         if late:
-            job = shard.late.answers(self.words.program, texts, late, row["silent"])
-            told, own = await asyncio.wait_for(job, self.words.hang), iter(answers)
+            told, own = await self.late_answers(shard, row, texts, late), iter(answers)
             answers = [told.get(n, b"") if n in late else next(own) for n in range(len(texts))]
+        for number, answer in enumerate(answers):
+            if number not in late:
+                shard.surplus.take(row["places"][number], texts[number], answer, False)
         return answers, bool(live)
+
+    async def late_answers(
+        self, shard: Shard, row: Any, texts: list[str], late: Mapping[int, Transaction]
+    ) -> dict[int, bytes]:
+        """The answers to lines for archived transactions, but for those in front that were told before. What of them
+        changed nothing may leave the log."""
+        found, places = dict[int, bytes](), row["places"]
+        numbers = {place: number for number, place in enumerate(places)}
+        for number in [number for number in late if number < row["silent"]]:
+            shard.late.answered(places[number], texts[number], late[number])
+        new = [number for number in late if number >= row["silent"]]
+        for one in dict.fromkeys(late[number] for number in new):
+            lines = [(places[number], texts[number]) for number in new if late[number] == one]
+            said = await shard.late.said(self.ask, self.late, one, lines)
+            for place, (text, (answer, is_change)) in said.items():
+                if place in numbers:
+                    found[numbers[place]] = answer
+                if not is_change:
+                    shard.surplus.take(place, text, answer, True)
+        return found
 
     async def is_replanned(self, shard: Shard) -> bool:
         """Whether the plan changed under a shard: the station may be new."""
@@ -560,7 +615,9 @@ class Session:
         """Tells answers to the gateways that wait for them."""
         places = [shard.read for shard, _ in answered]
         channels, payloads = payloads_of([answer for _, answers in answered for answer in answers])
-        if channels:
+        if channels and self.is_queue_slow:
+            await self.keep_untold(channels, payloads)
+        elif channels:
             await self.notify(channels, payloads)
         self.seen.counts["answers"] += sum(len(answers) for _, answers in answered)
         now = time.monotonic()
@@ -574,6 +631,8 @@ class Session:
         """Tells these payloads; one that can't be told costs no other."""
         try:
             await self.ask(TELL, channels, payloads)
+        except asyncpg.ProgramLimitExceededError:
+            await self.keep_untold(channels, payloads)
         except UNTOLD as fault:
             if len(channels) == 1:
                 log.warning("answers can't be told on the channel %r: %s", channels[0], fault)
@@ -581,12 +640,21 @@ class Session:
             for channel, payload in zip(channels, payloads):
                 await self.notify([channel], [payload])
 
+    async def keep_untold(self, channels: list[str], payloads: list[str]) -> None:
+        """Leaves payloads where gateways look for them. Whoever else listens is told, if the queue has room."""
+        await self.ask(KEEP_UNTOLD, channels, payloads)
+        for channel, payload in zip(channels, payloads):
+            if not channel.startswith("gateway_"):
+                with suppress(*UNTOLD):
+                    await self.ask(TELL, [channel], [payload])
+
     async def note(self) -> None:
         """Notes again and again up to which places answers were told, and what was refused."""
         while True:
             await asyncio.sleep(NOTING)
             for shard in list(self.shards.values()):
                 await shard.watched.write(self.boards.ask)
+                shard.bytes -= await shard.surplus.leave(self.ask, shard.number, shard.taken)
             new = [(one, one.told) for one in self.shards.values() if one.told != one.noted]
             if new:
                 columns = zip(*((shard.number, told, shard.bytes) for shard, told in new))
@@ -658,7 +726,7 @@ async def opened(words: argparse.Namespace) -> list[Any]:
     """The sessions of a worker, once those that it had before are ended."""
     databases = list[Any]()
     try:
-        for _ in range(3):
+        for _ in range(4):
             databases.append(
                 await connect(
                     words.db, application_name=words.name, synchronous_commit="off", **BY_INDEX
@@ -673,6 +741,13 @@ async def opened(words: argparse.Namespace) -> list[Any]:
     return databases
 
 
+async def tell_doors(database: Any) -> None:
+    """Tells which other databases of the server this role may enter: it holds their sessions there."""
+    names = await within(ANSWER, database, "fetchval", DOORS)
+    if names:
+        log.warning("this role may enter other databases, too: %s; %s", names, SHUT)
+
+
 async def work(words: argparse.Namespace) -> None:
     """Sessions, one after the other: where one is lost the next begins anew."""
     metrics.serve(words.metrics, words.seen.watch())
@@ -683,6 +758,7 @@ async def work(words: argparse.Namespace) -> None:
             databases = await opened(words)
             has_sessions = True
             if is_first:
+                await tell_doors(databases[1])
                 print("ready", flush=True)
             elif last:
                 log.info("connected")

@@ -1,0 +1,153 @@
+"""Tries on a fleet of its own that years of history make no closing and no move slower.
+
+    tests/one fleet.history_demo ocpp_board [--days 365]
+
+It starts PostgreSQL 15 in a temporary folder and fills a shard of 64 stations with so many closed days. Then a day is
+closed for which nothing came, and one with a session, and the shard moves to another cell. The status is 1 where
+something is not as it must be, or takes too long.
+"""
+
+import asyncio
+import os
+import re
+import subprocess
+import sys
+import time
+from typing import Any
+
+from ocpp_board.fleet.database import connect
+from tests.fleet.closings import ClosingTrial, local, session
+from tests.fleet.fleet import FILL, ended
+from tests.fleet.trials import parsed, parser_of, tried
+
+STATIONS = 64
+# Rows of periods that a closing reads at most, the bytes that it takes, and seconds for which a shard that moves takes
+# no lines. How long a closing takes depends on what else the machine does.
+ROWS, MEMORY, MOVE = 500, 200_000_000, 2.0
+READ = """
+select sum(coalesce(seq_tup_read, 0) + coalesce(idx_tup_fetch, 0)) from pg_stat_user_tables
+where relname in ('own_closed_period', 'own_archived_period')
+"""
+# The days before 2026-03-01: 40 periods and 4 sessions each of every station.
+HISTORY = (
+    """
+    insert into own_closing (shard, site, closing, day, period, archive, plan)
+    select 0, 'north', n, date '2026-02-28' - ($1::int - n), 900, 'north.' || n, n from generate_series(1, $1) n
+    """,
+    """
+    insert into own_closed_period (shard, site, closing, station, starts, day, up, down)
+    select 0, 'north', n, station, (date '2026-02-28' - ($1::int - n) + interval '6 hours' + p * interval '15 minutes')
+        at time zone 'Europe/Berlin', date '2026-02-28' - ($1::int - n), 250000, 0
+    from generate_series(1, $1) n, own_station, generate_series(1, 40) p where shard = 0
+    """,
+    """
+    insert into own_archived_period (shard, site, closing, station, starts, up, down)
+    select shard, site, closing, station, starts, up, down from own_closed_period
+    """,
+    """
+    insert into own_archived_transaction (shard, site, closing, station, transaction, complete, missing, up, down)
+    select 0, 'north', n, station, 'tx-' || n || '-' || p, true, 0, 2500000, 0
+    from generate_series(1, $1) n, own_station, generate_series(1, 4) p where shard = 0
+    """,
+    """
+    insert into own_archived_lines (shard, site, closing, station, transaction, lines)
+    select shard, site, closing, station, transaction, $1 from own_archived_transaction
+    """,
+    """
+    insert into own_archived_total (shard, site, closing, station, transactions, complete, missing, up, down,
+        export_up, export_down, corrects_transactions, corrects_complete, corrects_missing)
+    select 0, 'north', n, station, 4, 4, 0, 10000000, 0, 0, 0, false, false, false
+    from generate_series(1, $1) n, own_station where shard = 0
+    """,
+)
+
+
+class Demo(ClosingTrial):
+    STATIONS = tuple((0, "north", f"S-{number:02}") for number in range(STATIONS))
+
+    async def fill(self) -> None:
+        """The history of a shard."""
+        began = time.monotonic()
+        for statement in HISTORY:
+            is_lines = "own_archived_lines" in statement
+            values = (b"x" * 400,) if is_lines else (self.words.days,) if "$1" in statement else ()
+            await self.owner.execute(statement, *values, timeout=600)
+        await self.owner.execute("analyze", timeout=600)
+        count = await self.owner.fetchval("select count(*) from own_closed_period")
+        took = time.monotonic() - began
+        print(f"{count:,} periods of {self.words.days} days, filled in {took:.0f} s", flush=True)
+
+    async def close_measured(self, text: str, day: str, wanted: str) -> None:
+        """Closes a day, which has to take as little as where there is no history."""
+        began, before = time.monotonic(), await self.rows_read()
+        command = self.fleet.closing("north", self.archives, day)
+        process = subprocess.Popen(command, stdout=-1, stderr=-2, stdin=subprocess.DEVNULL)
+        assert process.stdout
+        said = (await asyncio.to_thread(process.stdout.read)).decode().strip()
+        _, status, used = await asyncio.to_thread(os.wait4, process.pid, 0)
+        process.returncode = os.waitstatus_to_exitcode(status)
+        took, memory = time.monotonic() - began, used.ru_maxrss * 1024
+        rows = await self.rows_read() - before
+        self.check(
+            process.returncode == 0 and wanted in said and rows < ROWS and memory < MEMORY,
+            f"{text}: {took:.2f} s, {rows:,} rows of periods read, {memory / 1e6:.0f} MB: {said}",
+        )
+
+    async def rows_read(self) -> int:
+        """Rows of periods that were read by now; a session tells its own once it ends or is idle for a second."""
+        await asyncio.sleep(1.5)
+        await self.owner.execute("select pg_stat_clear_snapshot()")
+        return int(await self.owner.fetchval(READ))
+
+    async def move(self) -> None:
+        """The shard moves, with all that it has."""
+        self.fleet.databases[0].fill(2, "second")
+        second = await self.second()
+        query = """
+            select (select count(*) from own_closed_period), (select count(*) from own_archived_period),
+                (select count(*) from own_archived_lines), (select sum(up) from own_settled),
+                (select sum(up) from own_archived_sum), (select count(*) from own_log)
+        """
+        before = tuple(await self.owner.fetchrow(query))
+        began = time.monotonic()
+        status, said = await ended(
+            self.fleet.start(*self.fleet.moving("second", 0), stdout=-1, stderr=-2)
+        )
+        took = time.monotonic() - began
+        found = re.search(r"took no lines for ([0-9.]+) s", said)
+        self.check(
+            status == 0 and found and float(found[1]) < MOVE, f"a move of {took:.0f} s: {said}"
+        )
+        after = tuple(await second.fetchrow(query))
+        left = await self.owner.fetchval("select count(*) from own_closed_period")
+        self.check(
+            after == before and left == 0, f"all of it is there: {after}, {before}; {left} are left"
+        )
+        await second.close()
+
+    async def second(self) -> Any:
+        """A session of the other cell's owner."""
+        return await connect(self.fleet.dsn("owner", database="second"))
+
+    async def run(self) -> None:
+        await self.open_plan()
+        await self.fill()
+        await self.close_measured("nothing came", "2026-02-28", "nothing came since")
+        lines = session("S-01", "TX-1", local("2026-03-01 08:00"), 4)
+        await self.owner.execute(FILL, 0, lines)
+        await self.close_measured("a session came", "2026-03-01", "3 rows, 0 of them corrections")
+        await self.close_measured("it leaves the log", "2026-03-02", "1 transactions archived")
+        await self.move()
+        await self.owner.close()
+
+
+def main() -> int:
+    """Tries it, and gives the exit status."""
+    parser = parser_of(__doc__)
+    parser.add_argument("--days", type=int, default=40, help="closed days (default: 40)")
+    words: Any = parsed(parser)
+    return tried("history", lambda: Demo(words))
+
+
+if __name__ == "__main__":
+    sys.exit(main())

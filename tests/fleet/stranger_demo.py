@@ -1,0 +1,325 @@
+"""Tries on a fleet of its own what strangers, and one station among others, could stop.
+
+    tests/one fleet.stranger_demo ocpp_board
+
+It starts PostgreSQL 15 in a temporary folder, a worker and a gateway that asks for passwords. Then come: a stranger
+whose verdict is kept back and who sends empty pongs without end, and a station that is let in and does so; strangers
+who guess a station's password while the gateway begins anew; 400 strangers at 400 addresses; and a reader who notifies
+without end, and fills the queue of notifications. Whatever they do, a true station waits less than a second, and some
+seconds at most where that queue is full. The status is 1 where something is not as it must be.
+"""
+
+import argparse
+import asyncio
+import secrets
+import sys
+import time
+from collections.abc import Awaitable, Callable
+
+from websockets.frames import OP_CONT, OP_PING, OP_PONG, OP_TEXT, Frame
+
+from ocpp_board.fleet.database import connect
+from ocpp_board.fleet.passwords import FREE, SALT, hashed
+from tests.fleet.client import Client, handshake
+from tests.fleet.trials import Trial, event, parsed, parser_of, tried
+
+# The station that is looked at, one that does harm, and one whose password strangers guess.
+TRUE, ODD, GUESSED = "CS-00000", "CS-00001", "CS-00002"
+WRONG = "wrong-0123-4567-89ab"
+# For how many seconds a stranger sends, bytes a second, and the longest wait of a true station.
+SECONDS, RATE, MOST = 5, 1_000_000, 1.0
+STRANGERS = 400
+# What a reader tells: shards whose plan changed, shards with lines, answers; and what stays in the queue while a
+# session that listens is in a transaction.
+NOTIFY = """
+select count(pg_notify(channel, n::text))
+from generate_series(1, 100000) n, (values ('plan'), ('wake'), ((
+    select application_name from pg_stat_activity where application_name like 'gateway_%' limit 1))) c (channel)
+"""
+FILL_QUEUE = """
+select count(pg_notify('nothing', n || repeat('x', 7000))) from generate_series(1, 9000) n
+"""
+STANDS_STILL = (
+    "set idle_in_transaction_session_timeout = 0",
+    "listen nothing",
+    "begin",
+    "select 1",
+)
+# In place of the server's own, for the sessions of gateways and workers from now on.
+NO_ROOM = """
+create function public.pg_notify(text, text) returns void language plpgsql as $$
+begin
+    raise program_limit_exceeded using message = 'too many notifications in the NOTIFY queue';
+end $$;
+alter function tell(text, text) set search_path = public, pg_catalog, pg_temp;
+alter role ledger_worker set search_path = public, pg_catalog;
+"""
+HEARTBEAT = b'[2,"1","Heartbeat",{}]'
+
+
+def password_of(station: str) -> str:
+    """The password of a station."""
+    return f"right-{station}-0123"
+
+
+class Demo(Trial):
+    def __init__(self, words: argparse.Namespace) -> None:
+        super().__init__(words)
+        self.url = ""
+        self.addresses = self.number = 0
+        self.limit = MOST
+
+    def address(self) -> str:
+        """An address of this machine that nobody came from yet."""
+        self.addresses += 1
+        return f"127.1.{self.addresses // 250}.{self.addresses % 250 + 1}"
+
+    async def begin(self) -> None:
+        """A worker, a gateway, and stations with passwords."""
+        await self.one_cell()
+        await self.fleet.add(self.owner, 4, 4, 0)
+        for station in (TRUE, ODD, GUESSED):
+            salt = secrets.token_bytes(SALT)
+            values = (station, hashed(password_of(station).encode(), salt), salt)
+            await self.owner.execute("select set_password($1, $2, $3)", *values)
+        self.worker = self.fleet.worker("--boards", 0.5)
+        self.process, self.url = await asyncio.to_thread(self.fleet.gateway, options=())
+
+    async def comes(self, station: str, address: str = "") -> tuple[str, float, Client]:
+        """What a station is answered that comes with its password, and after how long."""
+        began = time.monotonic()
+        login = f"{station}:{password_of(station)}"
+        link = await Client.open(self.url, station, login, address or self.address())
+        heard = await link.said(30)
+        return heard, time.monotonic() - began, link
+
+    async def most(self) -> float:
+        """The longest wait that is right: a second, and more where the machine has so much to do that stations wait
+        while nothing happens."""
+        waits = list[float]()
+        for _ in range(10):
+            _, took, link = await self.comes(TRUE)
+            waits.append(took)
+            link.transport.abort()
+            await asyncio.sleep(0.1)
+        return MOST + 10 * max(waits)
+
+    async def waits(self, work: Awaitable[object]) -> float:
+        """The longest wait of a true station while something goes on."""
+        _, _, link = await self.comes(TRUE)
+        job, longest = asyncio.ensure_future(work), 0.0
+        while not job.done():
+            began = time.monotonic()
+            link.send(HEARTBEAT)
+            await link.said(60)
+            longest = max(longest, time.monotonic() - began)
+            await asyncio.sleep(0.05)
+        job.result()
+        link.transport.abort()
+        return longest
+
+    # What is tried ----------------------------------------------------------------------------------------------------
+
+    async def sends(self, front: bytes, data: bytes, is_right: bool) -> None:
+        """Someone sends bytes again and again, a million a second, whatever is answered."""
+        host, port = self.url.removeprefix("ws://").removesuffix("/ocpp").split(":")
+        reader, writer = await asyncio.open_connection(
+            host, int(port), local_addr=(self.stranger, 0)
+        )
+        writer.write(front)
+        if is_right:
+            await reader.readline()
+        block, began, sent = data * (RATE // 50 // len(data)), time.monotonic(), 0
+        try:
+            while time.monotonic() < began + SECONDS:
+                if writer.transport.get_write_buffer_size() < RATE:
+                    writer.write(block)
+                    sent += len(block)
+                await asyncio.sleep(max(0.0, sent / RATE - (time.monotonic() - began)) or 0.01)
+        except OSError:
+            pass
+        writer.transport.abort()
+
+    async def frames(self) -> None:
+        """Frames of a stranger before the verdict, and of a station that is let in."""
+        self.stranger = self.address()
+        tries = [
+            Client.open(self.url, GUESSED, f"{GUESSED}:{WRONG}", self.stranger)
+            for _ in range(FREE + 1)
+        ]
+        links = await asyncio.gather(*tries)
+        pong = Frame(OP_PONG, b"").serialize(mask=True)
+        wait = await self.waits(self.sends(handshake(GUESSED, WRONG), pong, False))
+        self.check(
+            wait < self.limit,
+            f"a stranger sends pongs before the verdict: a station waits {wait:.2f} s",
+        )
+        for link in links:
+            link.transport.abort()
+        self.stranger = self.address()
+        part = Frame(OP_TEXT, b"", fin=False).serialize(mask=True)
+        more = Frame(OP_CONT, b"", fin=False).serialize(mask=True)
+        for what, front, data in (
+            ("pongs", b"", pong),
+            ("pings", b"", Frame(OP_PING, b"").serialize(mask=True)),
+            ("empty parts of a message", part, more),
+            ("heartbeats", b"", Frame(OP_TEXT, HEARTBEAT).serialize(mask=True)),
+        ):
+            own = handshake(ODD, password_of(ODD)) + front
+            wait = await self.waits(self.sends(own, data, True))
+            self.check(
+                wait < self.limit,
+                f"a station that is let in sends {what}: another waits {wait:.2f} s",
+            )
+
+    async def guesses(self, address: str, until: Callable[[], bool]) -> None:
+        """Someone guesses a station's password again and again."""
+        while not until():
+            try:
+                link = await Client.open(self.url, GUESSED, f"{GUESSED}:{WRONG}", address)
+                await link.said(15)
+                link.transport.abort()
+            except (OSError, asyncio.TimeoutError):
+                await asyncio.sleep(0.05)
+
+    async def begun_anew(self) -> None:
+        """A gateway that begins anew while strangers guess: the station that they guess is let in at once."""
+        is_over = False
+        jobs = [
+            asyncio.create_task(self.guesses(self.address(), lambda: is_over)) for _ in range(120)
+        ]
+        await asyncio.sleep(2)
+        port = int(self.url.removesuffix("/ocpp").rpartition(":")[2])
+        self.process.kill()
+        self.process.wait()
+        self.process, self.url = await asyncio.to_thread(self.fleet.gateway, port=port, options=())
+        await asyncio.sleep(1)
+        found = list[tuple[str, float]]()
+        for _ in range(12):
+            # What was right is forgotten, as where a gateway begins anew.
+            await self.owner.execute("select tell('password', $1)", GUESSED)
+            await asyncio.sleep(0.2)
+            heard, took, link = await self.comes(GUESSED)
+            found.append((heard, took))
+            link.transport.abort()
+        is_over = True
+        await asyncio.gather(*jobs)
+        refused = [heard for heard, _ in found if heard != "101"]
+        longest = max(took for _, took in found)
+        # The strangers have this machine's processors, too, and this process.
+        self.check(
+            not refused and longest < 3 * self.limit,
+            f"a station whose password 120 strangers guess: {len(refused)} of 12 tries are refused, "
+            f"and the longest takes {longest:.2f} s",
+        )
+
+    async def many(self) -> None:
+        """Strangers at as many addresses, with names that are none and with a station's."""
+        addresses = [self.address() for _ in range(STRANGERS)]
+
+        host, port = self.url.removeprefix("ws://").removesuffix("/ocpp").split(":")
+
+        async def stranger(number: int) -> None:
+            name = GUESSED if number % 2 else f"NOBODY-{number}"
+            reader, writer = await asyncio.open_connection(
+                host, int(port), local_addr=(addresses[number], 0)
+            )
+            writer.write(handshake(name, WRONG))
+            await reader.read(1)
+            writer.transport.abort()
+
+        jobs = [asyncio.create_task(stranger(number)) for number in range(STRANGERS)]
+        await asyncio.sleep(0.05)
+        waits = list[float]()
+        for station in (TRUE, GUESSED, ODD):
+            heard, took, link = await self.comes(station)
+            self.check(heard == "101", f"{station} among {STRANGERS} strangers: {heard}")
+            waits.append(took)
+            link.transport.abort()
+        await asyncio.gather(*jobs)
+        self.check(max(waits) < self.limit, f"and is let in after {max(waits):.2f} s at most")
+
+    async def event(self, link: Client) -> float:
+        """How long a station waits for the answer to an event."""
+        self.number += 1
+        began = time.monotonic()
+        link.send(event(f"TX-{self.number}", 0, "Started", "2026-03-01T10:00:00Z", 1000).encode())
+        heard = await link.said(40)
+        if not heard.startswith("[3,"):
+            self.check(False, f"an event is answered {heard}")
+        return time.monotonic() - began
+
+    async def reader(self) -> None:
+        """A reader who notifies without end, on the channels that workers and gateways listen to."""
+        _, _, link = await self.comes(TRUE)
+        reader = await connect(self.fleet.dsn("ledger_reader"))
+        job = asyncio.ensure_future(reader.execute(NOTIFY, timeout=120))
+        waits = list[float]()
+        while not job.done() or len(waits) < 20:
+            waits.append(await self.event(link))
+            await asyncio.sleep(0.05)
+        await job
+        self.check(
+            max(waits) < self.limit,
+            f"a reader notifies 300,000 times: a station waits {max(waits):.2f} s",
+        )
+        listener = await connect(self.fleet.dsn("ledger_reader"))
+        for statement in STANDS_STILL:
+            await listener.execute(statement)
+        await reader.execute(FILL_QUEUE, timeout=60)
+        await asyncio.sleep(0.5)
+        used = await self.owner.fetchval("select pg_notification_queue_usage()")
+        waits = [await self.event(link) for _ in range(20)]
+        kept = await self.owner.fetchval("select count(*) from untold")
+        self.check(
+            max(waits) < 2 * self.limit and kept == 0,
+            f"a queue of which {used:.1%} waits: a station waits {max(waits):.2f} s, {kept} are left",
+        )
+        link.transport.abort()
+        await listener.close()
+        await reader.close()
+
+    async def no_room(self) -> None:
+        """A queue without room: each notification is refused as PostgreSQL refuses it then."""
+        await self.owner.execute(NO_ROOM)
+        for process in (self.worker, self.process):
+            process.kill()
+            process.wait()
+        self.worker = self.fleet.worker("--boards", 0.5)
+        self.process, self.url = await asyncio.to_thread(self.fleet.gateway, options=())
+        heard, took, link = await self.comes(TRUE)
+        await self.event(link)
+        waits = [await self.event(link) for _ in range(10)]
+        self.check(
+            heard == "101" and max(waits) < 6 * self.limit,
+            f"a queue without room: {heard}, and a station waits {max(waits):.2f} s",
+        )
+        await self.owner.execute("drop function public.pg_notify(text, text)")
+
+    async def answered(self) -> None:
+        """An event is answered in the end."""
+        _, _, link = await self.comes(TRUE)
+        took = await self.event(link)
+        self.check(took < 20, f"an event behind all that is answered after {took:.2f} s")
+
+    async def run(self) -> None:
+        await self.begin()
+        self.limit = await self.most()
+        print(f"a station waits {self.limit:.2f} s at most where that is right", flush=True)
+        await self.frames()
+        await self.begun_anew()
+        await self.many()
+        await self.reader()
+        await self.answered()
+        await self.no_room()
+        await self.owner.close()
+
+
+def main() -> int:
+    """Tries it, and gives the exit status."""
+    words = parsed(parser_of(__doc__))
+    return tried("strangers", lambda: Demo(words))
+
+
+if __name__ == "__main__":
+    sys.exit(main())
