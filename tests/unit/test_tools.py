@@ -97,7 +97,7 @@ def test_the_version_is_that_of_the_program() -> None:
     arguments_of_the_program = Path(__file__).parents[2] / "crates/ocpp_board/src/options.rt"
     assert f'const VERSION: &str = "{version()}";' in arguments_of_the_program.read_text()
     words_of_the_replay = Path(__file__).parents[2] / "crates/ocpp_replay/src/words.rt"
-    assert f'"ocpp_replay {version()}"' in words_of_the_replay.read_text()
+    assert f'"ocpp_replay {version()}\\n"' in words_of_the_replay.read_text()
 
 
 @pytest.mark.parametrize("said", [None, "glibc.malloc.arena_max=2"])

@@ -1,8 +1,11 @@
 //! An input of which a read gathers what comes at once.
-ghost use Rattle.std.specs.Prelude.{◌≤◌, length};
+ghost use Rattle.std.specs.Prelude.{◌≡◌, ◌≤◌, ◌++◌, ℕ, List, length, take};
+ghost use Rattle.std.specs.Io.KnownBytes.{Consumes};
+ghost use Rattle.gathered_input.specs.Told.{IsTruly};
 
 use crate::readiness::{Readiness, StandardInput};
 use std::io::{Read, Stdin};
+use std::marker::Model;
 use std::thread::Threads;
 use std::{io, thread};
 
@@ -13,9 +16,9 @@ const MUCH: usize = 32_768;
 // How often is looked for more before a read ends without it.
 const LOOKS: usize = 256;
 
-/// An input of which a read gathers what comes at once.
+/// An input of which a read gathers what comes at once. To a contract it is that input.
 #[derive(Drop)]
-pub struct GatheredInput<R, L> {
+pub struct GatheredInput<R: Read, L> {
     input: R,
     readiness: L,
     // Whether there is a processor for who writes while is looked.
@@ -31,14 +34,26 @@ enum Stop {
     Fault(io::Error),
 }
 
+impl<R: Read, L> Model for GatheredInput<R, L> {
+    ghost Value = { R };
+
+    ghost view = { λ g. g.input };
+
+    ghost invariant = { λ g. IsTruly (R.remaining g.input) g.stop };
+}
+
 /// Standard input, of which a read gathers what comes at once.
-pub fn gathered<X: Threads>(rt: &X, input: Stdin) -> GatheredInput<Stdin, StandardInput> {
+pub fn gathered<X: Threads>(rt: &X, input: Stdin) -> GatheredInput<Stdin, StandardInput>
+    ensures { result ≡ input }
+{
     GatheredInput::new(rt, input, StandardInput)
 }
 
 impl<R: Read, L: Readiness> GatheredInput<R, L> {
     /// This input, of whose readiness `readiness` tells. With one processor nothing is gathered.
-    pub fn new<X: Threads>(rt: &X, input: R, readiness: L) -> GatheredInput<R, L> {
+    pub fn new<X: Threads>(rt: &X, input: R, readiness: L) -> GatheredInput<R, L>
+        ensures { result ≡ input }
+    {
         GatheredInput {
             input,
             readiness,
@@ -46,47 +61,11 @@ impl<R: Read, L: Readiness> GatheredInput<R, L> {
             stop: None,
         }
     }
-
-    // Reads on behind the first bytes while much more is there at once, and tells how many bytes there are then. Behind a
-    // read that gave little it ends: whoever waits for an answer may write one line at a time.
-    fn gather(&mut self, buf: &mut [u8], first: usize) -> usize
-        requires { first ≤ length buf.old }
-        ensures { result ≤ length buf.old }
-    {
-        let mut count = first;
-        'more: while count < buf.len() && self.has_more() {
-            match self.input.read(&mut buf[count..]) {
-                Ok(0) => {
-                    self.stop = Some(Stop::End);
-                    break 'more;
-                }
-                Ok(more) => {
-                    count += more;
-                    if more < MUCH {
-                        break 'more;
-                    }
-                }
-                Err(error) => {
-                    self.stop = Some(Stop::Fault(error));
-                    break 'more;
-                }
-            }
-        }
-        count
-    }
-
-    // Whether more comes within so many looks.
-    fn has_more(&self) -> bool {
-        for _ in 0..LOOKS {
-            if self.readiness.is_ready() {
-                return true;
-            }
-        }
-        false
-    }
 }
 
 impl<R: Read, L: Readiness> Read for GatheredInput<R, L> {
+    ghost remaining = { R.remaining };
+
     fn read(&mut self, buf: &mut [u8]) -> io::Result<usize> {
         match self.stop.take() {
             Some(Stop::End) => return Ok(0),
@@ -97,8 +76,49 @@ impl<R: Read, L: Readiness> Read for GatheredInput<R, L> {
         if first < MUCH || !self.is_gathering {
             return Ok(first);
         }
-        Ok(self.gather(buf, first))
+        let (count, stop) = gather(&mut self.input, &self.readiness, buf, first);
+        self.stop = stop;
+        Ok(count)
     }
+}
+
+// Reads on behind the first bytes while much more is there at once, and tells how many bytes there are then, and what a read
+// gave in place of more. Behind a read that gave little it ends: whoever waits for an answer may write one line at a time.
+fn gather<R: Read, L: Readiness>(
+    input: &mut R,
+    readiness: &L,
+    buf: &mut [u8],
+    first: usize,
+) -> (usize, Option<Stop>)
+    requires first { first ≤ length buf.old }
+    ensures within { result.0 ≤ length buf.old }
+    ensures bytes { (more : List ℕ) × Consumes (R.remaining input.old) (R.remaining input.new) more × (take result.0 buf.new ≡ take first buf.old ++ more) }
+    ensures stop { IsTruly (R.remaining input.new) result.1 }
+{
+    let mut count = first;
+    'more: while count < buf.len() && has_more(readiness) {
+        match input.read(&mut buf[count..]) {
+            Ok(0) => return (count, Some(Stop::End)),
+            Ok(more) => {
+                count += more;
+                if more < MUCH {
+                    break 'more;
+                }
+            }
+            Err(error) => return (count, Some(Stop::Fault(error))),
+        }
+    }
+    (count, None)
+}
+
+// Whether more comes within so many looks.
+fn has_more<L: Readiness>(readiness: &L) -> bool {
+    for _ in 0..LOOKS {
+        if readiness.is_ready() {
+            return true;
+        }
+    }
+    false
 }
 
 // Whether another processor is there than the caller's.

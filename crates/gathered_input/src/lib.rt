@@ -5,7 +5,8 @@
 //! read gives much and there is room for more. It looks without waiting (POSIX's `poll` with no time), and waits only for the
 //! first bytes, as any read does.
 //!
-//! No clause says what an input gives, so there is none here but those of [`std::io::Read`].
+//! To a contract a [`GatheredInput`] is its input: the bytes that it gives are those of the input, in their order, with none
+//! lost and none added, and its end is the input's.
 //!
 //! ```text
 //! let mut input = gathered(&rt, rt.stdin());

@@ -1,3 +1,4 @@
+pub mod Growing
 pub mod Steps
 pub mod Whole
 mod Notes

@@ -1,7 +1,7 @@
 -- What a restored script was read up to, and what it leaves.
 use Rattle.std.specs.Prelude.{◌≡◌, ◌≢◌, ◌&&◌, ◌||◌, ℕ, Bool, true, false, eqb, not, List, [], ◌∷◌, ◌++◌, All, Option, None, Some, codes}
 use Rattle.std.specs.Io.BufRead.{ends_with_byte, strip_last}
-use Rattle.std.specs.Io.KnownBytes.{Consumes}
+use Rattle.std.specs.Io.KnownBytes.{Appends, Consumes}
 use Rattle.std.specs.List.{ends_with, starts_with}
 use Rattle.script_lines.specs.Lines.{HasNoFeed, Line, lines_of}
 use Rattle.script_lines.specs.Ranges.{longest_line}
@@ -19,6 +19,10 @@ pub record IsListen (bytes : List ℕ) : Type 0 where
 -- What was consumed ends with the line `listen`, and of what stands before it this holds.
 abbrev pub ReadsToListen : Option (List ℕ) → Option (List ℕ) → (List ℕ → Type 0) → Type 0
 ReadsToListen before after holds = (read last : List ℕ) × Consumes before after (read ++ last) × IsListen last × holds read
+
+-- Bytes were written behind those that were there.
+abbrev pub Grows : Option (List ℕ) → Option (List ℕ) → Type 0
+Grows before now = (more : List ℕ) × Appends before now more
 
 -- The first line of a run, a comment.
 abbrev pub run_line : List ℕ

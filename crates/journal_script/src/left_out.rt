@@ -1,9 +1,10 @@
 ghost use Rattle.std.specs.Prelude.{◌≡◌, ◌||◌, false};
 ghost use Rattle.std.specs.Io.BufRead.{ends_with_byte};
 ghost use Rattle.script_lines.specs.Lines.{line_bytes};
-ghost use Rattle.journal_script.specs.Restoring.{is_cut, is_lost, is_marked, leaves_nothing};
+ghost use Rattle.journal_script.specs.Restoring.{Grows, is_cut, is_lost, is_marked, leaves_nothing};
 
 use itoa::Buffer;
+use script_lines::write_bytes;
 use std::io::Write;
 
 /// The first line of a run in a journal, a comment. It makes one line of itself and of what a kill left before it, which
@@ -37,6 +38,7 @@ impl LeftOut {
     pub(crate) fn tell<T: Write>(&mut self, told: &mut T, line: Option<&[u8]>, reply: &[u8])
         ensures marked { self.new.is_marked ≡ is_marked (line_bytes line.entry) }
         ensures lost { self.new.has_lost ≡ (self.old.has_lost || is_lost reply.now (line_bytes line.entry)) }
+        ensures grows { Grows (T.contents told.old) (T.contents told.new) }
     {
         self.lines = self.lines.wrapping_add(1);
         self.is_marked = is_marked(line);
@@ -49,13 +51,22 @@ impl LeftOut {
 }
 
 // Tells a line by its number, and the answer to it.
-fn tell_line<T: Write>(told: &mut T, number: u64, reply: &[u8]) {
+fn tell_line<T: Write>(told: &mut T, number: u64, reply: &[u8])
+    ensures { Grows (T.contents told.old) (T.contents told.new) }
+{
+    tell_number(told, number);
+    let _ = write_bytes(told, b" ");
+    let _ = write_bytes(told, reply);
+}
+
+// Writes `left out` and the number of a line.
+fn tell_number<T: Write>(told: &mut T, number: u64)
+    ensures { Grows (T.contents told.old) (T.contents told.new) }
+{
     let mut digits = Buffer::new();
     let number = digits.format(number);
-    let _ = told.write_all(b"left out ");
-    let _ = told.write_all(number.as_bytes());
-    let _ = told.write_all(b" ");
-    let _ = told.write_all(reply);
+    let _ = write_bytes(told, b"left out ");
+    let _ = write_bytes(told, number.as_bytes());
 }
 
 // Tells whether an answer is a fault, a refusal or a CALLERROR.

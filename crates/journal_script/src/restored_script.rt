@@ -3,8 +3,10 @@ ghost use Rattle.std.specs.Io.KnownBytes.{Keeps};
 ghost use Rattle.script_lines.specs.Ranges.{longest_line};
 ghost use Rattle.site_book.specs.Tables.{HasTable, NamedBy};
 ghost use Rattle.site_desk.specs.Plan.{plan_fault};
+ghost use Rattle.script_ledgers.specs.Running.{AreTheirPasses};
 ghost use Rattle.site_desk.specs.Roster.{AreCellsOf};
 ghost use Rattle.journal_script.specs.Place.{place_of, posts_of};
+ghost use Rattle.journal_script.specs.Restoring.{Grows};
 ghost use Rattle.journal_script.specs.Reading.{IsLeft, ReadsTo, TakesLine, begun, read_on};
 
 use crate::fault::RestoreFault;
@@ -51,6 +53,7 @@ impl<J: Naming> RestoredScript<J> {
         requires short { self.old.source.lines.max_line_bytes < 2 ^ 62 }
         requires few { posts_of self.old + self.old.source.lines.room < 2 ^ 62 }
         ensures reads { OnOk result (ReadsTo self.old.source.lines.max_line_bytes (place_of self.old).standing (place_of self.new).standing (R.remaining reader.old) (R.remaining reader.new)) }
+        ensures grows { OnOk result (Grows (T.contents told.old) (T.contents told.new)) }
         ensures fails { IfErr result (λ e. e ≢ RestoreFault.NotMarked) }
     {
         'lines: loop {
@@ -97,6 +100,7 @@ impl<J: Naming> RestoredScript<J> {
         requires few { posts_of self.old < 2 ^ 62 }
         ensures step { OnOk result (place_of self.new ≡ read_on (place_of self.old)) }
         ensures posts { OnOk result (posts_of self.new ≤ posts_of self.old + 1) }
+        ensures grows { OnOk result (Grows (T.contents told.old) (T.contents told.new)) }
         ensures fails { IfErr result (λ e. e ≢ RestoreFault.NotMarked) }
     {
         let mut reply = Vec::new(rt.alloc());
@@ -112,6 +116,7 @@ impl<J: Naming> RestoredScript<J> {
     ) -> Result<(Restored, bool), RestoreFault>
         ensures left { IfOk result (λ r. IsLeft (place_of self).standing r.0 r.1) }
         ensures makes_desk { IfOk result (λ r. (plan_fault r.0.draft.sites r.0.draft.stations ≡ None) × AreCellsOf r.0.draft.sites r.0.draft.stations r.0.cells.items) }
+        ensures passes { IfOk result (λ r. AreTheirPasses r.0.cells.items r.0.passes.items) }
         ensures fails { IfErr result (λ e. e ≢ RestoreFault.NotMarked) }
     {
         let RestoredScript { script, source } = self;

@@ -1,9 +1,10 @@
-ghost use Rattle.std.specs.Prelude.{◌≡◌, ◌≢◌, ℕ, ◌<◌, None, IfErr, IfOk};
+ghost use Rattle.std.specs.Prelude.{◌≡◌, ◌≢◌, ℕ, ◌<◌, None, IfErr, IfOk, OnOk};
 ghost use Rattle.site_book.specs.Tables.{HasTable, NamedBy};
 ghost use Rattle.site_desk.specs.Plan.{plan_fault};
+ghost use Rattle.script_ledgers.specs.Running.{AreTheirPasses};
 ghost use Rattle.site_desk.specs.Roster.{AreCellsOf};
 ghost use Rattle.journal_script.specs.Reading.{Leaves};
-ghost use Rattle.journal_script.specs.Restoring.{IsRestored, IsUnmarked, ReadsToListen};
+ghost use Rattle.journal_script.specs.Restoring.{Grows, IsRestored, IsUnmarked, ReadsToListen};
 
 use crate::fault::RestoreFault;
 use crate::restored::Restored;
@@ -28,6 +29,8 @@ pub fn restore<X: AllocGlobal + Threads, R: BufRead, T: Write>(
 ) -> Result<Restored, RestoreFault>
     ensures restored { IfOk result (λ r. ReadsToListen (R.remaining reader.old) (R.remaining reader.new) (λ read. IsRestored read r)) }
     ensures makes_desk { IfOk result (λ r. (plan_fault r.draft.sites r.draft.stations ≡ None) × AreCellsOf r.draft.sites r.draft.stations r.cells.items) }
+    ensures passes { IfOk result (λ r. AreTheirPasses r.cells.items r.passes.items) }
+    ensures grows { OnOk result (Grows (T.contents told.old) (T.contents told.new)) }
     ensures unmarked { IfErr result (λ e. e ≡ RestoreFault.NotMarked → ReadsToListen (R.remaining reader.old) (R.remaining reader.new) (λ read. IsUnmarked read)) }
 {
     let tables = Tables::make(rt.alloc(), MAX_SITES as u16)?;
@@ -49,6 +52,8 @@ fn restore_script<J: Naming, X: AllocGlobal + Threads, R: BufRead, T: Write>(
     requires there { (site : ℕ) → site < 16 → HasTable tables site }
     ensures reads { IfOk result (λ r. Leaves (R.remaining reader.old) (R.remaining reader.new) r.0 r.1) }
     ensures makes_desk { IfOk result (λ r. (plan_fault r.0.draft.sites r.0.draft.stations ≡ None) × AreCellsOf r.0.draft.sites r.0.draft.stations r.0.cells.items) }
+    ensures passes { IfOk result (λ r. AreTheirPasses r.0.cells.items r.0.passes.items) }
+    ensures grows { OnOk result (Grows (T.contents told.old) (T.contents told.new)) }
     ensures fails { IfErr result (λ e. e ≢ RestoreFault.NotMarked) }
 {
     let mut script = RestoredScript::<J>::begin(rt.alloc(), tables);

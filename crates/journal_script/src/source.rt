@@ -2,6 +2,7 @@ ghost use Rattle.std.specs.Prelude.{◌≡◌, ◌≢◌, ◌↔◌, ◌<◌, �
 ghost use Rattle.script_ledgers.specs.Script.{Script, line_step, start};
 ghost use Rattle.script_lines.specs.Lines.{line_bytes};
 ghost use Rattle.script_lines.specs.Ranges.{longest_line};
+ghost use Rattle.journal_script.specs.Restoring.{Grows};
 ghost use Rattle.journal_script.specs.Reading.{TakesLine, begun, held_line, read_line, standing};
 
 use crate::fault::RestoreFault;
@@ -60,6 +61,7 @@ impl Source {
         ensures step { (s t : Script) → line_step s (held_line self.old.lines) ≡ (t, reply.now)
             → standing t self.new.left_out ≡ read_line (standing s self.old.left_out) (held_line self.old.lines) }
         ensures lines { self.new.lines ≡ self.old.lines }
+        ensures grows { Grows (T.contents told.old) (T.contents told.new) }
     {
         self.left_out
             .tell(told, self.lines.line(LineEnd::Feed), reply);

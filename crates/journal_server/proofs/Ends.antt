@@ -1,5 +1,5 @@
 -- What a server's script and its boards are, of what its desk was when it was closed.
-use Rattle.std.proofs.Common.{◌≡◌, ℕ, zero, suc, ◌<◌, ◌≤◌, Bool, List, [], ◌∷◌, ◌++◌, Option, None, Some, All, length, slice_get, refl, sym, ap, subst, ◌∙◌, arith}
+use Rattle.std.proofs.Common.{◌≡◌, ℕ, zero, suc, ◌<◌, ◌≤◌, Bool, List, [], ◌∷◌, ◌++◌, Option, None, Some, Result, Ok, Err, OnOk, All, length, slice_get, refl, sym, ap, subst, ◌∙◌, arith}
 use Rattle.std.specs.Io.KnownBytes.{Appends, append_known}
 use Rattle.std.proofs.lemmas.List.Elements.{All-cons, All-head, All-nil, All-tail}
 use Rattle.board_report.specs.Texts.{board_text}
@@ -12,8 +12,11 @@ use Rattle.kept_desk.specs.Entries.{IsNote}
 use Rattle.kept_desk.specs.Speaking.{AreSpoken, Speaks, SpeaksOf}
 use Rattle.journal_script.proofs.Boards.{boards_are_those_of_cells}
 use Rattle.journal_script.proofs.Journals.{journals_are_scripts}
+use Rattle.journal_script.specs.Restoring.{Grows}
+use Rattle.kept_desk.proofs.Fronts.{entry_accepted}
 use Rattle.kept_desk.specs.Kept.{IsLeftFrom, commands_of}
 use Rattle.kept_desk.specs.Opened.{AreFirst, content_or_empty, contents_of, names_of}
+use Rattle.std.proofs.lemmas.List.{length-map}
 use Rattle.std.proofs.lemmas.Option.{slice_get_within}
 use Rattle.ledger_model.specs.declared.command.Command.{Command}
 use Rattle.ledger_model.specs.Content.{Content}
@@ -24,7 +27,9 @@ use Rattle.station_cell.specs.Cell.{Cell}
 use Rattle.site_desk.specs.Plan.{plan_fault}
 use Rattle.site_desk.specs.Roster.{AreCellsOf}
 use Rattle.site_desk.proofs.NewParts.{planned_names, planned_sites}
-use Rattle.journal_server.specs.Served.{AreLeftFrom, IsEnded, IsItsScript, Leaves, after, joined}
+use Rattle.journal_server.specs.Left.{Left}
+use Rattle.script_lines.specs.Lines.{Line}
+use Rattle.journal_server.specs.Served.{AreAccepted, AreLeftFrom, Declares, IsEnded, IsItsScript, IsToldOf, IsToldOfPlan, IsToldOfScript, Leaves, after, joined}
 
 all_placed : (n : ℕ) (stations : List StationPlan) → ((k : ℕ) (s : StationPlan) → slice_get stations k ≡ Some s → s.site < n) → All (λ s. s.site < n) stations
 all_placed n [] each = All-nil (λ s. s.site < n)
@@ -68,11 +73,24 @@ boards_joined : (sites : List SitePlan) (stations : List StationPlan) (cells : L
 boards_joined sites stations cells zero = refl
 boards_joined sites stations cells (suc n) = ap (λ l. l ++ board_text (closed_site sites stations cells n)) (boards_joined sites stations cells n)
 
-pub its_script : (front : List ℕ) (sites : List SitePlan) (stations : List StationPlan) (firsts : List Cell) (before now : Option (List ℕ)) (buffer : List ℕ) (broken : Bool) (boards : List ℕ)
+-- the cell of a number among so many
+cell_at : (cells : List Cell) (k : ℕ) → k < length cells → (c : Cell) × (slice_get cells k ≡ Some c)
+cell_at [] k less = absurd (omega (arith, less))
+cell_at (c ∷ cells) zero less = (c, refl)
+cell_at (c ∷ cells) (suc k) less = cell_at cells k (omega (arith, less))
+
+-- each line was accepted at the content to which the earlier lines of its station lead
+all_accepted : (stations : List StationPlan) (firsts cells : List Cell) (log : List Entry) → AreLeftFrom stations firsts cells log → AreAccepted stations firsts log
+all_accepted stations firsts cells log kept before e rest s f is at first =
+    let less : e.station < length cells = subst (λ n. e.station < n) (sym kept.count) (slice_get_within stations e.station s at) in
+    let there = cell_at cells e.station less in
+    entry_accepted s.limits f.content there.0.content log before e rest is (kept.left e.station s f there.0 at first there.1)
+
+pub its_script : (front : List ℕ) (sites : List SitePlan) (stations : List StationPlan) (firsts : List Cell) (before : Option (List ℕ)) (left : Left)
     → plan_fault sites stations ≡ None → AreCellsOf sites stations firsts → Leaves front sites stations firsts
-    → IsEnded (names_of stations) (contents_of firsts) before now buffer broken sites stations boards
-    → IsItsScript front sites stations firsts before now buffer broken boards
-its_script front sites stations firsts before now buffer broken boards none of_plan restored e =
+    → IsEnded (names_of stations) (contents_of firsts) before sites stations left
+    → IsItsScript front sites stations firsts before left
+its_script front sites stations firsts before left none of_plan restored e =
     let once = has_once sites stations none in
     let log = e.written.log in
     let spoken = all_spoken stations log e.written.written.notes e.written.spoken in
@@ -83,19 +101,29 @@ its_script front sites stations firsts before now buffer broken boards none of_p
           subst (λ (x : Bounds × Content). IsLeftFrom x.0 x.1 c.content (commands_of (of_station k log)))
           (λ i. (e.limits k s c at there i, ap content_or_empty first i)) (e.written.left k c there);
     } in
-    let left : AreLeft stations firsts e.cells log = record {
+    let ends : AreLeft stations firsts e.cells log = record {
       count_first = of_plan.count;
       count = e.count;
       left = λ k s f c at first there. (kept.left k s f c at first there).left;
     } in
-    let ended = journals_are_scripts front sites stations firsts e.cells log restored.whole once restored.shows spoken left in
+    let ended = journals_are_scripts front sites stations firsts e.cells log restored.whole once restored.shows spoken ends in
     record {
       log = log;
       written = e.written.written;
       cells = e.cells;
       opened = restored.shows;
       spoken = spoken;
-      left = kept;
+      accepted = all_accepted stations firsts e.cells log kept;
+      each = kept;
+      given = λ k f first.
+          let within = slice_get_within firsts k f first in
+          let less : k < length e.cells = omega (arith, within, of_plan.count, e.count) in
+          let there = cell_at e.cells k less in
+          let counted = e.given k there.0 there.1 in
+          let more = (e.written.left k there.0 there.1).counted in
+          let held : (contents_of firsts k).changes ≡ f.content.changes = ap (λ (o : Content). o.changes) (ap content_or_empty first) in
+          let long = length-map (of_station k log) (λ (x : Entry). x.command) in
+          omega (arith, counted, more, held, long);
       ended = ended;
       shown = record {
         texts = λ k. board_text (closed_site sites stations e.cells k);
@@ -105,11 +133,11 @@ its_script front sites stations firsts before now buffer broken boards none of_p
     }
 
 -- the same, by what is named
-pub ended_as : (name name' : ℕ → List ℕ) (first first' : ℕ → Content) (before before' now : Option (List ℕ)) (buffer : List ℕ) (broken : Bool) (sites : List SitePlan) (stations : List StationPlan) (boards : List ℕ)
-    → name ≡ name' → first ≡ first' → before ≡ before' → IsEnded name first before now buffer broken sites stations boards → IsEnded name' first' before' now buffer broken sites stations boards
-ended_as name name' first first' before before' now buffer broken sites stations boards n f b e =
-    subst (λ x. IsEnded name' first' x now buffer broken sites stations boards) b
-    (subst (λ x. IsEnded name' x before now buffer broken sites stations boards) f (subst (λ x. IsEnded x first before now buffer broken sites stations boards) n e))
+pub ended_as : (name name' : ℕ → List ℕ) (first first' : ℕ → Content) (before before' : Option (List ℕ)) (sites : List SitePlan) (stations : List StationPlan) (left : Left)
+    → name ≡ name' → first ≡ first' → before ≡ before' → IsEnded name first before sites stations left → IsEnded name' first' before' sites stations left
+ended_as name name' first first' before before' sites stations left n f b e =
+    subst (λ x. IsEnded name' first' x sites stations left) b
+    (subst (λ x. IsEnded name' x before sites stations left) f (subst (λ x. IsEnded x first before sites stations left) n e))
 
 none_past : (stations : List StationPlan) (k : ℕ) → slice_get stations k ≡ None → length stations ≤ k
 none_past [] k e = omega arith
@@ -128,14 +156,14 @@ are_first sites stations cells parts first of_plan named same k c at = (own (sli
     own (Some s) e = (of_plan.each k s c e there).station
 
 -- the same, where the sites and stations are those of a plan
-pub script_of_plan : (front : List ℕ) (sites planned : List SitePlan) (stations plan : List StationPlan) (firsts : List Cell) (before now : Option (List ℕ)) (buffer : List ℕ) (broken : Bool) (boards : List ℕ)
+pub script_of_plan : (front : List ℕ) (sites planned : List SitePlan) (stations plan : List StationPlan) (firsts : List Cell) (before : Option (List ℕ)) (left : Left)
     → planned ≡ sites → plan ≡ stations → plan_fault sites stations ≡ None → AreCellsOf sites stations firsts → Leaves front sites stations firsts
-    → IsEnded (names_of plan) (contents_of firsts) before now buffer broken planned plan boards
-    → IsItsScript front sites stations firsts before now buffer broken boards
-script_of_plan front sites planned stations plan firsts before now buffer broken boards s t none of_plan restored e =
-    its_script front sites stations firsts before now buffer broken boards none of_plan restored
-    (subst (λ x. IsEnded (names_of stations) (contents_of firsts) before now buffer broken x stations boards) s
-    (subst (λ x. IsEnded (names_of x) (contents_of firsts) before now buffer broken planned x boards) t e))
+    → IsEnded (names_of plan) (contents_of firsts) before planned plan left
+    → IsItsScript front sites stations firsts before left
+script_of_plan front sites planned stations plan firsts before left s t none of_plan restored e =
+    its_script front sites stations firsts before left none of_plan restored
+    (subst (λ x. IsEnded (names_of stations) (contents_of firsts) before x stations left) s
+    (subst (λ x. IsEnded (names_of x) (contents_of firsts) before planned x left) t e))
 
 -- what was written behind a head was written behind what stood before it
 written_behind : (broken : Bool) (before begun now : Option (List ℕ)) (buffer head : List ℕ) (log : List Entry) → Appends before begun head → IsWritten broken begun now buffer log → IsWritten broken (append_known before head) now buffer log
@@ -143,15 +171,30 @@ written_behind broken None begun now buffer head log begins w = record { front =
 written_behind broken (Some bytes) None now buffer head log begins w = absurd begins
 written_behind broken (Some bytes) (Some more) now buffer head log begins w = subst (λ b. IsWritten broken (Some b) now buffer log) begins w
 
-pub script_behind : (front : List ℕ) (sites : List SitePlan) (stations : List StationPlan) (firsts : List Cell) (before begun now : Option (List ℕ)) (buffer head : List ℕ) (broken : Bool) (boards : List ℕ)
-    → Appends before begun head → IsItsScript front sites stations firsts begun now buffer broken boards → IsItsScript front sites stations firsts (append_known before head) now buffer broken boards
-script_behind front sites stations firsts before begun now buffer head broken boards begins s = record {
+pub script_behind : (front : List ℕ) (sites : List SitePlan) (stations : List StationPlan) (firsts : List Cell) (before begun : Option (List ℕ)) (head : List ℕ) (left : Left)
+    → Appends before begun head → IsItsScript front sites stations firsts begun left → IsItsScript front sites stations firsts (append_known before head) left
+script_behind front sites stations firsts before begun head left begins s = record {
   log = s.log;
-  written = written_behind broken before begun now buffer head s.log begins s.written;
+  written = written_behind left.broken before begun left.now left.buffer head s.log begins s.written;
   cells = s.cells;
   opened = s.opened;
   spoken = s.spoken;
-  left = s.left;
+  accepted = s.accepted;
+  each = s.each;
+  given = s.given;
   ended = s.ended;
   shown = s.shown;
 }
+
+-- what the console took at a desk of a plan that was read is of the plan that it declares
+pub told_of_plan : {F : Type 0} (ended : Result (Unit {0}) F) (sites read : List SitePlan) (stations own : List StationPlan) (cells : List Cell) (coming : Option (List Line)) (before now : Option (List ℕ)) → Declares sites read cells → own ≡ stations
+    → OnOk ended (IsToldOf read own coming before now) → OnOk ended (IsToldOfPlan sites stations coming before now)
+told_of_plan (Ok _) sites read stations own cells coming before now d same t =
+    record { read = read; names = d.names; periods = d.periods; orders = d.orders; told = subst (λ x. IsToldOf read x coming before now) same t }
+told_of_plan (Err _) sites read stations own cells coming before now d same t = t
+
+-- what the console took behind a report
+pub told_of_script : {F : Type 0} (ended : Result (Unit {0}) F) (sites : List SitePlan) (stations : List StationPlan) (coming : Option (List Line)) (before reported now : Option (List ℕ)) → Grows before reported
+    → OnOk ended (IsToldOf sites stations coming reported now) → OnOk ended (IsToldOfScript coming before now)
+told_of_script (Ok _) sites stations coming before reported now grows t = record { reported = reported; grows = grows; sites = sites; stations = stations; told = t }
+told_of_script (Err _) sites stations coming before reported now grows t = t

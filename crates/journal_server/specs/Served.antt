@@ -1,5 +1,5 @@
 -- What a server with a journal read, wrote and showed.
-use Rattle.std.specs.Prelude.{◌≡◌, ℕ, zero, suc, ◌<◌, Bool, false, true, List, [], ◌++◌, length, Option, IfSome, Some, All, map, slice_get}
+use Rattle.std.specs.Prelude.{◌≡◌, ℕ, zero, suc, ◌+◌, ◌<◌, Bool, false, true, List, [], ◌∷◌, ◌++◌, length, Option, IfSome, Some, All, map, slice_get}
 use Rattle.std.specs.Io.KnownBytes.{append_known}
 use Rattle.board_report.specs.Closed.{boards_text}
 use Rattle.kept_desk.specs.declared.entry.Entry.{Entry}
@@ -7,8 +7,8 @@ use Rattle.kept_desk.specs.Entries.{of_station, text_of}
 use Rattle.kept_desk.specs.Journal.{IsWritten}
 use Rattle.journal_script.specs.Cuts.{run_begins}
 use Rattle.journal_script.specs.Journals.{EndsWhole, IsSpoken, Shows}
-use Rattle.journal_script.specs.Restoring.{HasNoListen, IsListen, loses, marked_by}
-use Rattle.kept_desk.specs.Kept.{IsLeftFrom, IsWrittenDown, commands_of}
+use Rattle.journal_script.specs.Restoring.{Grows, HasNoListen, IsListen, loses, marked_by}
+use Rattle.kept_desk.specs.Kept.{IsAcceptedBehind, IsLeftFrom, IsWrittenDown, commands_of}
 use Rattle.ledger_model.specs.declared.command.Command.{Command}
 use Rattle.ledger_model.specs.Content.{Content, empty_content}
 use Rattle.script_lines.specs.LineMeaning.{asks_board, line_meaning}
@@ -18,7 +18,12 @@ use Rattle.script_ledgers.specs.Drafts.{site_name}
 use Rattle.script_ledgers.specs.Script.{Script, line_step, start, script_after}
 use Rattle.site_desk.specs.declared.plan.SitePlan.{SitePlan}
 use Rattle.site_desk.specs.declared.plan.StationPlan.{StationPlan}
-use Rattle.station_cell.specs.Cell.{Cell}
+use Rattle.site_desk.specs.declared.roster.StationPlace.{StationPlace}
+use Rattle.site_desk.specs.Roster.{AreNewPlaces}
+use Rattle.live_server.specs.Told.{Tells}
+use Rattle.site_desk.specs.Close.{changes_of}
+use Rattle.station_cell.specs.Cell.{Cell, Held}
+use Rattle.journal_server.specs.Left.{Left}
 
 -- The state in which these bytes leave a replay.
 abbrev pub after : List ℕ → Script
@@ -53,31 +58,42 @@ pub record AreLeftFrom (stations : List StationPlan) (firsts cells : List Cell) 
   pub count : length cells ≡ length stations
   pub left : (k : ℕ) (s : StationPlan) (f c : Cell) → slice_get stations k ≡ Some s → slice_get firsts k ≡ Some f → slice_get cells k ≡ Some c → IsLeftFrom s.limits f.content c.content (commands_of (of_station k log))
 
--- What a server wrote behind the front of its script, which leaves these sites and stations in the contents of the cells `firsts`, and the boards that it gave last. There is one list of lines: the writer, which held `before`, took their text, and where a write failed a front of one line more; each line speaks for its command on its station; behind the front, each station's content is what just its own lines leave; and the boards are what `replay` answers after the front and the lines.
-pub record IsItsScript (front : List ℕ) (sites : List SitePlan) (stations : List StationPlan) (firsts : List Cell) (before now : Option (List ℕ)) (buffer : List ℕ) (broken : Bool) (boards : List ℕ) : Type 0 where
+-- Each line of the list was accepted at the content to which the earlier lines of its station lead.
+abbrev pub AreAccepted : List StationPlan → List Cell → List Entry → Type 0
+AreAccepted stations firsts log = (before : List Entry) (e : Entry) (rest : List Entry) (s : StationPlan) (f : Cell) → log ≡ before ++ e ∷ rest
+    → slice_get stations e.station ≡ Some s → slice_get firsts e.station ≡ Some f → IsAcceptedBehind s.limits f.content (of_station e.station before) e.command
+
+-- The passes of each station counted the changes that it held first and one for each of its lines in the list: as many answers were accepted as there are lines.
+abbrev pub AreGiven : List Cell → List Entry → List Held → Type 0
+AreGiven firsts log passes = (k : ℕ) (f : Cell) → slice_get firsts k ≡ Some f → changes_of k passes ≡ f.content.changes + length (of_station k log)
+
+-- What a server wrote behind the front of its script, which leaves these sites and stations in the contents of the cells `firsts`, and the boards that it gave last. There is one list of lines. The writer, which held `before`, took their text, and where a write failed a front of one line more. Each line speaks for its command on its station, and was accepted where the earlier lines of the station lead. Each station's content is what its own lines leave, and its passes counted one accepted answer for each of them. The boards are what `replay` answers behind the front and the lines.
+pub record IsItsScript (front : List ℕ) (sites : List SitePlan) (stations : List StationPlan) (firsts : List Cell) (before : Option (List ℕ)) (left : Left) : Type 0 where
   pub log : List Entry
-  pub written : IsWritten broken before now buffer log
+  pub written : IsWritten left.broken before left.now left.buffer log
   pub cells : List Cell
   pub opened : Shows (after front) sites stations firsts
   pub spoken : All (IsSpoken stations) log
-  pub left : AreLeftFrom stations firsts cells log
+  pub accepted : AreAccepted stations firsts log
+  pub each : AreLeftFrom stations firsts cells log
+  pub given : AreGiven firsts log left.passes
   pub ended : Shows (after (front ++ text_of log)) sites stations cells
-  pub shown : AreAnswers (after (front ++ text_of log)) sites boards
+  pub shown : AreAnswers (after (front ++ text_of log)) sites left.boards
 
 -- A server that began anew with this plan: its script is what it wrote, a head that declares the plan's sites and stations, without a change, and its lines.
-pub record IsNewRun (sites : List SitePlan) (stations : List StationPlan) (before now : Option (List ℕ)) (buffer : List ℕ) (broken : Bool) (boards : List ℕ) : Type 0 where
+pub record IsNewRun (sites : List SitePlan) (stations : List StationPlan) (before : Option (List ℕ)) (left : Left) : Type 0 where
   pub head : List ℕ
   pub read : List SitePlan
   pub firsts : List Cell
   pub declares : Declares sites read firsts
-  pub script : IsItsScript head read stations firsts (append_known before head) now buffer broken boards
+  pub script : IsItsScript head read stations firsts (append_known before head) left
 
 -- An input, as far as it is known, begins with these bytes.
 abbrev pub Begins : Option (List ℕ) → List ℕ → Type 0
 Begins input front = IfSome input (λ bytes. (rest : List ℕ) × (bytes ≡ front ++ rest))
 
 -- A server that was restored: its script is what it read, in whole lines, before the first line `listen`, followed by what it wrote, the first line of a run and its lines. The last line that was read ends with `#`, and none is lost unless that was allowed.
-pub record IsRestoredRun (allows : Bool) (input before now : Option (List ℕ)) (buffer : List ℕ) (broken : Bool) (boards : List ℕ) : Type 0 where
+pub record IsRestoredRun (allows : Bool) (input before : Option (List ℕ)) (left : Left) : Type 0 where
   pub read : List ℕ
   pub last : List ℕ
   pub reads : Begins input (read ++ last)
@@ -89,16 +105,40 @@ pub record IsRestoredRun (allows : Bool) (input before now : Option (List ℕ)) 
   pub sites : List SitePlan
   pub stations : List StationPlan
   pub firsts : List Cell
-  pub script : IsItsScript (read ++ run_begins) sites stations firsts (append_known before run_begins) now buffer broken boards
+  pub script : IsItsScript (read ++ run_begins) sites stations firsts (append_known before run_begins) left
 
 -- A server that was not restored, since of what it read up to the line `listen` this is so.
 abbrev pub IsRefused : Option (List ℕ) → (List ℕ → Type 0) → Type 0
 IsRefused input why = (read last : List ℕ) × Begins input (read ++ last) × IsListen last × why read
 
--- What a desk with a journal was when it was closed, and its boards.
-pub record IsEnded (name : ℕ → List ℕ) (first : ℕ → Content) (before now : Option (List ℕ)) (buffer : List ℕ) (broken : Bool) (sites : List SitePlan) (stations : List StationPlan) (boards : List ℕ) : Type 0 where
+-- What a desk with a journal was when it was closed, with its boards and its passes.
+pub record IsEnded (name : ℕ → List ℕ) (first : ℕ → Content) (before : Option (List ℕ)) (sites : List SitePlan) (stations : List StationPlan) (left : Left) : Type 0 where
   pub cells : List Cell
-  pub written : IsWrittenDown name first before broken now buffer cells []
+  pub lines : ℕ
+  pub written : IsWrittenDown name first before left.broken left.now left.buffer cells [] lines
+  pub given : (k : ℕ) (c : Cell) → slice_get cells k ≡ Some c → c.content.changes ≡ changes_of k left.passes
   pub count : length cells ≡ length stations
   pub limits : (k : ℕ) (s : StationPlan) (c : Cell) → slice_get stations k ≡ Some s → slice_get cells k ≡ Some c → c.limits ≡ s.limits
-  pub is : boards ≡ boards_text sites stations cells (length sites)
+  pub is : left.boards ≡ boards_text sites stations cells (length sites)
+
+-- The console of a server, which held `before`, took where the server listens and then the answers to its operator's lines, at a desk of the plan's stations.
+pub record IsToldOf (sites : List SitePlan) (stations : List StationPlan) (coming : Option (List Line)) (before now : Option (List ℕ)) : Type 0 where
+  pub places : List StationPlace
+  pub placed : AreNewPlaces sites stations places
+  pub tells : Tells sites places coming before now
+
+-- The same of a plan that was written down and read again.
+pub record IsToldOfPlan (sites : List SitePlan) (stations : List StationPlan) (coming : Option (List Line)) (before now : Option (List ℕ)) : Type 0 where
+  pub read : List SitePlan
+  pub names : map (λ s. s.name) read ≡ map (λ s. s.name) sites
+  pub periods : map (λ s. s.period) read ≡ map (λ s. s.period) sites
+  pub orders : map (λ s. s.order) read ≡ map (λ s. s.order) sites
+  pub told : IsToldOf read stations coming before now
+
+-- The console of a server that was restored took first what was reported of the script, and then the same as that of any other server.
+pub record IsToldOfScript (coming : Option (List Line)) (before now : Option (List ℕ)) : Type 0 where
+  pub reported : Option (List ℕ)
+  pub grows : Grows before reported
+  pub sites : List SitePlan
+  pub stations : List StationPlan
+  pub told : IsToldOf sites stations coming reported now

@@ -9,12 +9,14 @@
 //!
 //! The crate's one contract ([`Served`], `IsItsScript` of `specs/Served.antt`): the boards that a server writes at its end
 //! are the answers to `board <site>` behind one script, which is what it read and wrote; behind its front that script is
-//! the text of one list of lines, and each station's content is what just its own lines leave. That lines are out before
-//! their replies, and what a kill leaves, is shown by tests.
+//! the text of one list of lines. Each line was accepted where the earlier lines of its station lead, each station's content
+//! is what its own lines leave, and its passes counted as many accepted answers as it has lines. The console took where the
+//! server listens and answers to its operator (`IsToldOf`). That lines are out before their replies, and what a kill leaves,
+//! is shown by tests.
 //!
 //! ```text
-//! serve_journalled(rt, &plan, journalling, stdin, stdout, &mut stderr, lines)?    // standard output is the journal
-//! serve_restored(rt, restoring, stdin, stdout, &mut stderr, lines)?             // standard input begins with a journal
+//! serve_journalled(rt, &plan, journalling, stdin, stdout, stderr, lines)?    // standard output is the journal
+//! serve_restored(rt, restoring, stdin, stdout, stderr, lines)?             // standard input begins with a journal
 //! ```
 #![tactic(auto)]
 

@@ -54,6 +54,10 @@ impl<'a> QueuedOrders<'a> {
 }
 
 impl Orders for QueuedOrders<'_> {
+    ghost use Rattle.std.specs.Prelude.{option_map};
+
+    ghost last = { λ o. option_map (λ line. line.items) o.line };
+
     fn next<R: Wait + Clock>(&mut self, rt: &R) -> Result<Came, ServiceFault> {
         if self.taken.is_empty() {
             self.fetch(rt);

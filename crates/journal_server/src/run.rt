@@ -1,11 +1,13 @@
 //! A server with a journal, from its desk to its boards.
-ghost use Rattle.std.specs.Prelude.{◌≡◌, ◌<◌, ℕ, List, [], None, IfOk, length};
+ghost use Rattle.std.specs.Prelude.{◌≡◌, ◌<◌, ℕ, List, [], None, IfOk, OnOk, length};
 ghost use Rattle.std.specs.Io.Buffered.{writer_buffer, writer_inner};
 ghost use Rattle.kept_desk.specs.Opened.{contents_of, names_of};
 ghost use Rattle.site_book.specs.Tables.{HasTable, NamedBy};
 ghost use Rattle.site_desk.specs.Plan.{plan_fault};
 ghost use Rattle.site_desk.specs.Roster.{AreCellsOf, AreNewPlaces};
-ghost use Rattle.journal_server.specs.Served.{IsEnded, IsItsScript, Leaves};
+ghost use Rattle.journal_server.specs.Left.{left_of};
+ghost use Rattle.journal_server.specs.Served.{IsEnded, IsItsScript, IsToldOf, Leaves};
+ghost use Rattle.script_ledgers.specs.Running.{AreTheirPasses};
 
 use crate::line_queue::{LineQueue, QueuedOrders, read_all};
 use crate::serve::Journalling;
@@ -13,7 +15,7 @@ use crate::serving::Serving;
 use board_report::write_boards;
 use journal_script::Restored;
 use kept_desk::{JournalTable, KeptDesk, Opening};
-use live_server::{Ran, serve_plan_at};
+use live_server::{Ran, Run, serve_plan_at};
 use running_desk::Orders;
 use site_book::{Naming, Tables, Viewer};
 use site_desk::{Parts, Plan};
@@ -29,15 +31,21 @@ use std::time::Clock;
 
 /// What a server with a journal leaves.
 #[derive(Drop)]
-pub struct Served<W: Write + Drop> {
-    /// The writer of the journal.
-    pub journal: BufWriter<W>,
-    /// Whether a write or a flush of it failed.
+pub struct Served<W, T> {
+    /// The writer of the journal, behind its buffer.
+    pub journal: W,
+    /// What a failed write left in the buffer. It is not written later: its change was refused.
+    pub unwritten: Vec<u8>,
+    /// Whether a write or a flush of the journal failed.
     pub is_broken: bool,
     /// The board of each site, in the plan's order.
     pub boards: Vec<u8>,
+    /// All passes of its desk. Each counted the commands that were accepted with it.
+    pub passes: Vec<Pass>,
     /// How the operator's lines ended.
     pub ended: Result<(), ServiceFault>,
+    /// The console, which took where the server listens and the answers to its operator.
+    pub console: T,
 }
 
 // Serves the stations of a script that was restored until the operator's lines end, which a thread reads from the input.
@@ -45,7 +53,7 @@ pub(crate) fn run_restored<
     R: AllocGlobal + Host + Clone + Send + 'static,
     I: BufRead + Send + Drop + 'static,
     W: Write + Send + Drop,
-    T: Write,
+    T: Write + Drop,
     L: Write + Send + Drop,
 >(
     rt: &R,
@@ -53,15 +61,16 @@ pub(crate) fn run_restored<
     journalling: Journalling,
     input: I,
     journal: BufWriter<W>,
-    told: &mut T,
+    console: T,
     lines: L,
-) -> Result<Served<W>, ServiceFault>
+) -> Result<Served<W, T>, ServiceFault>
     requires faultless { plan_fault restored.draft.sites restored.draft.stations ≡ None }
     requires cells { AreCellsOf restored.draft.sites restored.draft.stations restored.cells.items }
+    requires passes { AreTheirPasses restored.cells.items restored.passes.items }
     requires empty { writer_buffer journal ≡ [] }
-    ensures { IfOk result (λ s. (front : List ℕ) → Leaves front restored.draft.sites restored.draft.stations restored.cells.items
-        → IsItsScript front restored.draft.sites restored.draft.stations restored.cells.items
-        (W.contents (writer_inner journal)) (W.contents (writer_inner s.journal)) (writer_buffer s.journal) s.is_broken s.boards.items) }
+    ensures script { IfOk result (λ s. (front : List ℕ) → Leaves front restored.draft.sites restored.draft.stations restored.cells.items
+        → IsItsScript front restored.draft.sites restored.draft.stations restored.cells.items (W.contents (writer_inner journal)) (left_of W.contents s)) }
+    ensures console { IfOk result (λ s. OnOk s.ended (IsToldOf restored.draft.sites restored.draft.stations None (T.contents console) (T.contents s.console))) }
 {
     let alloc = rt.alloc();
     let Restored {
@@ -86,7 +95,7 @@ pub(crate) fn run_restored<
         journalling,
         &mut orders,
         journal,
-        told,
+        console,
         lines,
     )
 }
@@ -118,7 +127,7 @@ fn run_over<
     R: Host,
     O: Orders,
     W: Write + Send + Drop,
-    T: Write,
+    T: Write + Drop,
     L: Write + Send + Drop,
 >(
     rt: &R,
@@ -131,9 +140,9 @@ fn run_over<
     journalling: Journalling,
     orders: &mut O,
     journal: BufWriter<W>,
-    told: &mut T,
+    console: T,
     lines: L,
-) -> Result<Served<W>, ServiceFault>
+) -> Result<Served<W, T>, ServiceFault>
     requires named { NamedBy J.table tables }
     requires there { (site : ℕ) → site < length plan.now.sites.items → HasTable tables site }
     requires table { table ≡ K.table }
@@ -143,8 +152,10 @@ fn run_over<
     requires names { K.name ≡ names_of plan.now.stations.items }
     requires faultless { plan_fault plan.now.sites.items plan.now.stations.items ≡ None }
     requires cells { AreCellsOf plan.now.sites.items plan.now.stations.items cells.items }
-    ensures { IfOk result (λ s. IsEnded (names_of plan.now.stations.items) (contents_of cells.items) (W.contents (writer_inner journal))
-        (W.contents (writer_inner s.journal)) (writer_buffer s.journal) s.is_broken plan.now.sites.items plan.now.stations.items s.boards.items) }
+    requires passes { AreTheirPasses cells.items passes.items }
+    ensures ended { IfOk result (λ s. IsEnded (names_of plan.now.stations.items) (contents_of cells.items) (W.contents (writer_inner journal))
+        plan.now.sites.items plan.now.stations.items (left_of W.contents s)) }
+    ensures console { IfOk result (λ s. OnOk s.ended (IsToldOf plan.now.sites.items plan.now.stations.items (O.coming orders.old) (T.contents console) (T.contents s.console))) }
 {
     let Journalling {
         live,
@@ -163,16 +174,20 @@ fn run_over<
         kept,
         has_receipt_times,
     };
-    let ran = serve_plan_at(
-        rt, alloc, plan, &serving, passes, viewers, live, orders, &mut *told, lines,
-    )?;
+    let run = Run {
+        rt,
+        alloc,
+        plan,
+        live,
+    };
+    let ran = serve_plan_at(run, &serving, passes, viewers, orders, console, lines)?;
     let Ran {
         passes,
         viewers,
         ended,
-        output: _,
+        output,
     } = ran;
-    end_run(alloc, plan, serving.kept, passes, viewers, ended)
+    end_run(alloc, plan, serving.kept, passes, viewers, ended, output)
 }
 
 // The desk of a plan over cells that took commands before, with a journal that has no lines yet, and its viewers.
@@ -208,19 +223,21 @@ fn open_over<J: Naming, K: Opening, W: Write + Drop>(
 }
 
 // Closes a desk with a journal whose sessions have ended, and makes the board of each site, in the plan's order.
-fn end_run<J: Naming, K: Opening, W: Write + Drop>(
+fn end_run<J: Naming, K: Opening, W: Write + Drop, T: Drop>(
     alloc: Global,
     plan: &Plan,
     kept: KeptDesk<J, K, W>,
     passes: Vec<Pass>,
     viewers: Vec<Viewer<J>>,
     ended: Result<(), ServiceFault>,
-) -> Result<Served<W>, ServiceFault>
+    console: T,
+) -> Result<Served<W, T>, ServiceFault>
     requires opened { AreNewPlaces plan.now.sites.items plan.now.stations.items kept.stations }
     requires sites { kept.sites ≡ length plan.now.sites.items }
     requires faultless { plan_fault plan.now.sites.items plan.now.stations.items ≡ None }
-    ensures { IfOk result (λ s. IsEnded K.name K.first K.before (W.contents (writer_inner s.journal)) (writer_buffer s.journal)
-        s.is_broken plan.now.sites.items plan.now.stations.items s.boards.items) }
+    ensures ended { IfOk result (λ s. IsEnded K.name K.first K.before plan.now.sites.items plan.now.stations.items (left_of W.contents s)) }
+    ensures console { IfOk result (λ s. s.console ≡ console) }
+    ensures lines { IfOk result (λ s. s.ended ≡ ended) }
 {
     let mut boards = Vec::new(alloc);
     let closed = match kept.close(passes, viewers, Vec::new(alloc)) {
@@ -230,10 +247,14 @@ fn end_run<J: Naming, K: Opening, W: Write + Drop>(
     if let Err(_fault) = write_boards(alloc, plan, &closed.closed, &mut boards) {
         return Err(ServiceFault::OutOfMemory);
     }
+    let (journal, unwritten) = closed.writer.into_parts();
     Ok(Served {
-        journal: closed.writer,
+        journal,
+        unwritten,
         is_broken: closed.is_broken,
         boards,
+        passes: closed.closed.into_passes(),
         ended,
+        console,
     })
 }

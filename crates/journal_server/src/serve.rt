@@ -1,14 +1,16 @@
 //! Servers with a journal: one that begins anew, and one that is restored.
-ghost use Rattle.std.specs.Prelude.{◌≡◌, ◌&&◌, [], false, true, not, None, IfErr, IfOk};
+ghost use Rattle.std.specs.Prelude.{◌≡◌, ◌&&◌, [], false, true, not, None, IfErr, IfOk, OnOk};
 ghost use Rattle.std.specs.Io.Buffered.{writer_buffer, writer_contents, writer_inner};
 ghost use Rattle.std.specs.Io.KnownBytes.{Appends};
-ghost use Rattle.journal_script.specs.Restoring.{IsRestored, IsUnmarked, loses};
+ghost use Rattle.journal_script.specs.Restoring.{Grows, IsRestored, IsUnmarked, loses};
+ghost use Rattle.script_ledgers.specs.Running.{AreTheirPasses};
 ghost use Rattle.script_ledgers.specs.Script.{start};
 ghost use Rattle.script_lines.specs.Lines.{lines_of};
 ghost use Rattle.script_lines.specs.Ranges.{longest_line};
 ghost use Rattle.site_desk.specs.Plan.{plan_fault};
 ghost use Rattle.site_desk.specs.Roster.{AreCellsOf};
-ghost use Rattle.journal_server.specs.Served.{IsNewRun, IsRefused, IsRestoredRun};
+ghost use Rattle.journal_server.specs.Left.{left_of};
+ghost use Rattle.journal_server.specs.Served.{IsNewRun, IsRefused, IsRestoredRun, IsToldOfPlan, IsToldOfScript};
 
 use crate::declared::{journal_head, run_head};
 use crate::fault::JournalFault;
@@ -17,6 +19,7 @@ use crate::same::is_declared;
 use itoa::Buffer;
 use journal_script::{RestoreFault, Restored, restore};
 use live_server::Live;
+use script_lines::write_bytes;
 use site_desk::Plan;
 use site_server::{Host, ServiceFault};
 use station_cell::StationCell;
@@ -47,8 +50,8 @@ pub struct Restoring {
 
 /// Serves a plan's stations as [`serve_live`](live_server::serve_live) does, and writes a journal: a comment, the
 /// plan's declarations, and the line of each accepted change, which the writer behind the buffer took before the change
-/// is answered, with the time of its receipt in front of it where that is asked for. Where it listens and what an
-/// operator is answered goes to `told`; the boards come back as a value. Where the journal can't be written nothing
+/// is answered, with the time of its receipt in front of it where that is asked for. The console takes where the server
+/// listens and the answers to its operator; the boards come back as a value. Where the journal can't be written nothing
 /// more is accepted, and the server ends itself with `WriteFault`; its boards are there.
 ///
 /// A plan with a fault is told before anything is written.
@@ -56,7 +59,7 @@ pub fn serve_journalled<
     R: AllocGlobal + Host + Clone + Send + 'static,
     I: BufRead + Send + Drop + 'static,
     W: Write + Send + Drop,
-    T: Write,
+    T: Write + Drop,
     L: Write + Send + Drop,
 >(
     rt: &R,
@@ -64,11 +67,11 @@ pub fn serve_journalled<
     journalling: Journalling,
     input: I,
     journal: BufWriter<W>,
-    told: &mut T,
+    console: T,
     lines: L,
-) -> Result<Served<W>, JournalFault>
-    ensures { IfOk result (λ s. IsNewRun plan.now.sites.items plan.now.stations.items (writer_contents W.contents journal)
-        (W.contents (writer_inner s.journal)) (writer_buffer s.journal) s.is_broken s.boards.items) }
+) -> Result<Served<W, T>, JournalFault>
+    ensures served { IfOk result (λ s. IsNewRun plan.now.sites.items plan.now.stations.items (writer_contents W.contents journal) (left_of W.contents s)) }
+    ensures console { IfOk result (λ s. OnOk s.ended (IsToldOfPlan plan.now.sites.items plan.now.stations.items None (T.contents console) (T.contents s.console))) }
 {
     if let Some(fault) = plan.fault() {
         return Err(JournalFault::Service(ServiceFault::from(fault)));
@@ -79,7 +82,7 @@ pub fn serve_journalled<
         return Err(JournalFault::Service(ServiceFault::Torn));
     }
     let journal = begin(journal, head.as_slice())?;
-    let served = run_restored(rt, restored, journalling, input, journal, told, lines)?;
+    let served = run_restored(rt, restored, journalling, input, journal, console, lines)?;
     Ok(served)
 }
 
@@ -95,26 +98,26 @@ pub fn serve_restored<
     R: AllocGlobal + Host + Clone + Send + 'static,
     I: BufRead + Send + Drop + 'static,
     W: Write + Send + Drop,
-    T: Write,
+    T: Write + Drop,
     L: Write + Send + Drop,
 >(
     rt: &R,
     restoring: Restoring,
     mut input: I,
     journal: BufWriter<W>,
-    told: &mut T,
+    mut console: T,
     lines: L,
-) -> Result<Served<W>, JournalFault>
-    ensures serves { IfOk result (λ s. IsRestoredRun restoring.allows_left_out (I.remaining input) (writer_contents W.contents journal)
-        (W.contents (writer_inner s.journal)) (writer_buffer s.journal) s.is_broken s.boards.items) }
+) -> Result<Served<W, T>, JournalFault>
+    ensures serves { IfOk result (λ s. IsRestoredRun restoring.allows_left_out (I.remaining input) (writer_contents W.contents journal) (left_of W.contents s)) }
+    ensures console { IfOk result (λ s. OnOk s.ended (IsToldOfScript None (T.contents console) (T.contents s.console))) }
     ensures unmarked { IfErr result (λ e. e ≡ JournalFault.Restore RestoreFault.NotMarked → IsRefused (I.remaining input) (λ read. IsUnmarked read)) }
     ensures left_out { IfErr result (λ e. e ≡ JournalFault.LeftOut → (restoring.allows_left_out ≡ false) × IsRefused (I.remaining input) (λ read. loses start (lines_of longest_line read) ≡ true)) }
 {
-    let restored = restore(rt, &mut input, told)?;
+    let restored = restore(rt, &mut input, &mut console)?;
     if is_refused(restored.has_lost, restoring.allows_left_out) {
         return Err(JournalFault::LeftOut);
     }
-    tell_restored(told, restored.cells.as_slice());
+    tell_restored(&mut console, restored.cells.as_slice());
     let head = run_head(rt.alloc())?;
     let journal = begin(journal, head.as_slice())?;
     let served = run_restored(
@@ -123,7 +126,7 @@ pub fn serve_restored<
         restoring.journalling,
         input,
         journal,
-        told,
+        console,
         lines,
     )?;
     Ok(served)
@@ -154,22 +157,32 @@ fn begin<W: Write + Drop>(
 }
 
 // Tells how many changes the stations hold that were restored. Whether that can be written does not matter.
-fn tell_restored<T: Write>(told: &mut T, cells: &[StationCell]) {
+fn tell_restored<T: Write>(console: &mut T, cells: &[StationCell])
+    ensures { Grows (T.contents console.old) (T.contents console.new) }
+{
     let mut changes: u64 = 0;
     for cell in cells {
         changes = changes.saturating_add(cell.ledger().changes());
     }
+    tell_changes(console, changes);
+    let _ = console.flush();
+}
+
+// Writes `restored` and a number of changes.
+fn tell_changes<T: Write>(console: &mut T, changes: u64)
+    ensures { Grows (T.contents console.old) (T.contents console.new) }
+{
     let mut digits = Buffer::new();
-    let _ = told.write_all(b"restored ");
-    let _ = told.write_all(digits.format(changes).as_bytes());
-    let _ = told.write_all(b"\n");
-    let _ = told.flush();
+    let _ = write_bytes(console, b"restored ");
+    let _ = write_bytes(console, digits.format(changes).as_bytes());
+    let _ = write_bytes(console, b"\n");
 }
 
 // What the head of a journal leaves: the stations that it declares, without events.
 fn restore_declared<R: AllocGlobal + Threads>(rt: &R, head: &[u8]) -> Result<Restored, JournalFault>
     ensures restored { IfOk result (λ r. IsRestored head.now r) }
     ensures makes_desk { IfOk result (λ r. (plan_fault r.draft.sites r.draft.stations ≡ None) × AreCellsOf r.draft.sites r.draft.stations r.cells.items) }
+    ensures passes { IfOk result (λ r. AreTheirPasses r.cells.items r.passes.items) }
 {
     let mut text = Vec::with_capacity(rt.alloc(), head.len().saturating_add(LISTEN.len()))?;
     text.extend_from_slice(head)?;

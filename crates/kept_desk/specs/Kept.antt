@@ -1,17 +1,21 @@
 use Rattle.std.specs.Prelude.{◌≡◌, ℕ, ◌+◌, ◌≤◌, Bool, List, [], ◌∷◌, ◌++◌, Option, All, map, length, None, Some, slice_get}
 use Rattle.kept_desk.specs.declared.entry.Entry.{Entry}
 use Rattle.kept_desk.specs.Entries.{of_station}
-use Rattle.kept_desk.specs.Journal.{IsWritten, OwnEntries}
+use Rattle.kept_desk.specs.Journal.{AreSoMany, IsWritten, OwnEntries}
 use Rattle.kept_desk.specs.Speaking.{AreSpoken}
 use Rattle.ledger_model.specs.declared.answer.Answer.{Answer}
 use Rattle.ledger_model.specs.declared.answer.Answer.TheVariants.{Accepted, Repeat, Refused}
 use Rattle.ledger_model.specs.declared.command.Command.{Command}
-use Rattle.site_book.specs.Prefix.{IsPrefix}
+use Rattle.site_book.specs.Book.{Known}
 use Rattle.ledger_model.specs.Admissible.{IsAdmissible}
-use Rattle.ledger_model.specs.Content.{Content}
+use Rattle.ledger_model.specs.Board.{Board, board_by}
+use Rattle.ledger_model.specs.Content.{Content, entries}
 use Rattle.ledger_model.specs.Laws.{AreAccepted, left_by}
 use Rattle.ledger_model.specs.Limits.{Bounds}
+use Rattle.ledger_model.specs.Step.{answer}
 use Rattle.site_desk.specs.declared.roster.StationPlace.{StationPlace}
+use Rattle.site_desk.specs.Operator.{before_at}
+use Rattle.site_desk.specs.Submit.{IsTakenAt}
 use Rattle.station_cell.specs.Cell.{Cell, IsInService}
 
 -- The commands of entries, in their order.
@@ -34,6 +38,22 @@ pub record IsKeptCell (first : ℕ → Content) (c : Cell) (share : OwnEntries) 
 abbrev pub KeepsCell : (ℕ → Content) → Cell → OwnEntries → Type 0
 KeepsCell first c share = IsInService c → IsKeptCell first c share
 
+-- A cell in service has the content that the commands of just its station's entries in this list, each accepted, leave of the station's first content.
+abbrev pub IsLeftOwn : (ℕ → Content) → List Entry → Cell → Type 0
+IsLeftOwn first log c = IsInService c → IsLeftFrom c.limits (first c.station) c.content (commands_of (of_station c.station log))
+
+-- The board of the station of this place, under its name, is that of the content which these entries of it leave of its first content, by the place's period and order.
+pub record IsBoardBehind (at : StationPlace) (first : Content) (own : List Entry) (b : List ℕ × Board) : Type 0 where
+  pub content : Content
+  pub left : IsLeftFrom at.limits first content (commands_of own)
+  pub name : b.0 ≡ at.name
+  pub shown : b.1 ≡ board_by at.order at.period (entries content)
+
+-- The boards of the stations of the site of this number, in the plan's order, are those behind this one list of entries.
+abbrev pub AreBoardsBehind : (ℕ → Content) → List StationPlace → ℕ → List (List ℕ × Board) → List Entry → Type 0
+AreBoardsBehind first places site boards log = (k : ℕ) (p : StationPlace) → slice_get places k ≡ Some p → p.site ≡ site
+    → (b : List ℕ × Board) × (slice_get boards (before_at places site k) ≡ Some b) × IsBoardBehind p (first k) (of_station k log) b
+
 -- What a desk with a journal keeps: the names are those of its stations, there is room for their cells, and they are few.
 pub record IsKeptDesk (name : ℕ → List ℕ) (places : List StationPlace) (cells room : ℕ) : Type 0 where
   pub names : (k : ℕ) (p : StationPlace) → slice_get places k ≡ Some p → name k ≡ p.name
@@ -41,19 +61,49 @@ pub record IsKeptDesk (name : ℕ → List ℕ) (places : List StationPlace) (ce
   pub room_for_all : length places ≤ room
   pub few : length places ≤ 64
 
--- What is known of a desk with a journal once it is closed: there is one list of entries, of which the writer took the text, whose lines speak for their commands, of which just each station's own leave its content, and which begins with the entries of each receipt.
-pub record IsWrittenDown (name : ℕ → List ℕ) (first : ℕ → Content) (before : Option (List ℕ)) (broken : Bool) (now : Option (List ℕ)) (buffer : List ℕ) (cells : List Cell) (receipts : List (List Entry)) : Type 0 where
+-- The receipt is of the list's entries up to one of them.
+pub record IsReceiptIn (log receipt : List Entry) : Type 0 where
+  pub before : List Entry
+  pub e : Entry
+  pub rest : List Entry
+  pub receipt_is : receipt ≡ before ++ e ∷ []
+  pub log_is : log ≡ before ++ e ∷ rest
+
+-- The command is accepted, as change n, at the content that the commands of these entries, each accepted, leave of the first one.
+pub record IsAcceptedBehind (limits : Bounds) (first : Content) (entries : List Entry) (command : Command) : Type 0 where
+  pub before : Content
+  pub n : ℕ
+  pub left : IsLeftFrom limits first before (commands_of entries)
+  pub answered : answer limits before command ≡ Accepted n
+
+-- What is known of a desk with a journal once it is closed: there is one list of entries, of which the writer took the text, whose lines speak for their commands, of which just each station's own leave its content, and of which each receipt is; and how many they are.
+pub record IsWrittenDown (name : ℕ → List ℕ) (first : ℕ → Content) (before : Option (List ℕ)) (broken : Bool) (now : Option (List ℕ)) (buffer : List ℕ) (cells : List Cell) (receipts : List (List Entry)) (lines : ℕ) : Type 0 where
   pub log : List Entry
   pub written : IsWritten broken before now buffer log
   pub spoken : AreSpoken name log
   pub left : (k : ℕ) (c : Cell) → slice_get cells k ≡ Some c → IsLeftFrom c.limits (first k) c.content (commands_of (of_station k log))
-  pub received : All (λ r. IsPrefix r log) receipts
+  pub received : All (IsReceiptIn log) receipts
+  pub counted : AreSoMany lines log
 
--- With an accepted answer comes the receipt of this entry, which was the last one then, and with any other none.
-abbrev pub IsReceived : Answer → Entry → Option (List Entry) → Type 0
-IsReceived (Accepted n) e receipt = (log : List Entry) × (receipt ≡ Some (log ++ e ∷ []))
-IsReceived Repeat e receipt = receipt ≡ None
-IsReceived (Refused why) e receipt = receipt ≡ None
+-- The entry's command was accepted as change n at its own line: its receipt is of all entries that the journal had, of this one last, and the content at which it was accepted is what the commands of just its station's entries before it, each accepted, leave of the station's first content.
+pub record IsGiven (at : StationPlace) (first : Content) (n : ℕ) (e : Entry) (told : Option Known) (receipt : Option (List Entry)) : Type 0 where
+  pub log : List Entry
+  pub before : Content
+  pub received : receipt ≡ Some (log ++ e ∷ [])
+  pub left : IsLeftFrom at.limits first before (commands_of (of_station e.station log))
+  pub taken : IsTakenAt at before e.command n told
+
+-- With an accepted answer comes the receipt of this entry, and with any other none.
+abbrev pub IsReceived : StationPlace → Content → Answer → Entry → Option Known → Option (List Entry) → Type 0
+IsReceived at first (Accepted n) e told receipt = IsGiven at first n e told receipt
+IsReceived at first Repeat e told receipt = receipt ≡ None
+IsReceived at first (Refused why) e told receipt = receipt ≡ None
+
+-- A share had its station's entries in a list to which this entry was added, and the receipt is of that list.
+pub record IsNoted (share : OwnEntries) (e : Entry) (receipt : List Entry) : Type 0 where
+  pub log : List Entry
+  pub own : share.entries ≡ of_station share.station log
+  pub received : receipt ≡ log ++ e ∷ []
 
 -- The receipt with this answer, where it is accepted.
 abbrev pub given_with : Answer → List Entry → Option (List Entry)

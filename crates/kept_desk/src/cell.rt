@@ -4,11 +4,12 @@ ghost use Rattle.ledger_model.specs.Laws.{IsAccepted};
 ghost use Rattle.station_cell.specs.Cell.{IsInService};
 ghost use Rattle.station_cell.specs.Settle.{cell_after};
 ghost use Rattle.station_ledger.specs.Judged.{IsJudged};
-ghost use Rattle.site_desk.specs.Submit.{CanJudge, Submitted};
-ghost use Rattle.kept_desk.specs.Kept.{IsReceived, KeepsCell, given_with};
+ghost use Rattle.site_desk.specs.Submit.{CanJudge, Submitted, TellsOf};
+ghost use Rattle.kept_desk.specs.Kept.{IsLeftOwn, IsReceived, KeepsCell, given_with};
 ghost use Rattle.kept_desk.specs.Speaking.{SpeaksOf};
 
 use crate::broken::Broken;
+use crate::journal::Journal;
 use crate::opening::Opening;
 use crate::receipt::Receipt;
 use crate::share::Share;
@@ -75,6 +76,15 @@ impl<K: Opening> KeptCell<K> {
         KeptCell { cell, share }
     }
 
+    // Compares its share with the journal: the cell's content is what its own entries there leave.
+    pub(crate) fn compare<W: Write + Drop>(&mut self, log: &mut Journal<K, W>)
+        ensures cell { self.new ≡ self.old }
+        ensures log { log.new ≡ log.old }
+        ensures left { IsLeftOwn K.first log.old.entries self.old }
+    {
+        log.compare(&mut self.share);
+    }
+
     // Both, where the journal's lock is given up.
     pub(crate) fn into_parts(self) -> (StationCell, Share<K>)
         ensures cell { result.0 ≡ self }
@@ -100,7 +110,7 @@ impl<K: Opening> KeptCell<K> {
         requires note { IsNote way.now.note.now }
         requires speaks { SpeaksOf (K.name number) way.now.line.now command }
         ensures submitted { Submitted place.now pass.old command result.0 pass.new result.1 }
-        ensures received { IsReceived result.0 (entry number way.now.note.now way.now.line.now command) result.2 }
+        ensures received { IsReceived place.now (K.first number) result.0 (entry number way.now.note.now way.now.line.now command) result.1 result.2 }
     {
         let judgement = self.cell.ledger().judgement(&command);
         match judgement.answer {
@@ -130,7 +140,7 @@ impl<K: Opening> KeptCell<K> {
         requires note { IsNote way.now.note.now }
         requires speaks { SpeaksOf (K.name number) way.now.line.now judged.command }
         ensures submitted { Submitted place.now pass.old judged.command result.0 pass.new result.1 }
-        ensures received { IsReceived result.0 (entry number way.now.note.now way.now.line.now judged.command) result.2 }
+        ensures received { IsReceived place.now (K.first number) result.0 (entry number way.now.note.now way.now.line.now judged.command) result.1 result.2 }
     {
         match way.write(rt, &mut self.share, &judged.command) {
             Ok(receipt) => with_receipt(
@@ -174,6 +184,7 @@ fn settle_written<J: Naming, R: Wait>(
     requires can { CanJudge number place.now cell.old pass.old }
     requires judged { IsJudged cell.old.limits cell.old.content judged.command judged.judgement.answer }
     ensures settled { IsInService cell.new → cell.new ≡ cell_after cell.old pass.old judged.command }
+    ensures tells { TellsOf place.now cell.old.content judged.command result.0 result.1 }
     ensures submitted { Submitted place.now pass.old judged.command result.0 pass.new result.1 }
 {
     let Judged { command, judgement } = judged;

@@ -2,9 +2,8 @@
 ghost use Rattle.std.specs.Prelude.{◌≡◌, ℕ, ◌+◌, ◌≤◌, [], ◌++◌, length, IfOk, OnOk, Some, All, slice_get, vec_len, vec_capacity};
 ghost use Rattle.kept_desk.specs.Entries.{of_station};
 ghost use Rattle.station_cell.specs.Cell.{Cell, IsInService};
-ghost use Rattle.kept_desk.specs.Kept.{IsLeftFrom, commands_of};
+ghost use Rattle.kept_desk.specs.Kept.{IsLeftFrom, IsReceiptIn, commands_of};
 ghost use Rattle.kept_desk.specs.Opened.{AreFirst};
-ghost use Rattle.site_book.specs.Prefix.{IsPrefix};
 
 use crate::cell::KeptCell;
 use crate::journal::Journal;
@@ -57,7 +56,7 @@ pub(crate) fn confirm_all<K: Opening, W: Write + Drop>(
     log: &mut Journal<K, W>,
 )
     ensures log { log.new ≡ log.old }
-    ensures first { All (λ r. IsPrefix r log.old.entries) receipts.items }
+    ensures first { All (IsReceiptIn log.old.entries) receipts.items }
 {
     for receipt in receipts {
         log.confirm(receipt);

@@ -16,6 +16,8 @@ pub struct KeptClosed<J: Naming, W: Write + Drop> {
     pub writer: BufWriter<W>,
     /// A write or a flush failed.
     pub is_broken: bool,
+    /// How many lines were written whole; 2^64 - 1 stands for that many or more.
+    pub lines: u64,
 }
 
 /// A desk that was not closed, with the passes, viewers and receipts that were handed in, all as they were.

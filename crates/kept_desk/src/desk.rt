@@ -1,4 +1,4 @@
-ghost use Rattle.std.specs.Prelude.{◌≡◌, ◌≢◌, ℕ, [], All, length, IfOk, IfErr, None, Some, slice_get};
+ghost use Rattle.std.specs.Prelude.{◌≡◌, ◌≢◌, ℕ, [], All, length, map, IfOk, IfErr, None, Some, slice_get};
 ghost use Rattle.std.specs.Io.Buffered.{writer_buffer, writer_inner};
 ghost use Rattle.kept_desk.specs.Entries.{IsNote, entry};
 ghost use Rattle.ledger_model.specs.declared.answer.Answer.{Answer};
@@ -9,22 +9,27 @@ ghost use Rattle.site_desk.specs.Close.{IsClosable, Saw};
 ghost use Rattle.site_desk.specs.Plan.{plan_fault};
 ghost use Rattle.site_desk.specs.Roster.{AreNewPlaces};
 ghost use Rattle.site_desk.specs.Submit.{IsUnchanged, Submitted};
-ghost use Rattle.kept_desk.specs.Kept.{IsReceived, IsWrittenDown};
+ghost use Rattle.kept_desk.specs.Kept.{AreBoardsBehind, IsReceived, IsWrittenDown};
+ghost use Rattle.ledger_model.specs.Board.{sum_of_figures};
+ghost use Rattle.site_desk.specs.Operator.{AreBoardsAt};
 ghost use Rattle.kept_desk.specs.Opened.{AreFirst, AreNames};
 ghost use Rattle.kept_desk.specs.Speaking.{SpeaksOf};
 
+use crate::at_moment::AtMoment;
 use crate::cell::KeptCell;
 use crate::cells::{confirm_all, free_cells, keep_cells};
 use crate::closed::{KeptClosed, KeptRefused};
 use crate::journal::Journal;
 use crate::journal_table::JournalTable;
+use crate::moment::Moment;
 use crate::opening::Opening;
 use crate::receipt::Receipt;
 use crate::way::Journalled;
-use ledger_model::{Answer, Command};
+use ledger_model::{Answer, Command, Figures, Name};
 use site_book::{Naming, Told, Viewer};
-use site_desk::{CloseRefused, Closed, Desk, Gate, Parts, Plan};
+use site_desk::{BoardFault, CloseRefused, Closed, Desk, Gate, Parts, Plan};
 use station_cell::{Pass, StationCell};
+use station_ledger::StationBoard;
 use std::alloc::{AllocError, Global};
 use std::io::{BufWriter, Write};
 use std::marker::Model;
@@ -107,6 +112,23 @@ impl<J: Naming, K: Opening, W: Write + Drop> KeptDesk<J, K, W> {
         &self.desk
     }
 
+    /// The boards of a site as [`Desk::site_boards`] gives them, and the moment of the journal that they show: each is the
+    /// board of what its station's entries at that moment leave. The journal's lock is taken while those of the site are
+    /// held, and given back before the boards are made.
+    pub fn site_boards<R: Wait>(
+        &self,
+        rt: &R,
+        alloc: Global,
+        site: u16,
+    ) -> Result<(Vec<(Name, StationBoard)>, Figures, Moment<K>), BoardFault>
+        ensures boards { IfOk result (λ r. AreBoardsAt self.now.stations site r.0.items) }
+        ensures behind { IfOk result (λ r. AreBoardsBehind K.first self.now.stations site r.0.items r.2) }
+        ensures totals { IfOk result (λ r. r.1 ≡ sum_of_figures (map (λ s. s.1.figures) r.0.items)) }
+    {
+        let way = AtMoment { log: &self.log };
+        self.desk.site_boards_by(rt, alloc, site, &way)
+    }
+
     /// Tells whether the journal took no line to its end, and takes no more. It waits for nobody: while a
     /// line is being written it tells that this is not so.
     pub fn is_broken(&self) -> bool {
@@ -137,7 +159,7 @@ impl<J: Naming, K: Opening, W: Write + Drop> KeptDesk<J, K, W> {
         requires note { IsNote note.now }
         requires speaks { (at : StationPlace) → slice_get self.now.stations pass.old.station ≡ Some at → SpeaksOf at.name line.now command }
         ensures settled { (at : StationPlace) → slice_get self.now.stations pass.old.station ≡ Some at → Submitted at pass.old command result.0 pass.new result.1 }
-        ensures received { (at : StationPlace) → slice_get self.now.stations pass.old.station ≡ Some at → IsReceived result.0 (entry pass.old.station note.now line.now command) result.2 }
+        ensures received { (at : StationPlace) → slice_get self.now.stations pass.old.station ≡ Some at → IsReceived at (K.first pass.old.station) result.0 (entry pass.old.station note.now line.now command) result.1 result.2 }
         ensures stranger { slice_get self.now.stations pass.old.station ≡ None → (result.0 ≡ Answer.Refused Refusal.ChangesExhausted) × IsUnchanged pass.old pass.new result.1 }
     {
         let way = Journalled {
@@ -156,10 +178,11 @@ impl<J: Naming, K: Opening, W: Write + Drop> KeptDesk<J, K, W> {
         viewers: Vec<Viewer<J>>,
         receipts: Vec<Receipt<K>>,
     ) -> Result<KeptClosed<J, W>, KeptRefused<J, K, W>>
-        ensures kept { IfOk result (λ s. IsWrittenDown K.name K.first K.before s.is_broken (W.contents (writer_inner s.writer)) (writer_buffer s.writer) s.closed.cells receipts.items) }
+        ensures kept { IfOk result (λ s. IsWrittenDown K.name K.first K.before s.is_broken (W.contents (writer_inner s.writer)) (writer_buffer s.writer) s.closed.cells receipts.items s.lines) }
         ensures stations { IfOk result (λ s. length s.closed.cells ≡ length self.stations) }
         ensures sites { IfOk result (λ s. length s.closed.books ≡ self.sites) }
         ensures whole { IfOk result (λ s. IsClosable self.stations self.viewers s.closed.cells s.closed.books passes.items viewers.items) }
+        ensures given { IfOk result (λ s. s.closed.passes ≡ passes.items) }
         ensures seen { IfOk result (λ s. All (Saw s.closed.books) viewers.items) }
         ensures viewer { IfErr result (λ r. r.fault ≡ CloseFault.ViewerMissing → length viewers.items ≢ self.viewers) }
         ensures desk { IfErr result (λ r. r.desk ≡ self) }
@@ -173,11 +196,12 @@ impl<J: Naming, K: Opening, W: Write + Drop> KeptDesk<J, K, W> {
                 let (mut log, mut cells) = (log.into_inner(), spare);
                 free_cells(kept, &mut log, &mut cells);
                 confirm_all(receipts, &mut log);
-                let is_broken = log.is_broken();
+                let (is_broken, lines) = (log.is_broken(), log.lines());
                 Ok(KeptClosed {
                     closed: Closed::of(cells, books, passes),
                     writer: log.into_writer(),
                     is_broken,
+                    lines,
                 })
             }
             Err(refused) => {

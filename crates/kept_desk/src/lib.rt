@@ -42,6 +42,7 @@
 //! ```
 #![tactic(auto)]
 
+mod at_moment;
 mod broken;
 mod cell;
 mod cells;
@@ -50,8 +51,10 @@ mod desk;
 mod entry;
 mod journal;
 mod journal_table;
+mod moment;
 mod opening;
 mod receipt;
+mod receipts;
 mod share;
 mod steps;
 mod table;
@@ -65,7 +68,9 @@ pub use desk::KeptDesk;
 pub use entry::Entry;
 pub use journal::Journal;
 pub use journal_table::JournalTable;
+pub use moment::Moment;
 pub use opening::Opening;
 pub use receipt::Receipt;
+pub use receipts::Receipts;
 pub use share::Share;
 pub use write::is_note;

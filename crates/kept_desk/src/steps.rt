@@ -85,7 +85,7 @@ pub(crate) fn enlist<K: TheStation>(words: &Words, seat: &mut TableSeat, station
     words.split_seat::<Enlists<K>>(seat)
 }
 
-// The journal and a share note this line of the share's station.
+// The journal and a share note this line of the share's station, whose entries the share had before.
 pub(crate) fn note_entry<E: TheEntries>(
     words: &Words,
     seat: &mut TableSeat,
@@ -100,11 +100,13 @@ pub(crate) fn note_entry<E: TheEntries>(
     requires keeps { seat.old.me ≡ (keeping seat.old.me.0.log seat.old.me.0.made, []) }
     requires holds { share.old.me ≡ (holding station share.old.me.0.mine, []) }
     ensures sits { Sits words.now.table_id seat.new.table_id × Sits words.now.table_id share.new.table_id }
+    ensures own { share.old.me.0.mine ≡ of_station station seat.old.me.0.log }
     ensures keeps { seat.new.me ≡ (keeping (seat.old.me.0.log ++ entry station note.now line.now command.now ∷ []) seat.old.me.0.made, []) }
     ensures holds { share.new.me ≡ (holding station (share.old.me.0.mine ++ entry station note.now line.now command.now ∷ []), []) }
 {
     let left = leave(words, share);
     take_in(words, seat, left);
+    compare(words, seat);
     append::<E>(words, seat, station, note, line, command);
     *share = give(words, seat);
 }

@@ -2,6 +2,7 @@
 ghost use Rattle.std.specs.Prelude.{◌≡◌, List, ◌++◌, ◌∷◌, [], IfOk, OnOk, OnErr};
 ghost use Rattle.kept_desk.specs.declared.entry.Entry.{Entry};
 ghost use Rattle.kept_desk.specs.Entries.{IsNote, entry};
+ghost use Rattle.kept_desk.specs.Kept.{IsNoted};
 ghost use Rattle.kept_desk.specs.Speaking.{SpeaksOf};
 ghost use Rattle.ledger_model.specs.declared.command.Command.{Command};
 
@@ -38,7 +39,7 @@ impl<'a, K: Opening, W: Write + Drop> Journalled<'a, K, W> {
         requires note { IsNote self.now.note.now }
         requires speaks { SpeaksOf (K.name share.old.station) self.now.line.now command.now }
         ensures known { OnOk result (share.new ≡ record share.old { entries = share.old.entries ++ entry share.old.station self.now.note.now self.now.line.now command.now ∷ [] }) }
-        ensures receipt { IfOk result (λ r. (log : List Entry) × (r ≡ log ++ entry share.old.station self.now.note.now self.now.line.now command.now ∷ [])) }
+        ensures noted { IfOk result (IsNoted share.old (entry share.old.station self.now.note.now self.now.line.now command.now)) }
         ensures same { OnErr result (share.new ≡ share.old) }
     {
         let mut log = hold(rt, self.log);
@@ -54,7 +55,7 @@ impl<'a, J: Naming, K: Opening, W: Write + Drop> Settles<J, KeptCell<K>, Receipt
 
     ghost asks = { λ w number command. IsNote w.note.now × SpeaksOf (K.name number) w.line.now command };
 
-    ghost gives = { λ w number command answer receipt. IsReceived answer (entry number w.note.now w.line.now command) receipt };
+    ghost gives = { λ w number at command answer told receipt. IsReceived at (K.first number) answer (entry number w.note.now w.line.now command) told receipt };
 
     fn settle<R: Wait>(
         &self,
@@ -79,7 +80,7 @@ const LOOKS: u32 = 60;
 
 // Takes a lock that is held for one write at a time: to let other threads run meanwhile costs less than to sleep
 // and be woken.
-fn hold<'b, T, R: Wait>(rt: &R, lock: &'b Mutex<T>) -> MutexGuard<'b, T> {
+pub(crate) fn hold<'b, T, R: Wait>(rt: &R, lock: &'b Mutex<T>) -> MutexGuard<'b, T> {
     for _ in 0..LOOKS {
         if let Some(guard) = lock.try_lock() {
             return guard;

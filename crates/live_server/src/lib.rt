@@ -11,9 +11,9 @@
 //! [`serve_plan_at`] serves so at anything that [`Serves`](running_desk::Serves), a desk or one that keeps more, with lines
 //! from anything that gives [`Orders`](running_desk::Orders), and gives passes, viewers and the output back.
 //!
-//! What is written to the output is where the server listens, what it tells meanwhile, and last, for each site in the
-//! plan's order, the board from scratch from the content of its stations' ledgers, of as many changes as the passes made
-//! that are given back (`IsServed` of `specs/Told.antt`). A browser's board is that of the site that was asked for. A
+//! The output takes where the server listens, then the answers to the operator's lines in their order up to `close`, and
+//! last, for each site in the plan's order, the board from scratch from the content of its stations' ledgers, of as many
+//! changes as the passes made that are given back (`IsServed` of `specs/Told.antt`). A browser's board is that of the site that was asked for. A
 //! session gets a pass of the station that its request names. That connections are accepted, sessions end in time and
 //! passes come back is shown by tests.
 //!
@@ -38,4 +38,4 @@ mod watch;
 mod workers;
 
 pub use reply::{Status, response};
-pub use service::{Live, Ran, serve_live, serve_plan_at};
+pub use service::{Live, Ran, Run, serve_live, serve_plan_at};

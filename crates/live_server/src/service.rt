@@ -7,6 +7,7 @@ ghost use Rattle.ledger_model.specs.Ranges.{most_plan_readings};
 ghost use Rattle.site_desk.specs.Roster.{AreNewPlaces};
 ghost use Rattle.board_report.specs.Closed.{AreBoards};
 ghost use Rattle.live_server.specs.Told.{IsServed, Tells};
+ghost use Rattle.running_desk.specs.Ordered.{lines_in};
 ghost use Rattle.running_desk.specs.Replies.{AddsReplies};
 
 use crate::acceptor::{Acceptor, Acceptors};
@@ -52,6 +53,19 @@ pub struct Live {
     pub board_port: Option<u16>,
 }
 
+/// What all parts of a live server hand on: the machine, the allocator, the plan, and what is asked.
+#[derive(Drop)]
+pub struct Run<'a, R> {
+    /// Threads, locks, the clock and sockets.
+    pub rt: &'a R,
+    /// Where memory is taken.
+    pub alloc: Global,
+    /// The plan that is served.
+    pub plan: &'a Plan,
+    /// What the server is asked to do.
+    pub live: Live,
+}
+
 /// Serves a plan's stations until the operator's lines end or say `close`: opens its desk, writes
 /// `listening 127.0.0.1:<port>` to `output`, and serves connections without end, two sessions of each station at once.
 /// Meanwhile it answers the lines of `input`, each answer out before the next line is read. Then it ends all sessions,
@@ -69,10 +83,16 @@ pub fn serve_live<R: Host, I: BufRead, W: Write + Drop, L: Write + Send + Drop>(
     output: W,
     lines: L,
 ) -> Result<(W, Vec<Pass>), ServiceFault>
-    ensures { IfOk result (λ r. IsServed plan.now.sites.items plan.now.stations.items (W.contents output) (W.contents r.0) r.1.items) }
+    ensures { IfOk result (λ r. IsServed plan.now.sites.items plan.now.stations.items (lines_in (I.remaining input.old)) (W.contents output) (W.contents r.0) r.1.items) }
 {
     let tables = Tables::make(alloc, plan.sites.len() as u16)?;
-    serve_under::<Brand, R, I, W, L>(rt, alloc, tables, plan, live, input, output, lines)
+    let run = Run {
+        rt,
+        alloc,
+        plan,
+        live,
+    };
+    serve_under::<Brand, R, I, W, L>(run, tables, input, output, lines)
 }
 
 // Opens the desk of a plan under the naming of its tables, and serves it as `serve_live` does.
@@ -83,55 +103,38 @@ fn serve_under<
     W: Write + Drop,
     L: Write + Send + Drop,
 >(
-    rt: &R,
-    alloc: Global,
+    run: Run<'_, R>,
     tables: Tables,
-    plan: &Plan,
-    live: Live,
     input: &mut I,
     output: W,
     lines: L,
 ) -> Result<(W, Vec<Pass>), ServiceFault>
     requires named { NamedBy J.table tables }
-    requires there { (site : ℕ) → site < length plan.now.sites.items → HasTable tables site }
-    ensures { IfOk result (λ r. IsServed plan.now.sites.items plan.now.stations.items (W.contents output) (W.contents r.0) r.1.items) }
+    requires there { (site : ℕ) → site < length run.plan.now.sites.items → HasTable tables site }
+    ensures { IfOk result (λ r. IsServed run.entry.plan.now.sites.items run.entry.plan.now.stations.items (lines_in (I.remaining input.old)) (W.contents output) (W.contents r.0) r.1.items) }
 {
-    let (desk, viewers) = open_desk::<J>(alloc, tables, plan)?;
-    let mut orders = ReadOrders::open(alloc, input);
-    serve_desk(
-        rt,
-        alloc,
-        plan,
-        desk,
-        viewers,
-        live,
-        &mut orders,
-        output,
-        lines,
-    )
+    let (desk, viewers) = open_desk::<J>(run.alloc, tables, run.plan)?;
+    let mut orders = ReadOrders::open(run.alloc, input);
+    serve_desk(run, desk, viewers, &mut orders, output, lines)
 }
 
 // Serves a plan at the desk that was opened, closes it, and writes the boards.
 fn serve_desk<J: Naming + Send + Sync, R: Host, O: Orders, W: Write + Drop, L: Write + Send + Drop>(
-    rt: &R,
-    alloc: Global,
-    plan: &Plan,
+    run: Run<'_, R>,
     desk: Desk<J>,
     viewers: Vec<Viewer<J>>,
-    live: Live,
     orders: &mut O,
     output: W,
     lines: L,
 ) -> Result<(W, Vec<Pass>), ServiceFault>
-    requires sites { desk.sites ≡ length plan.now.sites.items }
-    requires opened { AreNewPlaces plan.now.sites.items plan.now.stations.items desk.stations }
-    requires readings { sum_by (λ s. s.limits.readings) plan.now.stations.items ≤ most_plan_readings }
-    ensures { IfOk result (λ r. IsServed plan.now.sites.items plan.now.stations.items (W.contents output) (W.contents r.0) r.1.items) }
+    requires sites { desk.sites ≡ length run.plan.now.sites.items }
+    requires opened { AreNewPlaces run.plan.now.sites.items run.plan.now.stations.items desk.stations }
+    requires readings { sum_by (λ s. s.limits.readings) run.plan.now.stations.items ≤ most_plan_readings }
+    ensures { IfOk result (λ r. IsServed run.entry.plan.now.sites.items run.entry.plan.now.stations.items (O.coming orders.old) (W.contents output) (W.contents r.0) r.1.items) }
 {
+    let (alloc, plan) = (run.alloc, run.plan);
     let passes = Vec::new(alloc);
-    let ran = serve_plan_at(
-        rt, alloc, plan, &desk, passes, viewers, live, orders, output, lines,
-    )?;
+    let ran = serve_plan_at(run, &desk, passes, viewers, orders, output, lines)?;
     end_run(alloc, plan, desk, ran)
 }
 
@@ -190,34 +193,25 @@ pub fn serve_plan_at<
     W: Write + Drop,
     L: Write + Send + Drop,
 >(
-    rt: &R,
-    alloc: Global,
-    plan: &Plan,
+    run: Run<'_, R>,
     serves: &S,
     passes: Vec<Pass>,
     viewers: Vec<Viewer<J>>,
-    live: Live,
     orders: &mut O,
     mut output: W,
     lines: L,
 ) -> Result<Ran<J, W>, ServiceFault>
-    requires opened { AreNewPlaces plan.now.sites.items plan.now.stations.items (S.roster serves.now).stations }
-    requires readings { sum_by (λ s. s.limits.readings) plan.now.stations.items ≤ most_plan_readings }
-    ensures { IfOk result (λ r. OnOk r.ended (Tells plan.now.sites.items (S.roster serves.now).stations (W.contents output) (W.contents r.output))) }
+    requires opened { AreNewPlaces run.plan.now.sites.items run.plan.now.stations.items (S.roster serves.now).stations }
+    requires readings { sum_by (λ s. s.limits.readings) run.plan.now.stations.items ≤ most_plan_readings }
+    ensures { IfOk result (λ r. OnOk r.ended (Tells run.entry.plan.now.sites.items (S.roster serves.now).stations (O.coming orders.old) (W.contents output) (W.contents r.output))) }
 {
-    let listeners = Listeners::open(rt, live, &mut output)?;
-    let workers = workers_for(plan);
-    let shared = Shared::open(alloc, plan, serves, passes, workers, lines, live.is_logged)?;
-    Ok(serve_all(
-        rt,
-        alloc,
-        shared,
-        &listeners,
-        live.glances,
-        viewers,
-        orders,
-        output,
-    ))
+    let listeners = Listeners::open(run.rt, run.live, &mut output)?;
+    let workers = workers_for(run.plan);
+    let is_logged = run.live.is_logged;
+    let shared = Shared::open(
+        run.alloc, run.plan, serves, passes, workers, lines, is_logged,
+    )?;
+    Ok(serve_all(run, shared, &listeners, viewers, orders, output))
 }
 
 // How many workers there are: two for each station, and some more.
@@ -236,21 +230,17 @@ fn serve_all<
     W: Write + Drop,
     L: Write + Send + Drop,
 >(
-    rt: &R,
-    alloc: Global,
+    run: Run<'_, R>,
     shared: Shared<'_, J, C, S, L>,
     listeners: &Listeners,
-    glances: u16,
     viewers: Vec<Viewer<J>>,
     orders: &mut O,
     output: W,
 ) -> Ran<J, W>
-    ensures { OnOk result.ended (AddsReplies shared.entry.running.plan.now.sites.items shared.entry.running.desk.desk.now.stations (W.contents output) (W.contents result.output)) }
+    ensures { OnOk result.ended (AddsReplies shared.entry.running.plan.now.sites.items shared.entry.running.desk.desk.now.stations (O.coming orders.old) (W.contents output) (W.contents result.output)) }
 {
     let acceptors = Acceptors::open(&listeners.stations, listeners.browsers.as_ref());
-    let (ended, viewers, output) = serve_beside(
-        rt, alloc, &shared, &acceptors, glances, viewers, orders, output,
-    );
+    let (ended, viewers, output) = serve_beside(run, &shared, &acceptors, viewers, orders, output);
     Ran {
         passes: shared.into_passes(),
         viewers,
@@ -272,23 +262,22 @@ fn serve_beside<
     W: Write + Drop,
     L: Write + Send + Drop,
 >(
-    rt: &R,
-    alloc: Global,
+    run: Run<'_, R>,
     shared: &Shared<'_, J, C, S, L>,
     acceptors: &Acceptors<'_>,
-    glances: u16,
     viewers: Vec<Viewer<J>>,
     orders: &mut O,
     output: W,
 ) -> Ended<J, W>
-    ensures { OnOk result.0 (AddsReplies shared.now.running.plan.now.sites.items shared.now.running.desk.desk.now.stations (W.contents output) (W.contents result.2)) }
+    ensures { OnOk result.0 (AddsReplies shared.now.running.plan.now.sites.items shared.now.running.desk.desk.now.stations (O.coming orders.old) (W.contents output) (W.contents result.2)) }
 {
+    let (rt, alloc, glances) = (run.rt, run.alloc, run.live.glances);
     thread::scope(
         thread::scope_env(),
         rt,
         |scope| -> Ended<J, W>
             requires { IsSync R.row × IsSend J.row × IsSync J.row × IsSend C.row × IsSync S.row × IsSend L.row }
-            ensures { OnOk result.0 (AddsReplies shared.entry.now.running.plan.now.sites.items shared.entry.now.running.desk.desk.now.stations (W.contents output) (W.contents result.2)) }
+            ensures { OnOk result.0 (AddsReplies shared.entry.now.running.plan.now.sites.items shared.entry.now.running.desk.desk.now.stations (O.coming orders.entry.now) (W.contents output) (W.contents result.2)) }
         {
             let mut own = output;
             let watching = Stack::new().stack_size(SMALL_STACK).spawn_scoped_with(
@@ -326,7 +315,7 @@ fn serve_until_end<
     orders: &mut O,
     output: &mut W,
 ) -> Result<(), ServiceFault>
-    ensures { OnOk result (AddsReplies shared.now.running.plan.now.sites.items shared.now.running.desk.desk.now.stations (W.contents output.old) (W.contents output.new)) }
+    ensures { OnOk result (AddsReplies shared.now.running.plan.now.sites.items shared.now.running.desk.desk.now.stations (O.coming orders.old) (W.contents output.old) (W.contents output.new)) }
 {
     let ended = if start_all(scope, rt, alloc, shared, acceptors) {
         operate(rt, alloc, &shared.running, orders, output)

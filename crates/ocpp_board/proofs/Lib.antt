@@ -2,3 +2,4 @@ pub mod Limits
 pub mod Words
 mod CommandLine
 mod Rows
+mod Runs

@@ -2,3 +2,5 @@ pub mod Arguments
 pub mod LimitWords
 pub mod StationWords
 pub mod Options
+pub mod Run
+pub mod Serving

@@ -1,6 +1,9 @@
 //! What the program's words ask for.
-ghost use Rattle.std.specs.Prelude.{◌≡◌, IfOk, map, true};
+ghost use Rattle.std.specs.Prelude.{◌≡◌, IfErr, IfOk, map, true};
 ghost use Rattle.clap.specs.Simple.{app_of, is_simple, subcommand_of, subcommand_rows_of};
+ghost use Rattle.clap.specs.Takes.{takes};
+ghost use Rattle.clap.specs.Values.{kind_of};
+ghost use Rattle.clap.specs.declared.error.kind.ErrorKind.TheVariants.{OutOfMemory};
 ghost use Rattle.ocpp_board.specs.Arguments.{IsAskable, IsAskedBy};
 
 use crate::asked::{Asked, serve_asked, sim_asked};
@@ -15,9 +18,12 @@ pub fn read_arguments<'a, S: AsStr>(
     requires { is_simple (app_of program) ≡ true }
     ensures range { IfOk result IsAskable }
     ensures asked { IfOk result (IsAskedBy (subcommand_of (app_of program.entry) (map S.text words.entry.now))) }
+    ensures refused { IfErr result (λ e. takes (app_of program.entry) (map S.text words.entry.now) ≡ true → kind_of e ≡ OutOfMemory) }
 {
-    let matches = program.try_get_matches_from(words)?;
-    Ok(asked_of(&matches))
+    match program.try_get_matches_from(words) {
+        Ok(matches) => Ok(asked_of(&matches)),
+        Err(error) => Err(error),
+    }
 }
 
 /// What the matches of the program's words ask for, by the command that they name; without one, to replay.

@@ -3,21 +3,25 @@
 //! `ocpp_board` or `ocpp_board replay` answers a script from standard input on standard output, by
 //! `script_replay`; `serve` and `sim` run a server of stations, and simulated ones, by `site_server`, a server that
 //! lives by `live_server`, and one with a journal by `journal_server`.
-//! `options` has its commands and options, `arguments`, `asked`, `limit_words` and `station_words` say what they ask for, and
-//! `cli` starts it and tells faults and exit statuses.
+//! `options` has its commands and options, and `arguments`, `asked`, `limit_words` and `station_words` say what they ask
+//! for. What the program does is one function, `run` of `run`, over any words and streams: `serving` and `journalling` run
+//! its servers, and `report` has exit statuses and what standard error is told of a fault. `main` hands it the words and
+//! the streams of the process.
 #![tactic(auto)]
 
 mod arguments;
 mod asked;
-mod cli;
+mod journalling;
 mod limit_words;
 mod options;
+mod report;
+mod run;
+mod serving;
 mod station_words;
 
-use crate::cli::{STOPPED, run_command_line, tell_bytes, tell_fault};
+use crate::run::{Streams, refuse_unread, run};
 use gathered_input::gathered;
-use script_replay::{ReplayFault, buffered};
-use std::io::{BufRead, BufWriter, Write};
+use std::io::{Read, Write};
 use std::net::{Net, TcpListener, TcpStream};
 use std::process::ExitCode;
 use std::random::RandomSource;
@@ -28,16 +32,13 @@ use std::time::Clock;
 use std::{env, io};
 
 fn main(rt: HostRuntime) -> ExitCode {
-    let mut errors = rt.stderr();
-    let status = match buffered(&rt, gathered(&rt, rt.stdin()), rt.stdout()) {
-        Ok((reader, writer)) => run(&rt, reader, writer, &mut errors, rt.stderr()),
-        Err(_) => tell_fault(&mut errors, ReplayFault::OutOfMemory, STOPPED),
-    };
-    ExitCode::from(status)
+    let input = gathered(&rt, rt.stdin());
+    let (console, errors, lines) = (rt.stderr(), rt.stderr(), rt.stderr());
+    ExitCode::from(run_words(&rt, input, rt.stdout(), console, errors, lines))
 }
 
-// Runs the program's words, and gives its exit status.
-fn run<
+// Runs the program with the words of the process, and gives its exit status.
+fn run_words<
     X: AllocGlobal
         + Env
         + Threads
@@ -49,23 +50,22 @@ fn run<
         + Sync
         + Net<Listener = TcpListener, Stream = TcpStream>
         + 'static,
-    R: BufRead + Send + Drop + 'static,
+    R: Read + Send + Drop + 'static,
     W: Write + Send + Drop,
-    E: Write,
+    C: Write + Drop,
+    E: Write + Drop,
     L: Write + Send + Drop,
->(rt: &X, reader: R, writer: BufWriter<W>, errors: &mut E, lines: L) -> u8 {
+>(rt: &X, input: R, output: W, console: C, errors: E, lines: L) -> u8 {
+    let streams = Streams {
+        input,
+        output,
+        console,
+        errors,
+        lines,
+    };
     match program_words(rt) {
-        Ok(words) => run_command_line(rt, words.as_slice(), reader, writer, errors, lines),
-        Err(error) => tell_no_words(errors, &error),
-    }
-}
-
-// Tells why there are no words: a word is no UTF-8, or there is no memory.
-fn tell_no_words<E: Write>(errors: &mut E, error: &io::Error) -> u8 {
-    if error.kind() == io::ErrorKind::InvalidData {
-        tell_bytes(errors)
-    } else {
-        tell_fault(errors, ReplayFault::OutOfMemory, STOPPED)
+        Ok(words) => run(rt, words.as_slice(), streams).ended.status,
+        Err(error) => refuse_unread(streams, error.kind()).status,
     }
 }
 

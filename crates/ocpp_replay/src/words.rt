@@ -1,4 +1,7 @@
 //! The program's words.
+ghost use Rattle.std.specs.Prelude.{◌≡◌, map};
+ghost use Rattle.ocpp_replay.specs.Words.{asks_help, two_meaning, word_meaning, words_meaning};
+
 use std::convert::AsStr;
 
 /// What the program's words ask for.
@@ -14,7 +17,11 @@ pub enum Asked {
 }
 
 /// What `--version` writes.
-pub const VERSION: &str = "ocpp_replay 0.3.0";
+pub const VERSION: &str = "ocpp_replay 0.3.0\n";
+
+/// What words that ask for nothing are answered.
+pub const USAGE: &str =
+    "ocpp_replay takes the words replay, --help and --version; it answers the script that it reads from standard input\n";
 
 /// What `--help` writes: of the text of `ocpp_board --help` the part on `replay`.
 pub const HELP: &str = "\
@@ -46,20 +53,25 @@ Empty lines and lines that begin with # write nothing. A line with a fault write
 DeclaredLate, PlanLimit, StationTwice, UnknownStation or UnknownSite.
 
 Exit status: 0; 1 with `fault <name>` on standard error where the replay stopped before its
-end (ReadFault, WriteFault, TooMuchInput, OutOfMemory); 2 for a fault of the arguments.";
+end (ReadFault, WriteFault, TooMuchInput, OutOfMemory); 2 for a fault of the arguments.
+";
 
 /// What these words ask for, the first of which is the program's name.
-pub fn read_words<S: AsStr>(words: &[S]) -> Asked {
-    match words.len() {
-        0 | 1 => Asked::Replay,
-        2 => read_word(words[1].as_str()),
-        3 if words[1].as_str() == "replay" && is_help(words[2].as_str()) => Asked::Help,
+pub fn read_words<S: AsStr>(words: &[S]) -> Asked
+    ensures { result ≡ words_meaning (map S.text words.now) }
+{
+    match words {
+        [] | [_] => Asked::Replay,
+        [_, word] => read_word(word.as_str()),
+        [_, word, other] => read_two(word.as_str(), other.as_str()),
         _ => Asked::Unknown,
     }
 }
 
 // What one word asks for.
-fn read_word(word: &str) -> Asked {
+fn read_word(word: &str) -> Asked
+    ensures { result ≡ word_meaning word.now }
+{
     if word == "replay" {
         Asked::Replay
     } else if is_help(word) {
@@ -71,7 +83,20 @@ fn read_word(word: &str) -> Asked {
     }
 }
 
+// What two words ask for.
+fn read_two(word: &str, other: &str) -> Asked
+    ensures { result ≡ two_meaning word.now other.now }
+{
+    if word == "replay" && is_help(other) {
+        Asked::Help
+    } else {
+        Asked::Unknown
+    }
+}
+
 // Whether a word asks for the text of `HELP`.
-fn is_help(word: &str) -> bool {
+fn is_help(word: &str) -> bool
+    ensures { result ≡ asks_help word.now }
+{
     word == "--help" || word == "-h"
 }

@@ -1,3 +1,4 @@
 pub mod Pooled
 pub mod Replied
 pub mod Replies
+pub mod Ordered

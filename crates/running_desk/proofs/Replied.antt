@@ -49,7 +49,7 @@ step_of at p command a p' told h = record { changes = h.before.changes; content 
 
 -- what a submitted command is answered, in the words of the step
 stepped : (at : StationPlace) (p : Held) (command : Command) (a : Answer) (p' : Held) (told : Option Known) → Submitted at p command a p' told → IsStepAt at.limits command a ⊎ (a ≡ Refused ChangesExhausted)
-stepped at p command (Accepted n) p' told h = inl (record { changes = h.count; content = h.before; reached = h.reached; answered = h.answered })
+stepped at p command (Accepted n) p' told h = inl (record { changes = h.count; content = h.before; reached = h.reached; answered = h.taken.answered })
 stepped at p command Repeat p' told h = inl (step_of at p command Repeat p' told h)
 stepped at p command (Refused ChangesExhausted) p' told h = inr refl
 stepped at p command (Refused ConflictingEvent) p' told h = inl (step_of at p command (Refused ConflictingEvent) p' told h)

@@ -1,45 +1,166 @@
 -- Answers to an operator's lines, piece by piece.
-use Rattle.std.proofs.Common.{ℕ, List, [], ◌∷◌, ◌++◌, Option, Result, Ok, Err, append-nil, subst, sym}
-use Rattle.std.specs.Prelude.{OnOk}
+use Rattle.std.proofs.Common.{◌≡◌, ℕ, Bool, true, false, List, [], ◌∷◌, ◌++◌, Option, None, Some, refl, sym, subst, ap, ◌∙◌, append-nil, append_assoc, cond, map}
+use Rattle.std.specs.Prelude.{⊤, All}
 use Rattle.std.specs.Io.KnownBytes.{Appends}
 use Rattle.std.specs.List.{flat_map}
 use Rattle.std.proofs.KnownBytes.{Appends-nil, Appends-trans}
 use Rattle.std.proofs.lemmas.List.Concat.{flat_map-append}
 use Rattle.std.proofs.lemmas.List.Elements.{All-append, All-cons, All-nil}
-use Rattle.script_lines.specs.LineMeaning.{LineMeaning}
+use Rattle.std.proofs.lemmas.List.{map-append}
+use Rattle.script_lines.specs.LineMeaning.{line_meaning}
+use Rattle.script_lines.specs.Lines.{Line}
 use Rattle.site_desk.specs.declared.plan.SitePlan.{SitePlan}
 use Rattle.site_desk.specs.declared.roster.StationPlace.{StationPlace}
+use Rattle.running_desk.specs.declared.orders.Came.{Came}
+use Rattle.running_desk.specs.declared.orders.Came.TheVariants as kind
+use Rattle.running_desk.specs.Ordered.{AreAnswered, Comes, before_close, ends, is_close}
 use Rattle.running_desk.specs.Replied.{IsReplyOrMemory}
-use Rattle.running_desk.specs.Replies.{AddsReplies}
+use Rattle.running_desk.specs.Replies.{AddsAnswer, AddsReplies, AddsReply}
+
+-- of the lines that came first, those that were answered stand in front of what is answered of those that come now
+abbrev pub Stands : Option (List Line) → Option (List Line) → List Line → Type 0
+Stands None now done = ⊤
+Stands (Some all) None done = ⊥
+Stands (Some all) (Some rest) done = before_close all ≡ done ++ before_close rest
 
 module _ (sites : List SitePlan) (places : List StationPlace) where
   -- a line and its answer
-  abbrev Own : LineMeaning × List ℕ → Type 0
-  Own l = IsReplyOrMemory sites places l.0 l.1
+  abbrev Own : Line × List ℕ → Type 0
+  Own l = IsReplyOrMemory sites places (line_meaning l.0) l.1
 
   -- what lines were answered
-  abbrev texts : List (LineMeaning × List ℕ) → List ℕ
+  abbrev texts : List (Line × List ℕ) → List ℕ
   texts lines = flat_map (λ l. l.1) lines
 
-  -- nothing was written
-  pub nothing : (w : Option (List ℕ)) → AddsReplies sites places w w
-  nothing w = record { lines = []; replies = All-nil Own; adds = Appends-nil w }
+  -- the lines
+  abbrev asked : List (Line × List ℕ) → List Line
+  asked lines = map (λ l. l.0) lines
 
-  -- one answer
-  pub one : (w0 w1 : Option (List ℕ)) (meaning : LineMeaning) (text : List ℕ) → Appends w0 w1 text → IsReplyOrMemory sites places meaning text → AddsReplies sites places w0 w1
-  one w0 w1 meaning text told own =
-      record { lines = (meaning, text) ∷ []; replies = All-cons Own (meaning, text) [] own (All-nil Own); adds = subst (Appends w0 w1) (sym (append-nil text)) told }
+  -- lines were answered so far, and these are still to come
+  pub record SoFar (first now : Option (List Line)) (w0 w1 : Option (List ℕ)) : Type 0 where
+    pub lines : List (Line × List ℕ)
+    pub stands : Stands first now (asked lines)
+    pub replies : All Own lines
+    pub adds : Appends w0 w1 (texts lines)
 
-  -- answers, and then more of them
-  pub more : (w0 w1 w2 : Option (List ℕ)) → AddsReplies sites places w0 w1 → AddsReplies sites places w1 w2 → AddsReplies sites places w0 w2
-  more w0 w1 w2 first then =
+  all_stand : (first : Option (List Line)) → Stands first first []
+  all_stand None = tt
+  all_stand (Some all) = refl
+
+  -- none was answered
+  pub nothing : (first : Option (List Line)) (w : Option (List ℕ)) → SoFar first first w w
+  nothing first w = record { lines = []; stands = all_stand first; replies = All-nil Own; adds = Appends-nil w }
+
+  -- where a line ends the server, no line is answered any more
+  none_left : (line : Line) (lines : List Line) → is_close line ≡ true → before_close (line ∷ lines) ≡ []
+  none_left line lines closes = ap (λ t. cond t [] (line ∷ before_close lines)) closes
+
+  -- and else it is, and then those behind it
+  one_more : (line : Line) (lines : List Line) → is_close line ≡ false → before_close (line ∷ lines) ≡ line ∷ before_close lines
+  one_more line lines goes = ap (λ t. cond t [] (line ∷ before_close lines)) goes
+
+  -- the lines that were answered are all of those in front of `close`
+  are_those : (came : Came) (line : Line) (first now next : Option (List Line)) (done : List Line) → Stands first now done → Comes now came line next → ends came line ≡ true → AreAnswered first done
+  are_those came line None now next done s comes closes = tt
+  are_those came line (Some all) None next done s comes closes = absurd s
+  are_those came line (Some all) (Some rest) None done s comes closes = absurd comes
+  are_those kind.Line line (Some all) (Some rest) (Some later) done s comes closes =
+      sym (s ∙ ap (λ l. done ++ before_close l) comes ∙ ap (λ l. done ++ l) (none_left line later closes) ∙ append-nil done)
+  are_those kind.LastLine line (Some all) (Some rest) (Some later) done s comes closes =
+      sym (s ∙ ap (λ l. done ++ before_close l) comes.0 ∙ ap (λ l. done ++ l) (none_left line [] closes) ∙ append-nil done)
+  are_those kind.Nothing line (Some all) (Some rest) (Some later) done s comes closes = cc
+  are_those kind.End line (Some all) (Some rest) (Some later) done s comes closes =
+      sym (s ∙ ap (λ l. done ++ before_close l) comes.0 ∙ append-nil done)
+
+  -- what came ended the server
+  pub ended : (came : Came) (line : Line) (first now next : Option (List Line)) (w0 w1 : Option (List ℕ)) → SoFar first now w0 w1 → Comes now came line next → ends came line ≡ true → AddsReplies sites places first w0 w1
+  ended came line first now next w0 w1 so_far comes closes =
       record {
-        lines = first.lines ++ then.lines;
-        replies = All-append Own first.lines then.lines first.replies then.replies;
-        adds = subst (Appends w0 w2) (sym (flat_map-append (λ (l : LineMeaning × List ℕ). l.1) first.lines then.lines)) (Appends-trans w0 w1 w2 (texts first.lines) (texts then.lines) first.adds then.adds);
+        lines = so_far.lines;
+        those = are_those came line first now next (asked so_far.lines) so_far.stands comes closes;
+        replies = so_far.replies;
+        adds = so_far.adds;
       }
 
-  -- the same, of a call that writes it
-  pub one_ok : {T E : Type 0} (r : Result T E) (w0 w1 : Option (List ℕ)) (meaning : LineMeaning) → OnOk r ((text : List ℕ) × Appends w0 w1 text × IsReplyOrMemory sites places meaning text) → OnOk r (AddsReplies sites places w0 w1)
-  one_ok (Ok _) w0 w1 meaning h = one w0 w1 meaning h.0 h.1 h.2
-  one_ok (Err _) w0 w1 meaning h = h
+  -- one line more stands in front of what comes next
+  stands_more : (line : Line) (first now next : Option (List Line)) (done : List Line) → is_close line ≡ false → Stands first now done
+      → Comes now kind.Line line next → Stands first next (done ++ line ∷ [])
+  stands_more line None now next done goes s comes = tt
+  stands_more line (Some all) None next done goes s comes = absurd s
+  stands_more line (Some all) (Some rest) None done goes s comes = absurd comes
+  stands_more line (Some all) (Some rest) (Some later) done goes s comes =
+      s ∙ ap (λ l. done ++ before_close l) comes ∙ ap (λ l. done ++ l) (one_more line later goes) ∙ sym (append_assoc done (line ∷ []) (before_close later))
+
+  -- the last line comes as a line does
+  as_line : (line : Line) (now next : Option (List Line)) → Comes now kind.LastLine line next → Comes now kind.Line line next
+  as_line line None next comes = tt
+  as_line line (Some rest) None comes = comes
+  as_line line (Some rest) (Some later) comes = comes.0 ∙ ap (λ l. line ∷ l) (sym comes.1)
+
+  -- nothing came
+  stands_still : (line : Line) (first now next : Option (List Line)) (done : List Line) → Stands first now done → Comes now kind.Nothing line next → Stands first next done
+  stands_still line None now next done s comes = tt
+  stands_still line (Some all) None next done s comes = absurd s
+  stands_still line (Some all) (Some rest) None done s comes = absurd comes
+  stands_still line (Some all) (Some rest) (Some later) done s comes = s ∙ ap (λ l. done ++ before_close l) (sym comes)
+
+  -- one line more was answered
+  answered : (line : Line) (first now next : Option (List Line)) (w0 w1 w2 : Option (List ℕ)) → is_close line ≡ false → SoFar first now w0 w1 → Comes now kind.Line line next → AddsReply sites places line w1 w2 → SoFar first next w0 w2
+  answered line first now next w0 w1 w2 goes so_far comes a =
+      let one : List (Line × List ℕ) = (line, a.0) ∷ [] in
+      record {
+        lines = so_far.lines ++ one;
+        stands = subst (Stands first next) (sym (map-append (λ (l : Line × List ℕ). l.0) so_far.lines one)) (stands_more line first now next (asked so_far.lines) goes so_far.stands comes);
+        replies = All-append Own so_far.lines one so_far.replies (All-cons Own (line, a.0) [] a.2 (All-nil Own));
+        adds = subst (Appends w0 w2) (sym (flat_map-append (λ (l : Line × List ℕ). l.1) so_far.lines one))
+            (Appends-trans w0 w1 w2 (texts so_far.lines) (texts one) so_far.adds (subst (Appends w1 w2) (sym (append-nil a.0)) a.1));
+      }
+
+  -- what came was answered, and did not end the server
+  pub goes_on : (came : Came) (line : Line) (first now next : Option (List Line)) (w0 w1 w2 : Option (List ℕ)) → ends came line ≡ false → SoFar first now w0 w1 → Comes now came line next → AddsAnswer sites places came line w1 w2
+      → SoFar first next w0 w2
+  goes_on kind.Line line first now next w0 w1 w2 goes so_far comes a = answered line first now next w0 w1 w2 goes so_far comes a
+  goes_on kind.LastLine line first now next w0 w1 w2 goes so_far comes a = answered line first now next w0 w1 w2 goes so_far (as_line line now next comes) a
+  goes_on kind.Nothing line first now next w0 w1 w2 goes so_far comes a =
+      record {
+        lines = so_far.lines;
+        stands = stands_still line first now next (asked so_far.lines) so_far.stands comes;
+        replies = so_far.replies;
+        adds = subst (Appends w0 w2) (append-nil (texts so_far.lines)) (Appends-trans w0 w1 w2 (texts so_far.lines) [] so_far.adds a);
+      }
+  goes_on kind.End line first now next w0 w1 w2 goes so_far comes a = cc
+
+  -- behind the last line no line stands
+  none_behind : (line : Line) (first now next : Option (List Line)) (before done : List Line) → Stands first now before → Stands first next done → Comes now kind.LastLine line next → AreAnswered first done
+  none_behind line None now next before done s0 s comes = tt
+  none_behind line (Some all) None next before done s0 s comes = absurd s0
+  none_behind line (Some all) (Some rest) None before done s0 s comes = absurd s
+  none_behind line (Some all) (Some rest) (Some later) before done s0 s comes = sym (s ∙ ap (λ l. done ++ before_close l) comes.1 ∙ append-nil done)
+
+  -- the last line was answered
+  pub finished : (line : Line) (first now next : Option (List Line)) (w0 w1 w2 : Option (List ℕ)) → ends kind.LastLine line ≡ false → SoFar first now w0 w1 → Comes now kind.LastLine line next → AddsAnswer sites places kind.LastLine line w1 w2
+      → AddsReplies sites places first w0 w2
+  finished line first now next w0 w1 w2 goes so_far comes a =
+      let done : SoFar first next w0 w2 = answered line first now next w0 w1 w2 goes so_far (as_line line now next comes) a in
+      record {
+        lines = done.lines;
+        those = none_behind line first now next (asked so_far.lines) (asked done.lines) so_far.stands done.stands comes;
+        replies = done.replies;
+        adds = done.adds;
+      }
+
+  -- the same, of what a line is called
+  pub ended_at : (came : Came) (own line : Line) (first now next : Option (List Line)) (w0 w1 : Option (List ℕ)) → own ≡ line → SoFar first now w0 w1 → Comes now came line next → ends came own ≡ true → AddsReplies sites places first w0 w1
+  ended_at came own line first now next w0 w1 same so_far comes closes = ended came line first now next w0 w1 so_far comes (sym (ap (ends came) same) ∙ closes)
+
+  pub goes_on_at : (came : Came) (own other line : Line) (first now next : Option (List Line)) (w0 w1 w2 : Option (List ℕ)) → own ≡ line → other ≡ line → ends came own ≡ false → SoFar first now w0 w1 → Comes now came line next
+      → AddsAnswer sites places came other w1 w2 → SoFar first next w0 w2
+  goes_on_at came own other line first now next w0 w1 w2 same too goes so_far comes a =
+      goes_on came line first now next w0 w1 w2 (sym (ap (ends came) same) ∙ goes) so_far comes (subst (λ l. AddsAnswer sites places came l w1 w2) too a)
+
+  pub finished_at : (came : Came) (own other line : Line) (first now next : Option (List Line)) (w0 w1 w2 : Option (List ℕ)) → came ≡ kind.LastLine → own ≡ line → other ≡ line → ends came own ≡ false → SoFar first now w0 w1 → Comes now came line next
+      → AddsAnswer sites places came other w1 w2 → AddsReplies sites places first w0 w2
+  finished_at came own other line first now next w0 w1 w2 is same too goes so_far comes a =
+      finished line first now next w0 w1 w2
+      (subst (λ k. ends k line ≡ false) is (sym (ap (ends came) same) ∙ goes)) so_far (subst (λ k. Comes now k line next) is comes)
+      (subst (λ k. AddsAnswer sites places k line w1 w2) is (subst (λ l. AddsAnswer sites places came l w1 w2) too a))

@@ -2,3 +2,4 @@ pub mod Ordered
 pub mod Pooled
 pub mod Replied
 pub mod Replies
+pub mod Reading

@@ -1,5 +1,8 @@
--- How an operator's lines come, and why they end.
-use Rattle.std.specs.Prelude.{ℕ, List, [], ◌∷◌}
+-- How an operator's lines come, which of them are answered, and why they end.
+use Rattle.std.specs.Prelude.{◌≡◌, ℕ, ⊤, Bool, false, true, List, [], ◌∷◌, Option, None, Some, codes, if◌then◌else◌, option_map}
+use Rattle.std.specs.Str.{bytes_eq}
+use Rattle.script_lines.specs.Lines.{Line, lines_of}
+use Rattle.script_lines.specs.Ranges.{longest_line}
 use Rattle.running_desk.specs.declared.orders.Came.{Came}
 use Rattle.running_desk.specs.declared.orders.Came.TheVariants as came
 use Rattle.script_lines.specs.declared.fault.ReplayFault.{ReplayFault}
@@ -21,3 +24,42 @@ told_as read.ReadFault = told.ReadFault
 told_as read.WriteFault = told.WriteFault
 told_as read.TooMuchInput = told.ReadFault
 told_as read.OutOfMemory = told.OutOfMemory
+
+-- The lines of these bytes, where the bytes are known.
+abbrev pub lines_in : Option (List ℕ) → Option (List Line)
+lines_in bytes = option_map (lines_of longest_line) bytes
+
+-- What comes of the lines to come: the first of them, the last of them, nothing yet, or nothing more; and the lines that are to come then.
+abbrev pub Gives : List Line → Came → Line → List Line → Type 0
+Gives lines came.Line line rest = lines ≡ line ∷ rest
+Gives lines came.LastLine line rest = (lines ≡ line ∷ []) × (rest ≡ [])
+Gives lines came.Nothing line rest = rest ≡ lines
+Gives lines came.End line rest = (lines ≡ []) × (rest ≡ [])
+
+-- The same, where it is known which lines are to come.
+abbrev pub Comes : Option (List Line) → Came → Line → Option (List Line) → Type 0
+Comes None came line now = ⊤
+Comes (Some lines) came line None = ⊥
+Comes (Some lines) came line (Some rest) = Gives lines came line rest
+
+-- Whether a line says `close`.
+abbrev pub is_close : Line → Bool
+is_close None = false
+is_close (Some bytes) = bytes_eq bytes (codes "close")
+
+-- Whether what came ends the server: a line that says `close`, or the end of the input.
+abbrev pub ends : Came → Line → Bool
+ends came.Line line = is_close line
+ends came.LastLine line = is_close line
+ends came.Nothing line = false
+ends came.End line = true
+
+-- The lines in front of the first that says `close`, or all where none does.
+abbrev pub before_close : List Line → List Line
+before_close [] = []
+before_close (line ∷ lines) = if is_close line then [] else line ∷ before_close lines
+
+-- These are the lines that are answered, where it is known which lines come: those in front of `close`.
+abbrev pub AreAnswered : Option (List Line) → List Line → Type 0
+AreAnswered None lines = ⊤
+AreAnswered (Some coming) lines = lines ≡ before_close coming

@@ -18,7 +18,7 @@ use Rattle.running_desk.specs.declared.operator.Asked.{Asked}
 use Rattle.running_desk.specs.declared.operator.Asked.TheVariants.{Figures, Import, Export}
 use Rattle.ocppj_frame.specs.Frame.{frame}
 use Rattle.script_ledgers.specs.Script.{commanded_to, energy_answer, energy_line, export_answer, export_line, sent_to, start, total_answer}
-use Rattle.script_lines.specs.declared.script_line.LineFault.TheVariants.{BadLine, DeclaredLate, UnknownSite}
+use Rattle.script_lines.specs.declared.script_line.LineFault.TheVariants.{BadLine, DeclaredLate, UnknownSite, UnknownStation}
 use Rattle.script_lines.specs.LineMeaning.{LineMeaning, nothing, fails, sets_limits, declares, sets_period, sets_order, tells, sends, commands, asks_energy, asks_export, asks_total, asks_board}
 use Rattle.script_lines.specs.Texts.{answer_text, ended_line, fault_line}
 use Rattle.site_book.specs.Book.{Known}
@@ -88,6 +88,19 @@ abbrev pub IsBoard : List SitePlan → List StationPlace → Option ℕ → List
 IsBoard sites places None text = text ≡ fault_line UnknownSite
 IsBoard sites places (Some site) text = IsRunningBoard sites places site text ⊎ (text ≡ torn)
 
+-- A command was submitted with a pass at a station of this place, and the line tells the answer to it.
+pub record IsCommandLine (at : StationPlace) (p : Held) (command : Command) (p' : Held) (line : List ℕ) : Type 0 where
+  pub answer : Answer
+  pub told : Option Known
+  pub submitted : Submitted at p command answer p' told
+  pub is : line ≡ ended_line (answer_text answer)
+
+-- The command was submitted with a pass of the station of this name, and the text is the desk's answer to it; or there is no such station, and the text says so.
+abbrev pub IsSubmitted : List StationPlace → List ℕ → Command → List ℕ → Type 0
+IsSubmitted places name command text =
+    ((p p' : Held) × (named : IsNamed places name p.station) × IsCommandLine named.place p command p' text)
+    ⊎ ((list_any (λ s. bytes_eq name s.name) places ≡ false) × (text ≡ fault_line UnknownStation))
+
 -- The answer to a command, which may be that changes are exhausted whatever the content is.
 abbrev pub IsCommanded : List StationPlace → List ℕ → Command → List ℕ → Type 0
 IsCommanded places name command text = IsOf places name (λ station. (commanded_to station start command).1) text ⊎ (text ≡ ended_line (answer_text (Refused ChangesExhausted)))
@@ -120,7 +133,7 @@ IsReply sites places (sets_period site seconds) text = text ≡ fault_line Decla
 IsReply sites places (sets_order site order) text = text ≡ fault_line DeclaredLate
 IsReply sites places (tells nanos) text = text ≡ fault_line BadLine
 IsReply sites places (sends name words) text = (moment : ℕ) × IsSent places name words moment text
-IsReply sites places (commands name command) text = IsCommanded places name command text
+IsReply sites places (commands name command) text = IsCommanded places name command text × IsSubmitted places name command text
 IsReply sites places (asks_energy name) text = IsTotals places name Import text
 IsReply sites places (asks_export name) text = IsTotals places name Export text
 IsReply sites places (asks_total name) text = IsTotals places name Figures text
@@ -129,13 +142,6 @@ IsReply sites places (asks_board name) text = IsBoard sites places (position (λ
 -- An operator's line is answered so, or by `fault OutOfMemory`.
 abbrev pub IsReplyOrMemory : List SitePlan → List StationPlace → LineMeaning → List ℕ → Type 0
 IsReplyOrMemory sites places meaning text = IsReply sites places meaning text ⊎ (text ≡ ended_line (codes "fault OutOfMemory"))
-
--- A command was submitted with a pass at a station of this place, and the line tells the answer to it.
-pub record IsCommandLine (at : StationPlace) (p : Held) (command : Command) (p' : Held) (line : List ℕ) : Type 0 where
-  pub answer : Answer
-  pub told : Option Known
-  pub submitted : Submitted at p command answer p' told
-  pub is : line ≡ ended_line (answer_text answer)
 
 -- A station's words were answered with a pass at some moment, and the line tells that answer.
 pub record IsMessageLine (places : List StationPlace) (p : Held) (words : List ℕ) (p' : Held) (line : List ℕ) : Type 0 where

@@ -6,11 +6,11 @@
 //! desk, or one that keeps more. [`operate`] answers the lines that an operator's [`Orders`] give, one after the other, each
 //! answer out before the next line is read.
 //!
-//! The crate's one contract: what is written is answers to lines, one behind the other (`AddsReplies` of
-//! `specs/Replies.antt`). Each is what a replay answers to the same line at contents that accepted commands reach (`IsReply`
-//! of `specs/Replied.antt`), and a command is answered by the desk's answer to that very command, with a pass of the station
-//! that the line names. A board is that of the site that was asked for. That the lines are those that were read, in their
-//! order, is shown by tests.
+//! The crate's one contract: [`operate`] writes the answers to the lines that come, in their order, up to a line `close`
+//! (`AddsReplies` of `specs/Replies.antt`). Where the bytes of a reader are known, these lines are its lines
+//! ([`ReadOrders`]). Each answer is what a replay answers to the same line at contents that accepted commands reach
+//! (`IsReply` of `specs/Replied.antt`), and a command is answered by the desk's answer to that very command, with a pass of
+//! the station that the line names. A board is that of the site that was asked for.
 //!
 //! ```text
 //! let running = Running::open(&plan, &desk, passes);

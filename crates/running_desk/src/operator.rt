@@ -1,6 +1,5 @@
 //! An operator's lines, which are answered while stations are served.
 ghost use Rattle.std.specs.Prelude.{◌≡◌, ℕ, List, [], OnOk, Some, slice_get};
-ghost use Rattle.std.specs.Io.KnownBytes.{Appends};
 ghost use Rattle.std.specs.List.{position};
 ghost use Rattle.std.specs.Str.{bytes_eq};
 ghost use Rattle.script_lines.specs.LineMeaning.{commands, line_meaning};
@@ -11,8 +10,9 @@ ghost use Rattle.script_lines.specs.Texts.{fault_line};
 ghost use Rattle.site_desk.specs.declared.roster.StationPlace.{StationPlace};
 ghost use Rattle.site_desk.specs.Roster.{IsNamed};
 ghost use Rattle.running_desk.specs.declared.pooled_desk.PassFault.{PassFault};
-ghost use Rattle.running_desk.specs.Replied.{IsBoard, IsCommandLine, IsCommanded, IsMessageLine, IsReply, IsReplyOrMemory, IsSent, IsTotals, totals_line};
-ghost use Rattle.running_desk.specs.Replies.{AddsReplies};
+ghost use Rattle.running_desk.specs.Replied.{IsBoard, IsCommandLine, IsCommanded, IsMessageLine, IsReply, IsSent, IsSubmitted, IsTotals, totals_line};
+ghost use Rattle.running_desk.specs.Ordered.{ends, is_close};
+ghost use Rattle.running_desk.specs.Replies.{AddsAnswer, AddsReplies, AddsReply};
 
 use crate::orders::{Came, Orders};
 use crate::pooled_desk::PassFault;
@@ -61,7 +61,7 @@ pub fn operate<
     orders: &mut O,
     writer: &mut W,
 ) -> Result<(), ServiceFault>
-    ensures { OnOk result (AddsReplies running.now.plan.now.sites.items running.now.desk.desk.now.stations (W.contents writer.old) (W.contents writer.new)) }
+    ensures { OnOk result (AddsReplies running.now.plan.now.sites.items running.now.desk.desk.now.stations (O.coming orders.old) (W.contents writer.old) (W.contents writer.new)) }
 {
     for _ in rt.forever() {
         let came = orders.next(rt)?;
@@ -72,7 +72,7 @@ pub fn operate<
         if running.serves.is_broken() {
             return Err(ServiceFault::WriteFault);
         }
-        if came == Came::LastLine {
+        if let Came::LastLine = came {
             return Ok(());
         }
     }
@@ -80,11 +80,23 @@ pub fn operate<
 }
 
 // Tells whether what came ends the server: a line that says `close`, or the end of the input and nothing else.
-fn is_last(came: Came, line: Option<&[u8]>) -> bool {
+fn is_last(came: Came, line: Option<&[u8]>) -> bool
+    ensures { result ≡ ends came (line_bytes line.entry) }
+{
     match came {
         Came::End => true,
         Came::Nothing => false,
-        Came::Line | Came::LastLine => line == Some(CLOSE),
+        Came::Line | Came::LastLine => says_close(line),
+    }
+}
+
+// Tells whether a line says `close`.
+fn says_close(line: Option<&[u8]>) -> bool
+    ensures { result ≡ is_close (line_bytes line.entry) }
+{
+    match line {
+        Some(bytes) => bytes == CLOSE,
+        None => false,
     }
 }
 
@@ -97,12 +109,12 @@ fn put_came<J: Naming, C: HasCell, S: Serves<J, C>, R: Threads + Wait + Clock, W
     line: Option<&[u8]>,
     writer: &mut W,
 ) -> Result<(), ServiceFault>
-    ensures { OnOk result (AddsReplies running.now.plan.now.sites.items running.now.desk.desk.now.stations (W.contents writer.old) (W.contents writer.new)) }
+    ensures { OnOk result (AddsAnswer running.now.plan.now.sites.items running.now.desk.desk.now.stations came (line_bytes line.entry) (W.contents writer.old) (W.contents writer.new)) }
 {
-    if came == Came::Nothing {
-        return Ok(());
+    match came {
+        Came::Nothing => Ok(()),
+        Came::Line | Came::LastLine | Came::End => put_reply(rt, alloc, running, line, writer),
     }
-    put_reply(rt, alloc, running, line, writer)
 }
 
 // Writes the answer to a line.
@@ -113,8 +125,7 @@ fn put_reply<J: Naming, C: HasCell, S: Serves<J, C>, R: Threads + Wait + Clock, 
     line: Option<&[u8]>,
     writer: &mut W,
 ) -> Result<(), ServiceFault>
-    ensures { OnOk result ((text : List ℕ) × Appends (W.contents writer.old) (W.contents writer.new) text
-        × IsReplyOrMemory running.now.plan.now.sites.items running.now.desk.desk.now.stations (line_meaning (line_bytes line.entry)) text) }
+    ensures { OnOk result (AddsReply running.now.plan.now.sites.items running.now.desk.desk.now.stations (line_bytes line.entry) (W.contents writer.old) (W.contents writer.new)) }
 {
     let mut reply = Vec::new(alloc);
     let text = match answer_line(rt, alloc, running, line, &mut reply) {
@@ -224,7 +235,8 @@ fn put_command<J: Naming, C: HasCell, S: Serves<J, C>, R: Threads + Wait + Clock
 ) -> Result<(), AllocError>
     requires line { line_meaning (line_bytes line) ≡ commands name.now what }
     requires empty { reply.old.items ≡ [] }
-    ensures { OnOk result (IsCommanded running.now.desk.desk.now.stations name.now what reply.new.items) }
+    ensures answer { OnOk result (IsCommanded running.now.desk.desk.now.stations name.now what reply.new.items) }
+    ensures submitted { OnOk result (IsSubmitted running.now.desk.desk.now.stations name.now what reply.new.items) }
 {
     match running.desk.pass_of(rt, name) {
         Ok(mut pass) => {

@@ -1,6 +1,6 @@
 //! Where an operator's lines come from.
 ghost use Rattle.std.specs.Prelude.{◌≡◌};
-ghost use Rattle.running_desk.specs.Ordered.{came_of, told_as};
+ghost use Rattle.running_desk.specs.Ordered.{came_of, lines_in, told_as};
 
 use script_lines::{LineEnd, LineReader, MAX_LINE_BYTES, ReplayFault};
 use site_server::ServiceFault;
@@ -24,16 +24,29 @@ pub enum Came {
 
 /// Where an operator's lines come from.
 pub trait Orders {
+    ghost use Rattle.std.specs.Prelude.{◌≡◌, List, None, IfOk};
+    ghost use Rattle.std.specs.declared.option.Option.{Option};
+    ghost use Rattle.script_lines.specs.Lines.{Line, line_bytes};
+    ghost use Rattle.running_desk.specs.Ordered.{Comes};
+
+    // The lines that are still to come, where they are known.
+    ghost coming: { Self → Option (List Line) } = { λ _. None };
+
+    // The line that came last.
+    ghost last: { Self → Line };
+
     /// Waits for the next line; it may give up and say that nothing came yet.
-    fn next<R: Wait + Clock>(&mut self, rt: &R) -> Result<Came, ServiceFault>;
+    fn next<R: Wait + Clock>(&mut self, rt: &R) -> Result<Came, ServiceFault>
+        ensures { IfOk result (λ came. Comes (coming self.old) came (last self.new) (coming self.new)) };
 
     /// The line that came last, without its end; `None` where it has more than 262,400 bytes.
-    fn line(&self) -> Option<&[u8]>;
+    fn line(&self) -> Option<&[u8]>
+        ensures { line_bytes result ≡ last self.now };
 }
 
 /// An operator's lines, as they are read.
 #[derive(Drop)]
-pub struct ReadOrders<'a, I: BufRead> {
+pub struct ReadOrders<'a, I> {
     reader: &'a mut I,
     lines: LineReader,
     end: LineEnd,
@@ -41,8 +54,12 @@ pub struct ReadOrders<'a, I: BufRead> {
 }
 
 impl<'a, I: BufRead> ReadOrders<'a, I> {
+    ghost use Rattle.running_desk.specs.Reading.{orders_coming};
+
     /// The lines of a reader.
-    pub fn open(alloc: Global, reader: &'a mut I) -> Self {
+    pub fn open(alloc: Global, reader: &'a mut I) -> Self
+        ensures coming { orders_coming I.remaining result ≡ lines_in (I.remaining reader.old) }
+    {
         ReadOrders {
             reader,
             lines: LineReader::open(alloc, MAX_LINE_BYTES, usize::MAX),
@@ -52,6 +69,12 @@ impl<'a, I: BufRead> ReadOrders<'a, I> {
 }
 
 impl<I: BufRead> Orders for ReadOrders<'_, I> {
+    ghost use Rattle.running_desk.specs.Reading.{orders_coming, orders_last};
+
+    ghost coming = { orders_coming I.remaining };
+
+    ghost last = { orders_last };
+
     fn next<R: Wait + Clock>(&mut self, _rt: &R) -> Result<Came, ServiceFault> {
         match self.lines.next_line(&mut *self.reader) {
             Ok(end) => {

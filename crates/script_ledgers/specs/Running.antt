@@ -62,3 +62,8 @@ pub record Settles (old new : Script) (s : Station) (command : Command) (a : Ans
 -- A command was settled so on the station of this number, where there is one.
 abbrev pub SettlesAt : ℕ → Script → Script → Command → Answer → Type 0
 SettlesAt number old new command a = IfSome (slice_get old.world number) (λ s. Settles old new s command a)
+
+-- These are the passes of the cells, one of each in their order: a pass is of its cell's station, and its cell counts as many changes for it as it made.
+pub record AreTheirPasses (cells : List Cell) (passes : List Held) : Type 0 where
+  pub count : length passes ≡ length cells
+  pub known : (k : ℕ) (c : Cell) (p : Held) → slice_get cells k ≡ Some c → slice_get passes k ≡ Some p → Knows c p

@@ -13,7 +13,7 @@ ghost use Rattle.script_lines.specs.LineMeaning.{asks_energy, asks_export, asks_
 ghost use Rattle.script_lines.specs.Lines.{line_bytes};
 ghost use Rattle.script_lines.specs.ScriptLines.{meaning_of};
 ghost use Rattle.script_ledgers.specs.Received.{TakesMessageAt};
-ghost use Rattle.script_ledgers.specs.Running.{IsRunning, SettlesAt, posts_in, running};
+ghost use Rattle.script_ledgers.specs.Running.{AreTheirPasses, IsRunning, SettlesAt, posts_in, running};
 ghost use Rattle.script_ledgers.specs.Script.{board_answer, board_of_site, line_step, step_by};
 ghost use Rattle.transaction_event.specs.MessageMeaning.{HasShortId, asking, with_reply};
 
@@ -94,6 +94,7 @@ impl<J: Naming> OpenedScript<J> {
         ensures cells { result.1.items ≡ self.cells.items }
         ensures faultless { plan_fault result.0.sites result.0.stations ≡ None }
         ensures placed { AreCellsOf result.0.sites result.0.stations result.1.items }
+        ensures passes { AreTheirPasses result.1.items result.2.items }
     {
         let OpenedScript {
             draft,

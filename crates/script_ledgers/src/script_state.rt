@@ -1,6 +1,6 @@
 ghost use Rattle.std.specs.Prelude.{◌≡◌, ℕ, ◌+◌, ◌<◌, ◌≤◌, ◌^◌, [], None, IfOk, OnOk};
 ghost use Rattle.std.specs.Io.KnownBytes.{Keeps};
-ghost use Rattle.script_ledgers.specs.Running.{running};
+ghost use Rattle.script_ledgers.specs.Running.{AreTheirPasses, running};
 ghost use Rattle.script_ledgers.specs.Script.{line_step, opened_for, opened_script, opening, start, step_by};
 ghost use Rattle.script_lines.specs.Lines.{line_bytes};
 ghost use Rattle.script_lines.specs.ScriptLines.{meaning_of};
@@ -143,6 +143,7 @@ impl<J: Naming> ScriptState<J> {
         ensures script { IfOk result (λ r. running r.0 r.1.items ≡ opened_script self.script) }
         ensures faultless { IfOk result (λ r. plan_fault r.0.sites r.0.stations ≡ None) }
         ensures placed { IfOk result (λ r. AreCellsOf r.0.sites r.0.stations r.1.items) }
+        ensures passes { IfOk result (λ r. AreTheirPasses r.1.items r.2.items) }
     {
         let mut script = self;
         script.open(rt)?;

@@ -1,4 +1,5 @@
 pub mod Outcome
 pub mod Answering
 pub mod Laws
+pub mod Whole
 pub mod LiveLaws

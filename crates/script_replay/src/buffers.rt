@@ -1,6 +1,6 @@
 //! What a program reads a script through, and writes its text through.
-ghost use Rattle.std.specs.Prelude.{◌≡◌, [], IfOk};
-ghost use Rattle.std.specs.Io.Buffered.{reader_buffer, reader_inner, writer_buffer, writer_inner};
+ghost use Rattle.std.specs.Prelude.{◌≡◌, ◌⊎◌, [], IfOk};
+ghost use Rattle.std.specs.Io.Buffered.{reader_buffer, reader_inner, reader_remaining, writer_buffer, writer_contents, writer_inner};
 
 use std::io::{BufReader, BufWriter, Read, Result, Write};
 use std::thread;
@@ -26,6 +26,8 @@ pub fn buffered<X: AllocGlobal + Threads, R: Read + Drop, W: Write + Drop>(
     ensures nothing_read { IfOk result (λ streams. reader_buffer streams.0 ≡ []) }
     ensures writes { IfOk result (λ streams. writer_inner streams.1 ≡ output) }
     ensures nothing_written { IfOk result (λ streams. writer_buffer streams.1 ≡ []) }
+    ensures input { IfOk result (λ streams. reader_remaining R.remaining streams.0 ≡ R.remaining input) }
+    ensures output { IfOk result (λ streams. writer_contents W.contents streams.1 ≡ W.contents output) }
 {
     let reader = BufReader::with_capacity(rt.alloc(), input_buffer(rt), input)?;
     let writer = BufWriter::with_capacity(rt.alloc(), OUTPUT_BUFFER, output)?;
@@ -33,7 +35,9 @@ pub fn buffered<X: AllocGlobal + Threads, R: Read + Drop, W: Write + Drop>(
 }
 
 // How many bytes of the input are read at once.
-fn input_buffer<X: Threads>(rt: &X) -> usize {
+fn input_buffer<X: Threads>(rt: &X) -> usize
+    ensures { (result ≡ INPUT_AHEAD) ⊎ (result ≡ INPUT_ALONE) }
+{
     match thread::available_parallelism(rt) {
         Ok(processors) if processors.get() > 1 => INPUT_AHEAD,
         _ => INPUT_ALONE,

@@ -1,5 +1,5 @@
 -- What a settled command tells one who does not know what lay behind the locks.
-use Rattle.std.proofs.Common.{◌≡◌, ℕ, ◌+◌, [], ◌∷◌, ◌++◌, sum, get_or, List, None, Some, Ok, Err, ap, sym, ◌∙◌, subst, arith}
+use Rattle.std.proofs.Common.{◌≡◌, ℕ, ◌+◌, ◌≤◌, [], ◌∷◌, ◌++◌, sum, get_or, List, None, Some, Ok, Err, ap, sym, ◌∙◌, subst, arith}
 use Rattle.std.specs.Prelude.{Option, Result, IfOk}
 use Rattle.ledger_model.specs.declared.answer.Answer.{Answer}
 use Rattle.ledger_model.specs.declared.answer.Answer.TheVariants.{Accepted, Repeat, Refused}
@@ -8,16 +8,19 @@ use Rattle.ledger_model.specs.declared.command.Command.{Command}
 use Rattle.ledger_model.specs.declared.order.Order.{Order}
 use Rattle.ledger_model.specs.Board.{Board, board_by, figures_by}
 use Rattle.ledger_model.specs.Content.{Content, entries}
+use Rattle.ledger_model.specs.Laws.{IsAccepted}
 use Rattle.ledger_model.specs.Limits.{Bounds}
+use Rattle.ledger_model.specs.Posts.{row_after}
 use Rattle.ledger_model.specs.Step.{Reached, answer, step}
 use Rattle.std.proofs.lemmas.Option.{get_or_from_slice_get}
 use Rattle.site_book.specs.Book.{Book, Known, known}
 use Rattle.site_desk.specs.declared.roster.StationPlace.{StationPlace}
 use Rattle.station_cell.specs.Cell.{Cell, Held, Knows}
 use Rattle.site_desk.specs.Roster.{IsNamed, StandsAt}
-use Rattle.station_cell.specs.Settle.{cell_after, pass_after, posts_after, told_after}
-use Rattle.site_desk.specs.Submit.{IsAnswered, IsBoardOfName, IsBoardWithin, IsTaken, Submitted}
+use Rattle.station_cell.specs.Settle.{Tied, cell_after, pass_after, posts_after, told_after}
+use Rattle.site_desk.specs.Submit.{IsAnswered, IsBoardOfName, IsBoardWithin, IsTaken, IsTakenAt, Submitted, TellsOf}
 use Rattle.station_cell.proofs.Counts.{count_part, next_number}
+use Rattle.station_ledger.specs.Spent.{most_spent}
 
 module _ (at : StationPlace) (number : ℕ) (c : Cell) (b : Book) (p : Held) (command : Command) (stands : StandsAt number at c) (site : b.site ≡ at.site)
     (reached : Reached c.limits c.content.changes c.content) (counted : sum c.counts ≡ c.content.changes) (knows : Knows c p) where
@@ -33,9 +36,21 @@ module _ (at : StationPlace) (number : ℕ) (c : Cell) (b : Book) (p : Held) (co
     unchanged = record { pass = same; untold = untold };
   }
 
-  taken_by : (n : ℕ) (c' : Cell) (b' : Book) (p' : Held) (told : Option Known) → Accepted n ≡ answer c.limits c.content command → c' ≡ cell_after c p command → p' ≡ record p { changes = p.changes + 1 }
-      → b' ≡ record b { posts = b.posts ++ (c'.row, figures_by c'.order (entries c'.content)) ∷ [] } → told ≡ Some (known b'.site b'.posts) → IsTaken at p command n p' told
-  taken_by n c' b' p' told is cells passes books told_is =
+  taken_at : (n : ℕ) (c' : Cell) (b' : Book) (told : Option Known) → Tied c b → Accepted n ≡ answer c.limits c.content command → c' ≡ cell_after c p command
+      → b' ≡ record b { posts = b.posts ++ (c'.row, figures_by c'.order (entries c'.content)) ∷ [] } → told ≡ Some (known b'.site b'.posts) → IsTakenAt at c.content command n told
+  taken_at n c' b' told tied is cells books told_is = record {
+    answered = ap (λ l. answer l c.content command) (sym stands.limits) ∙ sym is;
+    posts = b.posts;
+    tied = ap (λ r. row_after r b.posts) (sym stands.row) ∙ tied ∙ ap (λ o. figures_by o (entries c.content)) stands.order;
+    posted = told_is
+        ∙ (λ i. Some (known (books i).site (books i).posts))
+        ∙ (λ i. Some (known (site i) (b.posts ++ ((cells i).row, figures_by (cells i).order (entries (cells i).content)) ∷ [])))
+        ∙ (λ i. Some (known at.site (b.posts ++ (stands.row i, figures_by (stands.order i) (entries (step (stands.limits i) c.content command).0)) ∷ [])));
+  }
+
+  taken_by : (n : ℕ) (p' : Held) (told : Option Known) → Accepted n ≡ answer c.limits c.content command → p' ≡ record p { changes = p.changes + 1; work = p'.work }
+      → p'.work ≤ p.work + most_spent c.order c.content.events command → IsTakenAt at c.content command n told → IsTaken at p command n p' told
+  taken_by n p' told is passes bound taken =
       let next = next_number c.limits c.content command n (sym is) in
       let part = count_part c.counts p.slot p.changes knows.count in
       record {
@@ -43,28 +58,31 @@ module _ (at : StationPlace) (number : ℕ) (c : Cell) (b : Book) (p : Held) (co
         count = c.content.changes;
         number = next;
         reached = reached_here;
-        answered = ap (λ l. answer l c.content command) (sym stands.limits) ∙ sym is;
-        posts = b.posts;
-        posted = told_is
-            ∙ (λ i. Some (known (books i).site (books i).posts))
-            ∙ (λ i. Some (known (site i) (b.posts ++ ((cells i).row, figures_by (cells i).order (entries (cells i).content)) ∷ [])))
-            ∙ (λ i. Some (known at.site (b.posts ++ (stands.row i, figures_by (stands.order i) (entries (step (stands.limits i) c.content command).0)) ∷ [])));
+        taken = taken;
         pass = passes;
+        bound = subst (λ o. p'.work ≤ p.work + most_spent o c.content.events command) stands.order bound;
         enough = let more : p'.changes ≡ p.changes + 1 = ap (λ (q : Held). q.changes) passes in omega (arith, more, next, part, counted);
       }
 
-  pub submitted : (a : Answer) (c' : Cell) (b' : Book) (p' : Held) (told : Option Known) → a ≡ answer c.limits c.content command → c' ≡ cell_after c p command → p' ≡ pass_after p a
-      → b' ≡ record b { posts = posts_after b.posts c' a } → told ≡ told_after b' a → Submitted at p command a p' told
-  submitted (Accepted n) c' b' p' told is cells passes books told_is = taken_by n c' b' p' told is cells passes books told_is
-  submitted Repeat c' b' p' told is cells passes books told_is = answered_by Repeat p' told is passes told_is
-  submitted (Refused ConflictingEvent) c' b' p' told is cells passes books told_is = answered_by (Refused ConflictingEvent) p' told is passes told_is
-  submitted (Refused TooManyTransactions) c' b' p' told is cells passes books told_is = answered_by (Refused TooManyTransactions) p' told is passes told_is
-  submitted (Refused EventsFull) c' b' p' told is cells passes books told_is = answered_by (Refused EventsFull) p' told is passes told_is
-  submitted (Refused ReadingsFull) c' b' p' told is cells passes books told_is = answered_by (Refused ReadingsFull) p' told is passes told_is
-  submitted (Refused NoSuchEvent) c' b' p' told is cells passes books told_is = answered_by (Refused NoSuchEvent) p' told is passes told_is
-  submitted (Refused AlreadyVoided) c' b' p' told is cells passes books told_is = answered_by (Refused AlreadyVoided) p' told is passes told_is
-  submitted (Refused NotVoided) c' b' p' told is cells passes books told_is = answered_by (Refused NotVoided) p' told is passes told_is
-  submitted (Refused ChangesExhausted) c' b' p' told is cells passes books told_is = record { pass = passes; untold = told_is }
+  -- what the answer tells of the cell's content
+  pub tells_of : (a : Answer) (c' : Cell) (b' : Book) (told : Option Known) → (IsAccepted a → Tied c b) → a ≡ answer c.limits c.content command → c' ≡ cell_after c p command
+      → b' ≡ record b { posts = posts_after b.posts c' a } → told ≡ told_after b' a → TellsOf at c.content command a told
+  tells_of (Accepted n) c' b' told tied is cells books told_is = taken_at n c' b' told (tied tt) is cells books told_is
+  tells_of Repeat c' b' told tied is cells books told_is = told_is
+  tells_of (Refused why) c' b' told tied is cells books told_is = told_is
+
+  pub submitted : (a : Answer) (c' : Cell) (b' : Book) (p' : Held) (told : Option Known) → (IsAccepted a → Tied c b) → a ≡ answer c.limits c.content command → c' ≡ cell_after c p command → p' ≡ pass_after p a p'.work
+      → p'.work ≤ p.work + most_spent c.order c.content.events command → b' ≡ record b { posts = posts_after b.posts c' a } → told ≡ told_after b' a → Submitted at p command a p' told
+  submitted (Accepted n) c' b' p' told tied is cells passes bound books told_is = taken_by n p' told is passes bound (taken_at n c' b' told (tied tt) is cells books told_is)
+  submitted Repeat c' b' p' told tied is cells passes bound books told_is = answered_by Repeat p' told is passes told_is
+  submitted (Refused ConflictingEvent) c' b' p' told tied is cells passes bound books told_is = answered_by (Refused ConflictingEvent) p' told is passes told_is
+  submitted (Refused TooManyTransactions) c' b' p' told tied is cells passes bound books told_is = answered_by (Refused TooManyTransactions) p' told is passes told_is
+  submitted (Refused EventsFull) c' b' p' told tied is cells passes bound books told_is = answered_by (Refused EventsFull) p' told is passes told_is
+  submitted (Refused ReadingsFull) c' b' p' told tied is cells passes bound books told_is = answered_by (Refused ReadingsFull) p' told is passes told_is
+  submitted (Refused NoSuchEvent) c' b' p' told tied is cells passes bound books told_is = answered_by (Refused NoSuchEvent) p' told is passes told_is
+  submitted (Refused AlreadyVoided) c' b' p' told tied is cells passes bound books told_is = answered_by (Refused AlreadyVoided) p' told is passes told_is
+  submitted (Refused NotVoided) c' b' p' told tied is cells passes bound books told_is = answered_by (Refused NotVoided) p' told is passes told_is
+  submitted (Refused ChangesExhausted) c' b' p' told tied is cells passes bound books told_is = record { pass = passes; untold = told_is }
 
 -- the board of a ledger
 pub board_shown : {E : Type 0} (r : Result Board E) (limits : Bounds) (by period : ℕ) (by_order order : Order) (content c : Content) → IfOk r (λ b. b ≡ board_by by_order by (entries content)) → by ≡ period → by_order ≡ order → content ≡ c → Reached limits c.changes c → IfOk r (IsBoardWithin limits period order)
@@ -79,3 +97,8 @@ board_named places name k at c b named is stands within =
     let period = stands.period ∙ ap (λ (p : StationPlace). p.period) place in
     let order = stands.order ∙ ap (λ (p : StationPlace). p.order) place in
     record { number = k; named = named; board = subst (λ l. IsBoardWithin l named.place.period named.place.order b) limits (subst (λ s. IsBoardWithin c.limits s named.place.order b) period (subst (λ o. IsBoardWithin c.limits c.period o b) order within)) }
+
+-- the board of a ledger, of just this content
+pub board_of_content : {E : Type 0} (r : Result Board E) (by period : ℕ) (by_order order : Order) (content c : Content) → IfOk r (λ b. b ≡ board_by by_order by (entries content)) → by ≡ period → by_order ≡ order → content ≡ c → IfOk r (λ b. b ≡ board_by order period (entries c))
+board_of_content (Ok b) by period by_order order content c shown same ordered is = shown ∙ (λ i. board_by (ordered i) (same i) (entries (is i)))
+board_of_content (Err e) by period by_order order content c shown same ordered is = tt

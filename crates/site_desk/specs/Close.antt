@@ -33,7 +33,7 @@ book_code = code_by (ℕ × (List Bounds × List Post)) (coded× coded_ℕ (code
 
 -- A pass is kept as the tuple of its parts.
 abbrev pub held_code : Coded Held
-held_code = code_by (ℕ × (ℕ × ℕ)) (coded× coded_ℕ (coded× coded_ℕ coded_ℕ)) (λ h. (h.station, (h.slot, h.changes))) (λ p. record { station = p.0; slot = p.1.0; changes = p.1.1 }) (λ _. refl)
+held_code = code_by (ℕ × (ℕ × (ℕ × ℕ))) (coded× coded_ℕ (coded× coded_ℕ (coded× coded_ℕ coded_ℕ))) (λ h. (h.station, (h.slot, (h.changes, h.work)))) (λ p. record { station = p.0; slot = p.1.0; changes = p.1.1.0; work = p.1.1.1 }) (λ _. refl)
 
 -- They are kept as the tuple of these lists.
 abbrev pub ended_code : Coded Ended

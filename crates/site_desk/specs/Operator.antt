@@ -1,9 +1,9 @@
 -- What an operator reads of a running desk.
-use Rattle.std.specs.Prelude.{◌≡◌, ℕ, ◌==◌, ⊤, List, [], ◌∷◌, filter, Some, slice_get}
+use Rattle.std.specs.Prelude.{◌≡◌, ℕ, ◌==◌, ⊤, List, [], ◌∷◌, count_by, filter, take, Some, slice_get}
 use Rattle.energy_flow.specs.Flow.{Energy}
 use Rattle.ledger_model.specs.declared.figures.Figures.{Figures}
 use Rattle.ledger_model.specs.declared.order.Order.{Order}
-use Rattle.ledger_model.specs.Board.{Board, figures_by}
+use Rattle.ledger_model.specs.Board.{Board, board_by, figures_by}
 use Rattle.ledger_model.specs.declared.reading.Direction.TheVariants.{Import, Export}
 use Rattle.ledger_model.specs.Energy.{energy_by}
 use Rattle.ledger_model.specs.Content.{Content, entries}
@@ -11,7 +11,8 @@ use Rattle.ledger_model.specs.Figures.{AreWithin}
 use Rattle.ledger_model.specs.Limits.{Bounds}
 use Rattle.ledger_model.specs.Step.{Reached}
 use Rattle.site_desk.specs.declared.roster.StationPlace.{StationPlace}
-use Rattle.site_desk.specs.Roster.{IsNamed}
+use Rattle.site_desk.specs.Roster.{IsNamed, StandsAt}
+use Rattle.station_cell.specs.Cell.{Cell}
 use Rattle.site_desk.specs.Submit.{IsBoardWithin}
 use Rattle.station_ledger.specs.declared.used.UsedLimits.{UsedLimits}
 use Rattle.station_ledger.specs.Used.{used_limits}
@@ -58,3 +59,29 @@ AreBoardsOf (p ∷ places) (b ∷ boards) = IsBoardAt p b × AreBoardsOf places 
 -- The boards of the stations of the site of this number: each of its stations once, in the plan's order.
 abbrev pub AreBoardsAt : List StationPlace → ℕ → List (List ℕ × Board) → Type 0
 AreBoardsAt places site boards = AreBoardsOf (filter (λ p. p.site == site) places) boards
+
+-- The board of the station of this number and place, under its name, is of this cell: of the cell's content, by the place's period and order.
+pub record IsBoardOfCell (k : ℕ) (p : StationPlace) (c : Cell) (b : List ℕ × Board) : Type 0 where
+  pub stands : StandsAt k p c
+  pub name : b.0 ≡ p.name
+  pub shown : b.1 ≡ board_by p.order p.period (entries c.content)
+
+-- The cell is one of these.
+abbrev pub IsAmong : List Cell → Cell → Type 0
+IsAmong cells c = (i : ℕ) × (slice_get cells i ≡ Some c)
+
+-- How many of the stations before this number are at this site.
+abbrev pub before_at : List StationPlace → ℕ → ℕ → ℕ
+before_at places site k = count_by (λ p. p.site == site) (take k places)
+
+-- The board of the station of this number and place, among those of its site, is of a cell of which this is so.
+pub record IsNotedBoard (Is : Cell → Type 0) (k : ℕ) (p : StationPlace) (boards : List (List ℕ × Board)) (i : ℕ) : Type 0 where
+  pub cell : Cell
+  pub noted : Is cell
+  pub board : List ℕ × Board
+  pub there : slice_get boards i ≡ Some board
+  pub is : IsBoardOfCell k p cell board
+
+-- The boards are those of the stations of the site of this number, in the plan's order, each of a cell of which this is so.
+abbrev pub AreNotedBoards : (Cell → Type 0) → List StationPlace → ℕ → List (List ℕ × Board) → Type 0
+AreNotedBoards Is places site boards = (k : ℕ) (p : StationPlace) → slice_get places k ≡ Some p → p.site ≡ site → IsNotedBoard Is k p boards (before_at places site k)

@@ -7,24 +7,37 @@ use Rattle.ledger_model.specs.declared.order.Order.{Order}
 use Rattle.ledger_model.specs.Board.{Board, board_by, figures_by}
 use Rattle.ledger_model.specs.Content.{Content, entries}
 use Rattle.ledger_model.specs.Limits.{Bounds}
-use Rattle.ledger_model.specs.Posts.{Post}
+use Rattle.ledger_model.specs.Posts.{Post, row_after}
 use Rattle.ledger_model.specs.Step.{Reached, answer, step}
 use Rattle.site_book.specs.Book.{Book, Known, known}
 use Rattle.site_desk.specs.declared.roster.StationPlace.{StationPlace}
 use Rattle.station_cell.specs.Cell.{Cell, Held, IsInService, Knows}
 use Rattle.site_desk.specs.Roster.{IsNamed, StandsAt}
 use Rattle.station_cell.specs.Settle.{Holds, Tied}
+use Rattle.station_ledger.specs.Spent.{most_spent}
 
--- The command was accepted as change n at some content that n - 1 accepted commands leave; its station's figures after it were posted last, and the pass made one change more.
+-- The command is accepted as change n at this content. The station's row showed the figures of this content, and those of the content after it were posted last.
+pub record IsTakenAt (at : StationPlace) (before : Content) (command : Command) (n : ℕ) (told : Option Known) : Type 0 where
+  pub answered : answer at.limits before command ≡ Accepted n
+  pub posts : List Post
+  pub tied : row_after at.row posts ≡ figures_by at.order (entries before)
+  pub posted : told ≡ Some (known at.site (posts ++ (at.row, figures_by at.order (entries (step at.limits before command).0)) ∷ []))
+
+-- This answer to the command tells of this content, where it is accepted.
+abbrev pub TellsOf : StationPlace → Content → Command → Answer → Option Known → Type 0
+TellsOf at before command (Accepted n) told = IsTakenAt at before command n told
+TellsOf at before command Repeat told = told ≡ None
+TellsOf at before command (Refused why) told = told ≡ None
+
+-- The command was accepted as change n at some content that n - 1 accepted commands leave. The station's figures after it were posted last. The pass made one change more, for which no more differences of readings were evaluated than such a command needs.
 pub record IsTaken (at : StationPlace) (p : Held) (command : Command) (n : ℕ) (p' : Held) (told : Option Known) : Type 0 where
   pub before : Content
   pub count : ℕ
   pub number : n ≡ suc count
   pub reached : Reached at.limits count before
-  pub answered : answer at.limits before command ≡ Accepted n
-  pub posts : List Post
-  pub posted : told ≡ Some (known at.site (posts ++ (at.row, figures_by at.order (entries (step at.limits before command).0)) ∷ []))
-  pub pass : p' ≡ record p { changes = p.changes + 1 }
+  pub taken : IsTakenAt at before command n told
+  pub pass : p' ≡ record p { changes = p.changes + 1; work = p'.work }
+  pub bound : p'.work ≤ p.work + most_spent at.order before.events command
   pub enough : p'.changes ≤ n
 
 -- The pass is as it was, and nothing was told.

@@ -14,7 +14,7 @@ ghost use Rattle.site_desk.specs.Parts.{AreTied, new_viewers};
 ghost use Rattle.site_desk.specs.Plan.{plan_fault};
 ghost use Rattle.site_desk.specs.Roster.{AreNewPlaces, IsNamed};
 ghost use Rattle.ledger_model.specs.Board.{sum_of_figures};
-ghost use Rattle.site_desk.specs.Operator.{AreBoardsAt, AreTotalsOfName, IsUsedAt};
+ghost use Rattle.site_desk.specs.Operator.{AreBoardsAt, AreNotedBoards, AreTotalsOfName, IsUsedAt};
 ghost use Rattle.site_desk.specs.Submit.{IsBoardOfName, IsUnchanged, Submitted};
 
 use crate::checks::fault_of;
@@ -23,7 +23,8 @@ use crate::fault::{BoardFault, DeskFault, EnlistFault};
 use crate::gate::Gate;
 use crate::has_cell::HasCell;
 use crate::locks::{Locked, Spare, lock_up, take_viewers, unlock};
-use crate::operator::{hold_stations, site_boards_of, sum_of, totals_of, used_of};
+use crate::notes::Notes;
+use crate::operator::{hold_stations, noted_boards_of, site_boards_of, sum_of, totals_of, used_of};
 use crate::parts::Parts;
 use crate::plan::Plan;
 use crate::roster::{StationPlace, number_of, open_places};
@@ -214,7 +215,7 @@ impl<J: Naming, C: HasCell> Desk<J, C> {
     ) -> (Answer, Option<Told<J>>, Option<N>)
         requires { (at : StationPlace) → slice_get self.now.stations pass.old.station ≡ Some at → S.asks way.now pass.old.station command }
         ensures settled { (at : StationPlace) → slice_get self.now.stations pass.old.station ≡ Some at → Submitted at pass.old command result.0 pass.new result.1 }
-        ensures given { (at : StationPlace) → slice_get self.now.stations pass.old.station ≡ Some at → S.gives way.now pass.old.station command result.0 result.2 }
+        ensures given { (at : StationPlace) → slice_get self.now.stations pass.old.station ≡ Some at → S.gives way.now pass.old.station at command result.0 result.1 result.2 }
         ensures stranger { slice_get self.now.stations pass.old.station ≡ None → (result.0 ≡ Answer.Refused Refusal.ChangesExhausted) × IsUnchanged pass.old pass.new result.1 }
         ensures nothing { slice_get self.now.stations pass.old.station ≡ None → result.2 ≡ None }
     {
@@ -345,6 +346,35 @@ impl<J: Naming, C: HasCell> Desk<J, C> {
         let boards = site_boards_of(alloc, &self.places, &held, site)?;
         match sum_of(&boards) {
             Some(totals) if totals == book.totals() => Ok((boards, totals)),
+            _ => Err(BoardFault::Torn),
+        }
+    }
+
+    /// The boards of a site as [`Desk::site_boards`] gives them, and what is noted of the cells that they are of, at that
+    /// one moment: while all locks of the site are held.
+    pub fn site_boards_by<S: Notes<C, N>, N: Drop, R: Wait>(
+        &self,
+        rt: &R,
+        alloc: Global,
+        site: u16,
+        way: &S,
+    ) -> Result<(Vec<(Name, StationBoard)>, Figures, N), BoardFault>
+        ensures known { result ≢ Err BoardFault.UnknownStation }
+        ensures boards { IfOk result (λ r. AreBoardsAt self.now.stations site r.0.items) }
+        ensures noted { IfOk result (λ r. AreNotedBoards (S.notes way.now r.2) self.now.stations site r.0.items) }
+        ensures totals { IfOk result (λ r. r.1 ≡ sum_of_figures (map (λ s. s.1.figures) r.0.items)) }
+    {
+        let Some(lock) = self.books.get(site as usize) else {
+            return Err(BoardFault::Torn);
+        };
+        let lock: &Mutex<SiteBook<J>> = lock;
+        let Ok(held) = hold_stations(rt, alloc, &self.places, &self.cells, site) else {
+            return Err(BoardFault::OutOfMemory);
+        };
+        let book = lock.lock(rt);
+        let (_held, boards, noted) = noted_boards_of(rt, alloc, &self.places, held, site, way)?;
+        match sum_of(&boards) {
+            Some(totals) if totals == book.totals() => Ok((boards, totals, noted)),
             _ => Err(BoardFault::Torn),
         }
     }

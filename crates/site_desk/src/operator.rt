@@ -2,12 +2,15 @@
 ghost use Rattle.std.specs.Prelude.{◌≡◌, ◌≢◌, ◌++◌, ◌∷◌, [], List, ℕ, Err, IfOk, IfSome, OnOk, map};
 ghost use Rattle.site_desk.specs.declared.fault.BoardFault.{BoardFault};
 ghost use Rattle.ledger_model.specs.Board.{Board, sum_of_figures};
-ghost use Rattle.site_desk.specs.Operator.{AreBoardsAt, AreTotalsWithin, IsBoardAt, IsUsedWithin};
+ghost use Rattle.std.specs.Sync.Mutex.{mutex_guard_value};
+ghost use Rattle.site_desk.specs.Operator.{AreBoardsAt, AreNotedBoards, AreTotalsWithin, IsAmong, IsBoardAt, IsBoardOfCell, IsUsedWithin};
+ghost use Rattle.station_cell.specs.Cell.{Cell};
 
 use crate::checks::plus;
 use crate::fault::BoardFault;
 use crate::has_cell::HasCell;
 use crate::locks::Locked;
+use crate::notes::Notes;
 use crate::roster::StationPlace;
 use crate::submit::{board_of, stands_at};
 use energy_flow::Flow;
@@ -59,6 +62,7 @@ pub(crate) fn site_boards_of<C: HasCell>(
 ) -> Result<Vec<(Name, StationBoard)>, BoardFault>
     ensures known { result ≢ Err BoardFault.UnknownStation }
     ensures boards { IfOk result (λ boards. AreBoardsAt places.now site boards.items) }
+    ensures held { IfOk result (λ boards. AreNotedBoards (IsAmong (map (λ g. C.cell (mutex_guard_value g)) held.now)) places.now site boards.items) }
 {
     let mut boards = Vec::new(alloc);
     for number in 0..places.len() {
@@ -80,24 +84,68 @@ fn add_board<C: HasCell>(
     ensures known { result ≢ Err BoardFault.UnknownStation }
     ensures other { OnOk result (place.now.site ≢ site → boards.new.items ≡ boards.old.items) }
     ensures own { OnOk result (place.now.site ≡ site → (b : List ℕ × Board) × IsBoardAt place.now b × (boards.new.items ≡ boards.old.items ++ b ∷ [])) }
+    ensures held { OnOk result (place.now.site ≡ site → (c : Cell) × IsAmong (map (λ g. C.cell (mutex_guard_value g)) held.now) c × ((b : List ℕ × Board) × IsBoardOfCell number place.now c b × (boards.new.items ≡ boards.old.items ++ b ∷ []))) }
 {
     if place.site != site {
         return Ok(());
     }
-    let Some(held) = held.get(boards.len()) else {
+    let Some(cell) = cell_at(held, boards.len()) else {
         return Err(BoardFault::Torn);
     };
-    let cell = held.cell();
     if !stands_at(cell, number, place) {
         return Err(BoardFault::Torn);
     }
     let Ok(board) = board_of(cell, alloc) else {
         return Err(BoardFault::OutOfMemory);
     };
-    match boards.push((place.name.copied(), board)) {
+    put_board(boards, place.name.copied(), board)
+}
+
+// The cell behind one of the locks that are held.
+fn cell_at<'b, C: HasCell>(held: &'b [MutexGuard<'_, C>], number: usize) -> Option<&'b StationCell>
+    ensures { IfSome result (λ c. IsAmong (map (λ g. C.cell (mutex_guard_value g)) held.now) c.now) }
+{
+    if number >= held.len() {
+        return None;
+    }
+    let cell = held[number].cell();
+    Some(cell)
+}
+
+// Puts a board behind those before it.
+fn put_board(
+    boards: &mut Vec<(Name, StationBoard)>,
+    name: Name,
+    board: StationBoard,
+) -> Result<(), BoardFault>
+    ensures known { result ≢ Err BoardFault.UnknownStation }
+    ensures put { OnOk result (boards.new.items ≡ boards.old.items ++ (name, board) ∷ []) }
+{
+    match boards.push((name, board)) {
         Ok(()) => Ok(()),
         Err(_) => Err(BoardFault::OutOfMemory),
     }
+}
+
+// What is noted of the cells of a site's stations, which are held, and their boards, as `site_boards_of` gives them. The
+// locks stay held.
+pub(crate) fn noted_boards_of<'a, C: HasCell, S: Notes<C, N>, N: Drop, R: Wait>(
+    rt: &R,
+    alloc: Global,
+    places: &[StationPlace],
+    held: Vec<MutexGuard<'a, C>>,
+    site: u16,
+    way: &S,
+) -> Result<(Vec<MutexGuard<'a, C>>, Vec<(Name, StationBoard)>, N), BoardFault>
+    ensures known { result ≢ Err BoardFault.UnknownStation }
+    ensures boards { IfOk result (λ r. AreBoardsAt places.now site r.1.items) }
+    ensures noted { IfOk result (λ r. AreNotedBoards (S.notes way.now r.2) places.now site r.1.items) }
+{
+    let Ok((held, noted)) = way.note(rt, alloc, held) else {
+        return Err(BoardFault::OutOfMemory);
+    };
+    let boards = site_boards_of(alloc, places, held.as_slice(), site)?;
+    Ok((held, boards, noted))
 }
 
 // The sums of the figures of boards, where they fit.

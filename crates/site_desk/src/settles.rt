@@ -9,15 +9,17 @@ use std::sync::{Mutex, Wait};
 
 /// How a command is taken once a desk holds the station's lock ([`Desk::submit_by`](crate::Desk::submit_by)).
 /// With the answer it may give a receipt (N); `gives` says what that tells of the command on the station of
-/// this number.
+/// this number and place, and of what the book told.
 pub trait Settles<J: Naming, C, N> {
     ghost use Rattle.std.specs.Prelude.{ℕ, Option};
     ghost use Rattle.ledger_model.specs.declared.answer.Answer.{Answer};
     ghost use Rattle.ledger_model.specs.declared.command.Command.{Command};
+    ghost use Rattle.site_book.specs.Book.{Known};
+    ghost use Rattle.site_desk.specs.declared.roster.StationPlace.{StationPlace};
 
     ghost asks: { Self → ℕ → Command → Type 0 };
 
-    ghost gives: { Self → ℕ → Command → Answer → Option N → Type 0 };
+    ghost gives: { Self → ℕ → StationPlace → Command → Answer → Option Known → Option N → Type 0 };
 
     /// Takes a command of a pass at what is behind the lock of the station of this number, and answers
     /// it as [`Desk::submit`](crate::Desk::submit) does. The lock of the site's book is taken where it has to be.
@@ -35,7 +37,7 @@ pub trait Settles<J: Naming, C, N> {
     ) -> (Answer, Option<Told<J>>, Option<N>)
         requires { asks self.now number command }
         ensures submitted { Submitted place.now pass.old command result.0 pass.new result.1 }
-        ensures given { gives self.now number command result.0 result.2 };
+        ensures given { gives self.now number place.now command result.0 result.1 result.2 };
 }
 
 // At the cell itself, and nowhere else; it gives no receipt.
@@ -44,7 +46,7 @@ pub(crate) struct AtCell;
 impl<J: Naming> Settles<J, StationCell, ()> for AtCell {
     ghost asks = { λ _ _ _. Unit {0} };
 
-    ghost gives = { λ _ _ _ _ _. Unit {0} };
+    ghost gives = { λ _ _ _ _ _ _ _. Unit {0} };
 
     fn settle<R: Wait>(
         &self,

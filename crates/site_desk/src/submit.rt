@@ -1,9 +1,11 @@
 ghost use Rattle.std.specs.Prelude.{◌≡◌, IsNone, IsTrue, IfOk, IfSome};
+ghost use Rattle.ledger_model.specs.Board.{board_by};
+ghost use Rattle.ledger_model.specs.Content.{entries};
 ghost use Rattle.ledger_model.specs.Figures.{AreWithin};
 ghost use Rattle.site_desk.specs.Roster.{StandsAt};
 ghost use Rattle.station_cell.specs.Settle.{cell_after};
 ghost use Rattle.station_ledger.specs.Judged.{IsJudged};
-ghost use Rattle.site_desk.specs.Submit.{CanJudge, CanSettle, IsBoardWithin, Submitted};
+ghost use Rattle.site_desk.specs.Submit.{CanJudge, CanSettle, IsBoardWithin, Submitted, TellsOf};
 
 use crate::roster::StationPlace;
 use ledger_model::{Answer, Command, Refusal};
@@ -64,6 +66,7 @@ fn settle_locked<J: Naming>(
     requires can { CanSettle number place.now cell.old book.old pass.old }
     requires judged { IsJudged cell.old.limits cell.old.content command judgement.answer }
     ensures cell { cell.new ≡ cell_after cell.old pass.old command }
+    ensures tells { TellsOf place.now cell.old.content command result.0 result.1 }
     ensures submitted { Submitted place.now pass.old command result.0 pass.new result.1 }
 {
     settle(cell, book, pass, command, judgement)
@@ -115,6 +118,7 @@ pub fn settle_at<J: Naming, R: Wait>(
     requires can { CanJudge number place.now cell.old pass.old }
     requires judged { IsJudged cell.old.limits cell.old.content command judgement.answer }
     ensures cell { IfSome result (λ _. cell.new ≡ cell_after cell.old pass.old command) }
+    ensures tells { IfSome result (λ r. TellsOf place.now cell.old.content command r.0 r.1) }
     ensures submitted { IfSome result (λ r. Submitted place.now pass.old command r.0 pass.new r.1) }
     ensures unchanged { IsNone result → (cell.new ≡ cell.old) × (pass.new ≡ pass.old) }
 {
@@ -130,6 +134,7 @@ pub fn settle_at<J: Naming, R: Wait>(
 // The board of a cell's station.
 pub(crate) fn board_of(cell: &StationCell, alloc: Global) -> Result<StationBoard, AllocError>
     ensures board { IfOk result (IsBoardWithin cell.now.limits cell.now.period cell.now.order) }
+    ensures shown { IfOk result (λ b. b ≡ board_by cell.now.order cell.now.period (entries cell.now.content)) }
     ensures within { IfOk result (λ b. AreWithin cell.now.limits b.figures) }
 {
     cell.ledger().board(alloc)

@@ -36,15 +36,15 @@ book_posted b b' c a n row f posted rows shown is =
     posted ∙ (λ i. record b { posts = b.posts ++ (rows i, shown i) ∷ [] }) ∙ (λ i. record b { posts = posts_after b.posts c (sym is i) })
 
 -- the pass stays known
-known_by : (c : Cell) (p : Held) (command : Command) (a : Answer) → Knows c p → Knows (record c { content = content_after c.content command a; counts = counts_after c.counts p a }) (pass_after p a)
-known_by c p command (Accepted n) k = record { station = k.station; count = get_here c.counts p.slot p.changes (p.changes + 1) k.count }
-known_by c p command Repeat k = record { station = k.station; count = k.count }
-known_by c p command (Refused why) k = record { station = k.station; count = k.count }
+known_by : (c : Cell) (p : Held) (command : Command) (a : Answer) (work : ℕ) → Knows c p → Knows (record c { content = content_after c.content command a; counts = counts_after c.counts p a }) (pass_after p a work)
+known_by c p command (Accepted n) work k = record { station = k.station; count = get_here c.counts p.slot p.changes (p.changes + 1) k.count }
+known_by c p command Repeat work k = record { station = k.station; count = k.count }
+known_by c p command (Refused why) work k = record { station = k.station; count = k.count }
 
-pub known_after : (c c' : Cell) (p p' : Held) (command : Command) (a : Answer) → c' ≡ cell_after c p command → p' ≡ pass_after p a → a ≡ answer c.limits c.content command → Knows c p → Knows c' p'
+pub known_after : (c c' : Cell) (p p' : Held) (command : Command) (a : Answer) → c' ≡ cell_after c p command → p' ≡ pass_after p a p'.work → a ≡ answer c.limits c.content command → Knows c p → Knows c' p'
 known_after c c' p p' command a cells passes is k =
-    let known = known_by c p command (answer c.limits c.content command) k in
-    subst (λ d. Knows d p') (sym cells) (subst (Knows (cell_after c p command)) (sym (passes ∙ ap (pass_after p) is)) known)
+    let known = known_by c p command (answer c.limits c.content command) p'.work k in
+    subst (λ d. Knows d p') (sym cells) (subst (Knows (cell_after c p command)) (sym (passes ∙ ap (λ x. pass_after p x p'.work) is)) known)
 
 -- the row stays tied
 tied_by : (c : Cell) (b : Book) (content : Content) (counts : List ℕ) (command : Command) (a : Answer) → content ≡ content_after c.content command a → Tied c b

@@ -22,11 +22,12 @@ pub record Cell : Type 0 where
   pub content : Content
   pub counts : List ℕ
 
--- A pass: its station's number, its place among that station's passes, and how many changes it made.
+-- A pass: its station's number, its place among that station's passes, how many changes it made, and how many differences of readings were evaluated for it.
 pub record Held : Type 0 where
   pub station : ℕ
   pub slot : ℕ
   pub changes : ℕ
+  pub work : ℕ
 
 -- The number of no station: that of a cell out of service.
 abbrev pub no_station : ℕ
@@ -50,7 +51,7 @@ new_cell station site row limits period order = record { station = station; site
 
 -- A pass that made no change yet.
 abbrev pub new_pass : ℕ → ℕ → Held
-new_pass station slot = record { station = station; slot = slot; changes = 0 }
+new_pass station slot = record { station = station; slot = slot; changes = 0; work = 0 }
 
 -- The pass is one of the cell's, and the cell counts as many changes for it as it made.
 pub record Knows (c : Cell) (p : Held) : Type 0 where

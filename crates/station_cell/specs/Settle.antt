@@ -1,4 +1,4 @@
-use Rattle.std.specs.Prelude.{◌≡◌, ℕ, ◌+◌, List, [], ◌∷◌, ◌++◌, Option, None, Some, slice_get, slice_set}
+use Rattle.std.specs.Prelude.{◌≡◌, ℕ, ◌+◌, ◌≤◌, List, [], ◌∷◌, ◌++◌, Option, None, Some, slice_get, slice_set}
 use Rattle.ledger_model.specs.declared.answer.Answer.{Answer}
 use Rattle.ledger_model.specs.declared.answer.Answer.TheVariants.{Accepted, Repeat, Refused}
 use Rattle.ledger_model.specs.declared.command.Command.{Command}
@@ -8,6 +8,7 @@ use Rattle.ledger_model.specs.Posts.{Post, row_after}
 use Rattle.ledger_model.specs.Step.{answer, step}
 use Rattle.site_book.specs.Book.{Book, Known, known}
 use Rattle.station_cell.specs.Cell.{Cell, Held, Knows}
+use Rattle.station_ledger.specs.Spent.{most_spent}
 
 -- The book has the cell's row, which was opened with the cell's limits.
 abbrev pub Holds : Cell → Book → Type 0
@@ -17,11 +18,11 @@ Holds c b = slice_get b.limits c.row ≡ Some c.limits
 abbrev pub Tied : Cell → Book → Type 0
 Tied c b = row_after c.row b.posts ≡ figures_by c.order (entries c.content)
 
--- The pass after this answer: an accepted command is one change more.
-abbrev pub pass_after : Held → Answer → Held
-pass_after p (Accepted n) = record p { changes = p.changes + 1 }
-pass_after p Repeat = p
-pass_after p (Refused why) = p
+-- The pass after this answer, with so much work: an accepted command is one change more, and any other answer is no work.
+abbrev pub pass_after : Held → Answer → ℕ → Held
+pass_after p (Accepted n) work = record p { changes = p.changes + 1; work = work }
+pass_after p Repeat work = p
+pass_after p (Refused why) work = p
 
 -- The counts after this answer to a pass: an accepted command is one change more for it.
 abbrev pub counts_after : List ℕ → Held → Answer → List ℕ
@@ -49,7 +50,8 @@ told_after b (Refused why) = None
 pub record IsSettled (c : Cell) (b : Book) (p : Held) (command : Command) (a : Answer) (t : Option Known) (c' : Cell) (b' : Book) (p' : Held) : Type 0 where
   pub answer : a ≡ answer c.limits c.content command
   pub cell : c' ≡ cell_after c p command
-  pub pass : p' ≡ pass_after p a
+  pub pass : p' ≡ pass_after p a p'.work
+  pub bound : p'.work ≤ p.work + most_spent c.order c.content.events command
   pub book : b' ≡ record b { posts = posts_after b.posts c' a }
   pub told : t ≡ told_after b' a
   pub known : Knows c' p'

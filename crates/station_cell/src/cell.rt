@@ -1,8 +1,9 @@
-ghost use Rattle.std.specs.Prelude.{◌≡◌, ◌↔◌, ◌++◌, ◌∷◌, [], length, sum, IsTrue, IsErr, IfOk, OnOk, OnErr};
+ghost use Rattle.std.specs.Prelude.{◌≡◌, ◌≤◌, ◌+◌, ◌↔◌, ◌++◌, ◌∷◌, [], length, sum, IsTrue, IsErr, IfOk, OnOk, OnErr};
 ghost use Rattle.ledger_model.specs.Step.{Reached, answer};
 ghost use Rattle.station_cell.specs.Cell.{IsInService, Knows, most_passes, new_cell, new_pass, no_station};
 ghost use Rattle.station_cell.specs.Settle.{cell_after, pass_after};
 ghost use Rattle.station_ledger.specs.Judged.{IsJudged};
+ghost use Rattle.station_ledger.specs.Spent.{most_spent};
 
 use crate::fault::TooManyPasses;
 use crate::pass::Pass;
@@ -138,6 +139,7 @@ impl StationCell {
 
     // A pass of this station, where it may give out one more.
     fn enlist(&mut self, work: Work) -> Result<Pass, TooManyPasses>
+        requires none { work ≡ 0 }
         ensures full { IsErr result ↔ (length self.old.counts ≡ most_passes) }
         ensures pass { IfOk result (λ p. p ≡ new_pass self.old.station (length self.old.counts)) }
         ensures cell { OnOk result (self.new ≡ record self.old { counts = self.old.counts ++ 0 ∷ [] }) }
@@ -167,7 +169,8 @@ impl StationCell {
         requires judged { IsJudged self.old.limits self.old.content command judgement.answer }
         ensures answer { result ≡ answer self.old.limits self.old.content command }
         ensures cell { self.new ≡ cell_after self.old pass.old command }
-        ensures pass { pass.new ≡ pass_after pass.old result }
+        ensures pass { pass.new ≡ pass_after pass.old result pass.new.work }
+        ensures bound { pass.new.work ≤ pass.old.work + most_spent self.old.order self.old.content.events command }
     {
         let answer = self.ledger.apply_judged(command, judgement, &mut pass.work);
         if let Answer::Accepted(_) = answer {

@@ -18,7 +18,7 @@ impl Model for Pass {
 
     ghost Value = { Held };
 
-    ghost view = { λ p. record { station = p.station; slot = p.slot; changes = p.changes } };
+    ghost view = { λ p. record { station = p.station; slot = p.slot; changes = p.changes; work = p.work } };
 }
 
 impl Pass {

@@ -4,3 +4,4 @@ mod reading_ahead;
 mod stops;
 mod streams;
 mod waits;
+mod whole;

@@ -1,7 +1,13 @@
-use Rattle.std.proofs.Common.{◌≡◌, length, take}
-use Rattle.site_desk.specs.Operator.{AreBoardsAt}
+use Rattle.std.proofs.Common.{◌≡◌, length, map, take}
+use Rattle.std.specs.Sync.Mutex.{mutex_guard_value}
+use Rattle.site_desk.specs.Operator.{AreBoardsAt, IsAmong}
+use Rattle.site_desk.proofs.Operators.{AreSoFar}
 use Rattle.site_desk.proofs.operator.site_boards_of.Given as goal
 
 -- the boards of the site's stations so far
 abbrev pub invariant-loop-number : goal.invariant-loop-number
-invariant-loop-number g l = AreBoardsAt (take l.number l.places) l.site l.boards.items × (l.number-end ≡ length l.places)
+invariant-loop-number g l = record {
+  boards : AreBoardsAt (take l.number l.places) l.site l.boards.items;
+  held : AreSoFar (IsAmong (map (λ h. g.C.HasCell.cell (mutex_guard_value h)) l.held)) l.places l.site l.number l.boards.items;
+  end : l.number-end ≡ length l.places;
+}

@@ -1,4 +1,4 @@
-use Rattle.std.proofs.Common.{[], refl, sym, ◌∙◌}
+use Rattle.std.proofs.Common.{[], refl, sym, ◌∙◌, arith}
 use Rattle.ledger_model.specs.declared.answer.Answer.TheVariants.{Repeat, Refused}
 use Rattle.site_book.specs.Book.{Book}
 use Rattle.station_cell.specs.Settle.{cell_after}
@@ -17,7 +17,7 @@ returns-in-Repeat g c =
     let book : Book = record { site = c.args.place.now.site; limits = []; posts = [] } in
     let is = sym c.in-Repeat.is ∙ (judged_here _ _ _ _ c.args.command _ c.ledger.ensures.limits c.ledger.ensures.content c.judgement-judgement.ensures).answered in
     submitted c.args.place.now c.args.number cell book c.args.pass.now c.args.command may.stands refl may.reached may.counted may.knows
-    Repeat (cell_after cell c.args.pass.now c.args.command) book c.args.pass.now _ is refl refl refl refl
+    Repeat (cell_after cell c.args.pass.now c.args.command) book c.args.pass.now _ (λ no. absurd no) is refl refl (omega arith) refl refl
 
 pub returns-in-Refused : goal.returns-in-Refused
 returns-in-Refused g c =
@@ -26,4 +26,4 @@ returns-in-Refused g c =
     let book : Book = record { site = c.args.place.now.site; limits = []; posts = [] } in
     let is = sym c.in-Refused.is ∙ (judged_here _ _ _ _ c.args.command _ c.ledger.ensures.limits c.ledger.ensures.content c.judgement-judgement.ensures).answered in
     submitted c.args.place.now c.args.number cell book c.args.pass.now c.args.command may.stands refl may.reached may.counted may.knows
-    (Refused c.in-Refused.why) (cell_after cell c.args.pass.now c.args.command) book c.args.pass.now _ is refl refl refl refl
+    (Refused c.in-Refused.why) (cell_after cell c.args.pass.now c.args.command) book c.args.pass.now _ (λ no. absurd no) is refl refl (omega arith) refl refl

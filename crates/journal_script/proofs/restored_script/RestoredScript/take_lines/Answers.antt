@@ -4,6 +4,7 @@ use Rattle.script_lines.specs.Reading.{line_of}
 use Rattle.journal_script.specs.Place.{place_of}
 use Rattle.journal_script.specs.Reading.{Place, ReadsLine, held_line, read_line, read_on}
 use Rattle.journal_script.proofs.LinesRead.{Goes, goes_on, goes_same, goes_until, one_less}
+use Rattle.journal_script.proofs.Growing.{grows_on}
 use Rattle.journal_script.proofs.restored_script.RestoredScript.take_lines.Goals as goal
 
 pub lines-preserved : goal.lines-preserved
@@ -35,6 +36,7 @@ lines-preserved g c =
       subst (λ (p : Place). Goes most room p.lines.room first p.standing r0 r3) (sym step) on,
       ap (λ (p : Place). p.lines.max_line_bytes) step ∙ same,
       omega (arith, c.in_ok-take.ensures.posts, c.next.ensures.posts, c.look.ensures.posts, c.lines.invariant.2, ap (λ (p : Place). p.lines.room) looked, ap (λ (p : Place). p.lines.room) step, less),
+      grows_on _ _ _ c.lines.invariant.3 c.in_ok-take.ensures.grows,
     )
 
 pub returns-then-not-branch-clause-reads : goal.returns-then-not-branch-clause-reads

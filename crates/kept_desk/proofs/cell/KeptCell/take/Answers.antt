@@ -1,4 +1,4 @@
-use Rattle.std.proofs.Common.{[], refl, ap, sym, subst, ◌∙◌}
+use Rattle.std.proofs.Common.{[], refl, ap, sym, subst, ◌∙◌, arith}
 use Rattle.ledger_model.specs.declared.answer.Answer.TheVariants.{Repeat, Refused}
 use Rattle.ledger_model.specs.Laws.{IsAccepted}
 use Rattle.ledger_model.specs.Step.{answer}
@@ -22,7 +22,7 @@ returns-in-Repeat-clause-submitted g c =
     let book : Book = record { site = c.args.place.now.site; limits = []; posts = [] } in
     let is = sym c.in-Repeat.is ∙ c.judgement-judgement.ensures.answered ∙ (λ i. answer (c.ledger.ensures.limits i) (c.ledger.ensures.content i) c.args.command) ∙ ap (λ d. answer d.limits d.content c.args.command) c.self.view_is in
     submitted c.args.place.now c.args.number cell book c.args.pass.now c.args.command may.stands refl may.reached may.counted may.knows
-    Repeat (cell_after cell c.args.pass.now c.args.command) book c.args.pass.now _ is refl refl refl refl
+    Repeat (cell_after cell c.args.pass.now c.args.command) book c.args.pass.now _ (λ no. absurd no) is refl refl (omega arith) refl refl
 
 pub returns-in-Refused-clause-submitted : goal.returns-in-Refused-clause-submitted
 returns-in-Refused-clause-submitted g c =
@@ -31,4 +31,4 @@ returns-in-Refused-clause-submitted g c =
     let book : Book = record { site = c.args.place.now.site; limits = []; posts = [] } in
     let is = sym c.in-Refused.is ∙ c.judgement-judgement.ensures.answered ∙ (λ i. answer (c.ledger.ensures.limits i) (c.ledger.ensures.content i) c.args.command) ∙ ap (λ d. answer d.limits d.content c.args.command) c.self.view_is in
     submitted c.args.place.now c.args.number cell book c.args.pass.now c.args.command may.stands refl may.reached may.counted may.knows
-    (Refused c.in-Refused.why) (cell_after cell c.args.pass.now c.args.command) book c.args.pass.now _ is refl refl refl refl
+    (Refused c.in-Refused.why) (cell_after cell c.args.pass.now c.args.command) book c.args.pass.now _ (λ no. absurd no) is refl refl (omega arith) refl refl

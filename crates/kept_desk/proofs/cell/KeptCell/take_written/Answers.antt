@@ -1,11 +1,17 @@
-use Rattle.std.proofs.Common.{ap, sym, ◌∙◌, subst}
+use Rattle.std.proofs.Common.{Option, ap, sym, ◌∙◌, subst}
+use Rattle.ledger_model.specs.declared.answer.Answer.{Answer}
 use Rattle.ledger_model.specs.Laws.{IsAccepted}
 use Rattle.ledger_model.specs.Step.{answer}
 use Rattle.station_cell.specs.Cell.{IsInService}
 use Rattle.station_ledger.specs.Judged.{IsJudged}
+use Rattle.site_book.specs.Book.{Known}
+use Rattle.site_desk.specs.Roster.{StandsAt}
 use Rattle.site_desk.specs.Submit.{CanJudge}
+use Rattle.kept_desk.specs.Entries.{entry}
+use Rattle.kept_desk.specs.Kept.{IsReceived}
 use Rattle.kept_desk.specs.Speaking.{SpeaksOf}
 use Rattle.kept_desk.proofs.Left.{kept_more}
+use Rattle.kept_desk.proofs.Received.{received}
 use Rattle.kept_desk.proofs.cell.KeptCell.take_written.Goals as goal
 
 pub write-requires-clause-speaks : goal.write-requires-clause-speaks
@@ -27,3 +33,15 @@ invariant_of-self g c =
     λ s.
     kept_more g.K.Opening.first c.self.inside.cell c.settle_written.new.cell c.args.pass.now c.self.inside.share c.write.new.share c.args.way.now.note.now c.args.way.now.line.now c.args.judged.command c.requires.judged.admissible accepted
     (c.settle_written.ensures.settled s) c.in-Ok.ensures.known (c.self.invariant serves)
+
+pub returns-in-Ok-clause-received : goal.returns-in-Ok-clause-received
+returns-in-Ok-clause-received g c =
+    let serves = subst IsInService (sym c.self.view_is) c.requires.can.serves in
+    let stands = subst (StandsAt c.args.number c.args.place.now) (sym c.self.view_is) c.requires.can.stands in
+    let note = c.args.way.now.note.now in
+    let line = c.args.way.now.line.now in
+    let command = c.args.judged.command in
+    subst (λ (x : Answer × Option Known). IsReceived c.args.place.now (g.K.Opening.first c.args.number) x.0 (entry c.args.number note line command) x.1 c.with_receipt.result.2)
+    (λ i. (sym c.with_receipt.ensures.answer i, sym c.with_receipt.ensures.told i))
+    (received c.args.place.now g.K.Opening.first c.args.number c.self.inside.cell c.self.inside.share note line command stands (c.self.invariant serves)
+    c.settle_written.result.0 c.settle_written.result.1 c.in-Ok.receipt c.with_receipt.result.2 c.in-Ok.ensures.noted c.settle_written.ensures.tells c.with_receipt.ensures.receipt)

@@ -1,4 +1,4 @@
-use Rattle.std.proofs.Common.{[], ap, sym, ◌∙◌, subst}
+use Rattle.std.proofs.Common.{[], length, ap, sym, ◌∙◌, subst}
 use Rattle.std.proofs.lemmas.List.Elements.{All-nil}
 use Rattle.kept_desk.specs.declared.entry.Entry.{Entry}
 use Rattle.kept_desk.specs.Held.{Sits}
@@ -18,4 +18,5 @@ invariant_of-result g c =
       me_is = unused.me_is ∙ ap (λ log. (keeping log 0, [])) (sym empty);
       written = none _ _ _ _ c.requires.before c.requires.empty empty;
       spoken = subst (AreSpoken g.K.Opening.name) (sym empty) (All-nil (λ (e : Entry). SpeaksOf (g.K.Opening.name e.station) e.line e.command));
+      counted = λ less. ap length empty;
     }

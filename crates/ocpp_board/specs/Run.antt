@@ -1,0 +1,164 @@
+-- What a run of the program leaves: its output, its console, its exit status, and its report on standard error.
+use Rattle.std.specs.Prelude.{◌≡◌, ◌≢◌, ◌⊎◌, ℕ, Bool, true, false, List, [], ◌++◌, Option, None, Some, IfSome, OnOk, is_some, codes, if◌then◌else◌}
+use Rattle.std.specs.Io.KnownBytes.{Appends}
+use Rattle.std.specs.declared.result.Result.{Result}
+use Rattle.std.specs.declared.result.Result.TheVariants.{Ok, Err}
+use Rattle.clap.specs.Simple.{App, is_simple, subcommand_of}
+use Rattle.clap.specs.Takes.{takes}
+use Rattle.clap.specs.declared.error.kind.ErrorKind.{ErrorKind}
+use Rattle.clap.specs.declared.error.kind.ErrorKind.TheVariants.{DisplayHelp, DisplayVersion}
+use Rattle.journal_script.specs.declared.fault.RestoreFault.{RestoreFault}
+use Rattle.journal_script.specs.declared.fault.RestoreFault.TheVariants as restored
+use Rattle.journal_server.specs.declared.fault.JournalFault.{JournalFault}
+use Rattle.journal_server.specs.declared.fault.JournalFault.TheVariants.{Service, Restore, LeftOut}
+use Rattle.journal_server.specs.Left.{Left}
+use Rattle.journal_server.specs.Served.{IsNewRun, IsRestoredRun, IsToldOfPlan, IsToldOfScript}
+use Rattle.live_server.specs.Told.{IsServed}
+use Rattle.running_desk.specs.Ordered.{lines_in}
+use Rattle.script_lines.specs.declared.fault.ReplayFault.{ReplayFault}
+use Rattle.script_lines.specs.declared.fault.ReplayFault.TheVariants as replay
+use Rattle.script_replay.specs.Whole.{HasOutput, IsMistake, IsReplayRun, IsReported, Shows, Writes, fault_report}
+use Rattle.script_replay.specs.declared.whole.Ended.{Ended}
+use Rattle.site_desk.specs.declared.plan.Plan.{Plan}
+use Rattle.site_server.specs.declared.fault.ServiceFault.{ServiceFault}
+use Rattle.site_server.specs.declared.fault.ServiceFault.TheVariants as service
+use Rattle.site_server.specs.Simulated.{simulated_sites, simulated_stations}
+use Rattle.site_server.specs.Written.{ShowsBoards, listening}
+use Rattle.ocpp_board.specs.declared.asked.Asked.{Asked}
+use Rattle.ocpp_board.specs.declared.asked.Asked.TheVariants.{Replay, Serve, ServeLive, ServeJournalled, ServeRestored, Simulate}
+use Rattle.ocpp_board.specs.declared.station_words.WordFault.{WordFault}
+use Rattle.ocpp_board.specs.declared.station_words.WordFault.TheVariants.{BadLimits, BadStation, PlanLimit}
+use Rattle.ocpp_board.specs.declared.run.Ran.{Ran}
+use Rattle.ocpp_board.specs.Arguments.{IsAskedBy}
+
+-- The name of a fault of a server.
+abbrev pub service_name : ServiceFault → List ℕ
+service_name service.PlanLimit = codes "PlanLimit"
+service_name service.StationTwice = codes "StationTwice"
+service_name (service.ListenFailed code) = codes "ListenFailed"
+service_name service.HandshakeFailed = codes "HandshakeFailed"
+service_name service.ReadFault = codes "ReadFault"
+service_name service.WriteFault = codes "WriteFault"
+service_name service.OutOfMemory = codes "OutOfMemory"
+service_name service.PassMissing = codes "PassMissing"
+service_name service.ViewerMissing = codes "ViewerMissing"
+service_name service.Torn = codes "Torn"
+
+-- The name of a fault of a script that is restored.
+abbrev pub restore_name : RestoreFault → List ℕ
+restore_name restored.NotRestored = codes "NotRestored"
+restore_name restored.NotMarked = codes "NotMarked"
+restore_name restored.ReadFault = codes "ReadFault"
+restore_name restored.TooMuchInput = codes "TooMuchInput"
+restore_name restored.OutOfMemory = codes "OutOfMemory"
+
+-- The name of a fault of a server with or without a journal.
+abbrev pub server_name : JournalFault → List ℕ
+server_name (Service fault) = service_name fault
+server_name (Restore fault) = restore_name fault
+server_name LeftOut = codes "LeftOut"
+
+-- The name of a fault of the words of a plan.
+abbrev pub word_name : WordFault → List ℕ
+word_name BadLimits = codes "BadLimits"
+word_name (BadStation word) = codes "BadStation"
+word_name (PlanLimit word) = codes "PlanLimit"
+
+-- The exit status after a fault of a server: 2 where its plan has a fault, else 1.
+abbrev pub fault_status : JournalFault → ℕ
+fault_status (Service service.PlanLimit) = 2
+fault_status (Service service.StationTwice) = 2
+fault_status (Service (service.ListenFailed code)) = 1
+fault_status (Service service.HandshakeFailed) = 1
+fault_status (Service service.ReadFault) = 1
+fault_status (Service service.WriteFault) = 1
+fault_status (Service service.OutOfMemory) = 1
+fault_status (Service service.PassMissing) = 1
+fault_status (Service service.ViewerMissing) = 1
+fault_status (Service service.Torn) = 1
+fault_status (Restore fault) = 1
+fault_status LeftOut = 1
+
+-- The exit status of a server: 0 after Ok.
+abbrev pub server_status : Result (Unit {0}) JournalFault → ℕ
+server_status (Ok _) = 0
+server_status (Err fault) = fault_status fault
+
+-- The report of a server: nothing after Ok, else `fault <name>`, behind which a line may give the cause.
+abbrev pub IsServerReport : Result (Unit {0}) JournalFault → List ℕ → Type 0
+IsServerReport (Ok _) text = text ≡ []
+IsServerReport (Err fault) text = (cause : List ℕ) × (text ≡ fault_report (server_name fault) ++ cause)
+
+-- A server that ended so has this exit status, and its report is on standard error.
+pub record IsServerEnd {W E : Type 0} (reports : E → Option (List ℕ)) (errors : E) (run : Ended W E) (ended : Result (Unit {0}) JournalFault) : Type 0 where
+  pub status : run.status ≡ server_status ended
+  pub text : List ℕ
+  pub report : IsServerReport ended text
+  pub written : Writes (reports errors) (reports run.errors) run.reported text
+
+-- A server that writes to its output alone: after Ok, of what the output took this holds.
+abbrev pub IsServerRun : {W E : Type 0} → (W → Option (List ℕ)) → (E → Option (List ℕ)) → E → Ended W E → (Option (List ℕ) → Type 0) → Type 0
+IsServerRun contents reports errors run holds = (ended : Result (Unit {0}) JournalFault) × IsServerEnd reports errors run ended × OnOk ended (HasOutput contents run.output holds)
+
+-- A server with a journal, which its output took. Where the output is given back the journal is as it has to be. After Ok it is given back, and the console took what it has to, and then the boards.
+pub record IsJournalRun {W C E : Type 0} (contents : W → Option (List ℕ)) (consoles : C → Option (List ℕ)) (reports : E → Option (List ℕ)) (errors : E) (ran : Ran W C E) (holds : Left → Type 0) (shows : Option (List ℕ) → Type 0) : Type 0 where
+  pub ended : Result (Unit {0}) JournalFault
+  pub end : IsServerEnd reports errors ran.ended ended
+  pub buffer : List ℕ
+  pub broken : Bool
+  pub boards : List ℕ
+  pub journal : IfSome ran.ended.output (λ output. holds (record { now = contents output; buffer = buffer; broken = broken; boards = boards; passes = ran.passes.items }))
+  pub given : OnOk ended (is_some ran.ended.output ≡ true)
+  pub console : OnOk ended ((answered : Option (List ℕ)) × shows answered × HasOutput consoles ran.console (λ now. Appends answered now boards))
+
+-- A server that is restored, without a journal. After Ok there is a list of lines as that of a journal, which is not written, and the output took what a console has to take, and then the boards.
+abbrev pub IsRestoredLive : {W C E : Type 0} → (W → Option (List ℕ)) → (E → Option (List ℕ)) → E → Ran W C E → (Left → Type 0) → (Option (List ℕ) → Type 0) → Type 0
+IsRestoredLive contents reports errors ran holds shows =
+    (ended : Result (Unit {0}) JournalFault) × IsServerEnd reports errors ran.ended ended
+    × OnOk ended ((left : Left) × holds left × (left.passes ≡ ran.passes.items) × ((answered : Option (List ℕ)) × shows answered × HasOutput contents ran.ended.output (λ now. Appends answered now left.boards)))
+
+-- A server that is not begun since its words make no plan: the exit status is 2, nothing is written to its output, and standard error has `fault <name>` and a line with the cause.
+abbrev pub IsWordMistake : {W E : Type 0} → (E → Option (List ℕ)) → WordFault → W → E → Ended W E → Type 0
+IsWordMistake reports fault output errors run = (cause : List ℕ) × IsMistake reports (fault_report (word_name fault) ++ cause) output errors run
+
+-- A run of what is asked for, with this input, output, console and standard error.
+abbrev pub Runs : {W C E : Type 0} → (W → Option (List ℕ)) → (C → Option (List ℕ)) → (E → Option (List ℕ)) → Asked → Option (List ℕ) → W → C → E → Ran W C E → Type 0
+Runs contents consoles reports Replay input output console errors ran = IsReplayRun contents reports input output errors ran.ended
+Runs contents consoles reports (Serve (Err fault) service) input output console errors ran = IsWordMistake reports fault output errors ran.ended
+Runs contents consoles reports (Serve (Ok plan) service) input output console errors ran =
+    IsServerRun contents reports errors ran.ended (λ now. (port : ℕ) × ShowsBoards plan.sites.items plan.stations.items service.connections (listening port) (contents output) now ran.passes.items)
+Runs contents consoles reports (ServeLive (Err fault) live) input output console errors ran = IsWordMistake reports fault output errors ran.ended
+Runs contents consoles reports (ServeLive (Ok plan) live) input output console errors ran =
+    IsServerRun contents reports errors ran.ended (λ now. IsServed plan.sites.items plan.stations.items (lines_in input) (contents output) now ran.passes.items)
+Runs contents consoles reports (ServeJournalled (Err fault) journalling) input output console errors ran = IsWordMistake reports fault output errors ran.ended
+Runs contents consoles reports (ServeJournalled (Ok plan) journalling) input output console errors ran =
+    IsJournalRun contents consoles reports errors ran (IsNewRun plan.sites.items plan.stations.items (contents output)) (IsToldOfPlan plan.sites.items plan.stations.items None (consoles console))
+Runs contents consoles reports (ServeRestored restoring true) input output console errors ran =
+    IsJournalRun contents consoles reports errors ran (IsRestoredRun restoring.allows_left_out input (contents output)) (IsToldOfScript None (consoles console))
+Runs contents consoles reports (ServeRestored restoring false) input output console errors ran =
+    IsRestoredLive contents reports errors ran (IsRestoredRun restoring.allows_left_out input None) (IsToldOfScript None (contents output))
+Runs contents consoles reports (Simulate stations events) input output console errors ran =
+    IsServerRun contents reports errors ran.ended (λ now. ShowsBoards (simulated_sites stations) (simulated_stations stations) stations [] (contents output) now ran.passes.items)
+
+-- Help or the version is asked for.
+abbrev pub IsHelp : ErrorKind → Type 0
+IsHelp kind = (kind ≡ DisplayHelp) ⊎ (kind ≡ DisplayVersion)
+
+-- A run of words that the program's options don't take, for this reason: there was no memory; or the text of help or of the version is written; or the mistake is written to standard error, and the exit status is 2.
+abbrev pub IsRefusal : {W E : Type 0} → (W → Option (List ℕ)) → (E → Option (List ℕ)) → ErrorKind → W → E → Ended W E → Type 0
+IsRefusal contents reports kind output errors run =
+    IsReported reports errors run (Err replay.OutOfMemory)
+    ⊎ (IsHelp kind × ((text : List ℕ) × Shows contents reports text output errors run)
+    ⊎ ((kind ≢ DisplayHelp) × (kind ≢ DisplayVersion) × ((text : List ℕ) × IsMistake reports text output errors run)))
+
+-- A run of a program of these commands and options: of what its words ask for, where they take them, else a refusal.
+abbrev pub IsRun : {W C E : Type 0} → (W → Option (List ℕ)) → (C → Option (List ℕ)) → (E → Option (List ℕ)) → App → List (List ℕ) → Option (List ℕ) → W → C → E → Ran W C E → Type 0
+IsRun contents consoles reports app words input output console errors ran =
+    ((asked : Asked) × IsAskedBy (subcommand_of app words) asked × Runs contents consoles reports asked input output console errors ran)
+    ⊎ ((kind : ErrorKind) × IsRefusal contents reports kind output errors ran.ended × (takes app words ≡ true → IsReported reports errors ran.ended (Err replay.OutOfMemory)))
+
+-- A run of the program: there was no memory for its commands and options, or it is a run by such a definition of them.
+abbrev pub IsProgramRun : {W C E : Type 0} → (W → Option (List ℕ)) → (C → Option (List ℕ)) → (E → Option (List ℕ)) → List (List ℕ) → Option (List ℕ) → W → C → E → Ran W C E → Type 0
+IsProgramRun contents consoles reports words input output console errors ran =
+    IsReported reports errors ran.ended (Err replay.OutOfMemory)
+    ⊎ ((app : App) × (is_simple app ≡ true) × IsRun contents consoles reports app words input output console errors ran)

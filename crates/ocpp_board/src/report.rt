@@ -1,0 +1,197 @@
+//! How a server's end is reported on standard error.
+ghost use Rattle.std.specs.Prelude.{◌≡◌, ◌++◌, ℕ, List};
+ghost use Rattle.ocpp_board.specs.Run.{IsServerEnd, IsServerReport, IsWordMistake, fault_status, restore_name, server_name, server_status, service_name, word_name};
+ghost use Rattle.script_replay.specs.Whole.{Writes, fault_report};
+
+use crate::run::{Ran, Streams};
+use crate::station_words::WordFault;
+use journal_script::RestoreFault;
+use journal_server::JournalFault;
+use ledger_model::{
+    MAX_CHANGES, MAX_EVENTS, MAX_PLAN_READINGS, MAX_SITES, MAX_STATIONS, MAX_TRANSACTIONS,
+};
+use script_lines::{WriteStopped, write_bytes};
+use script_replay::{Ended, MISTAKEN};
+use site_desk::Plan;
+use site_server::ServiceFault;
+use std::alloc::Global;
+use std::io;
+use std::io::Write;
+
+// The exit status where a server stopped before its end.
+const STOPPED: u8 = 1;
+
+/// Ends the run of a server with its exit status and, after a fault, with `fault <name>` and the line of its cause on
+/// standard error.
+pub fn end_server<W, E: Write>(
+    output: Option<W>,
+    mut errors: E,
+    ended: Result<(), JournalFault>,
+    cause: &[u8],
+) -> Ended<W, E>
+    ensures output { result.output ≡ output }
+    ensures end { IsServerEnd E.contents errors result ended }
+{
+    let reported = report_server(&mut errors, ended, cause);
+    Ended {
+        output,
+        errors,
+        status: status_of(ended),
+        reported,
+    }
+}
+
+// Writes `fault <name>` and its cause where a server ended with a fault.
+fn report_server<E: Write>(
+    errors: &mut E,
+    ended: Result<(), JournalFault>,
+    cause: &[u8],
+) -> Result<(), WriteStopped>
+    ensures { (text : List ℕ) × IsServerReport ended text × Writes (E.contents errors.old) (E.contents errors.new) result text }
+{
+    match ended {
+        Ok(()) => Ok(()),
+        Err(fault) => report_lines(errors, fault_line(fault), cause),
+    }
+}
+
+// Writes a line, and the lines behind it where it was written.
+fn report_lines<E: Write>(errors: &mut E, line: &[u8], cause: &[u8]) -> Result<(), WriteStopped>
+    ensures { Writes (E.contents errors.old) (E.contents errors.new) result (line.now ++ cause.now) }
+{
+    match write_bytes(errors, line) {
+        Ok(()) => write_bytes(errors, cause),
+        Err(stopped) => Err(stopped),
+    }
+}
+
+// The exit status of a server that ended so.
+fn status_of(ended: Result<(), JournalFault>) -> u8
+    ensures { result ≡ server_status ended }
+{
+    match ended {
+        Ok(()) => 0,
+        Err(JournalFault::Service(ServiceFault::PlanLimit | ServiceFault::StationTwice)) => {
+            MISTAKEN
+        }
+        Err(_) => STOPPED,
+    }
+}
+
+// The line `fault <name>` of a server.
+fn fault_line(fault: JournalFault) -> &'static [u8]
+    ensures { result.now ≡ fault_report (server_name fault) }
+{
+    match fault {
+        JournalFault::Service(fault) => service_line(fault),
+        JournalFault::Restore(fault) => restore_line(fault),
+        JournalFault::LeftOut => b"fault LeftOut\n",
+    }
+}
+
+fn service_line(fault: ServiceFault) -> &'static [u8]
+    ensures { result.now ≡ fault_report (service_name fault) }
+{
+    match fault {
+        ServiceFault::PlanLimit => b"fault PlanLimit\n",
+        ServiceFault::StationTwice => b"fault StationTwice\n",
+        ServiceFault::ListenFailed(_) => b"fault ListenFailed\n",
+        ServiceFault::HandshakeFailed => b"fault HandshakeFailed\n",
+        ServiceFault::ReadFault => b"fault ReadFault\n",
+        ServiceFault::WriteFault => b"fault WriteFault\n",
+        ServiceFault::OutOfMemory => b"fault OutOfMemory\n",
+        ServiceFault::PassMissing => b"fault PassMissing\n",
+        ServiceFault::ViewerMissing => b"fault ViewerMissing\n",
+        ServiceFault::Torn => b"fault Torn\n",
+    }
+}
+
+fn restore_line(fault: RestoreFault) -> &'static [u8]
+    ensures { result.now ≡ fault_report (restore_name fault) }
+{
+    match fault {
+        RestoreFault::NotRestored => b"fault NotRestored\n",
+        RestoreFault::NotMarked => b"fault NotMarked\n",
+        RestoreFault::ReadFault => b"fault ReadFault\n",
+        RestoreFault::TooMuchInput => b"fault TooMuchInput\n",
+        RestoreFault::OutOfMemory => b"fault OutOfMemory\n",
+    }
+}
+
+/// The line that gives the cause of a fault of a server with this plan at this port: which station is there twice, or the
+/// system's words for the port. It is empty where there is no more to say, or no memory for it.
+pub fn cause_of(alloc: Global, plan: &Plan, port: u16, ended: Result<(), JournalFault>) -> Vec<u8> {
+    let mut cause = Vec::new(alloc);
+    match ended {
+        Err(JournalFault::Service(ServiceFault::StationTwice)) => {
+            if let Some(name) = plan.station_twice() {
+                let _ = writeln!(cause, "the station {} stands twice", name.text());
+            }
+        }
+        Err(JournalFault::Service(ServiceFault::ListenFailed(Some(code)))) => {
+            let error = io::Error::from_raw_os_error(code);
+            let _ = writeln!(cause, "127.0.0.1:{port}: {error}");
+        }
+        _ => {}
+    }
+    cause
+}
+
+/// Ends a run whose words make no plan.
+pub fn refuse_plan<R: Drop, W: Drop, C: Drop, E: Write, L: Drop>(
+    alloc: Global,
+    fault: WordFault<'_>,
+    streams: Streams<R, W, C, E, L>,
+) -> Ran<W, C, E>
+    ensures { IsWordMistake E.contents fault.entry streams.output streams.errors result.ended }
+{
+    let Streams {
+        input: _,
+        output,
+        console,
+        mut errors,
+        lines: _,
+    } = streams;
+    let cause = cause_of_word(alloc, fault);
+    let reported = report_lines(&mut errors, word_line(fault), &cause);
+    Ran {
+        ended: Ended {
+            output: Some(output),
+            errors,
+            status: MISTAKEN,
+            reported,
+        },
+        console: Some(console),
+        passes: Vec::new(alloc),
+    }
+}
+
+// The line `fault <name>` of words that make no plan.
+fn word_line(fault: WordFault<'_>) -> &'static [u8]
+    ensures { result.now ≡ fault_report (word_name fault.entry) }
+{
+    match fault {
+        WordFault::BadLimits => b"fault BadLimits\n",
+        WordFault::BadStation(_) => b"fault BadStation\n",
+        WordFault::PlanLimit(_) => b"fault PlanLimit\n",
+    }
+}
+
+// The line that says why words make no plan. It is empty where there is no memory for it.
+fn cause_of_word(alloc: Global, fault: WordFault<'_>) -> Vec<u8> {
+    let mut cause = Vec::new(alloc);
+    let _ = match fault {
+        WordFault::BadLimits => writeln!(
+            cause,
+            "limits are transactions 1 to {MAX_TRANSACTIONS}, events and readings 1 to {MAX_EVENTS}, changes 1 to {MAX_CHANGES}"
+        ),
+        WordFault::BadStation(word) => {
+            writeln!(cause, "{word}: not a site and a station parted by one /")
+        }
+        WordFault::PlanLimit(word) => writeln!(
+            cause,
+            "{word}: a server has at most {MAX_STATIONS} stations of {MAX_SITES} sites, which may keep {MAX_PLAN_READINGS} readings in all"
+        ),
+    };
+    cause
+}

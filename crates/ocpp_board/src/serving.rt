@@ -1,0 +1,225 @@
+//! Servers without a journal, as the program runs them.
+ghost use Rattle.std.specs.Prelude.{◌≡◌, ◌≤◌, ℕ, [], Err, Ok, OnOk};
+ghost use Rattle.std.specs.Io.Buffered.{writer_contents};
+ghost use Rattle.journal_server.specs.declared.fault.JournalFault.{JournalFault};
+ghost use Rattle.live_server.specs.Told.{IsServed};
+ghost use Rattle.ocpp_board.specs.declared.asked.Asked.{Asked};
+ghost use Rattle.ocpp_board.specs.Run.{IsServerEnd, Runs};
+ghost use Rattle.ocpp_board.specs.Serving.{IsClosed};
+ghost use Rattle.running_desk.specs.Ordered.{lines_in};
+ghost use Rattle.script_replay.specs.Whole.{HasOutput};
+ghost use Rattle.site_server.specs.Simulated.{simulated_sites, simulated_stations};
+ghost use Rattle.site_server.specs.Written.{ShowsBoards, listening};
+ghost use Rattle.station_link.specs.Sim.{IsSimulated};
+
+use crate::report::{cause_of, end_server};
+use crate::run::{Ran, Streams};
+use journal_server::JournalFault;
+use live_server::{Live, serve_live};
+use script_replay::buffered;
+use site_desk::Plan;
+use site_server::{Host, Service, ServiceFault, serve_plan, simulate};
+use station_cell::Pass;
+use std::alloc::Global;
+use std::io::{BufWriter, Read, Write};
+use std::random::RandomSource;
+
+/// How a server ended that writes to its output, with the output and its passes.
+#[derive(Drop)]
+pub struct Closed<W> {
+    /// The output; `None` where the server ended with a fault.
+    pub output: Option<W>,
+    /// The passes.
+    pub passes: Vec<Pass>,
+    /// How it ended.
+    pub ended: Result<(), JournalFault>,
+}
+
+/// A server that ended well: the output takes all that was written.
+pub fn close_well<W: Write + Drop>(
+    alloc: Global,
+    mut writer: BufWriter<W>,
+    passes: Vec<Pass>,
+) -> Closed<W>
+    ensures { IsClosed W.contents (writer_contents W.contents writer) passes.items result }
+{
+    match writer.flush() {
+        Ok(()) => {
+            let (output, _kept) = writer.into_parts();
+            Closed {
+                output: Some(output),
+                passes,
+                ended: Ok(()),
+            }
+        }
+        Err(_) => close_badly(alloc, JournalFault::Service(ServiceFault::WriteFault)),
+    }
+}
+
+/// A server that ended with a fault.
+pub fn close_badly<W>(alloc: Global, fault: JournalFault) -> Closed<W>
+    ensures { result.ended ≡ Err fault }
+{
+    Closed {
+        output: None,
+        passes: Vec::new(alloc),
+        ended: Err(fault),
+    }
+}
+
+/// Ends a server's run with its report.
+pub fn end_closed<W, C, E: Write>(
+    closed: Closed<W>,
+    cause: &[u8],
+    console: C,
+    errors: E,
+) -> Ran<W, C, E>
+    ensures output { result.ended.output ≡ closed.output }
+    ensures passes { result.passes ≡ closed.passes }
+    ensures end { IsServerEnd E.contents errors result.ended closed.ended }
+{
+    let Closed {
+        output,
+        passes,
+        ended,
+    } = closed;
+    Ran {
+        ended: end_server(output, errors, ended, cause),
+        console: Some(console),
+        passes,
+    }
+}
+
+/// Serves a plan over so many connections.
+pub fn serve<
+    X: AllocGlobal + Host,
+    R: Read + Drop,
+    W: Write + Drop,
+    C: Write + Drop,
+    E: Write,
+    L: Write + Send + Drop,
+>(rt: &X, plan: &Plan, service: Service, streams: Streams<R, W, C, E, L>) -> Ran<W, C, E>
+    requires { (1 ≤ service.connections) × (service.connections ≤ 64) }
+    ensures { Runs W.contents C.contents E.contents (Asked.Serve (Ok plan.now) service) (R.remaining streams.input) streams.output streams.console streams.errors result }
+{
+    let Streams {
+        input,
+        output,
+        console,
+        errors,
+        lines,
+    } = streams;
+    let closed = serve_through(rt, plan, service, input, output, lines);
+    let cause = cause_of(rt.alloc(), plan, service.port, closed.ended);
+    end_closed(closed, &cause, console, errors)
+}
+
+// Serves a plan through buffers.
+fn serve_through<X: AllocGlobal + Host, R: Read + Drop, W: Write + Drop, L: Write + Send + Drop>(
+    rt: &X,
+    plan: &Plan,
+    service: Service,
+    input: R,
+    output: W,
+    lines: L,
+) -> Closed<W>
+    requires { (1 ≤ service.connections) × (service.connections ≤ 64) }
+    ensures { OnOk result.ended (HasOutput W.contents result.output (λ now. (port : ℕ) × ShowsBoards plan.now.sites.items plan.now.stations.items
+        service.connections (listening port) (W.contents output) now result.passes.items)) }
+{
+    let Ok((_reader, mut writer)) = buffered(rt, input, output) else {
+        return close_badly(rt.alloc(), JournalFault::Service(ServiceFault::OutOfMemory));
+    };
+    match serve_plan(rt, rt.alloc(), plan, service, &mut writer, lines) {
+        Ok(passes) => close_well(rt.alloc(), writer, passes),
+        Err(fault) => close_badly(rt.alloc(), JournalFault::Service(fault)),
+    }
+}
+
+/// Serves a plan until its operator's lines end.
+pub fn live<
+    X: AllocGlobal + Host,
+    R: Read + Drop,
+    W: Write + Drop,
+    C: Write + Drop,
+    E: Write,
+    L: Write + Send + Drop,
+>(rt: &X, plan: &Plan, live: Live, streams: Streams<R, W, C, E, L>) -> Ran<W, C, E>
+    ensures { Runs W.contents C.contents E.contents (Asked.ServeLive (Ok plan.now) live) (R.remaining streams.input) streams.output streams.console streams.errors result }
+{
+    let Streams {
+        input,
+        output,
+        console,
+        errors,
+        lines,
+    } = streams;
+    let closed = live_through(rt, plan, live, input, output, lines);
+    let cause = cause_of(rt.alloc(), plan, live.port, closed.ended);
+    end_closed(closed, &cause, console, errors)
+}
+
+// Serves a plan until its operator's lines end, through buffers.
+fn live_through<X: AllocGlobal + Host, R: Read + Drop, W: Write + Drop, L: Write + Send + Drop>(
+    rt: &X,
+    plan: &Plan,
+    live: Live,
+    input: R,
+    output: W,
+    lines: L,
+) -> Closed<W>
+    ensures { OnOk result.ended (HasOutput W.contents result.output (λ now. IsServed plan.now.sites.items plan.now.stations.items
+        (lines_in (R.remaining input)) (W.contents output) now result.passes.items)) }
+{
+    let Ok((mut reader, writer)) = buffered(rt, input, output) else {
+        return close_badly(rt.alloc(), JournalFault::Service(ServiceFault::OutOfMemory));
+    };
+    match serve_live(rt, rt.alloc(), plan, live, &mut reader, writer, lines) {
+        Ok((writer, passes)) => close_well(rt.alloc(), writer, passes),
+        Err(fault) => close_badly(rt.alloc(), JournalFault::Service(fault)),
+    }
+}
+
+/// Plays simulated stations against a server of their own.
+pub fn simulated<
+    X: AllocGlobal + Host + RandomSource,
+    R: Read + Drop,
+    W: Write + Drop,
+    C: Write + Drop,
+    E: Write,
+    L: Drop,
+>(rt: &X, stations: u16, events: u32, streams: Streams<R, W, C, E, L>) -> Ran<W, C, E>
+    requires { IsSimulated stations events }
+    ensures { Runs W.contents C.contents E.contents (Asked.Simulate stations events) (R.remaining streams.input) streams.output streams.console streams.errors result }
+{
+    let Streams {
+        input,
+        output,
+        console,
+        errors,
+        lines: _,
+    } = streams;
+    let closed = simulate_through(rt, stations, events, input, output);
+    end_closed(closed, b"", console, errors)
+}
+
+// Plays simulated stations, and writes their board through a buffer.
+fn simulate_through<X: AllocGlobal + Host + RandomSource, R: Read + Drop, W: Write + Drop>(
+    rt: &X,
+    stations: u16,
+    events: u32,
+    input: R,
+    output: W,
+) -> Closed<W>
+    requires { IsSimulated stations events }
+    ensures { OnOk result.ended (HasOutput W.contents result.output (λ now. ShowsBoards (simulated_sites stations) (simulated_stations stations) stations
+        [] (W.contents output) now result.passes.items)) }
+{
+    let Ok((_reader, mut writer)) = buffered(rt, input, output) else {
+        return close_badly(rt.alloc(), JournalFault::Service(ServiceFault::OutOfMemory));
+    };
+    match simulate(rt, rt.alloc(), stations, events, &mut writer) {
+        Ok(passes) => close_well(rt.alloc(), writer, passes),
+        Err(fault) => close_badly(rt.alloc(), JournalFault::Service(fault)),
+    }
+}

@@ -1,0 +1,22 @@
+use crate::has_cell::HasCell;
+use std::alloc::{AllocError, Global};
+use std::sync::{MutexGuard, Wait};
+
+/// What is noted (N) of what is behind the locks of a site's stations, while all of them are held
+/// ([`Desk::site_boards_by`](crate::Desk::site_boards_by)); `notes` says what that tells of each cell.
+pub trait Notes<C: HasCell, N> {
+    ghost use Rattle.std.specs.Prelude.{IfOk, All};
+    ghost use Rattle.std.specs.Sync.Mutex.{mutex_guard_value};
+    ghost use Rattle.station_cell.specs.Cell.{Cell};
+
+    ghost notes: { Self → N → Cell → Type 0 };
+
+    /// Notes it, and gives the locks back, which stay held.
+    fn note<'a, R: Wait>(
+        &self,
+        rt: &R,
+        alloc: Global,
+        held: Vec<MutexGuard<'a, C>>,
+    ) -> Result<(Vec<MutexGuard<'a, C>>, N), AllocError>
+        ensures { IfOk result (λ r. All (λ g. notes self.now r.1 (C.cell (mutex_guard_value g))) r.0.items) };
+}
