@@ -166,23 +166,35 @@ with_program() {
     "$one" drawn_orders "$program" || differs drawn_orders
 
     # The commands of the examples, as they are written there.
+    written_as README.md
     written_as examples/a-log-to-a-page/README.md
     written_as examples/beside-a-csms/README.md
     [ -s "$made/as_written/live/riverside.html" ] && [ -s "$made/as_written/site.findings.csv" ] ||
         differs "what the commands of the examples write"
+    holds tables/month.said
+    if /usr/bin/python3 -c "import websockets" 2> /dev/null; then
+        written_as examples/clients/README.md
+        grep -q "^tx tx-1 .* complete=yes" "$made/given" || differs "the board of the client that examples/clients shows"
+    else
+        echo "examples/clients/README.md: not tried, since python3-websockets is not installed"
+    fi
 
     # 50 events of each of two stations: a session of 48 and one of 2, in each of which all but the first rise by 250 Wh.
     gives 0 forms/traffic.text bash -c '"$board" traffic 100 --stations 2 | "$1" replay | grep -v "^.3,"' _ "$program"
 }
 
-# written_as README: the commands of this page, with the program that is built and in a folder of their own. Those that
-# go on are ended by a signal after a while, as a user does.
+# written_as README: the commands of this page, with the program that is built and in a folder of their own, but for
+# those that build, and those of the fleet. Those that go on are ended by a signal after a while, as a user does.
 written_as() {
+    local port=$((20000 + RANDOM % 10000))
     mkdir -p "$made/as_written"
-    sed -n 's/^    //p' "$top/$1" | sed "s|crates/ocpp_replay/out/ocpp_replay|$program replay|; s|/tmp/|$made/as_written/|g
+    sed -n '/^```sh$/,/^```$/{/^```/!p}; s/^    //p' "$top/$1" | sed "/rt run\|rt try\|\.ci\/run\|tests\/fleet\|packaging\//d
+        s|/tmp/|$made/as_written/|g; s/\b9000\b/$port/g; s/sleep [0-9]\{2,\}/sleep 1/
+        s|crates/ocpp_board/out/ocpp_board|$program|; s|crates/ocpp_replay/out/ocpp_replay|$program replay|
         s|^python/ocpp-board live|timeout -s INT --preserve-status 20 python/ocpp-board live --program $program|
         s|^python/ocpp-board tables \(.*--script\)|python/ocpp-board tables --program $program \1|" > "$made/written.sh"
-    if (cd "$top" && bash -e "$made/written.sh" < /dev/null) > "$made/given" 2> "$made/told"; then
+    echo wait >> "$made/written.sh"
+    if (cd "$top" && PATH=/usr/bin:$PATH bash -e "$made/written.sh" < /dev/null) > "$made/given" 2> "$made/told"; then
         echo "$1: $(wc -l < "$made/written.sh") lines as written"
     else
         cat "$made/told"
@@ -219,10 +231,10 @@ tells 1 "the gzip is cut short" "${day_of_log[@]}" "$made/cut.gz"
 gives 1 forms/mistakes.script "$board" log-to-script forms/mistakes.jsonl
 tells 0 "a time has no offset from UTC (--utc takes such times as UTC); its message goes without a time" \
     "$board" log-to-script --form ocpp --site north forms/ocpp.log
-tells 1 "neither this line nor one before it is of the form ocpp" "$board" log-to-script --form ocpp --site n "$days/day.jsonl"
+tells 1 "examples/day.jsonl line 58: neither this line nor one before it is of the form ocpp" "$board" log-to-script --form ocpp --site n "$days/day.jsonl"
 tells 1 "neither this line nor one before it is of the form maeve" \
     "$board" log-to-script --form maeve --site north forms/ocpp.log
-tells 2 "line 1 names no column message, origin, stationId, timestamp" \
+tells 2 "forms/ocpp.log line 1 names no column message, origin, stationId, timestamp" \
     "$board" log-to-script --form citrineos-csv --site north forms/ocpp.log
 tells 2 "has no sites: --site, --site-map or --stations names them" "$board" log-to-script --form ocpp forms/ocpp.log
 tells 2 "forms/ocpp.log line 2: not two names" "$board" log-to-script --stations forms/ocpp.log "$days/day.jsonl"
@@ -306,7 +318,7 @@ for day in 2026-03-29 2026-10-25; do
 done
 # Labels, contrast and links of all pages that were made, and how wide they are on a phone, names and numbers being long.
 made_by "$board" tables --tz America/Argentina/ComodRivadavia --out "$made/long" tables/long.text
-if "$one" page_check "$made"/*.html > "$made/checked"; then
+if "$one" page_check "$made"/*.html "$made"/*.sessions/*.html > "$made/checked"; then
     tail -n 1 "$made/checked"
 else
     cat "$made/checked"
@@ -315,7 +327,7 @@ fi
 "$one" page_width "$made"/*.html
 case $? in 0 | 77) ;; *) differs "pages on a phone" ;; esac
 gives 1 tables/broken "$board" tables --out "$made/broken" tables/broken.text
-tells 1 "the text ends, and no board began in it" "$board" tables --out "$made/noise" "$days/day.jsonl"
+tells 1 "examples/day.jsonl line 58: the text ends, and no board began in it" "$board" tables --out "$made/noise" "$days/day.jsonl"
 tells 2 "the text is compressed by gzip" "$board" tables --out "$made/noise" "$made/day.jsonl.gz"
 tells 2 "No such file or directory" "$board" tables --out "$made/nowhere/x" "$days/day.expected"
 tells 2 "no time zone of this system: 'Mars'" "$board" tables --tz Mars --out "$made/x" "$days/day.expected"

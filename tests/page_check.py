@@ -17,8 +17,8 @@ from urllib.parse import unquote
 from tests.page_tree import Element, Rule, Tree, fits, rules_of
 
 LETTERS, SHAPES = 4.5, 3.0
-# Shapes that only help the eye, and those that are drawn.
-HELPERS = {"grid"}
+# Shapes that only help the eye, shades of a heat map, what shows a value to a pointer, and shapes that are drawn.
+HELPERS = {"grid", "heat", "hit"}
 DRAWN = {"path", "rect", "circle", "line"}
 LABELLED = ("section", "nav", "form")
 FIELDS = ("input", "select", "textarea")
@@ -217,7 +217,8 @@ class Check:
         colors, told = Colors(self.rules, self.root, is_dark), set[str]()
         where = "in dark" if is_dark else "in light"
         for element in self.elements:
-            if any(one.tag in ("head", "defs") for one in (element, *element.ancestors())):
+            # A title of a shape is shown by the browser, in colours of its own.
+            if any(one.tag in ("head", "defs", "title") for one in (element, *element.ancestors())):
                 continue
             for what, color, least in self.seen(element, colors):
                 behind = colors.background(

@@ -1,9 +1,11 @@
-"""Draws pages in Chromium as wide as a phone is, and tells what is wider than that, and numbers and dates that break.
+"""Draws pages in Chromium as wide as a phone and two screens are, with scrollbars that take room, and reports what is
+wider than the screen, tables that are cut, and numbers and dates that break.
 
     tests/one page_width PAGE..
 
-What scrolls from side to side by itself may be wider. Where there is no Chromium (Debian: apt-get install chromium)
-nothing is drawn, and the status is 77; it is 1 where something was found.
+A table is cut where it scrolls from side to side by itself; on a phone only those of an index are looked at. Where
+there is no Chromium (Debian: apt-get install chromium) nothing is drawn, and the status is 77; it is 1 where something
+was found.
 """
 
 import html
@@ -18,14 +20,19 @@ from pathlib import Path
 from typing import NamedTuple
 
 PHONE = 390
+WIDTHS = (PHONE, 1_400, 1_920)
 NOT_TRIED = 77
+# The name of a day's page.
+DAY = re.compile(r"\d{4}-\d\d-\d\d")
 # Seconds that a page may take.
 PATIENCE = 120
 # A window is never as narrow as a phone: the page stands in a frame, and what is found is told to the window.
-WINDOW = """<!DOCTYPE html><title></title><script>onmessage = one => {{ document.title = one.data }}</script>
-<iframe src="{page}" style="border:0" width="{width}" height="2000"></iframe>"""
+WINDOW = """<!DOCTYPE html><title></title><script>const all = [];
+onmessage = one => {{ all.push(JSON.parse(one.data)); document.title = JSON.stringify(all) }}</script>
+{frames}"""
+FRAME = '<iframe src="page.html" style="border:0" width="{width}" height="2000"></iframe>'
 # Put at the end of a page, it tells what it finds.
-FINDER = r"""<script>
+FINDER = r"""<style>::-webkit-scrollbar{width:15px;height:15px}</style><script>
 const inner = e => e.closest('.scroll, .across, .unseen, .one .site, thead');
 const said = e => `<${e.tagName.toLowerCase()} ${e.className}> ${e.textContent.trim().slice(0, 30)}`;
 const wide = [...document.querySelectorAll('body *')]
@@ -39,45 +46,51 @@ for (let node; node = walk.nextNode();)
     range.setEnd(node, found.index + found[0].length);
     if (new Set([...range.getClientRects()].map(one => Math.round(one.top))).size > 1) broken.push(found[0]);
   }
+const cut = [...document.querySelectorAll('.scroll, .across')]
+  .filter(e => e.tagName != 'PRE' && e.scrollWidth > e.clientWidth + 1)
+  .map(e => `${e.getAttribute('aria-label')}, by ${e.scrollWidth - e.clientWidth}`);
 const root = document.documentElement;
-const told = JSON.stringify([innerWidth, root.scrollWidth, wide.slice(0, 5), broken.slice(0, 5)]);
+const told = JSON.stringify([innerWidth, root.scrollWidth, wide.slice(0, 5), broken.slice(0, 5), cut.slice(0, 5)]);
 parent.postMessage(told, '*');
 </script></body>"""
 
 
 class Drawn(NamedTuple):
-    """How wide the screen and the page are, what is wider than the screen, and what breaks."""
+    """How wide the screen and the page are, what is wider than the screen, what breaks, and which tables are cut."""
 
     screen: int
     width: int
     wide: list[str]
     broken: list[str]
+    cut: list[str]
 
 
-def drawn(chromium: str, page: Path, folder: Path) -> Drawn | None:
-    """How a page is drawn; None where that is not told. Raises OSError or SubprocessError."""
+def drawn(chromium: str, page: Path, folder: Path) -> list[Drawn]:
+    """How a page is drawn at each width. Raises OSError or SubprocessError."""
     (folder / "page.html").write_text(page.read_text("utf-8").replace("</body>", FINDER), "utf-8")
     window = folder / "window.html"
-    window.write_text(WINDOW.format(page="page.html", width=PHONE), "utf-8")
+    frames = "".join(FRAME.format(width=width) for width in WIDTHS)
+    window.write_text(WINDOW.format(frames=frames), "utf-8")
     words = ["--headless", "--no-sandbox", "--disable-gpu", f"--user-data-dir={folder}/profile"]
-    words += ["--hide-scrollbars", "--virtual-time-budget=5000", "--dump-dom", window.as_uri()]
+    words += ["--virtual-time-budget=5000", "--dump-dom", window.as_uri()]
     made = subprocess.run([chromium, *words], capture_output=True, timeout=PATIENCE, check=True)
     title = re.search(r"<title>(.+?)</title>", made.stdout.decode("utf-8"))
-    return Drawn(*json.loads(html.unescape(title[1]))) if title else None
+    return [Drawn(*one) for one in json.loads(html.unescape(title[1]))] if title else []
 
 
 def found(chromium: str, page: Path, folder: Path) -> Iterator[str]:
-    """What is wrong with a page on a phone."""
-    told = drawn(chromium, page, folder)
-    if told is None:
-        yield "it is not told how it is drawn"
-        return
-    if told.screen != PHONE:
-        yield f"drawn {told.screen} pixels wide, and not {PHONE}"
-    if told.width > told.screen:
-        yield f"{told.width} pixels wide on a screen of {told.screen}"
-    yield from (f"wider than the screen: {ascii(one)}" for one in told.wide)
-    yield from (f"broken: {one}" for one in told.broken)
+    """What is wrong with a page."""
+    drawings = drawn(chromium, page, folder)
+    if sorted(one.screen for one in drawings) != list(WIDTHS):
+        yield f"drawn {[one.screen for one in drawings]} pixels wide, and not {WIDTHS}"
+    for told in drawings:
+        if told.width > told.screen:
+            yield f"{told.width} pixels wide on a screen of {told.screen}"
+        wide = f"wider than the screen of {told.screen}"
+        yield from (f"{wide}: {ascii(one)}" for one in told.wide)
+        yield from (f"broken: {one}" for one in told.broken)
+        if told.screen != PHONE or not DAY.search(page.name):
+            yield from (f"cut on a screen of {told.screen}: {ascii(one)}" for one in told.cut)
 
 
 def main() -> int:

@@ -1,1 +1,1 @@
-"""The tools that stand around `ocpp_board`, the transaction ledger: logs to scripts, boards to pages, and the fleet."""
+"""The tools beside `ocpp_board`, the transaction ledger: logs to scripts, boards to pages, and the fleet."""

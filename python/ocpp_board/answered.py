@@ -1,4 +1,4 @@
-"""A replay that runs, whose answers are matched with the lines that they answer.
+"""A replay that runs: each answer is matched with the line that it answers.
 
 Behind each line that may write nothing go lines of its own, which are faults and change nothing, so that the end
 of such a line's text is known.
@@ -25,7 +25,7 @@ MARKED = (b"fault PlanLimit\n", b"fault DeclaredLate\n")
 BAD_LINE = b"fault BadLine\n"
 # Bytes that are handed to the replay at once.
 BUFFER = 65_536
-# Comments that tell when the message behind them was received, and whose the operator's line behind them is.
+# Comments that say when the message behind them was received, and who had the operator's line behind them done.
 RECEIVED, OPERATOR = b"# received ", b"# operator "
 
 
@@ -37,16 +37,16 @@ class Lines(Protocol):
 
 
 class Line(NamedTuple):
-    """A line that was sent, of which something comes back."""
+    """A line that was sent; something comes back for it."""
 
     # Its number in the script, from 1; 0 where it is none of the script's.
     number: int
     # Its bytes, without what ends it. Of one that is too long only the beginning.
     line: bytes
     is_marked: bool
-    # When it was received, as the line before it tells.
+    # When it was received, as the line before it says.
     received: bytes
-    # Who had it done, as the comment right before it tells.
+    # Who had it done, as the comment right before it says.
     operator: bytes = b""
 
 
@@ -54,7 +54,7 @@ class Replay:
     """A replay that runs: lines go in, and each comes back with what it wrote."""
 
     def __init__(self, program: str, *, is_apart: bool = False, is_heard: bool = False) -> None:
-        """`is_apart`: a signal to this process's group is none to the replay. `is_heard`: what it tells is kept."""
+        """`is_apart`: a signal to this process's group is none to the replay. `is_heard`: what it reports is kept."""
         try:
             self.process = subprocess.Popen(
                 [program, "replay"],
@@ -150,7 +150,7 @@ class ScriptReplay(Replay):
             self.process.kill()
 
     def ended(self) -> tuple[int, str]:
-        """The replay's exit status, and what it told. Raises OSError where the script could not be read."""
+        """The replay's exit status, and what it reported. Raises OSError where the script could not be read."""
         self.feeder.join()
         if self.fault:
             raise self.fault
@@ -167,7 +167,7 @@ class Answered(NamedTuple):
     # The site that declared the station; empty where none did.
     site: str
     station: str
-    # When it was received, where the script tells it right before: by `# received <time>` or by `now <time>`.
+    # When it was received, if the script says it right before: by `# received <time>` or by `now <time>`.
     received: datetime | None
     # The message of OCPP-J.
     message: str
@@ -186,7 +186,7 @@ class Answered(NamedTuple):
 
 
 def moment_of(text: bytes) -> datetime | None:
-    """The moment that a line of a script tells; None where it is none."""
+    """The moment of a line of a script; None where it is none."""
     try:
         moment = datetime.fromisoformat(text.decode("ascii")) if text else None
     except ValueError:

@@ -39,7 +39,7 @@ class Signed(NamedTuple):
 
 
 class Details(NamedTuple):
-    """What an event tells for a bill."""
+    """What an event has for a bill."""
 
     token: str = ""
     kind: str = ""
@@ -58,7 +58,7 @@ def text(value: Any, most: int = LONGEST_TOKEN) -> str:
 
 
 def details_of(payload: dict[str, Any]) -> Details:
-    """What an event that was accepted tells for a bill."""
+    """What an event that was accepted has for a bill."""
     token = payload.get("idToken")
     token = token if isinstance(token, dict) else {}
     signed = [
@@ -102,7 +102,7 @@ def with_key(signed: Sequence[Signed]) -> list[Signed]:
 
 
 def cells_of(sent: str, details: Sequence[Details], tokens: str) -> list[str]:
-    """The cells of a session, by what its events tell in their order. `sent`: its id as it was sent first."""
+    """The cells of a session, by what its events have in their order. `sent`: its id as it was sent first."""
     token = next((one for one in details if one.token), NOTHING)
     remote = next((one.remote_start for one in details if one.remote_start), "")
     signed = with_key([value for one in details for value in one.signed])
@@ -141,10 +141,10 @@ def values_of(details: Sequence[Details]) -> Iterator[str]:
         yield "  </value>\n"
 
 
-def file_of(station: str, sent: str) -> str:
+def file_of(station: str, sent: str, end: str = "xml") -> str:
     """The name of a session's file. A character that a file's name may not have is its number."""
     parts = (UNSAFE.sub(lambda one: f"%{ord(one[0]):02X}", name) for name in (station, sent))
-    return ".".join(parts) + ".xml"
+    return ".".join([*parts, end])
 
 
 def write_signed(folder: Path, station: str, sent: str, details: Sequence[Details]) -> bool:

@@ -6,10 +6,13 @@ from datetime import date, datetime, timedelta, timezone
 from html import escape
 from itertools import groupby
 
-from ocpp_board.boards import Part, Period, know_site
+from ocpp_board.boards import COUNTS, Part, Period, Session, Total, know_site
 from ocpp_board.calendars import Calendar
 from ocpp_board.energies import kwh, share, sum_of
+from ocpp_board.lanes import lanes_of
+from ocpp_board.month_pictures import by_month, by_week, heat_map, week_picture, week_scale
 from ocpp_board.page_sections import (
+    UNKNOWN,
     DayPart,
     Problem,
     bar_cell,
@@ -23,6 +26,7 @@ from ocpp_board.page_sections import (
 from ocpp_board.pages import (
     BARS,
     FOOT,
+    LEGEND,
     MARK,
     SESSIONS,
     Column,
@@ -35,18 +39,33 @@ from ocpp_board.pages import (
     head,
     kept,
     link,
+    mended_note,
     moment,
     refused_banner,
     table,
 )
-from ocpp_board.period_doubts import Doubt
 from ocpp_board.pictures import Scale
+from ocpp_board.powers import peak_cell, peak_said
 
 # Bytes of a page's body from which on it goes on on the next.
 PAGE_BYTES = 250_000
-# Stations that a row of the table of problems links to, days in one table, and boards in that of the sites.
-MOST_LINKS, TABLE_DAYS, MOST_BOARDS = 5, 366, 100
-SITES = ["Site", "Board", "Net, kWh", "Complete", "Sessions", "Missing numbers", "Days"]
+# Stations that a row of the table of problems links to, and boards in that of the sites.
+MOST_LINKS, MOST_BOARDS = 5, 100
+SITES: Heads = [
+    "Site",
+    Column("Board", "wide"),
+    "Net, kWh",
+    "Complete",
+    "Sessions",
+    "Missing numbers",
+    "Peak, kW",
+    "Doubtful sessions",
+    "Refused messages",
+    " Data up to",
+    " Days",
+]
+# Days of a session that are looked at.
+MOST_DAYS = 62
 
 
 @dataclass
@@ -97,7 +116,7 @@ class Boards:
 
 @dataclass(frozen=True)
 class Layout:
-    """Where the files of a text are written, and what all pages tell."""
+    """Where the files of a text are written, and what all pages say."""
 
     # How the files begin, a folder included.
     out: str
@@ -111,9 +130,13 @@ class Layout:
     oldest: int | None = None
     # Messages that were refused, which lie in a file of their own.
     refused: int = 0
-    # Days whose pages stand already, and are not written; None where every page is written.
+    # Messages that were mended, which a file of their own lists.
+    mended: int = 0
+    # Days that have their pages already, which are not written; None where every page is written.
     standing: frozenset[date] | None = None
-    # By day, what stands on its page beside the board; a page whose mark is another does not stand.
+    # The addresses of the pages of sessions, by station and transaction, where there are some.
+    address: Callable[[str, str], str] | None = None
+    # By day, what is on its page beside the board; a page with another mark is written anew.
     marks: dict[date, int] = field(default_factory=dict)
 
     def index(self, number: int = 1) -> str:
@@ -132,9 +155,11 @@ class Layout:
         """The end of a page."""
         return FOOT
 
-    def session(self, _station: str, tx: str) -> str:
-        """The name of a session in a table."""
-        return escape(tx)
+    def session(self, station: str, tx: str) -> str:
+        """The name of a session in a table, which leads to its page where it has one."""
+        if self.address is None:
+            return escape(tx)
+        return f'<a href="{escape(self.address(station, tx))}">{escape(tx)}</a>'
 
     def station_heads(self) -> Heads:
         """Further columns of the table of a site's stations."""
@@ -146,7 +171,7 @@ class Layout:
 
     def stamp(self, until: datetime | None) -> str:
         """Up to when the data is and when the page was written, and a warning where that is too long before. `until`:
-        the end of the last period, which tells it where nothing else does."""
+        the end of the last period, which says it if nothing else does."""
         said = ""
         if self.until:
             said = f"Data up to {self.moment(self.until)}. "
@@ -155,17 +180,18 @@ class Layout:
         return (
             f"{self.stamped(f'{said}Page written {self.moment(self.written)}.')}{self.old()}"
             f"{refused_banner(self.refused, f'{self.out}.refused.csv'.rpartition('/')[2])}"
+            f"{mended_note(self.mended, f'{self.out}.mended.csv'.rpartition('/')[2])}"
         )
 
     def day_stamp(self, until: datetime | None) -> str:
-        """As `stamp`, on the page of a day. One that stands until its day changes tells nothing that others change."""
+        """As `stamp`, on the page of a day. One that stays until its day changes says nothing that others change."""
         if self.standing is None:
             return self.stamp(until)
         written = self.moment(self.written)
         return self.stamped(f"Page written {written}, and again when something on it changes.")
 
     def stamped(self, said: str) -> str:
-        """What is told of times, with the zone, and how often a browser draws the page anew."""
+        """What the page says of times, with the zone, and how often a browser draws the page anew."""
         if self.refresh:
             pause = "second" if self.refresh == 1 else f"{self.refresh:,} seconds"
             said += f" A browser draws it anew every {pause}."
@@ -223,7 +249,7 @@ class Series:
         self.pages = [Page(path_of(1))]
 
     def places(self, sizes: Iterable[int]) -> list[int]:
-        """On which pages texts of so many bytes stand, one behind the other."""
+        """On which pages texts of so many bytes are, one behind the other."""
         number, size, found = len(self.pages), self.pages[-1].size, list[int]()
         for more in sizes:
             if size and size + more > PAGE_BYTES:
@@ -251,7 +277,7 @@ class Series:
         return self.path_of(first)
 
     def links(self, here: int, where: str) -> str:
-        """Links from the page of this number to the others, where there are several. `where` they stand on it."""
+        """Links from the page of this number to the others, where there are several. `where` they are on it."""
         if len(self.pages) == 1:
             return ""
         names = [
@@ -297,7 +323,7 @@ class Names:
 
     @property
     def is_one(self) -> bool:
-        """Whether there is one board alone."""
+        """Whether there is only one board."""
         return self.boards == 1
 
     def title(self) -> str:
@@ -315,6 +341,8 @@ class DayPages:
         self.days: dict[date, Series] = {}
         self.names = Names()
         self.until: datetime | None = None
+        # The days with pages that are as they would be written.
+        self.standing: frozenset[date] | set[date] = frozenset()
 
     def add(self, board: Board) -> None:
         """Adds a board to the page of each of its days. All its stations have one scale."""
@@ -324,30 +352,50 @@ class DayPages:
         site = Scale(p.flow for p in shown(board.site.periods))
         station = Scale(p.flow for part in board.stations for p in shown(part.periods))
         days: dict[date, list[DayPart]] = {}
+        self.standing = (self.layout.standing or frozenset()) - self.marked(board)
         for number, part in enumerate((board.site, *board.stations)):
             scale = site if part.is_site else station
             for day, periods in self.layout.by_day(part.periods):
-                one = DayPart(part, f"b{board.number}-{number}", day, periods, scale)
+                of = board.stations if part.is_site else [part]
+                lanes = lanes_of(of, day, self.calendar) if self.is_written(day) else []
+                one = DayPart(part, f"b{board.number}-{number}", day, periods, scale, lanes)
                 days.setdefault(day, []).append(one)
         self.shown.update(days)
-        standing = (self.layout.standing or frozenset()) - self.marked(board)
-        for day in sorted(days.keys() - standing):
+        for day in sorted(days.keys() - self.standing):
             self.add_day(board, day, days[day])
 
+    def is_written(self, day: date) -> bool:
+        """Whether the page of a day is not as it would be written."""
+        return day not in self.standing
+
     def marked(self, board: Board) -> set[date]:
-        """The days whose doubts are others than those that their pages have."""
-        found: dict[date, list[tuple[int, int, Doubt]]] = {}
+        """The days whose doubts or sessions are others than those that their pages have."""
+        found: dict[date, list[object]] = {}
         for number, part in enumerate((board.site, *board.stations)):
             for start, doubt in part.known.doubts.items() if part.known else ():
-                day = self.calendar.day(datetime.fromtimestamp(start, timezone.utc))
-                found.setdefault(day, []).append((number, start, doubt))
+                found.setdefault(self.day_of(start), []).append((number, start, doubt))
+            for session in part.sessions:
+                for day in self.days_of(session):
+                    found.setdefault(day, []).append((number, repr(session_mark(session))))
         marks, before = {
-            day: hash(tuple(sorted(some))) for day, some in found.items()
+            day: hash(tuple(sorted(some, key=repr))) for day, some in found.items()
         }, self.layout.marks
         changed = {day for day in {*marks, *before} if marks.get(day) != before.get(day)}
         before.clear()
         before.update(marks)
         return changed
+
+    def day_of(self, at: float) -> date:
+        """The day of a moment in seconds since 1970."""
+        return self.calendar.day(datetime.fromtimestamp(at, timezone.utc))
+
+    def days_of(self, session: Session) -> Iterator[date]:
+        """The days on which a session ran, so many at most."""
+        if session.span is None:
+            return
+        first, last = map(self.day_of, session.span)
+        for number in range(min((last - first).days, MOST_DAYS) + 1):
+            yield first + timedelta(days=number)
 
     def add_day(self, board: Board, day: date, parts: list[DayPart]) -> None:
         """Adds a day of a board: its site, the table of its stations, and each of these."""
@@ -398,10 +446,15 @@ class DayPages:
                 f"{weekday(day)} {day}{page_of(number)}",
             )
             end = series.links(number, "below") + below + explained(BARS)
-            page.frame(begin, end + self.layout.foot())
+            page.frame(begin + LEGEND, end + self.layout.foot())
 
 
 NET_BAR = Column("Net as a bar", "bar wide", True)
+
+
+def session_mark(session: Session) -> tuple[object, ...]:
+    """What the page of a day shows of a session."""
+    return session.tx, session.evse, session.span, session.holes, session.flow.net, session.state
 
 
 def day_link(layout: Layout, day: date | None, arrow: str) -> str:
@@ -416,7 +469,7 @@ def last_end(parts: Iterable[Part], before: datetime | None) -> datetime | None:
 
 
 def stations_of_day(day: date, stations: list[DayPart], paths: list[str], has_export: bool) -> str:
-    """The table of a day's stations, which stand on the pages of these paths."""
+    """The table of a day's stations, which are on the pages of these paths."""
     flows = [sum_of(p.flow for p in one.periods) for one in stations]
     most = max((abs(flow.net) for flow in flows), default=0)
     rows = (
@@ -426,17 +479,40 @@ def stations_of_day(day: date, stations: list[DayPart], paths: list[str], has_ex
                 link(path, escape(one.part.name), one.label),
                 *cells_of(flow, has_export),
                 f"{len(one.periods):,}",
+                peak_cell(one.periods),
                 bar_cell(flow.net, most),
             ],
         )
         for one, path, flow in zip(stations, paths, flows)
     )
-    net, *others = (*flow_heads(has_export), "Periods")
-    heads: Heads = ["Station", net, *(Column(head, "wide") for head in others), NET_BAR]
+    net, *flows_of = flow_heads(has_export)
+    others = [Column(head, "wide") for head in (*flows_of, "Periods", "Peak, kW")]
+    heads: Heads = ["Station", net, *others, NET_BAR]
     text = "".join(table(f"Stations on {kept(str(day))}, kWh", heads, rows))
     scale = " and ".join({one.scale.said() for one in stations})
     told = f"The pictures of all stations have one scale on all days, to {scale}; the site's has its own."
     return f'<p class="soft">{told}</p>\n{across(f"Stations on {day}", text)}' if stations else ""
+
+
+@dataclass
+class SiteRows:
+    """The rows of the table of sites, and the figures of these."""
+
+    rows: list[Row] = field(default_factory=list)
+    totals: list[Total] = field(default_factory=list)
+
+    def add(self, other: "SiteRows") -> None:
+        """Takes further rows."""
+        self.rows += other.rows
+        self.totals += other.totals
+
+    def whole(self) -> Total:
+        """The sum of the figures."""
+        events, voided, transactions, complete, missing = (
+            sum(getattr(one, name) for one in self.totals) for name in COUNTS
+        )
+        flow = sum_of(one.flow for one in self.totals)
+        return Total(events, voided, transactions, complete, missing, flow)
 
 
 class Index:
@@ -458,7 +534,7 @@ class Index:
         self.layout = layout
         self.series = Series(layout.index)
         self.names = Names()
-        self.rows: list[Row] = []
+        self.sites = SiteRows()
         self.until: datetime | None = None
 
     def add(self, board: Board) -> None:
@@ -475,7 +551,8 @@ class Index:
             )
             for part, label in zip(stations, labels)
         ]
-        days, *more = self.days(board.site, board.has_export)
+        first, *more = self.months(board) or [""]
+        more += self.weeks(board)
         firsts = [len(more) + sum(map(len, parts[:number])) for number in range(len(parts))]
 
         def front(paths: list[str]) -> str:
@@ -483,11 +560,11 @@ class Index:
                 part.name: link(paths[first], escape(part.name), label)
                 for part, first, label in zip(stations, firsts, labels)
             }
-            return self.front(board, stations, links, days)
+            return self.front(board, stations, links, first)
 
         sections = [*more, *(text for some in parts for text in some)]
         path = self.series.put_board(board, front, sections)
-        self.rows.append(
+        self.sites.rows.append(
             self.site_row(board, link(path, escape(board.site.name), f"b{board.number}"))
         )
 
@@ -496,17 +573,22 @@ class Index:
         days = [str(day) for day, _ in self.layout.by_day(board.site.periods)]
         span = f"{days[0]} to {days[-1]}" if len(days) > 1 else "".join(days)
         total = board.site.total
+        layout = self.layout
+        fresh = layout.moment(layout.until) if layout.until else UNKNOWN
+        fresh += '<br><span class="flag">too old</span>' if layout.old() else ""
+        ends = [f"{layout.refused:,}", fresh, span]
         if total is None:
-            return MARK, [name, f"{board.number:,}", *["not read"] * 4, span]
+            return MARK, [name, f"{board.number:,}", *["not read"] * 6, *ends]
+        self.sites.totals.append(total)
         marked = not board.is_whole or any(True for _ in problems_of(board.stations))
-        return MARK if marked else "", [
+        doubtful = sum(bool(one.findings) for part in board.stations for one in part.sessions)
+        return MARK if marked or layout.refused or layout.old() else "", [
             name,
             f"{board.number:,}",
-            kwh(total.flow.net),
-            share(total.complete, total.transactions),
-            f"{total.transactions:,}",
-            f"{total.missing:,}",
-            span,
+            *total_cells(total),
+            peak_cell(board.site.periods),
+            f"{doubtful:,}",
+            *ends,
         ]
 
     def front(self, board: Board, stations: list[Part], links: dict[str, str], days: str) -> str:
@@ -523,6 +605,7 @@ class Index:
         return (
             f'<section aria-labelledby="b{board.number}">\n{warning}{order_said(board.site)}'
             + "".join(figures(board.site.total, has_export))
+            + self.peak(board.site)
             + self.problems(list(problems_of(board.stations)), links)
             + days
             + self.stations(stations, links, has_export)
@@ -537,7 +620,7 @@ class Index:
         rows = ((mark, cells + self.layout.station_cells(name)) for name, (mark, cells) in found)
         caption = "Stations of the site, those with troubles first"
         heads = self.station_heads(has_export) + self.layout.station_heads()
-        text = "".join(table(caption, heads, rows))
+        text = "".join(table(caption, heads, rows, cards=True))
         return "<h3>Stations</h3>\n" + across("Stations", text)
 
     @staticmethod
@@ -568,34 +651,104 @@ class Index:
         text = "".join(table("What is to be looked at, the gravest first", heads, rows, cards=True))
         return f"<h3>Problems</h3>\n{text}"
 
-    def days(self, site: Part, has_export: bool) -> list[str]:
-        """The tables of a site's days, the last one first, each of a year at most."""
-        found = [
-            (day, len(periods), sum_of(p.flow for p in periods))
-            for day, periods in self.layout.by_day(site.periods)
+    def peak(self, site: Part) -> str:
+        """The greatest average power of a site's periods, as a sentence."""
+        said = peak_said(self.layout.calendar.shown(site.periods), self.layout.calendar, True)
+        return f"<p>Peak of the site, as the average of a period: {said}.</p>\n" if said else ""
+
+    def months(self, board: Board) -> list[str]:
+        """The months of a site, the last one first: days by hours, and the table of the days, the last one first."""
+        days = dict(self.layout.by_day(board.site.periods))
+        most = max((abs(sum_of(p.flow for p in some).net) for some in days.values()), default=0)
+        texts = [
+            self.month(board, month, {day: days[day] for day in some}, most)
+            for month, some in by_month(days)
         ]
-        most = max((abs(flow.net) for _, _, flow in found), default=0)
+        return texts[::-1]
+
+    def month(self, board: Board, month: date, days: dict[date, list[Period]], most: int) -> str:
+        """A month of a site. `most`: the energy of the longest bar."""
+        label, has_export = f"b{board.number}-m{month:%Y-%m}", board.has_export
         rows: list[Row] = [
-            (
-                "",
-                [
-                    f"{link(self.layout.day(day), str(day))} {weekday(day)}",
-                    *cells_of(flow, has_export),
-                    f"{count:,}",
-                    bar_cell(flow.net, most),
-                ],
-            )
-            for day, count, flow in reversed(found)
+            ("", [self.day_name(day), *self.day_cells(days[day], has_export, most)])
+            for day in sorted(days, reverse=True)
         ]
-        net, *others = flow_heads(has_export)
-        exports = (Column(head, "wide") for head in (*others[2:], "Periods"))
-        heads: Heads = ["Day", net, *others[:2], *exports, NET_BAR]
-        caption = "Energy by day, kWh, the last day first. The bars have one scale."
-        starts = range(0, max(1, len(rows)), TABLE_DAYS)
-        tables = (
-            table(caption, heads, rows[at : at + TABLE_DAYS], kind="plain days") for at in starts
+        first, last = min(days), max(days)
+        shown = [first + timedelta(days=n) for n in range((last - first).days + 1)]
+        periods = [p for some in days.values() for p in some]
+        said = (
+            f"Days of {month:%B %Y} by hours, the stronger the more energy. The table has the days."
         )
-        return ["<h3>Days</h3>\n" + across("Days", "".join(text)) for text in tables]
+        heat = "".join(heat_map(said, shown, periods, self.layout.calendar))
+        caption = "Energy by day, kWh, the last day first. The bars of all months have one scale."
+        text = "".join(table(caption, self.day_heads(has_export), rows, kind="plain days"))
+        return (
+            f'<section aria-labelledby="{label}">\n<h3 id="{label}">{month:%B %Y}</h3>\n'
+            f'<figure class="heat">\n{heat}<figcaption>Days by hours of the day, net; at the right each day. '
+            "Each cell and bar shows its value where the pointer is.</figcaption>\n</figure>\n"
+            f"{across(f'Days of {month:%B %Y}', text)}</section>\n"
+        )
+
+    def day_name(self, day: date) -> str:
+        """A day in a table, which leads to its page."""
+        return f"{link(self.layout.day(day), str(day))} {weekday(day)}"
+
+    def day_cells(self, periods: list[Period], has_export: bool, most: int) -> list[str]:
+        """A day's cells in a table. `most`: the energy of the longest bar."""
+        flow = sum_of(p.flow for p in periods)
+        cells = [*cells_of(flow, has_export), f"{len(periods):,}", peak_cell(periods)]
+        return [*cells, bar_cell(flow.net, most)]
+
+    @staticmethod
+    def day_heads(has_export: bool) -> Heads:
+        """The heads of a table of days."""
+        net, *others = flow_heads(has_export)
+        exports = (Column(head, "wide") for head in (*others[2:], "Periods", "Peak, kW"))
+        return ["Day", net, *others[:2], *exports, NET_BAR]
+
+    def weeks(self, board: Board) -> list[str]:
+        """The weeks of a site, the last one first; none where all is of one day."""
+        days = dict(self.layout.by_day(board.site.periods))
+        if len(days) < 2:
+            return []
+        scale = week_scale(self.layout.calendar.shown(board.site.periods))
+        most = max((abs(sum_of(p.flow for p in some).net) for some in days.values()), default=0)
+        texts = [
+            self.week(board, monday, {day: days[day] for day in some}, scale, most)
+            for monday, some in by_week(days)
+        ]
+        return texts[::-1]
+
+    def week(
+        self,
+        board: Board,
+        monday: date,
+        days: dict[date, list[Period]],
+        scale: Scale,
+        most: int,
+    ) -> str:
+        """A week of a site. `most`: the energy of the longest bar."""
+        label, has_export = f"b{board.number}-w{monday}", board.has_export
+        periods = [p for some in days.values() for p in some]
+        flow, calendar = sum_of(p.flow for p in periods), self.layout.calendar
+        year, number, _ = monday.isocalendar()
+        name = f"Week {number} of {year}"
+        said = f"Bars of the hours of week {number}, from {monday} on. The table has the days."
+        bars = "".join(week_picture(said, monday, periods, scale, calendar))
+        rows: list[Row] = [
+            ("", [self.day_name(day), *self.day_cells(some, has_export, most)])
+            for day, some in days.items()
+        ]
+        text = "".join(
+            table("Energy by day, kWh", self.day_heads(has_export), rows, kind="plain days")
+        )
+        peak = peak_said(periods, calendar, True)
+        return (
+            f'<section aria-labelledby="{label}">\n<h3 id="{label}">{name}, from {kept(str(monday))}</h3>\n'
+            f"<figure>\n{bars}<figcaption>Hours of the week: net {kwh(flow.net)} kWh"
+            f"{f', peak {peak}' if peak else ''}</figcaption>\n</figure>\n"
+            f"{across(name, text)}</section>\n"
+        )
 
     @classmethod
     def station_heads(cls, has_export: bool) -> Heads:
@@ -637,10 +790,11 @@ class Index:
             self.series.put(1, "<p>The text has no board.</p>\n")
         sites = ""
         if self.names.boards > 1:
-            some = self.rows[-MOST_BOARDS:]
-            left = f", the last {len(some):,} of {len(self.rows):,}"
+            rows = self.sites.rows
+            some = SiteRows(rows[-MOST_BOARDS:], self.sites.totals)
+            left = f", the last {len(some.rows):,} of {len(rows):,}"
             caption = (
-                f"Boards of the text, in their order{left if len(some) < len(self.rows) else ''}"
+                f"Boards of the text, in their order{left if len(some.rows) < len(rows) else ''}"
             )
             sites = sites_table(caption, some)
         for number, page in enumerate(self.series.pages, 1):
@@ -648,21 +802,36 @@ class Index:
             above, below = (self.series.links(number, where) for where in ("above", "below"))
             begin = layout.head(title, said, above, self.names.is_one)
             end = below + explained(BARS, SESSIONS) + layout.foot()
-            page.frame(begin + (sites if number == 1 else ""), end)
+            page.frame(begin + LEGEND + (sites if number == 1 else ""), end)
 
 
-def sites_table(caption: str, rows: list[Row]) -> str:
-    """The table of sites, by the rows that indexes have of their boards."""
-    return f"<h2>Sites</h2>\n{across('Sites', ''.join(table(caption, SITES, rows)))}"
+def total_cells(total: Total) -> list[str]:
+    """The cells of a site's figures in the table of sites."""
+    return [
+        kwh(total.flow.net),
+        share(total.complete, total.transactions),
+        f"{total.transactions:,}",
+        f"{total.missing:,}",
+    ]
 
 
-def write_sites(layout: Layout, rows: list[Row]) -> None:
+def sites_table(caption: str, sites: SiteRows) -> str:
+    """The table of sites, by the rows that indexes have of their boards, with the sum of their figures."""
+    whole: list[Row] = []
+    if len(sites.totals) > 1:
+        cells = ["All of these", "", *total_cells(sites.whole())]
+        whole.append((' class="sum"', cells + [""] * (len(SITES) - len(cells))))
+    text = "".join(table(caption, SITES, [*sites.rows, *whole], cards=True))
+    return f"<h2>Sites</h2>\n{across('Sites', text)}"
+
+
+def write_sites(layout: Layout, sites: SiteRows) -> None:
     """Writes a page that leads to those of several sites, by the rows that the indexes of their pages have. Raises
     OSError."""
     page = Page(layout.index())
-    page.put(sites_table("All sites", rows))
+    page.put(sites_table("All sites", sites))
     page.frame(layout.head("All sites", layout.stamp(None), "", False), FOOT)
 
 
 # The least of what `trouble_of` gives for a station without any.
-NO_TROUBLE = (0, 0, 0, 0)
+NO_TROUBLE = (0, 0, 0, 0, 0)

@@ -20,12 +20,12 @@ log = logging.getLogger(__name__)
 
 # Bytes that are looked at of a line; those of a board are far shorter.
 LONGEST_LINE = 4_096
-# Complaints that are told; the others are counted.
+# Complaints that are reported; the others are counted.
 MOST_COMPLAINTS = 20
 # Moments whose texts are kept, since all stations share them.
 KEPT_MOMENTS = 131_072
 
-# The numbers of the lines, in the order in which they stand there.
+# The numbers of the lines, in the order in which they are there.
 COUNTS = ("events", "voided", "transactions", "complete", "missing")
 TOTAL = (*COUNTS, *FLOW)
 NUMBER = r"(0|[1-9][0-9]{0,19})"
@@ -83,7 +83,7 @@ class Total(NamedTuple):
 
 
 class Period(NamedTuple):
-    """A settlement period of so many seconds, told by its first moment."""
+    """A settlement period of so many seconds, by its first moment."""
 
     start: datetime
     seconds: int
@@ -101,7 +101,7 @@ class Evse(NamedTuple):
 class Session:
     """A transaction's line, and the ranges of sequence numbers that are missing, ends included.
 
-    Its times and findings are there where the messages were told, which boards don't have.
+    Its times and findings are there if the messages are known, which boards don't have.
     """
 
     tx: str
@@ -116,11 +116,26 @@ class Session:
     state: str = ""
     times: SessionTimes | None = None
     findings: list[Finding] = field(default_factory=list)
-    # Its id as it was sent first, and what its events tell for a bill.
+    # Its id as it was sent first, and what its events have for a bill.
     sent: str = ""
     details: list[Details] = field(default_factory=list)
     # The numbers of voided events, each with who voided it and why.
     voided: list[tuple[int, str, str]] = field(default_factory=list)
+    # From when to when its events are, and between which of these numbers are missing, in seconds since 1970.
+    span: tuple[float, float] | None = None
+    holes: list[tuple[float, float]] = field(default_factory=list)
+
+    def lost(self) -> list[tuple[int, int]]:
+        """The ranges of missing numbers without those that an operator voided."""
+        voids = sorted(number for number, *_ in self.voided)
+        found = list[tuple[int, int]]()
+        for first, last in self.gaps:
+            for number in voids:
+                if first <= number <= last:
+                    found += [(first, number - 1)] if first < number else []
+                    first = number + 1
+            found += [(first, last)] if first <= last else []
+        return found
 
 
 @dataclass
@@ -137,9 +152,9 @@ class Part:
     periods: list[Period] = field(default_factory=list)
     sessions: list[Session] = field(default_factory=list)
     is_by_time: bool = False
-    # What is doubtful at a station and of no session, where the messages were told.
+    # What is doubtful at a station and of no session, if the messages are known.
     findings: list[Finding] = field(default_factory=list)
-    # What the messages tell of its periods, where they were told.
+    # What the messages say of its periods, if they are known.
     known: KnownPeriods | None = None
 
     def add(self, kind: str, values: tuple[str, ...]) -> bool:
@@ -228,7 +243,7 @@ class Before(NamedTuple):
 
 
 class Sessions:
-    """The states of sessions, told by this board and by the board before it of the same station."""
+    """The states of sessions, by this board and by the board before it of the same station."""
 
     def __init__(self) -> None:
         self.before: dict[tuple[str, str, str], Before] = {}
@@ -242,7 +257,7 @@ class Sessions:
 
     @staticmethod
     def state(session: Session, before: Before | None) -> str:
-        """What can be told of a session's end."""
+        """What can be said of a session's end."""
         if session.complete:
             return "complete"
         if session.missing:
@@ -286,8 +301,16 @@ def know_site(parts: Sequence[Part]) -> None:
 class Reader:
     """Reads boards from a text and hands their parts on. `marker`: marks sessions before they are handed on."""
 
-    def __init__(self, sinks: list[Sink], progress: Progress, marker: Marker | None = None) -> None:
+    def __init__(
+        self,
+        sinks: list[Sink],
+        progress: Progress,
+        marker: Marker | None = None,
+        name: str = "",
+    ) -> None:
+        """`name`: that of the text, where it is a file."""
         self.sinks, self.progress, self.marker = sinks, progress, marker
+        self.where = f"{name} line" if name else "line"
         self.part: Part | None = None
         self.before: str | None = None
         self.site, self.seconds, self.is_by_time = "", 0, False
@@ -296,7 +319,7 @@ class Reader:
         self.counts = dict.fromkeys(kinds, 0)
 
     def read(self, text: IO[bytes]) -> None:
-        """Reads the text to its end. What can't be read is told and counted as `unread`."""
+        """Reads the text to its end. What can't be read is reported and counted as `unread`."""
         number = 0
         for number, line in lines(text):
             self.progress.tell(number, len(line) + 1)
@@ -388,7 +411,7 @@ class Reader:
         self.counts["unread"] += 1
         if self.counts["unread"] <= MOST_COMPLAINTS:
             self.progress.end()
-            log.warning("line %d: %s", number, text, extra={"line": number})
+            log.warning("%s %d: %s", self.where, number, text, extra={"line": number})
         if self.part is not None:
             self.part.whole = False
 

@@ -48,7 +48,7 @@ def exports(board: bytes) -> bool:
 
 
 def periods_of(board: bytes) -> Iterator[tuple[bytes, bytes, tuple[bytes, ...]]]:
-    """Each period of a board: whose it is, its line, and what the line tells."""
+    """Each period of a board: whose it is, its line, and what the line says."""
     part = b""
     for line in board.splitlines():
         if line.startswith(PART):

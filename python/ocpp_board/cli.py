@@ -3,7 +3,7 @@
     ocpp-board TOOL [WORD..]
     ocpp-board-TOOL [WORD..]      the same, where the command is installed under such a name
 
-`ocpp-board TOOL --help` tells what a tool does and which words it takes.
+`ocpp-board TOOL --help` says what a tool does and which words it takes.
 """
 
 import argparse
@@ -35,14 +35,15 @@ TOOLS = {
     "gateway": Tool("fleet.gateway", "fleet: takes charging stations' connections"),
     "worker": Tool("fleet.worker", "fleet: replays the log and answers"),
     "page": Tool("fleet.page", "fleet: shows all boards in a browser"),
-    "feed": Tool("fleet.feed", "fleet: appends the events of another CSMS"),
+    "feed": Tool("fleet.feed", "fleet: appends the events of a CSMS"),
     "close-day": Tool("fleet.close_day", "fleet: closes a site's settlement day"),
     "compact": Tool("fleet.compact", "fleet: removes repeats from a shard's log"),
     "move": Tool("fleet.move", "fleet: moves a shard to another cell"),
     "close-requested": Tool("fleet.close_requested", "fleet: does closings that were asked for"),
+    "place": Tool("fleet.place", "fleet: chooses cell and shard for a new station"),
     "password": Tool("fleet.set_password", "fleet: sets the password of a station"),
     "operator": Tool("fleet.set_operator", "fleet: makes operators of the page, and tokens"),
-    "billing": Tool("fleet.billing", "fleet: writes a site's month of sessions as CSV"),
+    "billing": Tool("fleet.billing", "fleet: writes a site's month of transactions as CSV"),
     "forget": Tool("fleet.forget", "fleet: takes drivers' tokens out of log and archives"),
     "backup": Tool("fleet.backup", "fleet: backs up a cell with its archives"),
     "restore": Tool("fleet.restore", "fleet: brings a backup of a cell back"),

@@ -1,12 +1,15 @@
 """Energies in whole milliwatt-hours: what registers rose and fell by, and how that is written in kWh."""
 
 from collections.abc import Iterable, Mapping
+from functools import lru_cache
 from typing import Any, NamedTuple
 
 # The names of a flow's numbers, in the order in which a board has them.
 FLOW = ("up", "down", "export_up", "export_down")
 MWH_OF_A_KWH = 1_000_000
 MINUS = "\N{MINUS SIGN}"
+# Energies whose texts are kept, since pages have many of them again.
+KEPT_TEXTS = 65_536
 
 
 class Flow(NamedTuple):
@@ -57,6 +60,7 @@ def kwh_of(mwh: int) -> str:
     return f"{whole}.{part:06}".rstrip("0").rstrip(".")
 
 
+@lru_cache(KEPT_TEXTS)
 def kwh(mwh: int) -> str:
     """An energy of so many mWh in kWh for a reader, to a watt-hour; one that is less, and not 0, shows so."""
     watt_hours = (abs(mwh) + 500) // 1_000
@@ -67,7 +71,7 @@ def kwh(mwh: int) -> str:
 
 
 def share(part: int, whole: int) -> str:
-    """A share in per cent with one decimal, which is 100.0% and 0.0% of all and of none alone."""
+    """A share in per cent with one decimal, which is 100.0% only of all and 0.0% only of none."""
     if not whole:
         return ""
     permille = (1_000 * part + whole // 2) // whole

@@ -24,5 +24,5 @@ def csv_cell(text: str) -> str:
 
 
 def from_copy(text: str) -> str:
-    """What a column of PostgreSQL's COPY in its text format stands for."""
+    """The text that a column of PostgreSQL's COPY text format means."""
     return COPY_ESCAPE.sub(lambda found: COPY_CHARACTERS.get(found[1], found[1]), text)

@@ -2,19 +2,19 @@
 
     ocpp-board explain SCRIPT
 
-tells each fault and each refusal with the number of its line, the line, the cause in words and the remedy; of
-a message that was refused also which member broke which check. What the program answers decides: the causes
-are looked for in the line afterwards.
+reports each fault and each refusal with the number of its line, the line, the cause in words and the remedy. For
+a message that was refused it also says which member broke which check. What the program answers decides: the
+tool looks for the causes in the line afterwards.
 
     line 7: msg CS_01 [2,"1","Heartbeat",{}]
       fault UnknownStation: no station CS_01 is declared
       remedy: the nearest declared name is CS-01
 
 Where a board's periods are wrong since stations list readings again it names the line that mends it, a line
-`order <site> moment`; this is a hint and no mistake, and so is what it tells of a station near its limits.
+`order <site> moment`; this is a hint and no mistake, and so is what it reports of a station near its limits.
 
 Between the script's lines that may write nothing it puts lines of its own, which are faults and change nothing,
-to tell the answers apart. Of a kind of mistake the first are told, and the others counted.
+to tell the answers apart. It reports the first mistakes of a kind, and counts the others.
 """
 
 import argparse
@@ -42,9 +42,9 @@ from ocpp_board.statuses import Status, ended
 from ocpp_board.words import add_program, parsed, parser_of
 
 ENDING = """\
-Half a kilobyte of memory is kept of each event. Exit status: 0 when there is nothing to tell; 1 when something was
-told; 2 when the words are wrong, the program is not there, or a file can't be read or written."""
-# Mistakes of a kind that are told one by one, and characters of a line that are shown.
+Half a kilobyte of memory is kept of each event. Exit status: 0 if there is nothing to report; 1 if something was
+reported; 2 if the words are wrong, the program is not there, or a file can't be read or written."""
+# Mistakes of a kind that are reported one by one, and characters of a line that are shown.
 MOST_TOLD = 10
 SHOWN = 200
 
@@ -124,7 +124,7 @@ class Run:
         self.told: dict[str, int] = {}
 
     def explain(self, line: Line, text: str) -> None:
-        """Tells what is wrong with a line, where something is."""
+        """Reports what is wrong with a line, if something is."""
         words = words_of(line.line.decode("utf-8", "replace"))
         if text.startswith("fault "):
             name = text.removeprefix("fault ")
@@ -188,7 +188,7 @@ class Run:
         return cause, self.plan.near("station", words[1], self.plan.stations)
 
     def tell(self, line: Line, text: str, cause: str, remedy: str) -> None:
-        """Tells a mistake; of a kind the first ones."""
+        """Reports a mistake; of a kind the first ones."""
         kind = (
             re.sub(r'^\[4,"(?:[^"\\]|\\.)*",', "", text)
             .removesuffix(",{}]")
@@ -204,17 +204,17 @@ class Run:
             )
 
     def tell_limit(self, answered: Answered, said: str, remedy: str) -> None:
-        """Tells that a station comes near to its limits, which is no mistake yet."""
+        """Reports that a station comes near to its limits, which is no mistake yet."""
         self.progress.end()
         print(f"line {answered.number}: {said}\n  remedy: {remedy}")
 
     def tell_hint(self, line: Line, said: str, remedy: str) -> None:
-        """Tells what a line's board shows, which is no mistake of the script."""
+        """Reports what a line's board shows, which is no mistake of the script."""
         self.progress.end()
         print(f"line {line.number}: {said}\n  remedy: {remedy}")
 
     def run(self) -> int:
-        """Tells all that is wrong, and gives the exit status. Raises OSError."""
+        """Reports all that is wrong, and returns the exit status. Raises OSError."""
         for line, text in self.replay.texts():
             self.progress.tell(line.number, len(line.line) + 1)
             if message := self.messages.take(line, text):
@@ -231,7 +231,7 @@ class Run:
                 print(f"and {count - MOST_TOLD:,} more lines: {kind}")
         if status:
             print(f"the replay ended with status {status}: {told}")
-        print(f"lines: {self.replay.lines:,}, told: {sum(self.told.values()):,}")
+        print(f"lines: {self.replay.lines:,}, reported: {sum(self.told.values()):,}")
         return Status.TOLD if self.told or status else Status.DONE
 
 

@@ -48,7 +48,7 @@ def is_replaced(path: str | Path, file: IO[bytes], place: int) -> bool:
 
 
 def is_cut_short(file: IO[bytes], place: int) -> bool:
-    """Whether a file has less than what was read of it. Of a compressed one that can't be told."""
+    """Whether a file has less than what was read of it. Of a compressed one that can't be known."""
     is_packed = isinstance(file, gzip.GzipFile)
     return not is_packed and os.fstat(file.fileno()).st_size < place
 
@@ -82,7 +82,7 @@ def age_of(path: Path) -> tuple[int, int]:
 
 
 def older(path: Path) -> list[Path]:
-    """The files of a log that rotations left, the oldest first. Those that can't be read are told."""
+    """The files of a log that rotations left, the oldest first. Those that can't be read are reported."""
     is_rotated = rotated(path)
     unread = [
         one.name
@@ -129,7 +129,7 @@ class Followed:
     def __init__(
         self, path: Path, place: Place | None, cut: Callable[[str], None] = log.warning
     ) -> None:
-        """`place`: how far it was read before. `cut` gets what is told where the log was cut short. Raises OSError
+        """`place`: how far it was read before. `cut` gets what is reported where the log was cut short. Raises OSError
         where there is no file of this name."""
         self.path, self.cut = path, cut
         # A compressed file ended in its middle.
@@ -195,7 +195,7 @@ class Followed:
 
     def is_cut(self) -> bool:
         """Whether the file lacks what was read of it: it was cut short, and may have grown past that since. Of a
-        compressed one that can't be told."""
+        compressed one that can't be known."""
         if isinstance(self.file, gzip.GzipFile):
             return False
         place = self.place
@@ -220,7 +220,8 @@ class Followed:
         try:
             return b"" if self.is_damaged else self.file.readline(LONGEST_LOG_LINE + 1)
         except (EOFError, zlib.error, gzip.BadGzipFile) as fault:
-            log.error("beside %s: %s; what follows in that file is left out", self.path, fault)
+            name = getattr(self.file, "name", self.path)
+            log.error("%s: %s; what follows in that file is left out", name, fault)
             self.is_damaged = True
             return b""
 

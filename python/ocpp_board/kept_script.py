@@ -67,7 +67,7 @@ class KeptScript:
             file.truncate(0)
 
     def declare(self, head: bytes) -> None:
-        """Has these declarations stand before what the stations sent."""
+        """Puts these declarations before what the stations sent."""
         with open(self.path, "rb") as old:
             there = b""
             while not there.endswith(DECLARED) or there == BEGIN:
@@ -112,6 +112,13 @@ class KeptScript:
                 f"{self.size:,}",
                 f"{LONGEST_SCRIPT:,}",
             )
+
+    def replace(self, lines: bytes) -> None:
+        """Has these lines in place of those that it has. Raises OSError."""
+        self.file.close()
+        self.put(self.path, lines)
+        self.file = open(self.path, "ab")
+        self.size, self.is_told = self.file.tell(), False
 
     def check_room(self, count: int) -> None:
         """Raises Mistaken where there is no room for so many bytes more."""

@@ -3,15 +3,19 @@
 import queue
 import threading
 from collections import deque
-from collections.abc import Callable
+from collections.abc import Callable, Iterable
 
 from ocpp_board.answered import OPERATOR, Answered, Line, Messages, Replay
 from ocpp_board.limits import LONGEST_LINE
+from ocpp_board.mending import COMMENT as MENDED, MendedMessages
 from ocpp_board.operators import Deed, Operators, deed_of, is_change
 from ocpp_board.refusals import Refusal, commented, is_left
+from ocpp_board.script_lines import ScriptLines
 
 # The first words of lines that need the ledgers.
 OPENING = (b"msg", b"void", b"restore", b"erase", b"energy", b"export", b"total", b"board")
+# Events that are erased at once.
+ERASED = 1_000
 # Faults of lines that open no ledgers.
 CLOSED = (b"fault BadLine\n", b"fault LineTooLong\n")
 # The beginnings of what a replay writes, by what they count as.
@@ -34,10 +38,10 @@ class Ledger:
         """`takers` get each message with its answer; `untaken` what the script keeps of lines that a log had."""
         self.replay, self.messages = Replay(program, is_apart=True), Messages()
         self.takers, self.untaken = takers, untaken
-        self.operators = Operators()
+        self.operators, self.script, self.mended = Operators(), ScriptLines(), MendedMessages()
         # Held while a line is sent, and while takers take a message.
         self.sending, self.taking = threading.Lock(), threading.Lock()
-        # Set where the ledgers stand, or where the replay has ended.
+        # Set when the ledgers are there, or when the replay has ended.
         self.is_open, self.has_ended = threading.Event(), False
         # Whether a line of the script needs the ledgers.
         self.is_needed = False
@@ -60,19 +64,23 @@ class Ledger:
                 before()
             self.counts["lines"] += 1
             self.counts["bytes"] += len(line)
-            sent = self.replay.sendable(self.counts["lines"], line)
+            number = self.script.passed(line)
+            sent = self.replay.sendable(number, line)
             if line.startswith(b"#"):
-                self.comment(line)
+                self.comment(line, number)
                 return
             if not self.is_needed:
                 self.is_needed = line.split(b" ", 1)[0] in OPENING
             self.write(sent if sent.endswith(b"\n") else sent + b"\n")
 
-    def comment(self, line: bytes) -> None:
+    def comment(self, line: bytes, number: int) -> None:
         """A comment, which would only take room of what the replay may read. One that is too long is none."""
         if line.startswith(OPERATOR):
             with self.taking:
                 self.operators.comment(line)
+        elif line.startswith(MENDED):
+            with self.taking:
+                self.mended.take(line, number)
         elif refusal := commented(line):
             with self.taking:
                 self.untaken(refusal)
@@ -160,6 +168,36 @@ class Ledger:
         with self.taking:
             self.operators.add(deed)
         return answer
+
+    def open(self, station: str) -> None:
+        """Opens the ledgers by a question about a station, where no line of the script may do so. Raises Ended."""
+        with self.sending:
+            self.is_needed = True
+            self.questions.append(queue.Queue())
+            self.write(self.replay.sendable(0, f"total {station}\n".encode()))
+
+    def erase(self, events: Iterable[tuple[str, str, int]]) -> None:
+        """Frees the room of events, each by its station, its transaction and its number. Raises Ended."""
+        some = list(events)
+        for at in range(0, len(some), ERASED):
+            answers = list[queue.Queue[bytes | None]]()
+            with self.sending:
+                for station, tx, number in some[at : at + ERASED]:
+                    for word in ("void", "erase"):
+                        answers.append(queue.Queue())
+                        self.questions.append(answers[-1])
+                        line = f"{word} {station} {tx} {number}\n".encode()
+                        self.write(self.replay.sendable(0, line))
+            self.flush()
+            if any(answer.get() is None for answer in answers):
+                raise Ended
+
+    def passed(self, lines: bytes) -> None:
+        """Counts lines that the script has beside what was sent."""
+        with self.sending:
+            self.counts["lines"] += lines.count(b"\n")
+            self.counts["bytes"] += len(lines)
+            self.script.passed_all(lines)
 
     def close(self) -> int:
         """Ends the input, and gives the replay's exit status."""

@@ -39,6 +39,8 @@ GREATEST = 2**64 - 1
 NAMES = "names have 1 to 48 of A-Z a-z 0-9 * - _ = : + | @ ."
 # What is said of a time whose year no message may have.
 OUT_OF_RANGE = "is not from 2000 to 2099"
+# What is said of a time without an offset.
+NO_OFFSET = "has no offset from UTC, such as Z"
 
 Said = tuple[str, str]  # A cause and its remedy.
 
@@ -61,7 +63,7 @@ def number_fault(what: str, text: str, most: int) -> Said | None:
     if not NUMBER.fullmatch(text):
         return (
             f"the {what} {shown(text)} is no number",
-            "digits alone, without a sign or zeros in front",
+            "only digits, without a sign or zeros in front",
         )
     if int(text) > most:
         return f"the {what} {text} is above {most}", "a number in range"
@@ -82,7 +84,7 @@ def time_fault(text: str) -> str | None:
     except ValueError:
         return "is no time"
     if moment.tzinfo is None:
-        return "has no offset from UTC, such as Z"
+        return NO_OFFSET
     return None if FIRST_MOMENT <= moment < PAST_MOMENTS else OUT_OF_RANGE
 
 
@@ -132,7 +134,7 @@ def bytes_fault(line: bytes, number: int) -> Said | None:
     """What is wrong with the bytes of a line, whatever its words are."""
     if line.startswith(BYTE_ORDER_MARK):
         return (
-            "a byte order mark stands in front",
+            "there is a byte order mark in front",
             "save the file as UTF-8 without a byte order mark",
         )
     if number == 1 and line.startswith(UTF_16) or b"\x00" in line:
@@ -142,14 +144,14 @@ def bytes_fault(line: bytes, number: int) -> Said | None:
     except UnicodeDecodeError as fault:
         return f"byte {fault.start + 1} is not UTF-8", "save the file as UTF-8"
     if "\t" in " ".join(words_of(text)[:2] if text.startswith("msg ") else words_of(text)):
-        return f"a tab stands at character {text.index(chr(9)) + 1}", "one blank between words"
+        return f"there is a tab at character {text.index(chr(9)) + 1}", "one blank between words"
     if text.endswith("\r"):
         return (
-            "a carriage return stands at the end, not right before a line feed or twice",
+            "there is a carriage return at the end, not right before a line feed or twice",
             "end the line by a line feed",
         )
     if text.startswith(" "):
-        return "a blank stands in front", "begin the line with its word"
+        return "there is a blank in front", "begin the line with its word"
     return None
 
 
@@ -167,9 +169,9 @@ def blanks_fault(text: str) -> Said | None:
     """Why the blanks of a line are too many."""
     if "  " in text:
         at = text.index("  ") + 1
-        return f"two blanks stand at character {at}", "one blank between words"
+        return f"there are two blanks at character {at}", "one blank between words"
     if text.endswith(" "):
-        return "a blank stands at the end", "no blank after the last word"
+        return "there is a blank at the end", "no blank after the last word"
     return None
 
 

@@ -13,12 +13,12 @@ log-to-script` reads them, and the options for their form are the same. Or
 
 takes the lines of a script as they come, from a file, a named pipe or what `<(..)` of bash gives, and keeps nothing.
 
-What is refused, or can't be taken, is told at once on standard error and stands in SITE.refused.csv: when, whose, the
-cause by name and what to do.
+What is refused, or can't be taken, is reported at once on standard error and listed in SITE.refused.csv: when, of
+which station, the cause by name and what to do.
 
 Standard input is the operator's: each of its lines goes between the script's lines, and its answer comes on
-standard output. What it voids, restores and erases is kept in the script of --state with who and why, which may stand
-behind ` # `, and in SITE.operator.csv:
+standard output. What it voids, restores and erases is kept in the script of --state with who and why, which a line may
+have behind ` # `, and in SITE.operator.csv:
 
     void CS-01 T1 3 # jo: meter exchanged
     accepted 17
@@ -72,17 +72,18 @@ LOOK, SHOWN, OPENED, LAST = 0.1, 0.5, 30, 5
 class ScriptFeed:
     """The lines of a script as they come."""
 
-    # Set when all that was there at the start is handed on, which a script doesn't tell.
+    # Set when all that was there at the start is handed on, which a script doesn't say.
     is_caught_up = threading.Event()
 
     def __init__(self, path: str, ledger: Ledger) -> None:
-        self.ledger = ledger
+        self.ledger, self.path = ledger, path
         self.script = open(path, "rb")
+        ledger.script.path = Path(path)
 
     def feed(self) -> None:
         """Hands the lines on. Raises OSError, and Ended where the replay is gone."""
         if is_gzip(self.script):
-            raise OSError("the script is compressed by gzip: <(gunzip -c SCRIPT)")
+            raise OSError(f"{self.path}: the script is compressed by gzip: <(gunzip -c SCRIPT)")
         for line in iter(lambda: self.script.readline(LONGEST_LINE), b""):
             self.ledger.send(line)
         self.ledger.flush()
@@ -95,11 +96,18 @@ class ScriptFeed:
         """The answer to an operator's line. Raises Ended."""
         return self.ledger.operate(line)
 
+    def settle(self) -> None:
+        """Nothing is closed."""
+
+    def board(self, site: str) -> bytes:
+        """The board of a site. Raises Ended."""
+        return self.ledger.ask(f"board {site}".encode())
+
     def end(self) -> None:
         """Nothing more is wanted."""
 
     def tell(self) -> None:
-        """What came of the lines is the ledger's to tell."""
+        """The ledger reports what came of the lines."""
 
 
 class Run:
@@ -107,22 +115,30 @@ class Run:
 
     def __init__(self, words: argparse.Namespace) -> None:
         """Raises OSError, and Mistaken where a file of the words is wrong or another run keeps its script there."""
-        self.words, self.refusals, told = words, Refusals(), Told(words.most_kw)
+        self.words, told = words, Told(words.most_kw)
+        self.refusals = Refusals(str(words.log or words.script))
         takers: list[Callable[[Answered], None]] = [self.refusals.take, told.take]
         self.ledger = Ledger(words.program, takers, self.refusals.add)
         told.operators = self.ledger.operators
-        self.pages = Pages(words, self.refusals, told)
-        takers.append(NearLimits(self.ledger.messages.limits, tell_limit).take)
+        of_script = self.ledger.script, self.ledger.mended
+        self.pages = Pages(words, self.refusals, told, *of_script)
         self.source: ScriptFeed | LogFeed = (
             LogFeed(words, self.ledger) if words.log else ScriptFeed(words.script, self.ledger)
         )
+        near = NearLimits(self.ledger.messages.limits, tell_limit)
+        takers.append(near.take)
+        if isinstance(self.source, LogFeed):
+            self.source.known = told
+            self.source.archived = [self.refusals.take, told.take]
+            self.source.closed.append(near.sent.counts.clear)
+            self.pages.archive = self.source.archive
         self.faults: list[str] = []
         self.ends = [threading.Event(), threading.Event()]
         for job, end in zip((self.source.feed, self.operate), self.ends):
             threading.Thread(target=self.guarded, args=(job, end), daemon=True).start()
 
     def guarded(self, job: Callable[[], None], end: threading.Event) -> None:
-        """Does a job of a thread of its own; its fault is told at the end."""
+        """Does a job of a thread of its own; its fault is reported at the end."""
         try:
             job()
         except Ended:
@@ -166,14 +182,19 @@ class Run:
                 self.progress()
                 shown = time.monotonic() + SHOWN
 
-    def write(self) -> str | None:
-        """Writes the pages, and gives what went wrong. The ledger goes on, and they are tried again."""
+    def write(self, is_last: bool = False) -> str | None:
+        """Writes the pages, and gives what went wrong. The ledger goes on, and they are tried again. Those of sessions
+        wait until all that was there at the start is read."""
         try:
             if self.ledger.is_open.is_set():
+                self.source.settle()
                 for site in self.ledger.sites():
-                    board = self.ledger.ask(f"board {site}".encode())
+                    board = self.source.board(site)
                     with self.ledger.taking:
                         self.pages.write(site, board)
+                if is_last or not self.words.log or self.source.is_caught_up.is_set():
+                    with self.ledger.taking:
+                        self.pages.write_sessions()
         except OSError as fault:
             return str(fault)
         return None
@@ -198,7 +219,7 @@ class Run:
             self.ledger.flush()
             if self.ledger.is_needed:
                 self.ledger.is_open.wait(OPENED)
-            self.faults += filter(None, [self.write()])
+            self.faults += filter(None, [self.write(is_last=True)])
         except Ended:
             pass
         status = self.ledger.close()
@@ -207,15 +228,15 @@ class Run:
         self.refusals.end()
         self.source.tell()
         log.info(
-            "lines of the script: {lines}, messages accepted: {accepted}, refused: {refused}, of actions of which "
-            "nothing is kept: {left}, faults: {faults}; pages written: {pages}".format(
+            "lines of the script: {lines}, messages accepted: {accepted}, refused: {refused}, of other actions: "
+            "{left}, faults: {faults}; pages written: {pages}".format(
                 pages=self.pages.count, **self.ledger.counts
             )
         )
         return self.told(status)
 
     def told(self, status: int) -> int:
-        """Tells what went wrong, the replay's exit status among it, and gives the tool's."""
+        """Reports what went wrong, with the replay's exit status, and returns the tool's."""
         for fault in self.faults:
             log.error("%s", fault)
         has_board = bool(self.ledger.sites()) and self.ledger.is_needed
@@ -223,8 +244,8 @@ class Run:
             log.error("the replay ended with status %d", status)
         elif not has_board and not self.faults:
             log.error(
-                "the script declared no station, or had no line that needs the ledgers: there is no "
-                "board"
+                "%s declared no station, or had no line that needs the ledgers: there is no board",
+                self.words.script or f"the script of {self.words.state}",
             )
         if self.faults:
             return Status.MISTAKEN
@@ -232,7 +253,7 @@ class Run:
 
 
 def tell_limit(_answered: Answered, said: str, remedy: str) -> None:
-    """Tells that a station comes near to its limits."""
+    """Reports that a station comes near to its limits."""
     log.warning("%s; %s", said, remedy)
 
 
@@ -245,7 +266,7 @@ def seconds(text: str) -> float:
 
 
 def add_log(parser: argparse.ArgumentParser) -> None:
-    """The options that tell of a log."""
+    """The options that describe a log."""
     parser.add_argument("--log", metavar="FILE", type=Path, help="the log to follow")
     parser.add_argument(
         "--stations", metavar="FILE", help="the stations: a site and a station a line"
@@ -262,6 +283,15 @@ def add_log(parser: argparse.ArgumentParser) -> None:
     logforms.add_form(parser)
     logforms.add_options(parser, ("station", "time", "message"))
     parser.add_argument("--utc", action="store_true", help="times without an offset are UTC")
+    for length in ("month", "day"):
+        parser.add_argument(
+            f"--close-{length}",
+            dest="close",
+            action="store_const",
+            const=length,
+            help=f"move transactions that ended before the {length} of the last message to the archive in the folder "
+            "of --state, which frees their room; boards and tables show both together",
+        )
     add_plan(parser)
     parser.set_defaults(one_site=None, site_map=None, received=True, boards=False)
 
@@ -289,7 +319,7 @@ def arguments(argv: Sequence[str], prog: str) -> argparse.Namespace:
         "--oldest",
         metavar="SECONDS",
         type=seconds,
-        help="how long nothing may come from any station; then the pages tell that their data is too old",
+        help="how long nothing may come from any station before the pages say that their data is too old",
     )
     parser.add_argument(
         "--tz",
@@ -308,10 +338,10 @@ def arguments(argv: Sequence[str], prog: str) -> argparse.Namespace:
         parser.error("either a SCRIPT is named or a --log")
     if words.log and not (words.stations and words.state):
         parser.error("--log takes --stations and --state")
-    if words.script and (words.stations or words.state or words.once):
-        parser.error("--stations, --state and --once go with --log")
-    if words.script and (words.order or words.period or words.limits):
-        parser.error("--order, --period and --limits go with --log; a SCRIPT has lines for them")
+    if words.script and (words.stations or words.state or words.once or words.close):
+        parser.error("--stations, --state, --once and --close-month go with --log")
+    if words.script and (words.order or words.period or words.limits or words.mend):
+        parser.error("--order, --period, --limits and --mend go with --log; a SCRIPT has its lines")
     return words
 
 

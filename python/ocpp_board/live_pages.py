@@ -10,11 +10,14 @@ from datetime import date, datetime, timedelta, timezone
 from pathlib import Path
 
 from ocpp_board import tables
-from ocpp_board.board_pages import Layout, write_sites
+from ocpp_board.archive import Archive
+from ocpp_board.board_pages import Layout, SiteRows, write_sites
 from ocpp_board.calendars import Calendar
 from ocpp_board.changed_days import digests
-from ocpp_board.pages import Row
+from ocpp_board.mending import MendedMessages
 from ocpp_board.refusals import Refusals
+from ocpp_board.script_lines import ScriptLines
+from ocpp_board.session_pages import Known, SessionPages
 from ocpp_board.told import Told
 
 # The page that leads to those of all sites, where none has this name.
@@ -24,8 +27,21 @@ SITES = "index"
 class Pages:
     """The files of each site, as `ocpp-board tables` makes them."""
 
-    def __init__(self, words: argparse.Namespace, refusals: Refusals, told: Told) -> None:
+    def __init__(
+        self,
+        words: argparse.Namespace,
+        refusals: Refusals,
+        told: Told,
+        script: ScriptLines | None = None,
+        mended: MendedMessages | None = None,
+    ) -> None:
+        """`script`: where the lines of the script begin; `mended`: what it has that was mended."""
         self.words, self.refusals, self.told = words, refusals, told
+        self.known = Known(told, refusals, script or ScriptLines(), mended or MendedMessages())
+        # The archive, where sessions are closed.
+        self.archive: Archive | None = None
+        # By site, the pages of sessions that are not written yet.
+        self.sessions: dict[str, SessionPages] = {}
         # By site: the board that the files show, how many messages were refused, whether the data is too old, and how
         # many lines of operators there were.
         self.shown: dict[str, tuple[bytes, int, bool, int]] = {}
@@ -34,10 +50,10 @@ class Pages:
         # By site and day, which doubts it shows.
         self.marks: dict[str, dict[date, int]] = {}
         # By site, its row on the page of all sites.
-        self.sites: dict[str, list[Row]] = {}
+        self.sites: dict[str, SiteRows] = {}
         self.calendar = Calendar(words.tz or timezone.utc)
         self.count = 0
-        # What a board has is told by its page.
+        # The page of a board says what it has.
         for name in ("boards", "tables"):
             logging.getLogger(f"ocpp_board.{name}").setLevel(logging.WARNING)
 
@@ -47,23 +63,36 @@ class Pages:
         self.refusals.settle(self.told.has_taken)
         refused = self.refusals.count(site)
         operators = self.told.operators
-        shown = board, refused, self.is_old(), len(operators.deeds)
+        corrections = len(self.archive.corrections) if self.archive else 0
+        shown = board, refused, self.is_old(), len(operators.deeds) + corrections
         if not board.startswith(b"board ") or self.shown.get(site) == shown:
             return
         folder = Path(tempfile.mkdtemp(prefix=".live_board.", dir=self.words.out))
         try:
             self.refusals.write(folder / f"{site}.refused.csv", site)
             operators.write(folder / f"{site}.operator.csv", self.told.sites(), site)
+            self.known.mended.write(folder / f"{site}.mended.csv", self.told.sites(), site)
+            if self.archive:
+                self.archive.write(folder / f"{site}.corrections.csv", site)
             days = digests(board, self.calendar)
             layout = self.make(folder / site, board, refused, self.unchanged(site, days))
             if len(self.sites) > 1 and SITES not in self.sites:
-                rows = [row for name in sorted(self.sites) for row in self.sites[name]]
-                write_sites(replace(layout, out=str(folder / SITES), refused=0), rows)
+                sites = SiteRows()
+                for name in sorted(self.sites):
+                    sites.add(self.sites[name])
+                whole = replace(layout, out=str(folder / SITES), refused=0, mended=0)
+                write_sites(whole, sites)
             self.put(folder, f"{site}.html")
         finally:
             shutil.rmtree(folder)
         self.shown[site], self.days[site] = shown, days
         self.count += 1
+
+    def write_sessions(self) -> None:
+        """Writes the pages of sessions that changed, behind those of the boards. Raises OSError."""
+        for site in list(self.sessions):
+            self.sessions[site].write()
+            del self.sessions[site]
 
     def is_old(self) -> bool:
         """Whether nothing came for longer than the words allow."""
@@ -73,7 +102,7 @@ class Pages:
         return datetime.now(timezone.utc) - until > timedelta(seconds=oldest)
 
     def unchanged(self, site: str, days: dict[date, bytes]) -> frozenset[date]:
-        """The days of a site whose pages stand as they would be written."""
+        """The days of a site with pages that are as they would be written."""
         before = self.days.get(site, {})
         return frozenset(
             day
@@ -82,7 +111,7 @@ class Pages:
         )
 
     def make(self, name: Path, board: bytes, refused: int, standing: frozenset[date]) -> Layout:
-        """Makes the files of a board, whose names begin so, but for the pages of days that stand already."""
+        """Makes the files of a board, whose names begin so, but for the pages of days that are there already."""
         more = ["--tz", str(self.words.tz)] if self.words.tz else []
         more += ["--tokens", getattr(self.words, "tokens", "none")]
         more += ["--log-json"] if self.words.log_json else []
@@ -93,14 +122,18 @@ class Pages:
             until=self.told.until(),
             oldest=self.words.oldest,
             refused=refused,
+            mended=self.known.mended.count(self.told.sites(), name.name),
             standing=standing,
             marks=self.marks.setdefault(name.name, {}),
         )
         with tempfile.TemporaryFile() as text:
             text.write(board)
             text.seek(0)
-            rows = list[Row]()
-            tables.write_files(words, text, layout, self.told, rows)
+            rows = SiteRows()
+            out = str(self.words.out / name.name)
+            sessions = SessionPages(out, self.calendar, self.known, later=True)
+            tables.write_files(words, text, layout, self.known, rows, sessions)
+            self.sessions[name.name] = sessions
         self.sites[name.name] = rows
         return layout
 

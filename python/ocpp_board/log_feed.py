@@ -3,26 +3,37 @@
 import argparse
 import io
 import logging
+import re
 import threading
 from collections import Counter
+from collections.abc import Callable
+from datetime import datetime, timedelta, timezone
 from functools import partial
 
+from ocpp_board.answered import RECEIVED, Answered, Line, moment_of
+from ocpp_board.archive import Archive, Takers, grouped, next_begin
 from ocpp_board.escapes import shown
+from ocpp_board.fitting_limits import fitting, said, sent_in
 from ocpp_board.followed import Followed, Place
 from ocpp_board.kept_script import KeptScript
 from ocpp_board.ledger import Ledger
+from ocpp_board.limits import MOMENT
 from ocpp_board.line_faults import BYTE_ORDER_MARK
 from ocpp_board.log_reader import LogReader, Taken
 from ocpp_board.logforms import Entry
 from ocpp_board.messages import Refused
-from ocpp_board.operators import Deed, is_change
+from ocpp_board.operators import Deed, deed_of, is_change
 from ocpp_board.refusals import MOST_UNTAKEN, comment_of
 from ocpp_board.script_plan import ScriptPlan
+from ocpp_board.statuses import Mistaken
+from ocpp_board.told import Told
 
 log = logging.getLogger(__name__)
 
 # Seconds until the log is looked at again.
 AGAIN = 0.5
+# The receipt of a message in the lines of a script.
+RECEIPT = re.compile(rb"^# received (\S+)$", re.MULTILINE)
 # Bytes of the script that an operator's line may take.
 LONGEST_DEED = 16_384
 
@@ -34,26 +45,67 @@ class LogFeed:
         """Raises OSError, and Mistaken where the stations are none or another process keeps the script."""
         self.words, self.ledger = words, ledger
         plan = ScriptPlan(words)
+        if not words.limits and plan.site_of:
+            limits = fitting([*plan.site_of], sent_in(words.state / "script"))
+            plan.limits_of |= limits
+            log.info("%s", said(limits))
         self.kept = KeptScript(words.state, plan.declarations())
+        ledger.script.path = self.kept.path
         for fault in plan.strangers():
             log.warning("%s; nothing comes of it until that file names the site", fault)
         self.reader = LogReader(words, plan)
         self.place = self.kept.place()
         self.followed: Followed | None = None
         self.now: str | None = None
-        # What the last line told that is of a station.
+        # What the last line of a station said.
         self.last: Entry | None = None
-        # How often each kind of mistake came, and what was told once.
+        # How often each kind of mistake came, and what was reported once.
         self.untaken: Counter[str] = Counter()
         self.told: set[str] = set()
         self.is_ending, self.is_caught_up = threading.Event(), threading.Event()
+        # Set when the script that was kept is handed on.
+        self.is_loaded = threading.Event()
         # Held while lines are taken and how far the log was read is not on disk yet.
         self.taking = threading.Lock()
+        # Where closed sessions go, if they do, and from which moment on the next ones are closed.
+        self.archive = Archive(
+            words.state / "archive",
+            words.program,
+            plan.declarations(),
+            ledger.script,
+            self.takers(),
+        )
+        self.boundary = ""
+        # What is known of sessions, who takes the messages of closed ones, and what is done where some were closed.
+        self.known = Told()
+        self.archived, self.closed = list[Callable[[Answered], None]](), list[Callable[[], None]]()
+
+    def takers(self) -> Takers:
+        """What the archive hands on at a start."""
+        ledger = self.ledger
+
+        def message(one: Answered) -> None:
+            with ledger.taking:
+                for taker in self.archived:
+                    taker(one)
+
+        def other(line: Line, text: bytes) -> None:
+            with ledger.taking:
+                ledger.operators.take(line, text)
+
+        return message, other, ledger.comment
 
     def feed(self) -> None:
         """Hands on what the script has, and then what comes. Raises OSError, Mistaken, and Ended."""
+        self.archive.load()
+        self.mend_closing()
         for line in self.kept.lines():
             self.ledger.send(line)
+            if self.words.close and line.startswith(RECEIVED):
+                self.boundary = self.boundary or self.begin_behind(line)
+        self.is_loaded.set()
+        if self.archive:
+            self.ledger.open(next(iter(self.reader.plan.site_of)))
         self.ledger.flush()
         self.followed = self.opened()
         while self.followed and not self.is_ending.is_set():
@@ -105,7 +157,7 @@ class LogFeed:
         )
 
     def tell_once(self, text: str) -> None:
-        """Tells this, where it was not told yet."""
+        """Reports this, if it was not reported yet."""
         if text not in self.told:
             self.told.add(text)
             log.warning("%s", text)
@@ -114,9 +166,85 @@ class LogFeed:
         """Takes lines of the log, which go up to this place of it, into the script and the ledger."""
         with self.taking:
             for line in lines:
-                self.put(self.script_lines(line))
+                self.hand_on(self.script_lines(line))
             self.kept.keep(place)
         self.ledger.flush()
+
+    def hand_on(self, lines: bytes) -> None:
+        """Takes lines of the script: those of a closed session go to the archive. What ended before the month or the
+        day of a message is closed first."""
+        if not (self.words.close or self.archive.of):
+            self.put(lines)
+            return
+        if self.words.close and (received := RECEIPT.search(lines)):
+            moment = received[1].decode()
+            if self.boundary and moment >= self.boundary:
+                self.close(moment)
+            if not self.boundary or moment >= self.boundary:
+                self.boundary = self.begin_behind(received[0])
+        *_, last = lines.splitlines(keepends=True) or [b""]
+        if label := self.archive.label_of(last):
+            self.archive.add(label, lines)
+            self.now = None
+        else:
+            self.put(lines)
+
+    def begin_behind(self, received: bytes) -> str:
+        """The beginning of the next month or day behind the receipt that a comment has, in UTC; empty without one."""
+        at = moment_of(received.strip().removeprefix(RECEIVED))
+        if at is None:
+            return ""
+        begin = next_begin(at.astimezone(self.words.tz or timezone.utc), self.words.close == "day")
+        return begin.astimezone(timezone.utc).strftime(MOMENT)
+
+    def close(self, moment: str) -> None:
+        """Closes what ended before the month or the day of a moment. Raises OSError, Mistaken, and Ended."""
+        at = datetime.fromisoformat(moment).astimezone(self.words.tz or timezone.utc)
+        begin = at.replace(hour=0, minute=0, second=0, microsecond=0)
+        begin = begin if self.words.close == "day" else begin.replace(day=1)
+        form = "%Y-%m-%d" if self.words.close == "day" else "%Y-%m"
+        label = (begin - timedelta(days=1)).strftime(form)
+        # A question is answered behind all that was sent.
+        self.ledger.ask(f"total {next(iter(self.reader.plan.site_of))}".encode())
+        with self.ledger.taking:
+            ended = self.known.ended(begin.timestamp())
+        ended = {key: numbers for key, numbers in ended.items() if key not in self.archive.of}
+        if not ended:
+            return
+        self.archive.settle()
+        self.kept.keep(None)
+        left = self.archive.close(label, set(ended), self.kept.lines())
+        self.archive.commit(label)
+        self.kept.replace(left)
+        self.ledger.script.size = len(left)
+        events = [(*key, number) for key, numbers in ended.items() for number in numbers]
+        self.ledger.erase(events)
+        for done in self.closed:
+            done()
+        log.info("closed %s: %s sessions are in %s", label, f"{len(ended):,}", self.archive.folder)
+
+    def mend_closing(self) -> None:
+        """Takes the lines of closed sessions out of a script that a kill left with them."""
+        if not self.archive.of:
+            return
+        left = [
+            one
+            for front, line in grouped(self.kept.lines())
+            if not self.archive.label_of(line)
+            for one in (*front, line)
+        ]
+        if sum(map(len, left)) < self.kept.size:
+            self.kept.replace(b"".join(left))
+
+    def board(self, site: str) -> bytes:
+        """The board of a site over the archive and the ledger. Raises Ended."""
+        with self.taking:
+            return self.archive.whole(site, self.ledger.ask(f"board {site}".encode()))
+
+    def settle(self) -> None:
+        """Has what came for closed sessions be answered. Raises OSError, and Mistaken where a replay fails."""
+        with self.taking:
+            self.archive.settle()
 
     def script_lines(self, line: bytes | None) -> bytes:
         """The lines of the script that a line of the log becomes: a comment where it can't be taken."""
@@ -124,11 +252,13 @@ class LogFeed:
             taken = self.reader.take(line.removeprefix(BYTE_ORDER_MARK) if line else None)
         except Refused as why:
             return self.refused(why)
+        except Mistaken as fault:
+            raise Mistaken(f"{self.words.log} {fault}") from None
         self.last = self.reader.entry or self.last
         if taken.note:
             # Of each kind the first.
             if taken.note.kind not in self.told:
-                log.warning("%s", taken.note)
+                log.warning("%s: %s", self.words.log, taken.note)
             self.told.add(taken.note.kind)
         return self.after_now(taken)
 
@@ -159,15 +289,24 @@ class LogFeed:
         script has no room."""
         if not is_change(line):
             return self.ledger.ask(line)
+        self.is_loaded.wait()
         with self.taking:
             self.kept.check_room(LONGEST_DEED)
+            deed = deed_of(line)
+            if label := self.archive.label_of(deed.line.encode()):
+                deed = self.archive.operate(label, deed)
+                if deed.is_accepted:
+                    with self.ledger.taking:
+                        self.ledger.operators.add(deed)
+                return deed.answer.encode() + b"\n"
             return self.ledger.operate(line, self.keep)
 
     def keep(self, deed: Deed) -> None:
-        """Has an operator's line on disk: as a line where it was accepted, and else as a comment alone."""
+        """Has an operator's line on disk: as a line if it was accepted, and else only as a comment."""
         line = deed.line.encode() + b"\n" if deed.is_accepted else b""
         self.kept.append(deed.comment() + line)
         self.kept.keep(None)
+        self.ledger.passed(deed.comment() + line)
 
     def size(self) -> int:
         """The bytes of the script."""

@@ -9,6 +9,7 @@ from typing import NamedTuple
 from ocpp_board.escapes import shown
 from ocpp_board.limits import FIRST_MOMENT, LONGEST_LOG_LINE, MOMENT, PAST_MOMENTS
 from ocpp_board.logforms import Entry, form_of
+from ocpp_board.mending import Mender
 from ocpp_board.message_faults import OLD_ACTIONS
 from ocpp_board.messages import CALL, Refused, is_answer, msg_line, tells_moment
 from ocpp_board.refusals import NOT_IN, UNTAKEN, Refusal, named_in
@@ -37,7 +38,7 @@ class Taken(NamedTuple):
 
     kind: str
     station: str = ""
-    # The moment for a `now` line, where the message's reply tells the moment.
+    # The moment for a `now` line, if the message's reply has the moment.
     moment: str | None = None
     # The message, after a comment with the time of its receipt where that is wanted.
     lines: bytes = b""
@@ -82,12 +83,12 @@ class LogReader:
     def __init__(self, words: argparse.Namespace, plan: ScriptPlan) -> None:
         self.words, self.plan = words, plan
         self.form = form_of(words, not (words.one_site or words.site_map or words.stations))
-        self.counts = dict.fromkeys(self.KINDS, 0)
-        # What the line told that is read, as far as it was understood.
+        self.counts, self.mender = dict.fromkeys(self.KINDS, 0), Mender(words.mend)
+        # What the line says that is read, as far as it was understood.
         self.entry: Entry | None = None
 
     def take(self, line: bytes | None) -> Taken:
-        """What a line becomes; None stands for one that is too long. Raises Refused."""
+        """What a line becomes; None is one that is too long. Raises Refused."""
         self.counts["lines"] += 1
         self.entry = None
         try:
@@ -111,7 +112,7 @@ class LogReader:
         return Taken("other") if self.entry is None else self.taken_of(self.entry)
 
     def taken_of(self, entry: Entry) -> Taken:
-        """What a line becomes that tells this: a message where a station sent a call. Raises Refused."""
+        """What a line becomes that says this: a message where a station sent a call. Raises Refused."""
         if entry.is_old or is_old_call(entry.message):
             return Taken("old")
         site, station = self.plan.place(entry)
@@ -119,13 +120,22 @@ class LogReader:
         if not is_message:
             self.plan.admit(site, station)
             return Taken("answers" if is_answer(entry.message) else "sent")
-        line = msg_line(station, entry.message)
+        message, came = self.mended(site, station, entry)
+        line = msg_line(station, message)
         self.plan.admit(site, station)
         needs_time = tells_moment(entry.message)
         moment, note = self.moment(entry) if needs_time or self.words.received else (None, None)
         received = f"# received {moment}\n".encode() if moment and self.words.received else b""
         now = moment if needs_time else None
-        return Taken("messages", station, now, received + line, note)
+        return Taken("messages", station, now, came + received + line, note)
+
+    def mended(self, site: str, station: str, entry: Entry) -> tuple[str, bytes]:
+        """The message of a line as it is taken, and a comment with what came where it was mended."""
+        if site not in self.mender.mends:
+            return entry.message, b""
+        moment, _ = self.moment(entry)
+        received = datetime.fromisoformat(moment) if moment else None
+        return self.mender.mended(site, station, entry.message, received)
 
     def moment(self, entry: Entry) -> tuple[str | None, Refused | None]:
         """The moment of a line, or what is wrong with its time. No message is left out for its time."""
@@ -154,12 +164,14 @@ class LogReader:
             "out: {sent}, of other versions of OCPP left out: {old}, lines of others left out: {other}, blank: "
             "{blank}, not taken: {refused}".format(**self.counts)
         )
+        if said := self.mender.said():
+            log.info("messages mended: %s", said)
 
     def refusal(self, why: Refused) -> Refusal:
         """The refusal of the line that was read last, for this reason."""
         advice = next(
             (text for begin, text in ADVICE if why.kind.startswith(begin)),
-            "look at the line of the log; the options of log-to-script tell its form",
+            "look at the line of the log; the options of log-to-script name its form",
         )
         entry = self.entry
         if entry is None:

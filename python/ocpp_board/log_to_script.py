@@ -7,11 +7,11 @@ OCPP-J text in a JSON string:
 
 --form and --regex read the shapes of other logs. The script declares all stations first, in the order in which
 the log names them. Each message becomes a `msg` line with the same bytes; a line feed in it becomes a blank.
-Before a BootNotification or a Heartbeat, whose replies tell the moment, a `now` line gives the line's time
+Replies to a BootNotification or a Heartbeat have the moment, so before these a `now` line gives the line's time
 where that has changed; where the time can't be read the message goes without it. Answers ([3,..] and [4,..]),
 messages of the CSMS and of OCPP 1.6, lines of others and blanks are left out and counted. What can't be taken is
-told on standard error with its line number, stands in a comment of the script, and the rest goes on; a mistake that
-many lines make is told at the first of them, and counted at the end.
+reported on standard error with its line number and becomes a comment of the script; the rest goes on. A mistake of
+many lines is reported at the first, and counted at the end.
 
 With --stations each line goes out as soon as it is read, so that a log that still grows is a live ledger:
 
@@ -48,6 +48,7 @@ from ocpp_board.limits import (
 )
 from ocpp_board.line_faults import BYTE_ORDER_MARK, name_fault
 from ocpp_board.log_reader import LogReader, Taken
+from ocpp_board.mending import COMMENT as MENDED
 from ocpp_board.messages import Refused
 from ocpp_board.processes import end_without_reader
 from ocpp_board.progress import Progress
@@ -75,10 +76,11 @@ class Full(Exception):
 
 
 class Mistakes:
-    """What can't be taken. Of each kind the first is told at once, and at the end how many more there were."""
+    """What can't be taken. It reports the first of each kind at once, and at the end how many more there were."""
 
-    def __init__(self, progress: Progress) -> None:
-        self.progress = progress
+    def __init__(self, progress: Progress, name: str = "") -> None:
+        """`name`: that of the log."""
+        self.progress, self.where = progress, f"{name} line" if name else "line"
         # By kind: how many more there were, and the number of the last line of these.
         self.more: dict[str, tuple[int, int]] = {}
 
@@ -89,7 +91,7 @@ class Mistakes:
             return
         self.more[why.kind] = (0, number)
         self.progress.end()
-        log.warning("line %d: %s", number, why, extra={"line": number})
+        log.warning("%s %d: %s", self.where, number, why, extra={"line": number})
 
     def count(self, why: Refused) -> int:
         """How many there were of this kind."""
@@ -100,7 +102,9 @@ class Mistakes:
         for kind, (count, last) in self.more.items():
             if count:
                 lines = "1 more line" if count == 1 else f"{count:,} more lines, the last"
-                log.warning("the same of %s %d: %s", lines, last, kind, extra={"line": last})
+                where = self.where.removesuffix("line").rstrip()
+                said = f"{where}: the same of {lines}" if where else f"the same of {lines}"
+                log.warning("%s %d: %s", said, last, kind, extra={"line": last})
 
 
 def lines(file: IO[bytes]) -> Iterator[tuple[int, bytes | None]]:
@@ -125,7 +129,7 @@ class Script:
         self.body: IO[bytes] = (
             out if self.is_live else tempfile.SpooledTemporaryFile(max_size=KEPT_IN_MEMORY)
         )
-        # Bytes of the body and of what stands around it, for so many stations.
+        # Bytes of the body and of what is around it, for so many stations.
         self.size, self.around, self.stations = 0, 0, -1
         self.now = FIRST_MOMENT.strftime(MOMENT)
         if self.is_live:
@@ -202,20 +206,22 @@ class Scripts(Script):
         """Writes each message to its station's script, after its moment where that is new there."""
         nows: dict[BufferedWriter, bytes] = {}
         first = next(iter(out_of.values()))
-        now = received = b""
+        now = received = came = b""
         self.body.seek(0)
         for line in self.body:
             if line.startswith(b"now "):
                 now = line
             elif line.startswith(RECEIVED):
                 received = line
+            elif line.startswith(MENDED):
+                came = line
             elif refusal := commented(line):
                 out_of.get(refusal.station, first).write(line)
             else:
                 out = out_of[line.split(b" ", 2)[1].decode()]
-                out.write((now if now != nows.get(out) else b"") + received + line)
+                out.write((now if now != nows.get(out) else b"") + came + received + line)
                 nows[out] = now or nows.get(out, b"")
-                now = received = b""
+                now = received = came = b""
 
 
 def shares_of(site_of: dict[str, str], room: int) -> list[dict[str, str]]:
@@ -258,8 +264,8 @@ class Conversion:
         self.script = Scripts(words, self.plan) if words.split else Script(words, self.plan, out)
 
     def run(self, file: IO[bytes], progress: Progress) -> None:
-        """Takes all lines of a log; what can't be taken is told."""
-        mistakes = Mistakes(progress)
+        """Takes all lines of a log; reports what can't be taken."""
+        mistakes = Mistakes(progress, "" if self.words.log == "-" else self.words.log)
         number = self.take_all(file, progress, mistakes)
         if not self.reader.has_form():
             form = self.reader.form_name()
@@ -275,6 +281,8 @@ class Conversion:
             for number, line in lines(file):
                 progress.tell(number, len(line or b""))
                 self.take(number, line, mistakes)
+        except Mistaken as fault:
+            raise Mistaken(f"{self.words.log} {fault}") from None
         except Full:
             kind = f"no room in a script of {LONGEST_SCRIPT:,} bytes"
             left_out = Refused(f"{kind}; this line and all after it are left out")
@@ -299,7 +307,7 @@ class Conversion:
             self.script.put(taken)
 
     def refuse(self, mistakes: Mistakes, number: int, why: Refused) -> None:
-        """Counts what can't be taken, and tells it."""
+        """Counts what can't be taken, and reports it."""
         self.counts["refused"] += 1
         mistakes.tell(number, why)
 
@@ -340,7 +348,7 @@ def add_script(parser: argparse.ArgumentParser) -> None:
     parser.add_argument(
         "--received",
         action="store_true",
-        help="a comment `# received <time>` before each message, where the log tells its time",
+        help="a comment `# received <time>` before each message, if the log has its time",
     )
     parser.add_argument(
         "--split",

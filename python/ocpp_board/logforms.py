@@ -1,4 +1,4 @@
-"""The shapes of logs of a CSMS: what each line tells of a station, a time and a message."""
+"""The shapes of logs of a CSMS: what each line says of a station, a time and a message."""
 
 import argparse
 import csv
@@ -49,7 +49,7 @@ FIELDS = ("site", "station", "time", "message")
 
 
 class Entry(NamedTuple):
-    """What a line of a log tells; its site and its time only where the form has them."""
+    """What a line of a log says; its site and its time only if the form has them."""
 
     site: str | None
     station: str
@@ -64,7 +64,7 @@ class Form(Protocol):
     """A shape of logs."""
 
     def read(self, text: str) -> Entry | None:
-        """What a line tells; None where it is another's. Raises Refused where it can't be taken."""
+        """What a line says; None where it is another's. Raises Refused where it can't be taken."""
 
 
 class JsonFields(NamedTuple):
@@ -74,14 +74,14 @@ class JsonFields(NamedTuple):
     station: str = "station"
     time: str = "time"
     message: str = "message"
-    # A field that tells the version of OCPP.
+    # A field with the version of OCPP.
     protocol: str | None = None
-    # A field that tells who sent the message, and what it says where a station did.
+    # A field that says who sent the message, and what it says where a station did.
     direction: str | None = None
     incoming: str = "in"
     # The message is an array or object and not a string.
     is_json_message: bool = False
-    # The site stands in the line.
+    # The site is in the line.
     has_site: bool = True
 
 
@@ -133,7 +133,7 @@ class JsonForm:
         self.fields = fields
 
     def read(self, text: str) -> Entry | None:
-        """What an object tells; its site where the fields have one."""
+        """What an object says; its site if the fields have one."""
         fields = self.fields
         of = members_of(text) if fields.is_json_message else Members(object_of(text), {})
         entry = of.values
@@ -166,7 +166,7 @@ class RegexForm:
         self.pattern, self.incoming = pattern, incoming
 
     def read(self, text: str) -> Entry | None:
-        """What a line tells; None where the expression is not found."""
+        """What a line says; None where the expression is not found."""
         match = self.pattern.search(text.removesuffix("\n").removesuffix("\r"))
         if match is None:
             return None
@@ -195,7 +195,7 @@ class ArrowForm:
         self.incoming = incoming
 
     def read(self, text: str) -> Entry | None:
-        """What a line tells; None where it has no arrow before a message."""
+        """What a line says; None where it has no arrow before a message."""
         text = text.removesuffix("\n").removesuffix("\r")
         match = self.LINE.match(text)
         if match is None:
@@ -230,7 +230,7 @@ class OcppForm:
     )
 
     def read(self, text: str) -> Entry | None:
-        """What a line tells; None where it has no message."""
+        """What a line says; None where it has no message."""
         text = text.removesuffix("\n").removesuffix("\r")
         match = self.LINE.match(text)
         if match is None:
@@ -245,12 +245,12 @@ class CitrineForm:
     """Rows of CitrineOS as JSON objects."""
 
     def read(self, text: str) -> Entry | None:
-        """What a row tells."""
+        """What a row says."""
         return self.entry(members_of(text))
 
     @staticmethod
     def entry(row: Members) -> Entry:
-        """What the columns of a row tell."""
+        """What the columns of a row say."""
         values = row.values
         protocol, origin = values.get("protocol") or PROTOCOL, text_member(values, "origin")
         if is_old(protocol):
@@ -273,7 +273,7 @@ class CitrineCsvForm:
         csv.field_size_limit(LONGEST_LOG_LINE)
 
     def read(self, text: str) -> Entry | None:
-        """What a row tells; None of the first. Raises Mistaken where that names too few columns."""
+        """What a row says; None of the first. Raises Mistaken where that names too few columns."""
         try:
             rows = list(csv.reader([text], strict=True))
         except csv.Error as fault:
@@ -300,7 +300,7 @@ class MaeveForm:
     )
 
     def read(self, text: str) -> Entry | None:
-        """What a message tells; None where the line is not a topic, a blank and an object."""
+        """What a message says; None where the line is not a topic, a blank and an object."""
         match = self.LINE.match(text)
         if match is None:
             return None
@@ -362,20 +362,20 @@ def add_options(parser: argparse.ArgumentParser, fields: tuple[str, ...]) -> Non
         "--json-message",
         action="store_true",
         help="the message is a JSON array or object in place of a string; its text is cut from the "
-        "line as it stands, numbers and blanks included",
+        "line as it is, with numbers and blanks",
     )
     parser.add_argument(
         "--protocol-field",
         dest="protocol",
         metavar="FIELD",
-        help="a field that tells the version of OCPP; lines of others than 2.0.1 are left out and "
+        help="a field with the version of OCPP; lines of others than 2.0.1 are left out and "
         "counted",
     )
     parser.add_argument(
         "--direction-field",
         dest="direction",
         metavar="FIELD",
-        help="a field that tells who sent the message; lines of others than stations are left out "
+        help="a field that says who sent the message; lines of others than stations are left out "
         "and counted (without it each call counts as a station's)",
     )
     parser.add_argument(

@@ -8,10 +8,10 @@ from typing import Any
 
 from ocpp_board.escapes import shown
 from ocpp_board.limits import GREATEST_SEQ_NO, TRANSACTION
-from ocpp_board.line_faults import OUT_OF_RANGE, Said, time_fault
+from ocpp_board.line_faults import NO_OFFSET, OUT_OF_RANGE, Said, time_fault
 
 ACTIONS = ["BootNotification", "Heartbeat", "StatusNotification", "MeterValues", "TransactionEvent"]
-# Actions of OCPP 2.0.1 that a station may call too, and of which the ledger keeps nothing.
+# Actions of OCPP 2.0.1 that a station may call too; the ledger keeps nothing of them.
 OTHER_ACTIONS = frozenset(
     """Authorize ClearedChargingLimit DataTransfer FirmwareStatusNotification Get15118EVCertificate GetCertificateStatus
     LogStatusNotification NotifyChargingLimit NotifyCustomerInformation NotifyDisplayMessages NotifyEVChargingNeeds
@@ -28,6 +28,9 @@ LONGEST_ID = 36
 UNSET_CLOCK = (
     "set the station's clock; what it sent meanwhile is lost unless it sends it again with a time"
 )
+# What takes messages of a log as they are meant.
+MEND_VALUE = "take the log again with `--mend SITE=text-value` of log-to-script or live, which takes it as a number"
+MEND_TIME = "take the log again with `--mend SITE=no-offset:ZONE` of log-to-script or live, which names its zone"
 
 
 class Token(str):
@@ -85,15 +88,20 @@ class Checks:
 
     def __init__(self, payload: Any) -> None:
         self.failed: list[Failed] = []
+        # Values that are texts.
+        self.texts = set[str]()
         self.readings = 0
         if isinstance(payload, dict):
             self.event(payload)
         else:
             self.note("Format", "the payload", f"is {kind_of(payload)} and not an object")
 
-    def note(self, fault: str, member: str, what: str) -> None:
-        """A check of a member fails."""
+    def note(self, fault: str, member: str, what: str, value: Any = None) -> None:
+        """A check of a member fails, which has this value."""
         self.failed.append((fault, member, what))
+        is_text = member.endswith(".value") and isinstance(value, str)
+        if is_text and not isinstance(value, Token):
+            self.texts.add(member)
 
     def member(
         self, of: dict[str, Any], path: str, name: str, kind: type, required: bool = True
@@ -110,7 +118,7 @@ class Checks:
             return None
         is_kind = isinstance(value, kind) and (isinstance(value, Token) == (kind is Token))
         if not is_kind:
-            self.note("WrongType", member, f"is {kind_of(value)} and not {WANTED[kind]}")
+            self.note("WrongType", member, f"is {kind_of(value)} and not {WANTED[kind]}", value)
             return None
         return value
 
@@ -212,10 +220,8 @@ REMEDIES = {
     "OutOfMemory": ("there was no memory", "run it where there is more, or with less in `limits`"),
     "Format": ("the payload is no object", "an object as the fourth element"),
     "ConflictingEvent": (
-        "an event with this seqNo of this transaction stands already, with another kind, time, EVSE "
-        "or other readings",
-        "leave it out; or, where the one that stands is wrong, void and erase that "
-        "and send this one again",
+        "this transaction already has an event with this seqNo and another kind, time, EVSE or other readings",
+        "leave it out; or, if the stored one is wrong, void and erase it and send this one again",
     ),
     "TooManyTransactions": (
         "the station has as many transactions as its limits allow",
@@ -250,7 +256,7 @@ REMEDIES = {
 
 
 def is_kept_nothing_of(action: str) -> bool:
-    """Whether this is an action of OCPP 2.0.1 of which the ledger keeps nothing."""
+    """Whether this is an action of OCPP 2.0.1, but the ledger keeps nothing of it."""
     return action in OTHER_ACTIONS
 
 
@@ -258,7 +264,7 @@ def unknown_action(action: str) -> Said:
     """Why an action is none that is answered."""
     if is_kept_nothing_of(action):
         return (
-            f"the action {shown(action)} is one of OCPP 2.0.1 of which the ledger keeps nothing",
+            f"the action {shown(action)} is one of OCPP 2.0.1; the ledger keeps nothing of it",
             "nothing is to be done; whoever answers the station answers it",
         )
     if action in OLD_ACTIONS:
@@ -295,12 +301,18 @@ def message_fault(text: str, told: str) -> Said:
         )
     if told == "UnknownAction":
         return unknown_action(frame[2])
-    is_moment = told == "Moment"
+    is_moment, checks = told == "Moment", Checks(frame[3])
     other = ("a timestamp", "is no time") if is_moment else ("a member", "broke the check")
-    failed = ((member, what) for fault, member, what in Checks(frame[3]).failed if fault == told)
+    failed = ((member, what) for fault, member, what in checks.failed if fault == told)
     member, what = next(failed, other)
-    remedy = "the station's message is to be corrected, or left out"
-    return f"{member} {what}", UNSET_CLOCK if is_moment and OUT_OF_RANGE in what else remedy
+    remedy = "correct the station's message, or leave it out"
+    if is_moment and OUT_OF_RANGE in what:
+        remedy = UNSET_CLOCK
+    elif is_moment and NO_OFFSET in what:
+        remedy = MEND_TIME
+    elif member in checks.texts:
+        remedy = MEND_VALUE
+    return f"{member} {what}", remedy
 
 
 def unread(text: str, fault: json.JSONDecodeError | RecursionError) -> Said:

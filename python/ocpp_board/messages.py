@@ -1,4 +1,4 @@
-"""Messages of OCPP-J as texts: their JSON as it is written, and what can be told of them without the program."""
+"""Messages of OCPP-J as texts: their JSON as it is written, and what can be known of them without the program."""
 
 import json
 import re
@@ -14,7 +14,7 @@ ANSWER = re.compile(rf"{B}\[{B}[34]{B}[,\]]")
 CALL = re.compile(rf"{B}\[{B}2{B},{B}{TEXT}{B},{B}{TEXT}", re.DOTALL)
 # A call up to its action. What begins so, with another action than TransactionEvent, is no event, whatever follows.
 HEAD = re.compile(r'\s*\[\s*2\s*,\s*"[^"\\]*"\s*,\s*"([^"\\]*)"\s*,')
-# Actions whose replies tell the moment.
+# Actions with the moment in their replies.
 TELLING_ACTIONS = ("BootNotification", "Heartbeat")
 
 
@@ -122,7 +122,7 @@ def is_answer(message: str) -> bool:
 
 
 def tells_moment(message: str) -> bool:
-    """Whether the reply to this message may tell the moment."""
+    """Whether the reply to this message may have the moment."""
     call = CALL.match(message)
     return call is not None and (call[2] in TELLING_ACTIONS or "\\" in call[2])
 

@@ -38,7 +38,7 @@ def mwh_of(value: str, unit: dict[str, Any]) -> int:
 
 
 def measurand_of(sampled: dict[str, Any]) -> str:
-    """What is measured and where; a counted reading's is that of its register alone."""
+    """What is measured and where; a counted reading's is only that of its register."""
     if len(sampled) == 1 and "value" in sampled:
         return IMPORT
     named: str | None = sampled.get("measurand")

@@ -1,4 +1,4 @@
-"""Stations that come near to what their limits have room for, each told once."""
+"""Stations that come near to what their limits have room for; each is reported once."""
 
 import math
 import re
@@ -24,7 +24,7 @@ class Counts:
     """What a station sent and was taken, what came again included."""
 
     limits: tuple[int, ...]
-    # The numbers from which on a limit is told; past all numbers once it was.
+    # The numbers from which on a limit is reported; past all numbers once it was.
     marks: list[float]
     transactions: set[str] = field(default_factory=set)
     events: int = 0
@@ -36,7 +36,7 @@ class Counts:
         return cls(limits, [-(-9 * most // 10) for most in limits])
 
     def take(self, message: str) -> bool:
-        """Takes an event. Whether nine tenths of a limit are reached that was not told yet."""
+        """Takes an event. Whether it now reaches nine tenths of a limit that was not reported yet."""
         if transaction := TRANSACTION.search(message):
             self.transactions.add(transaction[1].lower())
         self.events += 1
@@ -52,7 +52,7 @@ class Counts:
         )
 
     def reached(self) -> Iterator[str]:
-        """What is told now of limits of which nine tenths are reached. A change is an event."""
+        """What is reported now of limits that are reached to nine tenths. A change is an event."""
         numbers = (len(self.transactions), self.events, self.readings, self.events)
         for place, (number, mark) in enumerate(zip(numbers, self.marks)):
             if number >= mark:
@@ -68,7 +68,7 @@ class SentByStations:
         self.counts: dict[str, Counts] = {}
 
     def taken(self, station: str, message: str) -> list[str]:
-        """Counts a message that was taken, and gives what is to be told of limits since."""
+        """Counts a message that was taken, and returns what is to be reported of limits since."""
         if '"TransactionEvent"' not in message:
             return []
         counts = self.counts.get(station)
@@ -81,12 +81,12 @@ class SentByStations:
 
 
 class NearLimits:
-    """Takes messages, and tells once of each limit of a station of which nine tenths are reached."""
+    """Takes messages, and reports once each limit that a station reached to nine tenths."""
 
     def __init__(
         self, limits: Mapping[str, tuple[int, ...]], tell: Callable[[Answered, str, str], None]
     ) -> None:
-        """`limits` are those of the stations; `tell` gets the message that reached it, what is told, and a remedy."""
+        """`limits` are those of the stations; `tell` gets the message that reached it, what to report, and a remedy."""
         self.sent, self.tell = SentByStations(limits), tell
 
     def take(self, answered: Answered) -> None:

@@ -61,7 +61,7 @@ def deed_of(line: bytes) -> Deed:
 
 
 def commented(comment: bytes) -> Deed | None:
-    """The operator's line that a comment tells of; None where it is none."""
+    """The operator's line that a comment is of; None where it is none."""
     if not comment.startswith(COMMENT):
         return None
     try:
@@ -76,18 +76,20 @@ class Operators:
 
     def __init__(self) -> None:
         self.deeds: list[Deed] = []
+        # The same by station and transaction.
+        self.by_session: dict[tuple[str, str], list[Deed]] = {}
         # By station and transaction, the events that are voided.
         self.voided: dict[tuple[str, str], dict[int, Deed]] = {}
 
     def take(self, line: Line, text: bytes) -> None:
-        """Takes an operator's line of a script with its answer, and what a comment in front of it tells."""
+        """Takes an operator's line of a script with its answer, and what a comment in front of it says."""
         if is_change(line.line):
             known = commented(line.operator) or Deed("")
             answer = text.decode("utf-8", "replace").strip()
             self.add(known._replace(line=line.line.decode("utf-8", "replace"), answer=answer))
 
     def comment(self, line: bytes) -> None:
-        """Takes a comment of a script: one of a line that was refused stands alone."""
+        """Takes a comment of a script: one of a line that was refused has no line behind it."""
         deed = commented(line.rstrip(b"\r\n"))
         if deed and deed.answer and not deed.is_accepted:
             self.add(deed)
@@ -96,12 +98,17 @@ class Operators:
         """Takes a line with its answer."""
         self.deeds.append(deed)
         what, station, transaction, number = deed.words
+        self.by_session.setdefault((station, transaction.lower()), []).append(deed)
         if not deed.is_accepted or not number.isdecimal():
             return
         events = self.voided.setdefault((station, transaction.lower()), {})
         events.pop(int(number), None)
         if what == "void":
             events[int(number)] = deed
+
+    def of(self, station: str, tx: str) -> list[Deed]:
+        """The lines of operators about a transaction, in their order."""
+        return self.by_session.get((station, tx), [])
 
     def voids(self, station: str, tx: str) -> Mapping[int, Deed]:
         """The events of a transaction that are voided, by their numbers."""

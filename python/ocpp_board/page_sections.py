@@ -1,6 +1,6 @@
 """The sections of pages: figures, problems, sessions, and a day's bars with their table."""
 
-from collections.abc import Callable, Iterable, Iterator
+from collections.abc import Callable, Iterable, Iterator, Sequence
 from dataclasses import dataclass, field
 from datetime import date, datetime
 from html import escape
@@ -10,8 +10,10 @@ from ocpp_board.boards import Part, Period, Session, Total
 from ocpp_board.calendars import Calendar
 from ocpp_board.energies import kwh, share, sum_of
 from ocpp_board.pages import MARK, Row, across, cells_of, flow_heads, kept, ranges, table
+from ocpp_board.lanes import MOST_LANES, Lane, lane_picture
 from ocpp_board.period_doubts import SURE, Doubt, KnownPeriods
 from ocpp_board.pictures import Scale, picture, strip
+from ocpp_board.powers import kw, peak_said
 from ocpp_board.quality import Effect, Finding, Kind
 from ocpp_board.session_times import Registers, duration
 
@@ -21,15 +23,17 @@ MOST_RANGES = 20
 UNKNOWN = "\N{EN DASH}"
 # What the states of sessions that are not complete mean, by how they begin.
 STATES = {
-    "numbers missing": "Messages between the first and the last did not come, were refused or are voided. Ask "
-    "the station for those that did not come.",
-    "voided by": "An operator voided events between the first and the last, and no other is missing.",
-    "no start": "The first event is no start. What came before it is not there.",
-    "a start or end misplaced": "A start or an end stands between the first and the last event.",
+    "numbers missing": "Messages between the first and the last did not come or were refused. Look for their numbers "
+    "in the table of what was refused and in the log with its rotated files. A station sends again only what is still "
+    "in its queue.",
+    "voided by": "An operator voided events, and no other is missing.",
+    "no start": "The first event is no start. Look for it in the table of what was refused and in the log of the time "
+    "before, such as a rotated file.",
+    "a start or end misplaced": "A start or an end is between the first and the last event.",
     "events after the end": "Events came after the end that an earlier board had.",
-    "one event: no end yet, or no start": "One event alone came: the session begins, or the others are missing.",
+    "one event: no end yet, or no start": "Only one event came: the session begins, or the others are missing.",
     "no end yet, or a start or end misplaced": "No number is missing between the first and the last. The session "
-    "goes on, or its start or end did not come or stands in a wrong place.",
+    "goes on, or its start or end did not come or is in a wrong place.",
     "no end yet": "The session goes on, or its end did not come.",
 }
 
@@ -82,20 +86,28 @@ def problems_of(stations: Iterable[Part]) -> Iterator[Problem]:
                 found[each.kind].add(part.name, 1, each.times)
             if not one.complete:
                 state = states[next(name for name in STATES if one.state.startswith(name))]
-                state.add(part.name, 1, one.missing or 1)
+                lost = sum(b - a + 1 for a, b in one.lost())
+                state.add(part.name, 1, lost or len(one.voided) or 1)
     wrong = [found[kind] for kind in Kind if kind.effect is Effect.WRONG]
     others = [found[kind] for kind in Kind if kind.effect is not Effect.WRONG]
     order = (unread, *wrong, falls, *states.values(), *others, voided)
     yield from (one for one in order if one.times)
 
 
-def trouble_of(part: Part) -> tuple[int, int, int, int]:
-    """How much is wrong with a station: the more, the less this is."""
+def trouble_of(part: Part) -> tuple[int, int, int, int, int]:
+    """How much is wrong with a station: the more, the less this is. Numbers that are wrong come first."""
     total = part.total
     if total is None or not part.whole:
-        return -1, 0, 0, 0
+        return -1, 0, 0, 0, 0
+    wrong = sum(has_wrong(session.findings) for session in part.sessions)
     doubtful = sum(bool(session.findings) for session in part.sessions) + len(part.findings)
-    return 0, total.complete - total.transactions, -total.missing, -doubtful - total.voided
+    others = -total.missing, -doubtful - total.voided
+    return 0, -wrong, total.complete - total.transactions, *others
+
+
+def has_wrong(findings: Iterable[Finding]) -> bool:
+    """Whether a number is wrong by these findings."""
+    return any(one.kind.effect is Effect.WRONG for one in findings)
 
 
 def figures(total: Total | None, has_export: bool) -> Iterator[str]:
@@ -130,7 +142,7 @@ def order_said(site: Part) -> str:
 
 
 def bar_cell(mwh: int, most: int) -> str:
-    """An energy as a bar, whose number stands in the same row. `most`: what the longest bar stands for."""
+    """An energy as a bar; its number is in the same row. `most`: the energy of the longest bar."""
     width = 100 * abs(mwh) / most if most else 0
     kind = ' class="less"' if mwh < 0 else ""
     return f'<span{kind} aria-hidden="true" style="width:{width:.1f}%"></span>'
@@ -140,7 +152,7 @@ def figure_cell(doubt: Doubt) -> str:
     """How the figures of a period were come by, in a cell; empty where they were measured and no number is missing."""
     said = ["estimated"] if doubt.is_estimated else []
     said += ["numbers missing"] if doubt.has_gap else []
-    return f'<td class="doubt">{", ".join(said)}' if said else "<td>"
+    return f'<td class="doubt">{",<br>".join(said)}' if said else "<td>"
 
 
 def periods_of(
@@ -156,7 +168,7 @@ def periods_of(
     yield f'<table class="plain periods"><caption>{kept(str(day))}, kWh</caption>\n'
     yield (
         f'<thead><tr><th scope="col">Period ({zone}){beside}'
-        + "".join(f'<th scope="col">{head}' for head in flow_heads(has_export))
+        + "".join(f'<th scope="col">{head}' for head in [*flow_heads(has_export), "kW"])
         + ('<th scope="col">Figure' if known else "")
         + "</thead>\n<tbody>\n"
     )
@@ -164,6 +176,7 @@ def periods_of(
         yield (
             f'<tr><th scope="row">{calendar.times(p.start, p.seconds)}'
             + "".join(f"<td>{cell}" for cell in cells_of(p.flow, has_export))
+            + f"<td>{kw(p.flow.net, p.seconds)}"
             + (figure_cell(known.doubts.get(int(p.start.timestamp()), SURE)) if known else "")
             + "\n"
         )
@@ -181,13 +194,14 @@ def said_of(whose: str, day: str, periods: list[Period], has_export: bool) -> st
 
 
 class DayPart(NamedTuple):
-    """A day of a site or a station, its label on a page, and the scale of its picture."""
+    """A day of a site or a station, its label on a page, the scale of its picture, and its sessions by EVSE."""
 
     part: Part
     label: str
     day: date
     periods: list[Period]
     scale: Scale
+    lanes: Sequence[Lane] = ()
 
 
 def day_of_part(one: DayPart, calendar: Calendar, has_export: bool) -> Iterator[str]:
@@ -195,12 +209,26 @@ def day_of_part(one: DayPart, calendar: Calendar, has_export: bool) -> Iterator[
     day, periods = one.day, one.periods
     whose = f"{'Site' if one.part.is_site else 'Station'} {escape(one.part.name)}"
     said, shown = (said_of(whose, text, periods, has_export) for text in (str(day), kept(str(day))))
-    columns = len(flow_heads(has_export)) + (1 if calendar.is_utc else 2) + bool(one.part.known)
+    peak = peak_said(periods, calendar)
+    shown += f", peak {peak}" if peak else ""
     yield f'<section aria-labelledby="{one.label}">\n<h3 id="{one.label}">{whose}</h3>\n'
+    columns = len(flow_heads(has_export)) + (2 if calendar.is_utc else 3) + bool(one.part.known)
     yield f'<div class="day" style="--columns:{columns}">\n<figure>\n'
     label = f"Bars. {said}. The table has the numbers."
     yield from picture(label, day, periods, one.scale, calendar)
-    yield f"<figcaption>{shown}</figcaption>\n</figure>\n"
+    yield f"<figcaption>{shown}</figcaption>\n"
+    if one.lanes:
+        count = sum(len(lane.sessions) for lane in one.lanes)
+        label = f"Sessions of {whose} on {day} by EVSE: {count:,}. The page of all days has their tables."
+        yield from lane_picture(label, one.lanes, day, calendar)
+        left = len(one.lanes) - MOST_LANES
+        more = (
+            f", the first {MOST_LANES} EVSEs; the stations below have the others"
+            if left > 0
+            else ""
+        )
+        yield f"<figcaption>Sessions of the day by EVSE{more}</figcaption>\n"
+    yield "</figure>\n"
     yield f'<div class="scroll" role="group" tabindex="0" aria-label="Periods of {whose} on {day}">\n'
     yield from periods_of(day, periods, calendar, has_export, one.part.known)
     yield "</div>\n</div>\n</section>\n"
@@ -214,13 +242,15 @@ def finding_text(one: Finding) -> str:
 
 
 def state_text(t: Session) -> str:
-    """What is told of a session's completeness, and what is doubtful."""
+    """What the page says of a session's completeness, and what is doubtful."""
     findings = voided_text(t) + "".join(map(finding_text, t.findings))
-    if not t.missing or t.state.startswith("voided by"):
+    gaps = t.lost()
+    if not gaps:
         return escape(t.state) + findings
-    more = len(t.gaps) - MOST_RANGES
-    some = ranges(t.gaps[:MOST_RANGES]) + (f" and {more:,} ranges more" if more > 0 else "")
-    count = "1 number" if t.missing == 1 else f"{t.missing:,} numbers"
+    more = len(gaps) - MOST_RANGES
+    some = ranges(gaps[:MOST_RANGES]) + (f" and {more:,} ranges more" if more > 0 else "")
+    lost = sum(b - a + 1 for a, b in gaps)
+    count = "1 number" if lost == 1 else f"{lost:,} numbers"
     return f"{count} missing: {some}{''.join(strip(t))}{findings}"
 
 
@@ -288,8 +318,10 @@ def runs_of(rows: Iterable[Row]) -> Iterator[list[Row]]:
 
 
 def session_order(t: Session) -> tuple[int, float]:
-    """Sessions with troubles come first, and then the latest."""
-    rank = 0 if t.missing else 1 if not t.complete else 2 if t.findings else 3
+    """Sessions with troubles come first, those with a wrong number before those that lack something, and then the
+    latest."""
+    found = (has_wrong(t.findings), t.missing > 0, not t.complete, bool(t.findings), True)
+    rank = found.index(True)
     begun = t.times.begun if t.times else None
     return rank, -begun.timestamp() if begun else 0.0
 
@@ -325,7 +357,8 @@ def sections_of(
             for e in part.evses
         )
         heads = ["EVSE", *flow_heads(has_export)]
-        evses = across(f"EVSEs of {name}", "".join(table("Energy by EVSE, kWh", heads, rows)))
+        text = "".join(table("Energy by EVSE, kWh", heads, rows, cards=True))
+        evses = across(f"EVSEs of {name}", text)
     none = "" if part.sessions else "<p>It shows no session.</p>\n"
     yield (
         f'<section aria-labelledby="{label}">\n<h3 id="{label}">Station {name}</h3>\n{warning}'

@@ -11,10 +11,14 @@ from ocpp_board.energies import Flow, kwh
 STYLE = """
 :root{color-scheme:light dark;--paper:#fff;--tint:#f3f4f5;--ink:#1b1b1b;--soft:#565656;--line:#cfcfcf;--rise:#1f5a94;
 --fall:#9a3d00;--out:#1b6b25;--link:#0b3d91;--bad:#a8071a}
+.heat{stroke:var(--line);stroke-width:.02;fill:var(--rise)}.heat1{fill-opacity:.15}.heat2{fill-opacity:.35}
+.heat3{fill-opacity:.55}.heat4{fill-opacity:.75}
+.fed1,.fed2,.fed3,.fed4,.fed5{fill:var(--out)}.fed1{fill-opacity:.15}.fed2{fill-opacity:.35}.fed3{fill-opacity:.55}
+.fed4{fill-opacity:.75}
 @media(prefers-color-scheme:dark){:root{--paper:#15181b;--tint:#22272c;--ink:#ececec;--soft:#a9afb6;--line:#42494f;
 --rise:#6fb1ef;--fall:#ff9d5c;--out:#79cf82;--link:#9ec5ff;--bad:#ff8a80}}
 *{box-sizing:border-box}
-body{margin:0 auto;max-width:84rem;padding:1rem;font:1rem/1.45 system-ui,sans-serif;color:var(--ink);
+body{margin:0 auto;max-width:100rem;padding:1rem;font:1rem/1.45 system-ui,sans-serif;color:var(--ink);
 background:var(--paper);overflow-wrap:break-word}
 h1{font-size:1.6rem;margin:.5rem 0}h2{font-size:1.35rem;border-bottom:2px solid var(--ink);margin-top:2.5rem}
 h3{font-size:1.15rem;margin:2rem 0 .5rem}h3.sub{font-size:1rem;margin:1.5rem 0 .5rem}h1,h2,h3{overflow-wrap:anywhere}
@@ -26,9 +30,14 @@ dl.figures div.lead dd{font-size:1.6rem}
 .mark>th::before,dl.figures div.mark dd::before,.flag::before{content:"\\25B2\\A0";color:var(--bad);font-size:.8em}
 .warning{border-left:4px solid var(--bad);background:var(--tint);padding:.5rem .7rem;font-weight:600}
 .refused{background:var(--bad);color:var(--paper);padding:.5rem .7rem;font-weight:600}.refused a{color:var(--paper)}
-.day{display:grid;grid-template-columns:minmax(0,1fr) calc(var(--columns)*5.25rem);gap:0 1.5rem;
-margin:0 0 1.25rem}
-figure{margin:0;padding-left:3.5rem}
+.day{display:flex;flex-wrap:wrap;gap:0 1.5rem;margin:0 0 1.25rem;align-items:flex-start}
+.day figure{flex:1 1 22rem;min-width:0}
+.day .scroll{flex:0 1 auto;min-width:min(100%,calc(var(--columns)*6rem));max-width:100%}
+figure{margin:0;padding-left:3.5rem}figure.heat{max-width:60rem}
+figure svg svg{overflow:hidden}.hit{fill:none;pointer-events:all}.hit:hover{fill:var(--ink);fill-opacity:.12}
+.lacks{fill:var(--fall)}
+.legend{display:flex;flex-wrap:wrap;gap:.25rem 1.25rem;font-size:.85rem;margin:1rem 0}
+.legend svg{display:inline;vertical-align:middle;margin-right:.35rem}
 figcaption,caption{text-align:left;font-size:.85rem;padding:.2rem 0;color:var(--soft)}
 figcaption{margin-left:-3.5rem}
 svg{display:block;overflow:visible}svg text{font:11px system-ui,sans-serif;fill:var(--ink)}
@@ -36,7 +45,7 @@ path{vector-effect:non-scaling-stroke}.grid{stroke:var(--line)}.zero{stroke:var(
 .up,.there{fill:var(--rise)}.down{fill:url(#falls);stroke:var(--fall)}.out{fill:var(--out)}
 .back{fill:url(#returns);stroke:var(--out)}.still{stroke:var(--ink);stroke-width:4}
 .fall{fill:var(--fall)}.return{fill:var(--out)}.gap{fill:var(--paper);stroke:var(--ink);stroke-dasharray:2 2}
-.scroll,.across{position:relative;overflow:auto}.scroll{max-height:15.5rem}
+.scroll,.across{position:relative;overflow:auto}.scroll{max-height:15.5rem;overflow-y:scroll}
 table{border-collapse:collapse;width:100%;font-size:.85rem;font-variant-numeric:tabular-nums}
 th,td{border-bottom:1px solid var(--line);padding:.2rem .5rem;text-align:right;vertical-align:top;white-space:nowrap}
 th:first-child,td:first-child,.left{text-align:left}
@@ -52,16 +61,18 @@ td.bar span{display:block;height:.75rem;background:var(--rise)}td.bar span.less{
 nav{display:flex;flex-wrap:wrap;gap:.25rem 1.5rem;margin:.75rem 0}
 a{color:var(--link)}a:focus,.scroll:focus,.across:focus,summary:focus{outline:3px solid var(--link)}
 details{margin:2.5rem 0 1rem;border-top:1px solid var(--line);padding-top:.5rem}details p,details li{max-width:48rem}
-@media(max-width:70rem){.day{grid-template-columns:minmax(0,1fr)}}
+@media(max-width:70rem){.day{display:block}}
 @media(max-width:48rem){
 body{padding:.75rem}figure{padding-left:2.75rem}figcaption{margin-left:-2.75rem}.wide{display:none}
-th,td{padding:.2rem .25rem}table.plain{width:100%;font-size:.8rem}
+th,td{padding:.2rem .25rem}table.plain{width:100%;font-size:.8rem}.plain td.left{min-width:4rem}
 .plain tbody th{min-width:7rem}.days tbody th{white-space:nowrap}
+.days tr>:nth-child(3),.days tr>:nth-child(4){display:none}
 .cards thead{position:absolute;width:1px;height:1px;overflow:hidden;clip-path:inset(50%)}
 .cards,.cards caption,.cards tbody{display:block}
 .cards tr{display:grid;grid-template-columns:1fr 1fr;gap:0 1rem;border-top:2px solid var(--line);padding:.35rem 0}
 .cards th,.cards td{display:block;text-align:left;border:0;padding:.1rem 0;min-width:0}
-.cards td{white-space:normal}.cards tbody th,.cards td.left{grid-column:1/-1}.cards tbody th{font-weight:600}
+.cards .wide{display:none}.cards td{white-space:normal}
+.cards tbody th,.cards td.left{grid-column:1/-1}.cards tbody th{font-weight:600}
 .cards td::before{content:attr(data-head) ": ";color:var(--soft)}.cards td:empty{display:none}}
 @media print{.scroll{max-height:none;overflow:visible}}
 """
@@ -91,6 +102,25 @@ SESSIONS = """<p>A session is complete when its first event is its start, its la
 is missing, and none of those between is a start or an end. Voided events count for nothing. A red triangle marks what \
 is missing, not complete or voided.</p>
 """
+
+# What colours and stripes stand for.
+LEGEND = """<section class="legend" aria-label="What colours and stripes stand for">
+{}</section>
+""".format(
+    "".join(
+        '<span><svg width="22" height="12" aria-hidden="true">'
+        f'<rect class="{kind}" width="20" height="11"/></svg>{said}</span>\n'
+        for kind, said in (
+            ("up", "up: a register rose"),
+            ("down", "down: a register fell, or readings were listed again"),
+            ("out", "export up: energy was fed back"),
+            ("back", "export down"),
+            ("there", "a complete session"),
+            ("lacks", "a session that is not complete"),
+            ("gap", "numbers missing"),
+        )
+    )
+)
 
 MARK = ' class="mark"'
 
@@ -137,6 +167,14 @@ def refused_banner(count: int, href: str) -> str:
         return ""
     what = "1 message was" if count == 1 else f"{count:,} messages were"
     return f'<p class="refused" role="status"><a href="{escape(href)}">{what} refused: which, and why</a></p>\n'
+
+
+def mended_note(count: int, href: str) -> str:
+    """How many messages were mended, with the file that lists them; nothing where none was."""
+    if not count:
+        return ""
+    what = "1 message was" if count == 1 else f"{count:,} messages were"
+    return f'<p><a href="{escape(href)}">{what} mended as declared by --mend: which</a></p>\n'
 
 
 def explained(*texts: str) -> str:

@@ -46,7 +46,7 @@ class EvsePeriods:
 
 @dataclass
 class KnownPeriods:
-    """What messages tell of the periods of a site or a station, and of the EVSEs of a station."""
+    """What messages say of the periods of a site or a station, and of the EVSEs of a station."""
 
     doubts: Doubts = field(default_factory=dict)
     evses: dict[int, EvsePeriods] = field(default_factory=dict)
@@ -140,14 +140,26 @@ def in_gaps(
     events: Sequence[Event], seconds: int, gaps: Sequence[tuple[int, int]]
 ) -> Iterator[int]:
     """The periods in which numbers of a session are missing: from the event before a gap to the one behind it."""
-    numbers = [event.number for event in events]
+    for first, last in holes_of(events, gaps):
+        start = int(first // seconds) * seconds
+        yield from range(start, min(int(last) + 1, start + MOST_PERIODS * seconds), seconds)
+
+
+def holes_of(
+    events: Sequence[Event], gaps: Sequence[tuple[int, int]]
+) -> Iterator[tuple[float, float]]:
+    """The times between which numbers of a session are missing: those of the events beside each gap."""
+    numbers = [event.number for event in events] if gaps else []
     for a, _ in gaps:
         place = bisect_left(numbers, a)
         if not 0 < place < len(events):
             continue
         before, after = events[place - 1].at, events[place].at
-        if before is None or after is None:
-            continue
-        first, last = sorted((before, after))
-        start = int(first // seconds) * seconds
-        yield from range(start, min(int(last) + 1, start + MOST_PERIODS * seconds), seconds)
+        if before is not None and after is not None:
+            yield min(before, after), max(before, after)
+
+
+def span_of(events: Sequence[Event]) -> tuple[float, float] | None:
+    """The first and the last moment of a session's events; None where none has a moment."""
+    moments = [event.at for event in events if event.at is not None]
+    return (min(moments), max(moments)) if moments else None

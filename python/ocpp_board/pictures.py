@@ -7,16 +7,16 @@ from functools import lru_cache
 
 from ocpp_board.boards import Period, Session
 from ocpp_board.calendars import Calendar
-from ocpp_board.energies import MINUS, MWH_OF_A_KWH, Flow
+from ocpp_board.energies import MINUS, MWH_OF_A_KWH, Flow, kwh
 
-# Seconds that one unit of a picture's width stands for: every period has a whole number of tenths of its width.
+# Seconds of one unit of a picture's width: every period has a whole number of tenths of its width.
 UNIT = 30
 # Lines above each other that a picture has at most, the one at zero left out.
 MOST_LINES = 5
 
 
 class Scale:
-    """Where an energy stands in a picture: rises above the zero line, falls below it, and a line beyond each.
+    """Where an energy is in a picture: rises above the zero line, falls below it, and a line beyond each.
 
     The unit of its axis is the first of its units in which the numbers are not too long for a phone.
     """
@@ -80,7 +80,7 @@ def short(number: float) -> str:
 
 
 def bar(left: int, wide: int, p: Period, scale: Scale) -> Iterator[tuple[str, str]]:
-    """The parts of a period's bars, each with its kind; where it begins and how wide it is are told in units."""
+    """The parts of a period's bars, each with its kind; where it begins and how wide it is are in units."""
     flow, x = p.flow, left + wide // 10
     across = wide - 2 * (wide // 10)
     if not any(flow):
@@ -100,7 +100,7 @@ def bar(left: int, wide: int, p: Period, scale: Scale) -> Iterator[tuple[str, st
 
 @lru_cache(2)
 def hours(calendar: Calendar, day: date) -> list[tuple[float, str]]:
-    """Where the third hours of a day stand, in parts of the picture's width, with their texts."""
+    """Where the third hours of a day are, in parts of the picture's width, with their texts."""
     begin, length = calendar.begin(day), calendar.seconds(day)
     texts = (
         (hour * 3600 / length * 100, calendar.time(begin + timedelta(hours=hour)))
@@ -132,6 +132,17 @@ def paths(
         yield "still", "".join(still)
 
 
+def values(day: date, periods: list[Period], calendar: Calendar) -> Iterator[str]:
+    """What shows a period's energy and average power where its bars are."""
+    begin, bottom = calendar.begin(day), Scale.TOP + Scale.HEIGHT
+    for p in periods:
+        left, net = round((p.start - begin).total_seconds() / UNIT), p.flow.net
+        power = f"{net * 3600 / MWH_OF_A_KWH / p.seconds:,.2f}".replace("-", MINUS)
+        yield f'<rect class="hit" x="{left}" width="{p.seconds // UNIT}" height="{bottom}"><title>'
+        said = calendar.times(p.start, p.seconds).partition("<")[0]
+        yield f"{said}: {kwh(net)} kWh, {power} kW</title></rect>"
+
+
 def picture(
     label: str, day: date, periods: list[Period], scale: Scale, calendar: Calendar
 ) -> Iterator[str]:
@@ -141,6 +152,7 @@ def picture(
     yield f'<svg width="100%" height="{height}" viewBox="0 0 {width} {height}" preserveAspectRatio="none">'
     for kind, path in paths(day, periods, scale, calendar):
         yield f'<path class="{kind}" d="{path}"/>'
+    yield from values(day, periods, calendar)
     yield f'</svg>\n<text x="-5" y="9" text-anchor="end">{scale.unit}</text>'
     for mwh in scale.marks():
         y = short(scale.at(mwh) + 4)

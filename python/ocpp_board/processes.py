@@ -1,4 +1,4 @@
-"""Tools that other tools run as processes of their own, or whose output they read."""
+"""Tools that other tools run as processes of their own, or read output from."""
 
 import os
 import select
@@ -45,7 +45,7 @@ def replay_environment() -> dict[str, str]:
 
 
 def run_tool(name: str, words: Sequence[str], data: bytes) -> "subprocess.CompletedProcess[bytes]":
-    """Runs a tool of this package on these bytes of standard input, with what it tells on standard error.
+    """Runs a tool of this package on these bytes of standard input, with what it writes to standard error.
 
     It is not checked how it ends. Raises OSError where it can't be started.
     """

@@ -12,12 +12,12 @@ CLEAR = "\r\033[K"
 
 
 def tell(text: str) -> None:
-    """Writes a text over the one that was told before."""
+    """Writes a text over the one that was shown before."""
     print(f"\r{text} \033[K", end="", file=sys.stderr, flush=True)
 
 
 def clear() -> None:
-    """Takes the text that was told last from the terminal."""
+    """Takes the text that was shown last from the terminal."""
     print(CLEAR, end="", file=sys.stderr, flush=True)
 
 
@@ -44,6 +44,6 @@ class Progress:
         return f", {100 * self.file.tell() / self.size:.0f} %"
 
     def end(self) -> None:
-        """Leaves the line to what is told next."""
+        """Leaves the line to what is shown next."""
         if self.is_shown and self.next:
             clear()

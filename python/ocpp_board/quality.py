@@ -32,13 +32,14 @@ class Kind(Enum):
     POWER = (
         "power that cannot be",
         "Between two readings the register rose faster than an EVSE can charge (--most-kw). One of the two readings "
-        "or its time is wrong, and so is the energy. Compare them with the readings before and after.",
+        "or its time is wrong, and so is the energy. Compare them with the readings before and after, and void the "
+        "event that has the wrong one (a line `void STATION ID NUMBER` to live, or in the script).",
         Effect.WRONG,
     )
     SIGNED = (
         "signed value differs",
-        "The signed value of a reading is another than the plain one, which the ledger counts. A bill has to follow "
-        "the signed one.",
+        "The signed value of a reading differs from the plain one, which the ledger counts. Bill the session by its "
+        "signed values, which the transactions table and the signed files have.",
         Effect.WRONG,
     )
     RESET = (
@@ -49,53 +50,58 @@ class Kind(Enum):
     )
     REGISTER_FALLS = (
         "register falls",
-        "The register reads less than it read before. The fall stands under down.",
+        "The register reads less than before, and the fall counts as down. Compare the reading with those "
+        "before and after. If it is wrong, void its event (a line `void STATION ID NUMBER` to live, or in the script).",
         Effect.WRONG,
     )
     REPEATED = (
         "readings repeated at the end",
-        "An event lists readings once more that came before. The session's net energy is right, but its periods are "
-        "not: the fall back to the first of them lies in one period, and the rise again in the others. Of a site that "
-        "is read by time they change nothing (see docs/rules.md, readings repeated at the end).",
+        "An event lists readings again that came before. The session's net energy is right, but its periods are not: "
+        "the fall back to the first of them is in one period, and the second rise in the others. Run the tool again "
+        "over the log with the option that the detail names: then readings that are listed again change nothing.",
         Effect.WRONG,
     )
     ID_AGAIN = (
         "transaction id used again",
-        "Events came under the id after its end. Two sessions are mixed in one, or the second one was refused.",
+        "Events came under the id after its end. Two sessions are mixed in one, or the second one was refused. Find "
+        "both in the log by the id and their times, and bill them by their registers.",
         Effect.WRONG,
     )
     CLOCK_BACK = (
         "clock goes back",
-        "An event has an earlier time than the event before it, so its energy may lie in a wrong period.",
+        "An event has an earlier time than the event before it, so its energy may be in a wrong period. The session's "
+        "energy is right. Compare the times in the log with those of receipt before you settle its periods.",
         Effect.WRONG,
     )
     CLOCK_FAR = (
         "clock far from receipt",
         "An event's time is more than 5 minutes after its receipt, or more than an hour before it and the event was "
-        "not offline. Its energy may lie in a wrong period.",
+        "not offline. Its energy may be in a wrong period. If the station's clock was wrong, settle its periods by the "
+        "times of receipt in the log.",
         Effect.WRONG,
     )
     NO_READING = (
         "no counted reading",
-        "The session is complete and has no reading of energy, so it shows 0 kWh.",
+        "The session is complete and has no reading of energy, so it shows 0 kWh. Look in the log for MeterValues "
+        "of its time, or read the meter.",
         Effect.LACKS,
     )
     OTHER_ENERGY = (
         "energy that does not count",
         "The session has readings of energy, and none of them counts: they are of an interval, of one phase, or of "
-        "another place than the outlet. So it shows 0 kWh.",
+        "another place than the outlet. So it shows 0 kWh. The log has these readings: bill the session by them.",
         Effect.LACKS,
     )
     ROSE_BETWEEN = (
         "register rose between sessions",
         "The register of the EVSE reads more at the start of this session than at the end of the one before. No "
-        "session has this energy. Look in the log for messages that were refused or left out between the two.",
+        "session has this energy. Look for messages between the two, in the table of what was refused and in the log.",
         Effect.LACKS,
     )
     OUTSIDE = (
         "energy outside sessions",
         "The register rose in MeterValues that the station sent outside its transactions, and no session was there "
-        "then. Look in the log for a session that was refused or never reported.",
+        "then. Look for a session that was refused or never reported, in the table of what was refused and in the log.",
         Effect.LACKS,
     )
     NOT_ENDED = (
@@ -106,7 +112,8 @@ class Kind(Enum):
     )
     NUMBERS_ABOVE_0 = (
         "numbers begin above 0",
-        "The first sequence number is above 0. What came before it is not counted as missing.",
+        "The first sequence number is above 0. What came before it is not counted as missing. Look for it in the log "
+        "of the time before, such as a rotated file.",
         Effect.LACKS,
     )
     ONE_COUNTER = (
@@ -195,14 +202,11 @@ def again(transaction: Transaction, events: Sequence[Event]) -> Iterator[Finding
     yield from finding(Kind.ID_AGAIN, after)
 
 
-def order_option(site: str) -> str:
-    """What has a site's readings taken by time where tools are run."""
-    return f"`--order {site}=moment` of log-to-script or live (in a script {order_line(site)[2:]})"
-
-
-def order_line(site: str) -> str:
-    """The line of a script that has a site's readings taken by time."""
-    return f"a line `order {site} moment`"
+def order_option(site: str, where: str = "") -> str:
+    """The option of the tools that has a site's readings taken by time, and the line of a script that does, which has
+    its place there."""
+    line = f"`order {site} moment`{' ' if where else ''}{where}"
+    return f"`--order {site}=moment` of log-to-script or live (in a script line {line})"
 
 
 def powers(events: Sequence[Event], is_by_time: bool, most_kw: int) -> Iterator[Finding]:
@@ -213,7 +217,7 @@ def powers(events: Sequence[Event], is_by_time: bool, most_kw: int) -> Iterator[
             if had.at is None or one.at is None or one.at < had.at:
                 continue
             seconds = one.at - had.at
-            # Moments are told to a second; readings of one moment may be of the same minute.
+            # Moments are given to a second; readings of one moment may be of the same minute.
             longest = seconds + 1 if seconds else 60
             kw = (one.mwh - had.mwh) * 3600 / MWH_OF_A_KWH / longest
             if kw > most_kw:

@@ -1,4 +1,4 @@
-"""What a station sent and the ledger did not take: whose it was, the cause by name, and what to do.
+"""What a station sent and the ledger did not take: of which station, the cause by name, and what to do.
 
 The same again, as a station sends it that gets no answer, is one row with how often it came.
 """
@@ -21,16 +21,17 @@ from ocpp_board.limits import LONGEST_LINE, MOMENT
 from ocpp_board.line_faults import Said, bad_line
 from ocpp_board.message_faults import JSON, is_kept_nothing_of, message_fault
 from ocpp_board.messages import CALL
+from ocpp_board.script_lines import ScriptLines
 
 log = logging.getLogger(__name__)
 
-# Refusals of a cause that are told one by one; then each is told whose count is a power of ten.
+# Refusals of a cause that are reported one by one; then one is reported if its count is a power of ten.
 MOST_TOLD = 10
 # Rows of a site. Further refusals are one row for each station and cause.
 MOST_ROWS = 65_536
 # Characters of a message's text that are kept.
 LONGEST_TEXT = 64
-# The cause of a line of a log that is no message of a station for the ledger, and how it is told of a station that the
+# The cause of a line of a log that is no message of a station for the ledger, and how it is said of a station that the
 # file of stations lacks.
 UNTAKEN = "Untaken"
 NOT_IN = "a station is not in"
@@ -108,7 +109,7 @@ def utc(moment: datetime) -> str:
 
 
 def is_left(answered: Answered) -> bool:
-    """Whether the message is of an action of OCPP 2.0.1 of which the ledger keeps nothing: it loses nothing."""
+    """Whether the message has an action of OCPP 2.0.1, but the ledger keeps nothing of it: it loses nothing."""
     if not answered.answer.endswith(',"UnknownAction",{}]'):
         return False
     call = CALL.match(answered.message)
@@ -170,26 +171,37 @@ class Row:
 class UntakenLines:
     """A script in front of a replay, which keeps the refusals that its comments have."""
 
-    def __init__(self, script: Lines) -> None:
-        self.script = script
+    def __init__(
+        self,
+        script: Lines,
+        lines: ScriptLines | None = None,
+        other: Callable[[bytes, int], object] | None = None,
+    ) -> None:
+        """`lines` gets each line, and `other` each other comment with its number."""
+        self.script, self.lines, self.other = script, lines or ScriptLines(), other
         self.refusals: list[Refusal] = []
-        # Comments that tell of operators' lines.
+        # Comments of operators' lines.
         self.operators: list[bytes] = []
 
     def readline(self) -> bytes:
         """The next line; empty at the end."""
         line = self.script.readline()
+        self.lines.passed(line)
         if refusal := commented(line):
             self.refusals.append(refusal)
         elif line.startswith(OPERATOR):
             self.operators.append(line)
+        elif self.other is not None and line.startswith(b"#"):
+            self.other(line, len(self.lines.starts))
         return line
 
 
 class Refusals:
-    """What was refused, each with how often. It is told at once; of a cause that comes often only now and then."""
+    """What was refused, each with how often. It is reported at once; of a cause that comes often only now and then."""
 
-    def __init__(self) -> None:
+    def __init__(self, source: str = "") -> None:
+        """`source`: where the messages come from, for a reader."""
+        self.source = source
         self.rows: dict[Refusal, Row] = {}
         self.causes: Counter[str] = Counter()
         self.of_site: Counter[str] = Counter()
@@ -200,7 +212,7 @@ class Refusals:
             self.add(refusal)
 
     def add(self, refusal: Refusal) -> None:
-        """Takes a refusal, and tells it."""
+        """Takes a refusal, and reports it."""
         key = refusal._replace(time="")
         if key not in self.rows and len(self.rows) >= MOST_ROWS:
             key = key._replace(transaction="", number="", what="one of many")
@@ -210,6 +222,15 @@ class Refusals:
         self.of_site[refusal.site] += 1
         self.causes[refusal.cause] += 1
         self.tell(refusal, self.causes[refusal.cause])
+
+    def of_sessions(self) -> dict[tuple[str, str], list[Row]]:
+        """The rows by station and transaction, without those that name no transaction."""
+        found: dict[tuple[str, str], list[Row]] = {}
+        for row in self.rows.values():
+            if row.refusal.transaction:
+                key = row.refusal.station, row.refusal.transaction.lower()
+                found.setdefault(key, []).append(row)
+        return found
 
     def settle(self, is_taken: Callable[[Refusal], bool]) -> None:
         """Takes away rows of lines that could not be taken, whose messages were taken by now."""
@@ -222,7 +243,7 @@ class Refusals:
     def tell(self, refusal: Refusal, count: int) -> None:
         """Tells a refusal, the one of this count of its cause."""
         if count <= MOST_TOLD:
-            log.warning("refused: %s", sentence(refusal))
+            log.warning("refused: %s", sentence(refusal, self.source))
         elif str(count).strip("0") == "1":
             log.warning("refused: %s messages by now: %s", f"{count:,}", refusal.cause)
 
@@ -254,12 +275,13 @@ class Refusals:
             log.warning("refused: %s messages in all: %s", f"{self.count():,}", causes)
 
 
-def sentence(refusal: Refusal) -> str:
-    """A refusal in words."""
+def sentence(refusal: Refusal, source: str = "") -> str:
+    """A refusal in words. `source`: where its message comes from."""
     whose = " ".join(filter(None, (refusal.station, refusal.transaction, refusal.number)))
     at = f" at {shown(refusal.time)[1:-1]}" if refusal.time else ""
     said = f"{refusal.cause}: {refusal.what}; {refusal.advice}"
-    return f"{shown(whose)[1:-1] or 'a line'}{at}: {without_controls(said)}"
+    line = f"a line of {without_controls(source)}" if source else "a line"
+    return f"{shown(whose)[1:-1] or line}{at}: {without_controls(said)}"
 
 
 def comment_of(refusal: Refusal) -> bytes:

@@ -1,4 +1,4 @@
-"""Boards whose periods are wrong since stations list readings again, and the line that mends it."""
+"""Boards with periods that are wrong since stations list readings again, and the line that mends it."""
 
 import tempfile
 from collections.abc import Callable
@@ -6,7 +6,7 @@ from collections.abc import Callable
 from ocpp_board.answered import Line
 from ocpp_board.boards import Part, Reader
 from ocpp_board.progress import Progress
-from ocpp_board.quality import Kind, order_line
+from ocpp_board.quality import Kind, order_option
 from ocpp_board.told import Told
 
 
@@ -32,10 +32,10 @@ class Repeats:
 
 
 class RepeatHints:
-    """Takes messages with their answers, and boards, and tells once of each site of which a board has such sessions."""
+    """Takes messages with their answers, and boards, and reports once each site with a board that has such sessions."""
 
     def __init__(self, tell: Callable[[Line, str, str], None]) -> None:
-        """`tell` gets the line that asks for the board, what is told, and a remedy."""
+        """`tell` gets the line that asks for the board, what is reported, and a remedy."""
         self.tell, self.messages = tell, Told()
         self.sites = set[str]()
 
@@ -56,5 +56,5 @@ class RepeatHints:
                 line,
                 f"in {sessions} of site {site}, such as {found.first}, readings are listed again, and by sequence that "
                 "is a fall and a second rise: their periods are wrong",
-                f"{order_line(site)} behind the first `station` line of the site takes readings by time",
+                f"{order_option(site, 'behind the first `station` line of the site')} takes readings by time",
             )

@@ -1,4 +1,4 @@
-"""Whether a text with boards is what a replay of a script wrote: told by the sessions of its boards."""
+"""Whether a text with boards is what a replay of a script wrote, by the sessions of its boards."""
 
 import shutil
 import tempfile
@@ -12,7 +12,7 @@ from ocpp_board.transactions import Event, Transactions
 
 
 class Silent(Reader):
-    """A reader of boards that tells nothing of lines that it can't read."""
+    """A reader of boards that reports nothing of lines that it can't read."""
 
     def complain(self, number: int, text: str) -> None:
         """Keeps in mind that the part is not whole."""

@@ -2,7 +2,7 @@
 
 import argparse
 import difflib
-from collections.abc import Iterable
+from collections.abc import Iterable, Iterator
 
 from ocpp_board.escapes import shown
 from ocpp_board.limits import (
@@ -17,6 +17,7 @@ from ocpp_board.limits import (
 )
 from ocpp_board.line_faults import NAMES, name_fault
 from ocpp_board.logforms import Entry
+from ocpp_board.mending import add_mending, mends_of
 from ocpp_board.messages import Refused
 from ocpp_board.refusals import NOT_IN
 from ocpp_board.statuses import Mistaken
@@ -74,6 +75,8 @@ class ScriptPlan:
         self.most_sites = MOST_SITES if most_stations == MOST_STATIONS else most_stations
         self.readings = words.limits[2] if words.limits else DEFAULT_READINGS
         self.site_of: dict[str, str] = {}
+        # The limits of stations where none are asked for; without them they are the program's.
+        self.limits_of: dict[str, tuple[int, ...]] = {}
         self.map = {station: site for station, site in pairs_of(words.site_map or "/dev/null")}
         self.is_fixed = words.stations is not None
         try:
@@ -92,10 +95,15 @@ class ScriptPlan:
         sites = list(dict.fromkeys(told))
         return [
             f"{option} names the site {shown(name)}, which {self.source()} does not have; {known(name, sites)}"
-            for option, of_sites in (("--order", self.words.order), ("--period", self.words.period))
+            for option, of_sites in self.options()
             for name in of_sites
             if name and name not in sites
         ]
+
+    def options(self) -> Iterator[tuple[str, Iterable[str]]]:
+        """The options that name sites, with these."""
+        yield from (("--order", self.words.order), ("--period", self.words.period))
+        yield "--mend", self.words.mend
 
     def source(self) -> str:
         """Where the sites come from, for a reader."""
@@ -127,7 +135,9 @@ class ScriptPlan:
         if known == site:
             return False
         if known is not None:
-            raise Refused(f"station {station} stands on site {known} already, and not on {site}")
+            raise Refused(
+                f"station {station} is declared at site {known} already, and not at {site}"
+            )
         if len(self.site_of) == self.most_stations:
             raise Refused(f"one station more than {self.most_stations}", station)
         if site not in self.site_of.values() and len(self.sites()) == self.most_sites:
@@ -145,9 +155,7 @@ class ScriptPlan:
 
     def limits_line(self) -> bytes:
         """The line with the limits of all stations, where some are asked for."""
-        if not self.words.limits:
-            return b""
-        return f"limits {' '.join(map(str, self.words.limits))}\n".encode()
+        return limits_line_of(self.words.limits) if self.words.limits else b""
 
     def period_line(self, site: str) -> bytes:
         """The settlement period of a site, where one is asked for."""
@@ -162,7 +170,12 @@ class ScriptPlan:
     def declarations(self, site_of: dict[str, str] | None = None) -> bytes:
         """The lines in front of the first message, of these stations or of all."""
         stations = self.site_of if site_of is None else site_of
-        lines = [f"station {site} {station}\n".encode() for station, site in stations.items()]
+        lines, before = list[bytes](), tuple[int, ...]()
+        for station, site in stations.items():
+            limits = self.limits_of.get(station, before)
+            lines += [limits_line_of(limits)] if limits != before else []
+            lines.append(f"station {site} {station}\n".encode())
+            before = limits
         sites = dict.fromkeys(stations.values())
         of_sites = [line(site) for site in sites for line in (self.period_line, self.order_line)]
         return b"".join([self.limits_line(), *lines, *of_sites])
@@ -173,8 +186,13 @@ class ScriptPlan:
         return b"".join(f"board {site}\n".encode() for site in sites if self.words.boards)
 
 
+def limits_line_of(limits: Iterable[int]) -> bytes:
+    """A line of a script with limits."""
+    return f"limits {' '.join(map(str, limits))}\n".encode()
+
+
 def of_site(text: str) -> tuple[str, str]:
-    """A site and what is told of it; without a site of all others."""
+    """A site and what the option says of it; without a site of all others."""
     site, _, told = text.rpartition("=")
     if "=" in text and not is_name(site):
         raise argparse.ArgumentTypeError(f"no name of a site: {shown(text)}")
@@ -213,7 +231,7 @@ def add_plan(parser: argparse.ArgumentParser) -> None:
         default=[],
         metavar="[SITE=]SECONDS",
         help="the settlement period of a site's boards, or of all sites that are not named so: "
-        "300, 900, 1800 or 3600 seconds (900 where none is told)",
+        "300, 900, 1800 or 3600 seconds (default: 900)",
     )
     parser.add_argument(
         "--order",
@@ -222,13 +240,15 @@ def add_plan(parser: argparse.ArgumentParser) -> None:
         default=[],
         metavar="[SITE=]WORD",
         help="the order of a site's readings, or of all sites that are not named so: sequence, the numbers of their "
-        "events, or moment, their own times, for stations that list readings again (sequence where none is told)",
+        "events, or moment, their own times, for stations that list readings again (default: sequence)",
     )
+    add_mending(parser)
 
 
 def check_plan(parser: argparse.ArgumentParser, words: argparse.Namespace) -> None:
     """Brings these options into their form. Wrong ones end the program with status 2."""
     words.period, words.order = dict(words.period), dict(words.order)
+    words.mend = mends_of(words.mend)
     greatest = GREATEST_LIMITS.values()
     if words.limits and not all(1 <= n <= most for n, most in zip(words.limits, greatest)):
         parser.error("--limits are from 1 to 4096, 65536, 65536 and 9223372036854775808")

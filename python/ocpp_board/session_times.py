@@ -15,7 +15,7 @@ class Registers(NamedTuple):
 
 
 class SessionTimes(NamedTuple):
-    """What the live events of a session tell. `begun` is its earliest time, whether of a start or not."""
+    """What the live events of a session say. `begun` is its earliest time, whether of a start or not."""
 
     start: datetime | None
     end: datetime | None
@@ -39,7 +39,7 @@ def registers_of(events: Sequence[Event], is_export: bool, is_by_time: bool) -> 
 
 
 def times_of(events: Sequence[Event], is_by_time: bool = False) -> SessionTimes:
-    """What a session's live events tell, by their numbers: its first start, its last end, and the registers."""
+    """What a session's live events say, by their numbers: its first start, its last end, and the registers."""
     started = next((event for event in events if event.kind == "Started"), None)
     ended = next((event for event in reversed(events) if event.kind == "Ended"), None)
     return SessionTimes(

@@ -102,7 +102,7 @@ def is_covered(gaps: Iterable[tuple[int, int]], numbers: set[int]) -> bool:
 
 
 def outside(levels: Mapping[int, Sequence[Level]], sessions: Sequence[Lived]) -> list[Finding]:
-    """What registers rose by outside sessions, as MeterValues of a station tell by EVSE."""
+    """What registers rose by outside sessions, as MeterValues of a station say by EVSE."""
     starts, rises = list[float](), dict[int, int]()
     for evse, read in levels.items():
         spans = [(one.begun, one.last) for one in sessions if one.events and one.evse in (evse, 0)]

@@ -13,7 +13,7 @@ class Status(IntEnum):
     """The exit statuses of all tools."""
 
     DONE = 0
-    # Something was told: a line that was not taken, a board that is not whole, a mistake of a script.
+    # Something was reported: a line that was not taken, a board that is not whole, a mistake of a script.
     TOLD = 1
     # Words are wrong, or a file, a program or a database can't be used.
     MISTAKEN = 2
@@ -30,7 +30,7 @@ def drop_output() -> None:
 
 
 def ended(work: Callable[[], int]) -> int:
-    """Does a tool's work and gives its status; a fault of files or words is told, a reader who left is not."""
+    """Does a tool's work and gives its status; a fault of files or words is reported, a reader who left is not."""
     try:
         status = work()
         sys.stdout.flush()

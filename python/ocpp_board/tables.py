@@ -2,17 +2,17 @@
 
     ocpp_board replay < SCRIPT | ocpp-board tables --out NAME
 
-reads a text with any number of boards; what stands between them (replies, energies, refusals) is
+reads a text with any number of boards; what is between them (replies, energies, refusals) is
 skipped and counted. It writes
 
     NAME.periods.csv        the energy of each settlement period, of each site and of each station
     NAME.transactions.csv   the transactions of each station, with their gaps (missing seqNo)
-    NAME.html               the figures of each board, its problems, days, stations and sessions
+    NAME.html               the figures of each board, its problems, days, stations and transactions
     NAME.<day>.html         a page for each day: bars and a table for each site and each station
     NAME.<n>.html, NAME.<day>.<n>.html     what these have no room for
 
 In the CSV files energies are whole mWh (milliwatt-hours), and the same in kWh. Times are UTC; with --tz
-the days and hours are those of that zone, and UTC stands beside. `board` counts the boards of the text,
+the days and hours are those of that zone, and UTC is beside them. `board` counts the boards of the text,
 since a site may be printed more than once. Periods of a site are the sums of those of its stations, so
 add up rows of one level only. How long a period is, 300, 900, 1800 or 3600 seconds, the first line of its
 board says; sites may have different ones.
@@ -26,18 +26,17 @@ which vehicles that feed back have. The net energy, which the pages show, is wha
 was exported: `up` less `down`, less `export up` and more `export down`.
 
 A board has no times of transactions. With --script the tool replays the script that the text is of, and takes
-from its messages when each session began and ended, what its registers read first and last, and why it stopped:
-these stand on the pages and in NAME.transactions.csv, for comparing with bills. It looks at the quality of the data
+from its messages when each transaction began and ended, what its registers read first and last, and why it stopped:
+these are on the pages and in NAME.transactions.csv, to compare with bills. It looks at the quality of the data
 and at what was refused, too, and writes
 
-    NAME.findings.csv       what is doubtful in which session: its name, how often, when first, and what it means
-    NAME.refused.csv        what was refused: when, whose, the cause by name and what to do; the pages link to it
+    NAME.findings.csv       what is doubtful in which transaction: its name, how often, when first, what it means
+    NAME.refused.csv        what was refused: when, of which station, the cause by name and what to do; pages link to it
 
     ocpp-board tables --script SCRIPT --program ocpp_board --out NAME TEXT
 
-Where no number is missing and a session is still not complete, one board doesn't tell whether its end is yet to
-come or a start or an end is misplaced; an earlier board of the same station in the text may tell, and then the
-table does.
+Where no number is missing and a transaction is still not complete, one board doesn't show whether its end is yet
+to come or a start or an end is misplaced; if an earlier board of the same station in the text does, the table says it.
 
 --follow reads a board from a server that lives, `ocpp_board serve --live --board-port 9080 ..`, again and again,
 and writes the files anew each time; the pages draw themselves anew as often:
@@ -45,8 +44,8 @@ and writes the files anew each time; the pages draw themselves anew as often:
     ocpp-board tables --follow http://127.0.0.1:9080/board/north 10 --out NAME
 
 A name or an id that begins with = + - or @ gets a ' before it in the CSV files, as spreadsheets would
-take it for a formula; --raw leaves it alone. Lines of a board that can't be read are told on standard
-error with their numbers, and the page says where it is not whole.
+take it for a formula; --raw writes it as it is. Lines of a board that can't be read are reported on
+standard error with their numbers, and the page says where it is not whole.
 """
 
 import argparse
@@ -60,23 +59,25 @@ import time
 from collections.abc import Callable, Iterable, Sequence
 from dataclasses import replace
 from datetime import date, datetime, timezone
+from functools import partial
 from pathlib import Path
 from typing import IO, NoReturn, TextIO
 from urllib.request import urlopen
 
 from ocpp_board.answered import Answered, answered
 from ocpp_board.bills import HEADS as BILL_HEADS, cells_of, write_signed
-from ocpp_board.board_pages import Boards, DayPages, Index, Layout
+from ocpp_board.board_pages import Boards, DayPages, Index, Layout, SiteRows
 from ocpp_board.boards import Part, Reader, Session, Sink
 from ocpp_board.calendars import Calendar
 from ocpp_board.energies import kwh_of
 from ocpp_board.escapes import csv_cell
-from ocpp_board.pages import Row
 from ocpp_board.period_table import FLOWS, READINGS, PeriodTable, flow_cells, signed_kwh
 from ocpp_board.progress import Progress
-from ocpp_board.quality import Finding, Kind
+from ocpp_board.quality import Effect, Finding, Kind
 from ocpp_board.refusals import Refusals, UntakenLines
 from ocpp_board.script_check import check_text, whole
+from ocpp_board.script_lines import ScriptLines
+from ocpp_board.session_pages import Known, SessionPages, href_of
 from ocpp_board.session_times import Registers
 from ocpp_board.sources import is_gzip, opened
 from ocpp_board.statuses import Mistaken, Status, ended
@@ -90,7 +91,7 @@ LONGEST_ANSWER = 30
 LATE = 3
 SECONDS = re.compile("[1-9][0-9]{0,4}")
 ENDING = """\
-One board at a time is held in memory, a line for each session, and with --script half a kilobyte for each event.
+One board at a time is held in memory, a line for each transaction, and with --script half a kilobyte for each event.
 Pages of days that an earlier run wrote and this one has not stay. Exit status: 0; 1 when the text has no board, a line
 of a board could not be read or a board has no end; 2 when the words are wrong or a file can't be read or written."""
 
@@ -111,7 +112,7 @@ def registers(read: Registers | None) -> list[str]:
 
 
 class CsvSink:
-    """A sink of boards that writes CSV files. `raw`: texts from outside stand there as they are."""
+    """A sink of boards that writes CSV files. `raw`: texts from outside are there as they are."""
 
     def __init__(self, raw: bool, calendar: Calendar) -> None:
         self.raw, self.calendar = raw, calendar
@@ -130,7 +131,7 @@ class CsvSink:
 
 
 class Tables(CsvSink):
-    """The CSV files of periods and of transactions. `has_times`: messages were told, which have the times of
+    """The CSV files of periods and of transactions. `has_times`: messages are there, which have the times of
     sessions."""
 
     TRANSACTIONS = [
@@ -178,7 +179,7 @@ class Tables(CsvSink):
         self.parts = []
 
     def time_heads(self) -> list[str]:
-        """The heads of the columns that boards don't tell."""
+        """The heads of the columns that boards don't have."""
         if not self.has_times:
             return []
         ends = [head for name in ("start", "end") for head in moment_heads(self.calendar, name)]
@@ -212,7 +213,7 @@ class Tables(CsvSink):
         ]
 
     def times(self, t: Session) -> list[int | str]:
-        """The cells of what the messages tell of a session."""
+        """The cells of what the messages say of a transaction."""
         if not self.has_times or t.times is None:
             return []
         times = t.times
@@ -240,24 +241,32 @@ class Findings(CsvSink):
         self.rows = csv.writer(file, lineterminator="\n")
         first = moment_heads(calendar, "first")
         front = ["board", "site", "station", "transaction", "finding", "times"]
-        self.rows.writerow([*front, *first, "detail", "meaning"])
+        self.rows.writerow([*front, *first, "detail", "meaning", "effect"])
+        # The findings of the board, each with its station and its transaction.
+        self.found: list[tuple[str, str, Finding]] = []
 
     def part(self, part: Part) -> None:
-        """The rows of a station."""
-        for t in part.sessions:
-            front: list[int | str] = [self.number, self.site, self.cell(part.name), self.cell(t.tx)]
-            for one in t.findings:
-                self.counts[one.kind.label] += 1
-                self.row(front, one)
-        for one in part.findings:
+        """Takes the findings of a station."""
+        of_sessions = [(t.tx, one) for t in part.sessions for one in t.findings]
+        for tx, one in [*of_sessions, *(("", one) for one in part.findings)]:
             self.counts[one.kind.label] += 1
-            self.row([self.number, self.site, self.cell(part.name), ""], one)
+            self.found.append((part.name, tx, one))
 
-    def row(self, front: list[int | str], one: Finding) -> None:
-        """The row of a finding, which begins so."""
-        first = moments(self.calendar, one.first)
-        told = [one.kind.label, one.times, *first, self.cell(one.detail), one.kind.meaning]
-        self.rows.writerow([*front, *told])
+    def end(self) -> None:
+        """The rows of a board: those that make a number wrong, those that lack energy, and the rest."""
+        effects = [*Effect]
+        for station, tx, one in sorted(
+            self.found, key=lambda row: effects.index(row[2].kind.effect)
+        ):
+            self.row(station, tx, one)
+        self.found = []
+
+    def row(self, station: str, tx: str, one: Finding) -> None:
+        """The row of a finding."""
+        front: list[int | str] = [self.number, self.site, self.cell(station), self.cell(tx)]
+        front += [one.kind.label, one.times, *moments(self.calendar, one.first)]
+        said = [self.cell(one.detail), one.kind.meaning, one.kind.effect.value]
+        self.rows.writerow([*front, *said])
 
     def tell(self) -> None:
         """How many sessions have a finding of each kind."""
@@ -275,7 +284,7 @@ def add_days(parser: argparse.ArgumentParser) -> None:
         help="the time zone of days and hours, such as Europe/Berlin (default: UTC)",
     )
     day = date.fromisoformat
-    parser.add_argument("--day", metavar="DAY", type=day, help="this day alone, such as 2026-03-01")
+    parser.add_argument("--day", metavar="DAY", type=day, help="only this day, such as 2026-03-01")
     parser.add_argument(
         "--from", dest="first", metavar="DAY", type=day, default=date.min, help="no day before it"
     )
@@ -301,19 +310,19 @@ def add_moments(parser: argparse.ArgumentParser) -> None:
         "--written",
         metavar="TIME",
         type=moment_word,
-        help="the time that pages tell as that of their writing (default: now)",
+        help="the time of writing that pages show (default: now)",
     )
     parser.add_argument(
         "--until",
         metavar="TIME",
         type=moment_word,
-        help="up to when the data is (default: what the messages of --script tell)",
+        help="up to when the data is (default: by the messages of --script)",
     )
     parser.add_argument(
         "--oldest",
         metavar="SECONDS",
         type=int,
-        help="how old data may be when pages are written; they tell where it is older",
+        help="how old data may be when pages are written; they say so if it is older",
     )
     parser.add_argument(
         "--refresh",
@@ -336,7 +345,7 @@ def arguments(argv: Sequence[str], prog: str) -> argparse.Namespace:
         "--out",
         metavar="NAME",
         default="board",
-        help="how the files begin, a folder included (default: board); what stands there is "
+        help="the front of the files' names, with a folder (default: board); existing files are "
         "overwritten",
     )
     add_days(parser)
@@ -352,7 +361,7 @@ def arguments(argv: Sequence[str], prog: str) -> argparse.Namespace:
     parser.add_argument(
         "--script",
         metavar="SCRIPT",
-        help="the script that the text is of: its messages tell times of sessions, findings, and what was refused",
+        help="the script that the text is of: its messages give times of transactions, findings, and what was refused",
     )
     add_power(parser)
     add_tokens(parser)
@@ -379,7 +388,7 @@ def fetched(url: str) -> IO[bytes]:
 
 
 def follow(words: argparse.Namespace, url: str, seconds: int) -> NoReturn:
-    """Writes the files anew every so many seconds. Where the server is not there, those of the board before, which tell
+    """Writes the files anew every so many seconds. Without a server it writes those of the board before, which say
     that it is too old when it is."""
     words.oldest = LATE * seconds if words.oldest is None else words.oldest
     text: IO[bytes] | None = None
@@ -396,7 +405,7 @@ def follow(words: argparse.Namespace, url: str, seconds: int) -> NoReturn:
 
 
 def layout_of(words: argparse.Namespace) -> Layout:
-    """Where the files go and what pages tell, by the words."""
+    """Where the files go and what pages say, by the words."""
     calendar = Calendar(words.tz, words.first, words.last)
     written = words.written or datetime.now(timezone.utc)
     return Layout(words.out, calendar, written, words.refresh, words.until, words.oldest)
@@ -413,16 +422,22 @@ def write_files(
     words: argparse.Namespace,
     text: IO[bytes],
     layout: Layout,
-    told: Told | None = None,
-    sites: list[Row] | None = None,
+    known: Known | None = None,
+    sites: SiteRows | None = None,
+    sessions: SessionPages | None = None,
 ) -> int:
-    """Writes the files of a text, and gives the exit status. `told`: what the messages tell besides. `sites` gets a row
-    for each board, for a page that leads to several texts' pages."""
+    """Writes the files of a text, and gives the exit status. `known`: what the messages add. `sites` gets a
+    row and the figures of each board, for a page that leads to several texts' pages. `sessions` takes the sessions in
+    place of pages that are written at once."""
+    told = known.told if known else None
 
     def file(name: str) -> TextIO:
         path = f"{words.out}.{name}.csv"
         return files.enter_context(open(path, "w", encoding="utf-8", newline=""))
 
+    if known:
+        sessions = sessions or SessionPages(words.out, layout.calendar, known)
+        layout = replace(layout, address=partial(href_of, words.out))
     days, index = DayPages(layout), Index(layout)
     with contextlib.ExitStack() as files:
         csv_files = file("periods"), file("transactions")
@@ -432,27 +447,31 @@ def write_files(
         ]
         findings = Findings(file("findings"), words.raw, layout.calendar) if told else None
         sinks += [findings] if findings else []
+        sinks += [sessions] if sessions else []
         sinks.append(Boards([days.add, index.add]))
-        reader = Reader(sinks, Progress(text), told)
+        name = "" if words.text == "-" else words.text
+        reader = Reader(sinks, Progress(text), told, name)
         reader.read(text)
         days.close()
         index.close()
     if sites is not None:
-        sites += index.rows
+        sites.add(index.sites)
     reader.tell()
     if findings:
         findings.tell()
     return Status.TOLD if reader.counts["unread"] else Status.DONE
 
 
-def read_script(words: argparse.Namespace, text: IO[bytes]) -> tuple[Told, Refusals]:
-    """Replays the script that a text is of, and gives what its messages tell and what was refused of them, which it
+def read_script(words: argparse.Namespace, text: IO[bytes]) -> Known:
+    """Replays the script that a text is of, and returns what its messages say and what was refused of them, which it
     writes. Raises Mistaken where the text is of another script."""
-    told, refusals = Told(words.most_kw), Refusals()
+    known = Known(Told(words.most_kw), Refusals(), ScriptLines())
+    told, refusals = known.told, known.refusals
+    known.script.path = Path(words.script)
     with opened(words.script) as file:
         if is_gzip(file):
-            raise Mistaken("the script is compressed by gzip: gunzip it first")
-        script = UntakenLines(file)
+            raise Mistaken(f"{words.script}: the script is compressed by gzip: gunzip it first")
+        script = UntakenLines(file, known.script, known.mended.take)
         messages = answered(words.program, script, told.operators.take)
         hand_on(messages, [told.take, refusals.take])
     check_text(text, told.transactions, words.script)
@@ -464,7 +483,8 @@ def read_script(words: argparse.Namespace, text: IO[bytes]) -> tuple[Told, Refus
     for comment in script.operators:
         told.operators.comment(comment)
     told.operators.write(Path(f"{words.out}.operator.csv"), told.sites())
-    return told, refusals
+    known.mended.write(Path(f"{words.out}.mended.csv"), told.sites())
+    return known
 
 
 def run(words: argparse.Namespace) -> int:
@@ -473,15 +493,22 @@ def run(words: argparse.Namespace) -> int:
         follow(words, words.follow[0], int(words.follow[1]))
     with opened(words.text) as file:
         if is_gzip(file):
-            raise Mistaken("the text is compressed by gzip: gunzip -c TEXT | ocpp-board tables")
+            raise Mistaken(
+                f"{words.text}: the text is compressed by gzip: gunzip -c TEXT | ocpp-board tables"
+            )
         layout = layout_of(words)
         if words.script is None:
             return write_files(words, file, layout)
         text = whole(file)
-        told, refusals = read_script(words, text)
-        until = words.until or told.until()
-        layout = replace(layout, until=until, refused=refusals.count())
-        return write_files(words, text, layout, told)
+        known = read_script(words, text)
+        until = words.until or known.told.until()
+        layout = replace(
+            layout,
+            until=until,
+            refused=known.refusals.count(),
+            mended=len(known.mended.rows),
+        )
+        return write_files(words, text, layout, known)
 
 
 def main(argv: Sequence[str], prog: str) -> int:

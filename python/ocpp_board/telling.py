@@ -1,6 +1,6 @@
-"""What tools tell on standard error, through `logging`: as text, or as JSON lines for whoever collects them.
+"""What tools write to standard error, through `logging`: text, or JSON lines for whoever collects them.
 
-A tool tells faults as errors, what it can't take as warnings, and what became of its input as information.
+A tool reports faults as errors, what it can't take as warnings, and what became of its input as information.
 """
 
 import argparse
@@ -11,7 +11,7 @@ import time
 
 
 class PlainFormatter(logging.Formatter):
-    """The message alone; from a level on with the program's name in front."""
+    """Only the message; from a level on with the program's name in front."""
 
     def __init__(self, program: str, named_from: int) -> None:
         super().__init__()
@@ -48,9 +48,9 @@ class JsonFormatter(logging.Formatter):
 
 
 def set_up(program: str, as_json: bool = False, named_from: int = logging.ERROR) -> None:
-    """Has all that the packages tell from here on written to standard error.
+    """Writes all messages of the packages from here on to standard error.
 
-    As text the program's name stands in front of messages from the level `named_from` on.
+    As text the program's name is in front of messages from the level `named_from` on.
     """
     handler = logging.StreamHandler(sys.stderr)
     handler.setFormatter(JsonFormatter(program) if as_json else PlainFormatter(program, named_from))
@@ -62,9 +62,9 @@ def set_up(program: str, as_json: bool = False, named_from: int = logging.ERROR)
 
 
 def add_option(parser: argparse.ArgumentParser) -> None:
-    """The option that all tools have for what they tell."""
+    """The option that all tools have for what they report."""
     parser.add_argument(
         "--log-json",
         action="store_true",
-        help="tell faults and counts on standard error as JSON lines, with their levels",
+        help="write faults and counts to standard error as JSON lines with levels",
     )

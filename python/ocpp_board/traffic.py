@@ -2,30 +2,34 @@
 
     ocpp-board traffic 1000000 | ocpp_board replay | tail -n 16
 
-Stations take turns, event by event. Each charges in sessions of 48 events, five minutes and 250 Wh apart,
+Stations take turns, event by event. Each charges in transactions of 48 events, five minutes and 250 Wh apart,
 with one reading each, the first Started and the last Ended. There are as many stations as N events need, or
 those of --stations, and a `limits` line that has room for all of them, so that none is refused: up to 65,536
 events a station and 1,048,576 in all.
 
 With `unchanging` four events of one station are followed by N heartbeats and repeats of these events, in turn.
 
-The script ends with an `energy` line for each station, and what these must print can be told without the
-program: 250,000 mWh for each of its events but the first of each session.
+The script ends with an `energy` line for each station, and what these must print is known without the
+program: 250,000 mWh for each of its events but the first of each transaction.
 
-With `troubles` N sessions of each kind of trouble come, each kind from a station of its name: what stations do wrong,
-what the ledger refuses, and what an operator voids. Before each message stands when it was received, as a comment,
-and the script ends with a board.
+With `troubles` N transactions of each kind of trouble come, each kind from a station of its name: what stations do
+wrong, what the ledger refuses, and what an operator voids. Before each message is the time of its receipt, as a
+comment, and the script ends with a board.
 
-With `repeats` N sessions of each of four stations come, three of which list readings again in the Ended event: all of
-them, that of the start alone, or all of two registers. The site is read by moment, so its board is that of `sessions`,
-which is the same without what is listed again and without the line `order`.
+With `repeats` N transactions of each of four stations come. Three stations list readings again in the Ended event: all
+of them, only that of the start, or all of two registers. The site is read by moment, so its board is that of
+`sessions`, which is the same without what is listed again and without the line `order`.
+
+With `month` comes the log of a month of N stations at two sites, with findings and doubts:
+
+    ocpp-board traffic 8 month | ocpp-board log-to-script --received | ocpp_board replay
 """
 
 import argparse
 from collections.abc import Iterator, Sequence
 from datetime import datetime, timedelta, timezone
 
-from ocpp_board import repeats, troubles
+from ocpp_board import month_traffic, repeats, troubles
 from ocpp_board.limits import GREATEST_LIMITS, MOMENT, MOST_READINGS, MOST_STATIONS
 from ocpp_board.statuses import Status, ended
 from ocpp_board.words import parsed, parser_of
@@ -38,6 +42,7 @@ SESSIONS = {
     "troubles": troubles.MOST_SESSIONS,
     "repeats": repeats.MOST_SESSIONS,
     "sessions": repeats.MOST_SESSIONS,
+    "month": MOST_STATIONS,
 }
 
 
@@ -102,15 +107,15 @@ def arguments(argv: Sequence[str], prog: str) -> argparse.Namespace:
         "count",
         type=int,
         metavar="N",
-        help="how many events, messages that change nothing, or sessions of each station",
+        help="how many events, messages that change nothing, transactions of each station, or stations of a month",
     )
     parser.add_argument(
         "kind",
         nargs="?",
         choices=["unchanging", *SESSIONS],
-        metavar="unchanging|troubles|repeats|sessions",
-        help="messages that change nothing, sessions with troubles, sessions whose readings are listed again, or the "
-        "same without that",
+        metavar="unchanging|troubles|repeats|sessions|month",
+        help="messages that change nothing, transactions with troubles, transactions that list readings again, the "
+        "same without that, or the log of a month",
     )
     parser.add_argument(
         "--stations",
@@ -139,6 +144,8 @@ def lines_of(words: argparse.Namespace) -> Iterator[str]:
     """The lines of the script that the words ask for."""
     if words.kind == "troubles":
         return troubles.script(words.count)
+    if words.kind == "month":
+        return month_traffic.log(words.count)
     if words.kind in ("repeats", "sessions"):
         return repeats.script(words.count, words.kind == "repeats")
     return (

@@ -1,4 +1,4 @@
-"""Transactions as the messages tell them: times, counted readings and reasons, which boards don't have.
+"""Transactions as the messages have them: times, counted readings and reasons, which boards don't have.
 
 About half a kilobyte is kept of each event.
 """
@@ -36,7 +36,7 @@ class Reading(NamedTuple):
 
 
 class Event(NamedTuple):
-    """An event as its message tells it. `others`: what it has of energy that doesn't count; `is_far`: whether its time
+    """An event as its message has it. `others`: what it has of energy that doesn't count; `is_far`: whether its time
     lies far from its receipt; `evse`: 0 where it names none; `unlike`: signed values that differ from their plain ones.
     """
 
@@ -49,8 +49,11 @@ class Event(NamedTuple):
     reason: str
     evse: int = 0
     unlike: tuple[str, ...] = ()
-    # What it tells for a bill.
+    # What it has for a bill.
     details: Details = NOTHING
+    # Which line of the script it is, and when that was received (seconds since 1970).
+    line: int = 0
+    received: float | None = None
 
 
 def readings_in_order(
@@ -75,11 +78,13 @@ class Transaction:
 
     events: dict[int, Event] = field(default_factory=dict)
     conflicts: list[Event] = field(default_factory=list)
-    # Its id as it was sent first: two that differ in letters' sizes alone are one.
+    # Its id as it was sent first: two that differ only in letters' sizes are one.
     sent: str = ""
+    # By the numbers of events, how often they came again.
+    again: dict[int, int] = field(default_factory=dict)
 
     def live(self, first: int, last: int, gaps: list[tuple[int, int]]) -> list[Event]:
-        """The events that a board counts, which tells their first and last number and the gaps between."""
+        """The events that a board counts, which has their first and last number and the gaps between."""
         starts = [start for start, _ in gaps]
 
         def is_live(number: int) -> bool:
@@ -90,7 +95,7 @@ class Transaction:
 
 
 def moment(seconds: float | None) -> datetime | None:
-    """A moment that is told in seconds since 1970, in UTC."""
+    """A moment that is given in seconds since 1970, in UTC."""
     return None if seconds is None else datetime.fromtimestamp(seconds, timezone.utc)
 
 
@@ -111,10 +116,13 @@ def plain(value: Any) -> str:
     return text if len(value) <= LONGEST_TEXT else text + ".."
 
 
-def event_of(payload: dict[str, Any], received: datetime | None) -> Event:
-    """The event of a payload that passed the program's checks."""
+def event_of(payload: dict[str, Any], received: datetime | None, line: int = 0) -> Event:
+    """The event of a payload that passed the program's checks. `line`: which of the script it is."""
     readings, others, unlike = list[Reading](), set[str](), list[str]()
+    info = payload["transactionInfo"]
+    has_details = "idToken" in payload or "remoteStartId" in info
     for at, sampled in sampled_values(payload):
+        has_details = has_details or "signedMeterValue" in sampled
         measurand = measurand_of(sampled)
         if measurand in (IMPORT, EXPORT):
             mwh = mwh_of(sampled["value"], sampled.get("unitOfMeasure") or {})
@@ -131,10 +139,12 @@ def event_of(payload: dict[str, Any], received: datetime | None) -> Event:
         tuple(readings),
         tuple(sorted(others)),
         is_far(at, received, payload.get("offline") is True),
-        plain(payload["transactionInfo"].get("stoppedReason")),
+        plain(info.get("stoppedReason")),
         evse_of(payload),
         tuple(unlike),
-        details_of(payload),
+        details_of(payload) if has_details else NOTHING,
+        line,
+        received.timestamp() if received else None,
     )
 
 
@@ -160,11 +170,11 @@ class Transactions:
         self.outside = MeterValues()
         # The sites of the stations that something was accepted of.
         self.site_of: dict[str, str] = {}
-        # The latest receipt of a message, or time of an event whose receipt is not told.
+        # The latest receipt of a message, or time of an event with no time of receipt.
         self.latest: datetime | None = None
 
     def take(self, answered: Answered) -> None:
-        """Takes a message with its answer. One that is no event, or was refused for another cause, tells nothing."""
+        """Takes a message with its answer. One that is no event, or was refused for another cause, says nothing."""
         self.came(answered.received)
         if answered.is_accepted:
             self.site_of[answered.station] = answered.site
@@ -180,7 +190,7 @@ class Transactions:
             return
         if action != "TransactionEvent":
             return
-        event = event_of(payload, answered.received)
+        event = event_of(payload, answered.received, answered.number)
         sent = payload["transactionInfo"]["transactionId"]
         tx = sent.lower()
         key = answered.site, answered.station, tx
@@ -195,11 +205,14 @@ class Transactions:
         # Of an event that was sent again the first receipt is kept.
         if had is None or had[:4] != event[:4]:
             whole.events[event.number] = event
+            whole.again.pop(event.number, None)
+        else:
+            whole.again[event.number] = whole.again.get(event.number, 0) + 1
         if answered.received is None:
             self.came(moment(event.at))
 
     def of(self, site: str, station: str, tx: str) -> Transaction:
-        """A transaction by its id as a board has it; an empty one where no message told of it."""
+        """A transaction by its id as a board has it; an empty one if no message is of it."""
         return self.known.get((site, station, tx)) or Transaction()
 
     def came(self, at: datetime | None) -> None:

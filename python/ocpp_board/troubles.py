@@ -79,18 +79,18 @@ def without_readings(tx: str, begin: datetime) -> Session:
 
 
 def interval_energy(tx: str, begin: datetime) -> Session:
-    """A session whose energy is told by intervals alone."""
+    """A session with its energy only by intervals."""
     measurand = "Energy.Active.Import.Interval"
     return changed(sound(tx, begin), lambda one: one.update(measurand=measurand))
 
 
 def phase_energy(tx: str, begin: datetime) -> Session:
-    """A session whose energy is told by phase alone."""
+    """A session with its energy only by phase."""
     return changed(sound(tx, begin), lambda one: one.update(measurand=IMPORT, phase="L1"))
 
 
 def inlet_energy(tx: str, begin: datetime) -> Session:
-    """A session whose energy is told at the vehicle's inlet alone."""
+    """A session with its energy only at the vehicle's inlet."""
     return changed(sound(tx, begin), lambda one: one.update(measurand=IMPORT, location="Inlet"))
 
 

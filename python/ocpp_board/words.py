@@ -13,11 +13,11 @@ from ocpp_board.quality import MOST_KW
 
 
 class Parser(argparse.ArgumentParser):
-    """A parser that tells a wrong word in two lines, and not behind all words that there are."""
+    """A parser that reports a wrong word in two lines, without the usage of all words."""
 
     def error(self, message: str) -> NoReturn:
         """Ends the program with status 2."""
-        self.exit(2, f"{self.prog}: error: {message}\n{self.prog} --help tells its words\n")
+        self.exit(2, f"{self.prog}: error: {message}\nsee {self.prog} --help\n")
 
 
 def parser_of(prog: str, about: str | None, ending: str = "") -> argparse.ArgumentParser:
@@ -35,7 +35,7 @@ def parser_of(prog: str, about: str | None, ending: str = "") -> argparse.Argume
 def parsed(
     parser: argparse.ArgumentParser, argv: Sequence[str], named_from: int = logging.ERROR
 ) -> argparse.Namespace:
-    """The words, after which what is told goes where they say. Wrong words end the program with status 2."""
+    """The words; from then on messages go where they say. Wrong words end the program with status 2."""
     words = parser.parse_args(argv)
     telling.set_up(parser.prog, words.log_json, named_from)
     return words
@@ -75,8 +75,8 @@ def add_tokens(parser: argparse.ArgumentParser) -> None:
         "--tokens",
         choices=TOKENS,
         default=TOKENS[0],
-        help="how the idToken of a session is written: not at all, since it is personal, as the SHA-256 of its small "
-        "letters, or plain (default: none)",
+        help="how the idToken of a transaction is written: not at all, since it is personal, as the SHA-256 of its "
+        "small letters, or plain (default: none)",
     )
 
 

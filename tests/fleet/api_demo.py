@@ -20,6 +20,7 @@ from typing import Any
 from urllib.parse import quote
 
 from ocpp_board.energies import FLOW
+from ocpp_board.fleet.api import cursor_of
 from ocpp_board.fleet.database import answers_in, connect
 from tests.fleet.fleet import ended
 from tests.fleet.page_client import (
@@ -50,6 +51,20 @@ update own_archived_transaction set begun = '2026-03-01T10:00:00Z', started = '2
     ended = '2026-03-01T10:45:00Z' where station = 'CS-00'
 """
 MARCH = "from=2026-02-28&to=2026-03-31"
+
+
+# So many stations, in shards of their own, that have a session of one id.
+STATIONS = 1_000
+SAME = f"""
+insert into own_shard (shard) select 100 + n from generate_series(0, {STATIONS // 50 - 1}) n;
+insert into own_site (shard, site) select shard, 'many' from own_shard where shard >= 100;
+insert into own_station (shard, site, station)
+select 100 + n / 50, 'many', 'MANY-' || n from generate_series(0, {STATIONS - 1}) n;
+insert into own_board (shard, site, text) select shard, 'many', '' from own_shard where shard >= 100;
+insert into own_board_transaction (shard, site, station, transaction, evse, events, first, last, complete, missing,
+    up, down)
+select shard, site, station, 'same', 0, 1, 0, 0, false, 0, 0, 0 from own_station where shard >= 100;
+"""
 
 
 def events(name: str, starts: list[str], first: int = 1000, step: int = 2500) -> list[str]:
@@ -233,6 +248,12 @@ class Demo(Trial):
                 "/sites/north/sessions.csv?month=2026-13",
             ),
             *("/sites/north/sessions.csv", "/stations/CS-00/transactions?cursor=WzFd"),
+            *(
+                "/sites/a%00b/board",
+                "/stations/%ED%A0%80/transactions",
+                "/transactions/a?station=%00",
+            ),
+            *(f"/sites?cursor={cursor_of([text])}" for text in ("\0", "\ud800")),
         ):
             answer = self.get(path)
             self.check(
@@ -240,6 +261,15 @@ class Demo(Trial):
                 f"{path}: {answer.status} {answer.text[:90]}",
             )
         self.check(self.get("/nothing").status == 404, "there is nothing else")
+        await self.owner.execute(SAME)
+        began = time.monotonic()
+        answer = self.get("/transactions/same")
+        took = time.monotonic() - began
+        self.check(
+            answer.status == 400 and "name a station" in answer.text and took < 2,
+            f"an id that {STATIONS:,} stations have: {answer.status} after {took:.2f} s",
+        )
+        await self.owner.execute("delete from own_shard where shard >= 100")
         heads = {"Authorization": f"Bearer {self.token}"}
         for method in ("POST", "PUT", "DELETE"):
             answer = self.client.asked(method, "/api/v1/sites", b"{}", heads)
@@ -391,6 +421,11 @@ class Demo(Trial):
         )
         await self.owner.execute(TIMES)
 
+    def listed(self, name: str, station: str = "CS-00") -> str:
+        """How a session is told in the list of its station."""
+        rows = self.get(f"/stations/{station}/transactions").json["transactions"]
+        return str(next(row["state"] for row in rows if row["transaction"] == name))
+
     async def settled(self) -> None:
         """Periods and sessions behind a closing, and what comes since."""
         states = self.states()
@@ -419,6 +454,14 @@ class Demo(Trial):
             site["settled_to"] == "2026-03-02" and site["state"] == "provisional",
             "the site tells up to when",
         )
+        # A session of the log names an archived one beside its own id.
+        text = event("T-9", 0, "Started", "2026-03-03T16:00:00Z", 1000)
+        await self.come(
+            "CS-00",
+            [text.replace('{"eventType"', '{"customData":{"transactionId":"T-1"},"eventType"')],
+        )
+        await self.answered()
+        self.check(self.listed("t-1") == "settled", f"an id in other data: {self.listed('t-1')}")
         # An event comes late for a session of the log, whose day is settled; and for an archived one a void.
         await self.come("CS-01", [events("T-3", quarters("2026-03-01", 12, 4))[1]])
         await self.come("CS-00", ["void CS-00 T-1 3"])
@@ -454,6 +497,15 @@ class Demo(Trial):
             for row in self.get("/stations/CS-00/transactions").json["transactions"]
         }
         self.check(listed["t-1"]["state"] == "provisional", "and so it is in the list")
+        # A late event whose names are written with escapes.
+        late = events("T-4", ["2026-02-28T23:30:00Z"])[0].replace(
+            "transactionId", r"transaction\u0049d"
+        )
+        await self.come("CS-01", [late])
+        await self.answered()
+        self.check(
+            self.listed("t-4", "CS-01") == "provisional", "one that comes with escapes counts"
+        )
         await self.close_day("north", "2026-03-02")
         states = self.states()
         corrected = {key for key, state in states.items() if state == "corrected"}

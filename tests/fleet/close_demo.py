@@ -233,7 +233,7 @@ class Demo(ClosingTrial):
                 self.check(False, f"taken: {query}")
             except asyncpg.PostgresError as fault:
                 self.check(wanted in str(fault), f"{query}: {fault}")
-        path = max(self.archives.glob("north.shard-0.*"))
+        path = max(self.archives.glob("north.cell-1.shard-0.*"))
         moved = path.rename(self.archives / "elsewhere")
         name = path.name
         row = await self.owner.fetchrow(

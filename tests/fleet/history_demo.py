@@ -8,25 +8,51 @@ something is not as it must be, or takes too long.
 """
 
 import asyncio
+import gzip
 import os
 import re
 import subprocess
 import sys
 import time
+from datetime import datetime, timezone
 from typing import Any
 
+from ocpp_board.fleet.archives import packed
 from ocpp_board.fleet.database import connect
 from tests.fleet.closings import ClosingTrial, local, session
-from tests.fleet.fleet import FILL, ended
+from tests.fleet.fleet import FILL, UNSUMMED, ended, tool
 from tests.fleet.trials import parsed, parser_of, tried
 
 STATIONS = 64
 # Rows of periods that a closing reads at most, the bytes that it takes, and seconds for which a shard that moves takes
 # no lines. How long a closing takes depends on what else the machine does.
 ROWS, MEMORY, MOVE = 500, 200_000_000, 2.0
+# A day of a session three years before, settled and archived with what is there.
+OLD = """
+insert into own_closing (shard, site, closing, day, period, archive, plan, packed)
+select 0, 'north', max(closing) + 1, '2026-03-03', 900, 'old', max(plan) + 1, true from own_closing where shard = 0;
+insert into own_closed_period (shard, site, closing, station, starts, day, up, down)
+select 0, 'north', max(closing), 'S-02', '2023-05-01T08:00Z', '2023-05-01', 500000, 0 from own_closing;
+insert into own_archived_period (shard, site, closing, station, starts, day, up, down)
+select shard, site, closing, station, starts, day, up, down from own_closed_period where starts < '2024-01-01Z';
+insert into own_archived_transaction (shard, site, closing, station, transaction, complete, missing, up, down, since)
+select 0, 'north', max(closing), 'S-02', 'old', true, 0, 500000, 0, '2023-05-01T07:50Z' from own_closing;
+insert into own_archived_total
+    (shard, site, closing, station, transactions, complete, missing, up, down, export_up, export_down)
+select 0, 'north', max(closing), 'S-02', 1, 1, 0, 500000, 0, 0, 0 from own_closing;
+"""
+LINES = """
+insert into own_archived_lines (shard, site, closing, station, transaction, lines)
+select 0, 'north', max(closing), 'S-02', 'old', $1 from own_closing
+"""
+KEPT = """
+select (select count(*) from own_closed_period), (select count(*) from own_archived_period),
+    (select count(*) from own_archived_transaction), (select sum(up) from own_settled),
+    (select sum(up) from own_archived_sum), (select sum(transactions) from own_archived_sum)
+"""
 READ = """
 select sum(coalesce(seq_tup_read, 0) + coalesce(idx_tup_fetch, 0)) from pg_stat_user_tables
-where relname in ('own_closed_period', 'own_archived_period')
+where relname ~ '^own_(closed|archived)_period'
 """
 # The days before 2026-03-01: 40 periods and 4 sessions each of every station.
 HISTORY = (
@@ -41,12 +67,14 @@ HISTORY = (
     from generate_series(1, $1) n, own_station, generate_series(1, 40) p where shard = 0
     """,
     """
-    insert into own_archived_period (shard, site, closing, station, starts, up, down)
-    select shard, site, closing, station, starts, up, down from own_closed_period
+    insert into own_archived_period (shard, site, closing, station, starts, day, up, down)
+    select shard, site, closing, station, starts, day, up, down from own_closed_period
     """,
     """
-    insert into own_archived_transaction (shard, site, closing, station, transaction, complete, missing, up, down)
-    select 0, 'north', n, station, 'tx-' || n || '-' || p, true, 0, 2500000, 0
+    insert into own_archived_transaction
+        (shard, site, closing, station, transaction, complete, missing, up, down, since)
+    select 0, 'north', n, station, 'tx-' || n || '-' || p, true, 0, 2500000, 0,
+        date '2026-02-28' - ($1::int - n) + interval '6 hours'
     from generate_series(1, $1) n, own_station, generate_series(1, 4) p where shard = 0
     """,
     """
@@ -79,7 +107,8 @@ class Demo(ClosingTrial):
 
     async def close_measured(self, text: str, day: str, wanted: str) -> None:
         """Closes a day, which has to take as little as where there is no history."""
-        began, before = time.monotonic(), await self.rows_read()
+        before = await self.rows_read()
+        began = time.monotonic()
         command = self.fleet.closing("north", self.archives, day)
         process = subprocess.Popen(command, stdout=-1, stderr=-2, stdin=subprocess.DEVNULL)
         assert process.stdout
@@ -125,6 +154,32 @@ class Demo(ClosingTrial):
         )
         await second.close()
 
+    async def aged(self) -> None:
+        """Years of history that leave the cell."""
+        before = tuple(await self.owner.fetchrow(KEPT))
+        await self.owner.execute(OLD)
+        begin = datetime(2023, 5, 1, 7, 50, tzinfo=timezone.utc)
+        old = session("S-02", "OLD", begin, 3)
+        await self.owner.execute(LINES, packed(old))
+        words = ("--db", self.fleet.dsn("ledger_keeper"), "--program", self.fleet.program)
+        command = (*tool("forget"), *words, "--archive", self.archives, "--years", 2)
+        status, said = await ended(self.fleet.start(*command, stdout=-1, stderr=-2))
+        files = {path.name: gzip.open(path).read() for path in self.archives.glob("*.gz")}
+        counts = {name: data.count(b"\n") - 1 for name, data in files.items()}
+        self.check(
+            status == 0 and "3 rows" in said and set(counts.values()) == {1} and len(counts) == 3,
+            f"history of before two whole years leaves: {said}; {counts}",
+        )
+        after = tuple(await self.owner.fetchrow(KEPT))
+        unsummed = await self.owner.fetch(UNSUMMED, 0)
+        self.check(
+            after == before and not unsummed, f"all else stays, with its sums: {after}, {before}"
+        )
+        await self.owner.execute(FILL, 0, ["void S-02 OLD 1"])
+        await self.close_measured("a void of what left", "2026-03-04", "1 late lines")
+        after = tuple(await self.owner.fetchrow(KEPT))
+        self.check(after == before, f"corrects nothing: {after}")
+
     async def second(self) -> Any:
         """A session of the other cell's owner."""
         return await connect(self.fleet.dsn("owner", database="second"))
@@ -137,6 +192,7 @@ class Demo(ClosingTrial):
         await self.owner.execute(FILL, 0, lines)
         await self.close_measured("a session came", "2026-03-01", "3 rows, 0 of them corrections")
         await self.close_measured("it leaves the log", "2026-03-02", "1 transactions archived")
+        await self.aged()
         await self.move()
         await self.owner.close()
 

@@ -13,6 +13,7 @@ it must be.
 
 import argparse
 import asyncio
+import os
 import shutil
 import subprocess
 import sys
@@ -102,6 +103,10 @@ class Demo(ClosingTrial):
             f"sessions with tokens, and what is refused: {odd}",
         )
         await self.closed("a day", "2026-03-02", "2 transactions archived")
+        # What a closing that was killed leaves has tokens, too.
+        self.left = self.archives / "north.cell-1.shard-0.2-2.script"
+        self.left.write_bytes(next(self.archives.iterdir()).read_bytes())
+        os.utime(self.left, (0, 0))
         # More comes for an archived session, and waits for the next closing.
         late = session("A", "TX-1", local("2026-03-01 08:00"), 5)
         late[4] = with_token(late[4].replace("Ended", "Updated"), OLD)
@@ -167,6 +172,7 @@ class Demo(ClosingTrial):
         )
         status, said = await self.forget("--after", "365")
         self.check(status == 0 and "left 0 lines and 0 archives" in said, f"called again: {said}")
+        self.left.unlink()
 
     async def changed(self) -> None:
         """A program that answers otherwise than before keeps all as it is."""

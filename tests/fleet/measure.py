@@ -1,9 +1,11 @@
 """Measures a fleet of its own on this machine.
 
     tests/one fleet.measure ocpp_board load --stations 1000 --shards 16 --rate 1500 --kill
+    tests/one fleet.measure ocpp_board load --stations 1000 --shards 16 --events 160 --alone --loads 2
     tests/one fleet.measure ocpp_board recovery --lines 200000 --shards 4
     tests/one fleet.measure ocpp_board memory
     tests/one fleet.measure ocpp_board lists --stations 5000 --shards 80 --days 365 --sessions 2
+    tests/one fleet.measure ocpp_board years --stations 1100 --shards 20 --days 1826
 
 `load` gives messages a second, waits (median, 99th, longest) and processor time a message by part, and compares
 every board at the end; with --kill a worker, a gateway and a replay are killed on the way; with --password and --tls
@@ -11,7 +13,8 @@ stations come so, and with --together N all connect, N at a time, before the fir
 more, when their gateway knows their passwords: how many a second that are is told. `recovery` fills the log
 of some shards and times a worker that takes them. `memory` gives what a replay of 64 stations takes, empty, by its
 limits. `lists` writes rows of so many closed days, with so many archived sessions a station and day, and times the
-page and the API that list sites and the stations of one.
+page and the API that list sites and the stations of one. `years` writes what closings of so many days leave, with a
+session of nine periods of each station every other day, and times views, the page and the API for one day.
 """
 
 import argparse
@@ -59,6 +62,44 @@ insert into own_archived_transaction (shard, site, closing, station, transaction
     select shard, site, n, station, 'tx-' || n || '-' || m, true, 0, 7500000, 0
     from own_station, generate_series(1, $1::int) n, generate_series(1, $2::int) m where shard = $3
 """
+# The same of years: each station has a session of nine periods every other day, of which closings write all of this.
+YEARS = (
+    """
+    insert into own_closing (shard, site, closing, day, period, plan, packed)
+    select $2, site, n, date '2026-10-31' - ($1::int - n), 900, n, true from own_site, generate_series(1, $1::int) n
+    where shard = $2
+    """,
+    """
+    insert into own_closed_period (shard, site, closing, station, starts, day, up, down)
+    select $2, site, n, station, (date '2026-10-31' - ($1::int - n)) + interval '6 hours' + q * interval '15 minutes',
+        date '2026-10-31' - ($1::int - n), 250000, 0
+    from own_station, generate_series(1, $1::int) n, generate_series(0, 8) q where shard = $2 and (n + place) % 2 = 0
+    """,
+    """
+    insert into own_archived_period (shard, site, closing, station, starts, day, up, down)
+    select shard, site, closing, station, starts, day, up, down from own_closed_period where shard = $2 and $1::int > 0
+    """,
+    """
+    insert into own_archived_transaction (shard, site, closing, station, transaction, complete, missing, up, down, evse,
+        events, first, last, begun, started, ended, since)
+    select $2, site, n, station, 'tx-' || n, true, 0, 2250000, 0, 1, 10, 0, 9, at, at, at + interval '2 hours', at
+    from own_station, generate_series(1, $1::int) n
+    cross join lateral (select (date '2026-10-31' - ($1::int - n)) + interval '6 hours' as at) d
+    where shard = $2 and (n + place) % 2 = 0
+    """,
+    """
+    insert into own_archived_total (shard, site, closing, station, transactions, complete, missing, up, down, export_up,
+        export_down)
+    select $2, site, n, station, 1, 1, 0, 2250000, 0, 0, 0 from own_station, generate_series(1, $1::int) n
+    where shard = $2 and (n + place) % 2 = 0
+    """,
+)
+# What is asked of a day, of one site and of all.
+DAY = "2024-06-15"
+VIEWS = {
+    "energy": "select site, local_start, sum(up_kwh) from energy where {} group by 1, 2",
+    "settled_period": "select site, starts, sum(up) from settled_period where {} group by 1, 2",
+}
 TICKS = os.sysconf("SC_CLK_TCK")
 
 
@@ -72,6 +113,14 @@ def spent(pids: list[int]) -> float:
             continue
         total += (int(words[11]) + int(words[12])) / TICKS
     return total
+
+
+def resident(pid: int) -> int:
+    """The bytes of memory that a process has now; of one that ended none."""
+    try:
+        return int(Path(f"/proc/{pid}/statm").read_text().split()[1]) * resource.getpagesize()
+    except OSError:
+        return 0
 
 
 async def made(fleet: Fleet, synchronous: bool) -> Any:
@@ -103,6 +152,19 @@ async def load(fleet: Fleet, words: argparse.Namespace) -> int:
         await asyncio.sleep(0.2)
     await asyncio.sleep(1)
     urls = [url.replace("ws://", "wss://") if words.tls else url for _, url in gateways]
+    if words.alone:
+        last = max(os.sched_getaffinity(0))
+        # All else that runs and begins here has the others.
+        rest = os.sched_getaffinity(0) - {last}
+        assert fleet.databases[0].process
+        database = fleet.databases[0].process.pid
+        for pid in (0, *(one.pid for one in workers), database, *children(database)):
+            os.sched_setaffinity(pid, rest)
+        for process in workers:
+            for child in children(process.pid):
+                os.sched_setaffinity(child, rest)
+        for process, _ in gateways:
+            os.sched_setaffinity(process.pid, {last})
     assert fleet.databases[0].process
     parts = {
         "gateway": [process.pid for process, _ in gateways],
@@ -117,9 +179,20 @@ async def load(fleet: Fleet, words: argparse.Namespace) -> int:
     }
     before = {name: spent(pids) for name, pids in parts.items()}
     more = (*(("--rate", words.rate) if words.rate else ()), *door_words)
-    run = fleet.load(
-        urls, 0, words.stations, "--events", words.events, "--seconds", words.seconds, *more
-    )
+    each = -(-words.stations // words.loads)
+    runs = [
+        fleet.load(
+            urls,
+            first,
+            min(each, words.stations - first),
+            "--events",
+            words.events,
+            "--seconds",
+            words.seconds,
+            *more,
+        )
+        for first in range(0, words.stations, each)
+    ]
     if words.kill:
         await asyncio.sleep(4)
         workers[0].kill()
@@ -127,12 +200,20 @@ async def load(fleet: Fleet, words: argparse.Namespace) -> int:
         gateways[0][0].kill()
         await asyncio.sleep(2)
         os.kill(children(workers[1].pid)[0], signal.SIGKILL)
-    status, text = await ended(run)
-    print(text)
+    status, count = 0, 0
+    for run in runs:
+        code, text = await ended(run)
+        status |= code
+        count += int(text.splitlines()[-1].split()[0])
+        print(text)
     if not words.kill:
         used = {name: spent(pids) - before[name] for name, pids in parts.items()}
-        count = int(text.splitlines()[-1].split()[0])
         own = ", ".join(f"{name} {1e6 * seconds / count:.0f}" for name, seconds in used.items())
+        held = ", ".join(
+            f"{name} {sum(map(resident, parts[name])) / 1e6:.0f}"
+            for name in ("gateway", "worker", "replay")
+        )
+        print(f"memory in MB: {held}")
         batches = await owner.fetchval("select count(distinct xmin::text) from own_log")
         rows = await owner.fetchval("select count(*) from own_log")
         print(f"processor time a message in us: {own}; {rows / max(1, batches):.1f} lines a commit")
@@ -280,9 +361,67 @@ async def lists(fleet: Fleet, words: argparse.Namespace) -> int:
     return 0 if is_right else 1
 
 
+async def years(fleet: Fleet, words: argparse.Namespace) -> int:
+    owner = await made(fleet, False)
+    await fleet.add(owner, words.stations, -(-words.stations // words.shards), 0)
+    await owner.execute(BOARDS)
+    began = time.monotonic()
+    for shard in range(words.shards):
+        for statement in YEARS:
+            # The rows are right: their keys to others need not be looked up, and sums come behind.
+            await owner.execute("set session_replication_role = replica")
+            if "own_archived_total" in statement or "own_closed_period (" in statement:
+                await owner.execute("set session_replication_role = origin")
+            await owner.execute(statement, words.days, shard, timeout=None)
+    await owner.execute("vacuum analyze", timeout=None)
+    names = ("own_closed_period", "own_archived_period", "own_archived_transaction")
+    counts = [await owner.fetchval(f"select count(*) from {name}", timeout=None) for name in names]
+    size = await owner.fetchval("select pg_database_size(current_database())")
+    print(
+        f"{words.stations} stations, {words.shards} sites, {words.days} days: {counts[2]:,} sessions, {counts[0]:,} "
+        f"settled and {counts[1]:,} archived periods, {size / 1e9:.1f} GB, filled in {time.monotonic() - began:.0f} s",
+        flush=True,
+    )
+    slow, site = 0, f"site-{min(3, words.shards - 1)}"
+    for name, text in VIEWS.items():
+        for what, where in (("a site", f"site = '{site}' and "), ("all sites", "")):
+            query, took = text.format(f"{where}day = '{DAY}'"), list[float]()
+            for _ in range(5):
+                begin = time.monotonic()
+                rows = len(await owner.fetch(query, timeout=60))
+                took.append(time.monotonic() - begin)
+            slow += sorted(took)[2] > 0.2
+            told = ", ".join(f"{1000 * one:.0f}" for one in took)
+            print(f"{name}, a day of {what}: {told} ms, {rows} rows", flush=True)
+    make_operator(fleet, "ann", "sees")
+    token = make_token(fleet, "ann", "sees")
+    _, url = start_page(fleet)
+    client = Client(url)
+    client.login("ann")
+    heads = {"Authorization": f"Bearer {token}"}
+    for path in (
+        "/",
+        f"/site/{site}/board.{DAY}.html",
+        f"/site/{site}/",
+        f"/api/v1/sites/{site}/periods?from={DAY}&to={DAY}",
+        "/api/v1/stations/CS-00007/transactions",
+        "/api/v1/sites?limit=1000",
+    ):
+        took = list[float]()
+        for _ in range(5):
+            begin = time.monotonic()
+            answer = await asyncio.to_thread(client.asked, "GET", path, None, heads)
+            took.append(time.monotonic() - begin)
+        told = ", ".join(f"{1000 * one:.0f}" for one in took)
+        slow += sorted(took)[2] > 0.2
+        print(f"{path}: {told} ms, status {answer.status}, {len(answer.text):,} bytes", flush=True)
+    await owner.close()
+    return 1 if slow else 0
+
+
 def main() -> int:
     parser = parser_of(__doc__)
-    kinds = ["load", "recovery", "memory", "lists"]
+    kinds = ["load", "recovery", "memory", "lists", "years"]
     parser.add_argument("what", choices=kinds, help="what is measured")
     parser.add_argument("--stations", type=int, default=100, help="how many (default: 100)")
     parser.add_argument("--shards", type=int, default=2, help="how many (default: 2)")
@@ -306,6 +445,12 @@ def main() -> int:
     parser.add_argument(
         "--together", type=int, default=0, metavar="N", help="connect N at a time before any sends"
     )
+    parser.add_argument(
+        "--loads", type=int, default=1, help="processes that play the stations (default: 1)"
+    )
+    parser.add_argument(
+        "--alone", action="store_true", help="gateways have a processor that nothing else here has"
+    )
     parser.add_argument("--standby", action="store_true", help="with a synchronous standby")
     parser.add_argument("--kill", action="store_true", help="kill a worker, a gateway and a replay")
     parser.add_argument(
@@ -326,6 +471,7 @@ def main() -> int:
     if words.processors:
         os.sched_setaffinity(0, {int(word) for word in words.processors.split(",")})
     measures = {"load": load, "recovery": recovery, "memory": memory, "lists": lists}
+    measures["years"] = years
     fleet = None
     try:
         fleet = Fleet(words.program, words.user)

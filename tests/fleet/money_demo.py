@@ -3,9 +3,9 @@
     tests/one fleet.money_demo ocpp_board
 
 It starts PostgreSQL 15 in a temporary folder and a worker, and closes days of a site of which each station has a
-trouble of its own: one that leaves, one whose archived transaction comes again, in conflict and voided, one at its
-limit of transactions, and one with numbers of 5,000 digits and a time that Python can't read. The status is 1 where
-something is not as it must be.
+trouble of its own: one that leaves, one that changes its site, one whose archived transaction comes again, in conflict
+and voided, one at its limit of transactions, and one with numbers of 5,000 digits and a time that Python can't read.
+The status is 1 where something is not as it must be.
 """
 
 import argparse
@@ -24,6 +24,8 @@ from tests.fleet.trials import parsed, parser_of, tried
 ENERGY = "select coalesce(sum(up_kwh - down_kwh), 0) from energy where site = $1"
 ALL_SETTLED = "select coalesce(sum(up - down), 0)::bigint from settled_period where site = $1"
 SETTLED = "select coalesce(sum(up - down), 0)::bigint from settled_period where station = $1"
+BOOKED = "select coalesce(sum(up - down), 0)::bigint from own_archived_period where site = $1"
+SUMMED = "select coalesce(sum(up - down), 0)::bigint from own_archived_sum where site = $1"
 IN_LOG = "select count(*) from own_log where line like 'msg ' || $1 || ' %' || $2 || '%'"
 
 
@@ -36,6 +38,8 @@ class Demo(ClosingTrial):
         (3, "moving", "M1"),
         (0, "long", "N1"),
         (0, "long", "N2"),
+        (4, "first", "S1"),
+        (4, "first", "S2"),
     )
 
     async def refused(self, query: str, *values: object) -> str:
@@ -158,6 +162,73 @@ class Demo(ClosingTrial):
         self.check(answers == 2 * [wanted[2]], f"two of these are restored: {answers}")
         await self.close_site("two restored", "2026-03-03", "; 2 taken", site="again")
         await self.counted("and counted again", "0.5")
+
+    async def changed_site(self) -> None:
+        """A station that is given to another site: what is corrected since is booked where it was settled."""
+        await self.came(
+            *session("S1", "TX-1", local("2026-03-01 08:00"), 4),
+            *session("S1", "TX-2", local("2026-03-01 10:00"), 4)[:3],
+            *session("S2", "TX-1", local("2026-03-01 08:00"), 4),
+        )
+        for day in ("2026-03-01", "2026-03-02"):
+            await self.close_site(f"a first site, {day}", day, site="first")
+        await self.owner.execute(
+            "select add_station(4, 'other', 'S3');"
+            "update own_station set site = 'other' where station = 'S1'"
+        )
+        await self.came(
+            "void S1 TX-1 3", "void S1 TX-2 2", *session("S1", "TX-3", local("2026-03-03 08:00"), 4)
+        )
+        await self.close_site(
+            "its second site", "2026-03-04", "5 rows, 2 of them corrections", site="other"
+        )
+        found = [
+            int(await self.owner.fetchval(query, site))
+            for site in ("first", "other")
+            for query in (ALL_SETTLED, BOOKED, SUMMED)
+        ]
+        self.check(
+            found == [1_500_000, 1_250_000, 1_250_000, 750_000, 750_000, 750_000],
+            f"what is settled and archived at both sites, in mWh: {found}",
+        )
+        worst = await self.owner.fetchval(
+            "select min(up) from (select sum(up) as up from own_closed_period group by site, station, starts) p"
+        )
+        self.check(worst == 0, f"no site has less than nothing of a period: {worst}")
+        archived = await self.owner.fetch(
+            "select site, transaction from own_archived_transaction where station = 'S1' order by 2"
+        )
+        rows = [tuple(row) for row in archived]
+        self.check(
+            rows == [("first", "tx-1"), ("other", "tx-3")], f"sessions stay where they were: {rows}"
+        )
+        await self.came("restore S1 TX-1 3")
+        await self.close_site("one comes back", "2026-03-04", "1 of them corrections", site="other")
+        found = [int(await self.owner.fetchval(ALL_SETTLED, site)) for site in ("first", "other")]
+        self.check(found == [1_750_000, 750_000], f"and counts where it was settled: {found}")
+
+    async def archives_stay(self) -> None:
+        """An archive that is there already, as of a database that was restored, is not overwritten."""
+        names = {path.name: path.read_bytes() for path in self.archives.iterdir()}
+        self.check(
+            all(".cell-1.shard-" in name for name in names),
+            f"archives name their cell: {min(names)}",
+        )
+        number = await self.owner.fetchval(
+            "select max(closing) + 1 from own_closing where site = 'first'"
+        )
+        own = self.archives / f"first.cell-1.shard-4.{number}.script"
+        own.write_bytes(b"another one's")
+        await self.came("void S2 TX-1 3")
+        await self.close_site(
+            "beside another's archive", "2026-03-04", f"4.{number}-2.script", site="first"
+        )
+        kept = {
+            path.name: path.read_bytes() for path in self.archives.iterdir() if path.name in names
+        }
+        self.check(
+            own.read_bytes() == b"another one's" and kept == names, "no archive was overwritten"
+        )
 
     async def closed_at_once(self, lines: list[str]) -> None:
         """Between a closing and the next board, what it archived is counted once."""
@@ -309,6 +380,8 @@ class Demo(ClosingTrial):
     async def run(self) -> None:
         await self.open()
         await self.leaving()
+        await self.changed_site()
+        await self.archives_stay()
         await self.again()
         await self.full()
         await self.long_numbers()

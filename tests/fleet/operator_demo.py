@@ -18,7 +18,7 @@ from typing import Any
 
 import asyncpg
 
-from ocpp_board.fleet.database import connect
+from ocpp_board.fleet.database import connect, session_of
 from tests.fleet.fleet import ended, free_port, tool
 from tests.fleet.page_client import (
     PASSWORD,
@@ -33,7 +33,7 @@ from tests.fleet.trials import Trial, event, parsed, parser_of, tried
 
 PLACES = ((0, "north", "CS-00"), (0, "north", "CS-01"), (1, "south", "CS-02"))
 # Connections of clients that say nothing, which are more than a page keeps.
-SLOW = 300
+SLOW, SLOW_FORMS = 300, 260
 
 
 def session(transaction: str, day: str, count: int) -> list[str]:
@@ -142,8 +142,10 @@ class Demo(Trial):
         self.check(answer.headers["location"] == "/", "nobody is led to another host")
 
     async def locked(self) -> None:
-        """Five wrong passwords lock an account at every page, and no other account."""
+        """Five wrong passwords lock an account at every page for who comes from there, and nobody else."""
         one, other = Client(self.url), Client(self.other)
+        before = Client(self.url)
+        before.login("eve")
         statuses = [
             client.login("eve", f"a wrong one {number}").status
             for number, client in enumerate((one, other, one, other, one))
@@ -158,8 +160,13 @@ class Demo(Trial):
             "nobody is told that it is locked",
         )
         self.check(other.login("sue").status == 303, "another operator signs in meanwhile")
+        elsewhere = [
+            Client(url, source="127.3.0.1").login("eve").status for url in (self.url, self.other)
+        ]
+        self.check(elsewhere == [303, 303], f"and eve from another address: {elsewhere}")
+        self.check(before.get("/").status == 200, "where she is signed in she stays")
         status, told = operator(self.fleet, "list")
-        self.check("locked until" in told, "the list tells who is locked")
+        self.check("locked from 127.0.0.1 until" in told, "the list tells who is locked")
         await self.owner.execute("update sign_in set locked_until = now() where name = 'eve'")
         self.check(one.login("eve").status == 303, "once the lock is over eve signs in")
         await self.owner.execute("delete from sign_in")
@@ -497,6 +504,36 @@ class Demo(Trial):
         self.check(not open_ones, f"each of them ends: {open_ones} are open after 20 seconds")
         for line in slow:
             line.close()
+        for what, addresses in (("one address", 1), ("260 addresses", SLOW_FORMS)):
+            await self.slow_forms(what, addresses)
+
+    async def slow_forms(self, what: str, addresses: int) -> None:
+        """Forms whose bodies don't come."""
+        host, port = self.url.removeprefix("http://").split(":")
+        head = (
+            b"POST /login HTTP/1.1\r\nHost: a\r\nContent-Length: 100\r\n"
+            b"Content-Type: application/x-www-form-urlencoded\r\n\r\nname=ann&"
+        )
+        slow = list[socket.socket]()
+        for number in range(SLOW_FORMS):
+            one = number % addresses + 1
+            source = f"127.4.{one // 250}.{one % 250 + 1}"
+            slow.append(socket.create_connection((host, int(port)), 30, (source, 0)))
+            slow[-1].sendall(head)
+        await asyncio.sleep(0.5)
+        ann, began = Client(self.url, source="127.0.0.2"), time.monotonic()
+        status = (await asyncio.to_thread(ann.login, "ann")).status
+        took = time.monotonic() - began
+        left = sum(map(is_open, slow))
+        self.check(
+            status == 303 and took < 5,
+            f"{SLOW_FORMS} slow forms from {what}, of which {left} are open: ann signs in after {took:.1f} s",
+        )
+        await asyncio.sleep(max(0.0, began + 13 - time.monotonic()))
+        left = sum(map(is_open, slow))
+        self.check(left == 0, f"each of them ends: {left} are open")
+        for line in slow:
+            line.close()
 
     async def work(self) -> None:
         """Many who sign in at once hold up nobody who is signed in."""
@@ -566,7 +603,7 @@ class Demo(Trial):
         )
         kept = [path.relative_to(archives).as_posix() for path in archives.rglob("*.script")]
         self.check(
-            kept == ["north/north.shard-0.1.script"] or not kept,
+            kept == ["north/north.cell-1.shard-0.1.script"] or not kept,
             f"its archive lies in a folder of its site: {kept}",
         )
         text = ned.get("/closings").text
@@ -608,11 +645,11 @@ class Demo(Trial):
                 "insert into operator (name, roles) values ('x', '{sees}')",
                 "select * from own_log",
                 "select operate('void', 'CS-00', 'T-1', 1, 'a test')",
-                "select * from try_operator('ann')",
+                "select * from try_operator('ann', '')",
             ),
             "ledger_reader": (
                 "select operate('void', 'CS-00', 'T-1', 1, 'a test')",
-                "select * from try_operator('ann')",
+                "select * from try_operator('ann', '')",
                 "select * from use_token('\\x00')",
                 "select * from operator",
                 "select token from own_deed",
@@ -686,6 +723,35 @@ class Demo(Trial):
         self.check(count == 0, f"operators are those of the first cell: {count} in the second")
         await second.close()
 
+    async def standby(self) -> None:
+        """A page that shows what a standby has."""
+        primary, standby = self.fleet.databases[0], self.fleet.database("standby")
+        await asyncio.to_thread(standby.copy, primary)
+        await asyncio.to_thread(standby.start)
+        login = self.fleet.dsn("ledger_operator", primary.port, standby.port)
+        process, url = start_page(self.fleet, "--from-standby", dsns=(login,))
+        ann = Client(url)
+        ann.login("ann")
+        texts = [ann.get(path) for path in ("/", "/site/north/", "/session/CS-00/T-1")]
+        other = await session_of(self.fleet.dsn("owner", standby.port), True, {})
+        query = "select count(*) from pg_stat_activity where application_name ~ '^page_'"
+        count = await other.fetchval(query)
+        self.check(
+            [one.status for one in texts] == [200] * 3 and count > 0,
+            f"a page with a standby shows what that has, by {count} sessions",
+        )
+        answer = ann.operate("void", "CS-01", "T-2", 1, "by way of a standby")
+        asked = ann.get("/closings").text
+        self.check(
+            answer.told.startswith("accepted ") and "the month ends" in asked,
+            f"what changes something is done: {answer.told}",
+        )
+        await other.close()
+        standby.stop()
+        status = ann.get("/").status
+        self.check(status == 200, f"without the standby its page is that of the primary: {status}")
+        process.terminate()
+
     async def cookies(self) -> None:
         """Where TLS is in front a session goes by no other way."""
         process = self.fleet.start(
@@ -713,7 +779,7 @@ class Demo(Trial):
             *(self.sign_in, self.locked, self.sessions, self.sites, self.roles, self.reasons),
             *(self.forms, self.bodies),
             *(self.proxied, self.cells, self.cookies, self.closings),
-            *(self.doors, self.watched, self.at_once, self.work),
+            *(self.doors, self.watched, self.at_once, self.work, self.standby),
         ):
             await job()
         self.check(all(page.poll() is None for page in self.pages), "both pages still run")

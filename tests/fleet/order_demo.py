@@ -121,7 +121,7 @@ class Demo(ClosingTrial):
         await self.closed("a first day", "2026-03-01", "0 transactions archived")
         await self.closed("a second day", "2026-03-02", "2 transactions archived")
         await self.everywhere("closed days")
-        archive = max(self.archives.glob("north.shard-0.*")).read_text()
+        archive = max(self.archives.glob("north.cell-1.shard-0.*")).read_text()
         self.check("\norder north moment\n" in archive, "the archive declares how its site is read")
         # The end has what an event before it read, so that one's void moves no energy.
         had = await self.rows(SETTLED, "A")

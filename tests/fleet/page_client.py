@@ -55,10 +55,15 @@ class Client:
     url: str
     cookie: str = ""
     heads: dict[str, str] = field(default_factory=dict)
+    # The address of this machine that it comes from.
+    source: str = ""
 
     def asked(self, method: str, path: str, data: bytes | None, heads: dict[str, str]) -> Answer:
         parts = urlsplit(self.url)
-        line = http.client.HTTPConnection(parts.hostname or "", parts.port, timeout=PATIENCE)
+        source = (self.source, 0) if self.source else None
+        line = http.client.HTTPConnection(
+            parts.hostname or "", parts.port, timeout=PATIENCE, source_address=source
+        )
         all_heads = dict(self.heads) | {key.replace("_", "-"): one for key, one in heads.items()}
         if self.cookie:
             all_heads["Cookie"] = self.cookie

@@ -51,9 +51,13 @@ create function public.pg_notify(text, text) returns void language plpgsql as $$
 begin
     raise program_limit_exceeded using message = 'too many notifications in the NOTIFY queue';
 end $$;
+create function public.pg_notification_queue_usage() returns float language sql as 'select 1.0::float';
+alter role ledger_gateway set search_path = public, pg_catalog;
 alter function tell(text, text) set search_path = public, pg_catalog, pg_temp;
 alter role ledger_worker set search_path = public, pg_catalog;
 """
+OPERATE = "select operate('void', $1, 'tx-1', 0, 'a trial')"
+TAKEN = "select count(*) from own_log where line like 'void %'"
 HEARTBEAT = b'[2,"1","Heartbeat",{}]'
 
 
@@ -79,11 +83,15 @@ class Demo(Trial):
         await self.one_cell()
         await self.fleet.add(self.owner, 4, 4, 0)
         for station in (TRUE, ODD, GUESSED):
-            salt = secrets.token_bytes(SALT)
-            values = (station, hashed(password_of(station).encode(), salt), salt)
-            await self.owner.execute("select set_password($1, $2, $3)", *values)
+            await self.set_password(station, password_of(station))
         self.worker = self.fleet.worker("--boards", 0.5)
         self.process, self.url = await asyncio.to_thread(self.fleet.gateway, options=())
+
+    async def set_password(self, station: str, password: str, at_once: bool = False) -> None:
+        """Sets a station's password."""
+        salt = secrets.token_bytes(SALT)
+        values = (station, hashed(password.encode(), salt), salt, at_once)
+        await self.owner.execute("select set_password($1, $2, $3, $4)", *values)
 
     async def comes(self, station: str, address: str = "") -> tuple[str, float, Client]:
         """What a station is answered that comes with its password, and after how long."""
@@ -294,7 +302,16 @@ class Demo(Trial):
             heard == "101" and max(waits) < 6 * self.limit,
             f"a queue without room: {heard}, and a station waits {max(waits):.2f} s",
         )
-        await self.owner.execute("drop function public.pg_notify(text, text)")
+        await self.owner.execute(OPERATE, TRUE)
+        end = time.monotonic() + 10
+        while not (taken := await self.owner.fetchval(TAKEN)) and time.monotonic() < end:
+            await asyncio.sleep(0.1)
+        self.check(taken == 1, "an operator's line comes into the log")
+        await self.set_password(TRUE, "another-password-of-it", True)
+        heard = await link.said(20)
+        self.check(heard == "closed 1008", f"a password that is replaced at once: {heard}")
+        for name in ("pg_notify(text, text)", "pg_notification_queue_usage()"):
+            await self.owner.execute(f"drop function public.{name}")
 
     async def answered(self) -> None:
         """An event is answered in the end."""

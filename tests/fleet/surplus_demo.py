@@ -36,6 +36,12 @@ BIG = """
 insert into own_log (shard, place, line)
 select 4, place, $1 || place || $2 || repeat('x', 32000) || $3 from generate_series(1, 33240) as s (place)
 """
+# One of sessions that were taken, as many as stations may have by default.
+WIDE = """
+insert into own_log (shard, place, line)
+select 5, row_number() over (), $1 || station || $2 || n || $3 || repeat('x', 32000) || $4
+from own_station, generate_series(0, 2046) n where shard = 5
+"""
 # Memory of a closing or a compaction, and of the programs that it starts.
 MOST_MEMORY = 1_000_000_000
 
@@ -53,6 +59,7 @@ class Demo(ClosingTrial):
         (2, "late", "L"),
         (3, "unread", "U"),
         (4, "big", "G"),
+        *((5, "wide", f"W{number:02}") for number in range(15)),
     )
 
     def conflicts(self, station: str, count: int) -> list[str]:
@@ -211,9 +218,30 @@ class Demo(ClosingTrial):
             f"a log of {size:,} bytes is closed in {took:.0f} s with {memory / 1e6:.0f} MB: {said}",
         )
 
+    async def wide(self) -> None:
+        """A log of 1 GiB of events that were taken: closed."""
+        text = line("@", "TX-1", 77, "Updated", local("2026-03-01 08:15"), 1000)
+        front, rest = text.split("@", 1)
+        middle, back = rest.split('"seqNo":77')
+        own = '"customData":{"vendorId":"'
+        parts = (front, middle + '"seqNo":', back.replace("}]}]}]", "}]}]," + own), '"}}]')
+        head, tail = parts[2].split(own)
+        await self.owner.execute(WIDE, *parts[:2], head + own, tail + parts[3], timeout=None)
+        await self.owner.execute(f"update numbering set bytes = ({BYTES}) where shard = $1", 5)
+        size = await self.owner.fetchval(BYTES, 5)
+        days = ("--site", "wide", "--archive", self.archives, "--day", "2026-03-02")
+        began = time.monotonic()
+        status, said, memory = await self.measured("close-day", *days)
+        took = time.monotonic() - began
+        self.check(
+            status == 0 and "0 refused ones, 0 repeats" in said,
+            f"a log of {size:,} bytes that were taken is closed in {took:.0f} s with {memory / 1e6:.0f} MB: {said}",
+        )
+
     async def run(self) -> None:
         await self.open_plan()
         if self.words.big:
+            await self.wide()
             await self.big()
         else:
             self.worker = self.fleet.worker("--boards", 0.2, code=SMALL)

@@ -4,9 +4,9 @@
 
 It starts PostgreSQL 15 in a temporary folder, makes certificates by `openssl`, and plays stations by TLS 1.2 and 1.3,
 without TLS, while the gateway's certificate is changed, and with certificates of their own, of others and of another
-authority. Where nginx is installed the same goes by way of it, which hands on whose certificate a station has: a
-station or a stranger beside it that says so by itself is not believed. The status is 1 where something is not as it
-must be.
+authority, and such as a revocation list names. Where nginx is installed the same goes by way of it, which hands on
+whose certificate a station has: a station or a stranger beside it that says so by itself is not believed. The status
+is 1 where something is not as it must be.
 """
 
 import argparse
@@ -14,6 +14,7 @@ import asyncio
 import os
 import secrets
 import signal
+import socket
 import ssl
 import subprocess
 import sys
@@ -33,7 +34,7 @@ ELLIPTIC, RSA = ("ec", "-pkeyopt", "ec_paramgen_curve:P-256"), ("rsa:2048",)
 SUITE = "AES128-GCM-SHA256"
 NGINX = "/usr/sbin/nginx"
 SECRET, HEADER = "a-secret-of-nginx-and-gateway", "X-Client-Certificate"
-# The lines of docs/fleet.md, in files of its own.
+# The lines of docs/fleet-secure.md, in files of its own.
 PROXY = """
 daemon off; worker_processes 1; pid {folder}/nginx.pid; error_log {folder}/nginx.log;
 events {{}}
@@ -58,6 +59,16 @@ http {{
   }}
 }}
 """
+# What `openssl ca` needs to name certificates in a list.
+AUTHORITY = """
+[ca]
+default_ca = own
+[own]
+database = {folder}/index.txt
+crlnumber = {folder}/number
+default_md = sha256
+default_crl_days = 2
+"""
 HANDSHAKE = (
     "GET /ocpp/{} HTTP/1.1\r\nHost: a\r\nUpgrade: websocket\r\nConnection: Upgrade\r\n"
     "Sec-WebSocket-Version: 13\r\nSec-WebSocket-Key: AAAAAAAAAAAAAAAAAAAAAA==\r\n"
@@ -72,6 +83,8 @@ class Demo(Trial):
         super().__init__(words)
         self.url = ""
         self.log = self.fleet.folder / "parts.log"
+        # A station's end of sessions that go on.
+        self.context = ssl.create_default_context()
 
     def file(self, name: str) -> Path:
         return self.fleet.folder / name
@@ -200,10 +213,82 @@ class Demo(Trial):
         )
         authority.write_bytes(self.file("other.pem").read_bytes())
         process.send_signal(signal.SIGHUP)
-        await self.until_told("used.pem was read again", 2)
+        await self.until_told("used.pem was read again", 3)
         for own, wanted in (("forged", "101"), ("station-a", "refused: ")):
             heard = await self.heard(self.trusting("second", own=own), "", A)
             self.check(heard.startswith(wanted), f"{own}, with another authority: {heard}")
+
+    def lists(self, *revoked: str) -> None:
+        """The authority's revocation list, which names these certificates."""
+        folder = self.file("ca")
+        folder.mkdir(exist_ok=True)
+        (folder / "index.txt").write_text("")
+        (folder / "number").write_text("01\n")
+        self.file("ca.cnf").write_text(AUTHORITY.format(folder=folder))
+        files = [
+            "-cert",
+            str(self.file("authority.pem")),
+            "-keyfile",
+            str(self.file("authority.key")),
+        ]
+        command = ["openssl", "ca", "-batch", "-config", str(self.file("ca.cnf")), *files]
+        for words in (
+            *(["-revoke", str(self.file(f"{name}.pem"))] for name in revoked),
+            ["-gencrl"],
+        ):
+            more = ["-out", str(self.file("revoked.pem"))] if words == ["-gencrl"] else []
+            subprocess.run([*command, *words, *more], check=True, stderr=subprocess.DEVNULL)
+
+    def resumed(self, port: int, session: ssl.SSLSession | None) -> tuple[ssl.SSLSession, str]:
+        """A connection of station A by TLS 1.2 that goes on with a session: that session, and what it is answered."""
+        context = self.context
+        with socket.create_connection(("127.0.0.1", port), 10) as plain:
+            with context.wrap_socket(plain, server_hostname="127.0.0.1", session=session) as link:
+                self.check(session is None or link.session_reused, "a session of TLS goes on")
+                link.sendall(HANDSHAKE.format(A, "").encode())
+                said = link.recv(4096).decode().partition("\r\n")[0]
+                assert link.session
+                return link.session, said
+
+    async def revoked(self) -> None:
+        """A revocation list that comes to name a certificate."""
+        self.lists()
+        files = ("authority", "revoked")
+        ca, crl = (str(self.file(f"{name}.pem")) for name in files)
+        process = await asyncio.to_thread(self.gateway, "--client-ca", ca, "--client-crl", crl)
+        port = int(self.url.rpartition(":")[2].split("/")[0])
+        self.context = self.trusting("second", own="station-a", version="TLSv1_2")
+        session, said = await asyncio.to_thread(self.resumed, port, None)
+        self.check(" 101 " in said, f"a certificate that no list names: {said}")
+        first = await self.link(self.trusting("second", own="station-a"), "")
+        other = await self.link(self.trusting("second", own="station-b"), "", B)
+        heard = [await first.said(), await other.said()]
+        self.check(heard == ["101", "101"], f"two stations: {heard}")
+        count = self.log.read_text().count("used.pem was read again")
+        self.lists("station-a")
+        process.send_signal(signal.SIGHUP)
+        await self.until_told("used.pem was read again", count + 1)
+        heard = [await first.said()]
+        other.send(b'[2,"1","Heartbeat",{}]')
+        heard.append(await other.said())
+        self.check(
+            heard[0] == "closed 1008" and heard[1].startswith('[3,"1",'),
+            f"once a list names the certificate of one: {heard}",
+        )
+        text = await self.heard(self.trusting("second", own="station-a"), "")
+        self.check(text.startswith("refused: "), f"it comes again: {text}")
+        _, said = await asyncio.to_thread(self.resumed, port, session)
+        self.check(" 403 " in said, f"it goes on with its session of TLS: {said}")
+        heard = [await self.heard(self.trusting("second", own="station-b"), "", B)]
+        self.check(heard == ["101"], f"the other one comes again: {heard}")
+        self.file("revoked.pem").write_text("no list")
+        process.send_signal(signal.SIGHUP)
+        await self.until_told("the certificate stays as it was", 2)
+        text = await self.heard(self.trusting("second", own="station-a"), "")
+        self.check(
+            text.startswith("refused: "), f"a list that can't be read changes nothing: {text}"
+        )
+        process.kill()
 
     async def proxied(self) -> None:
         """Profile 3 behind nginx."""
@@ -298,11 +383,13 @@ class Demo(Trial):
         await self.renewed(process)
         process.kill()
         self.use("second")
+        await self.revoked()
         await self.certificates()
         await self.proxied()
         for more, wanted in (
             (("--key", "used.key"), "--key and --client-ca need --certificate"),
             (("--certificate", "none.pem"), "none.pem: "),
+            (("--client-crl", "none.pem"), "--client-crl needs --client-ca"),
             (("--client-header", HEADER), "--client-header needs --proxy"),
             (("--client-header", HEADER, "--proxy", "127.0.0.1"), "PROXY_SECRET"),
         ):

@@ -56,16 +56,16 @@ class Beside:
         (folder / "stations").write_text("north A\n")
         self.tool: subprocess.Popen[str] | None = None
 
-    def words(self) -> list[str]:
+    def words(self, *more: str) -> list[str]:
         """The words of the tool."""
         names = ("log", "stations", "state", "out")
         paths = [word for name in names for word in (f"--{name}", str(self.folder / name))]
-        return [*TOOL, "live", "--program", self.program, "--every", "0.2", *paths]
+        return [*TOOL, "live", "--program", self.program, "--every", "0.2", *paths, *more]
 
-    def start(self) -> None:
-        """Starts the tool."""
-        pipe = subprocess.PIPE
-        self.tool = subprocess.Popen(self.words(), stdin=pipe, stdout=pipe, stderr=pipe, text=True)
+    def start(self, *more: str) -> None:
+        """Starts the tool, with more words."""
+        pipe, words = subprocess.PIPE, self.words(*more)
+        self.tool = subprocess.Popen(words, stdin=pipe, stdout=pipe, stderr=pipe, text=True)
 
     def write(self, *lines: str) -> None:
         """Adds lines to the log."""
@@ -248,6 +248,39 @@ def a_new_station(program: str) -> None:
         )
 
 
+def closed_sessions_are_shown(program: str) -> None:
+    """A session that ended goes to the archive when the next day begins, with its room; a late message of it and an
+    operator's line correct it; the same after a kill and a start again."""
+    with beside(program) as run:
+        kinds = {0: "Started", 2: "Updated", 3: "Ended"}
+        run.write(*(row(message(number, kind)) for number, kind in kinds.items()))
+        run.start("--close-day")
+        run.wait("three events", run.has_events(3))
+        run.write(row(HEARTBEAT, at="2026-03-02T00:00:00Z"))
+        archive = run.folder / "state/archive/2026-03-01.script"
+        run.wait("the archive", archive.exists)
+        run.wait("the room", lambda: run.answer("total A").startswith("total events=0 voided=0 "))
+        run.write(row(message(1), at="2026-03-02T08:00:00Z"))
+        run.wait("four events", run.has_events(4))
+        answer = run.answer("void A T1 3 # jo: too much")
+        expect(f"answer {answer}", answer.startswith("accepted "))
+        run.wait("the corrections", lambda: len(run.rows("corrections")) == 2)
+        rows = [
+            (each["what"], each["net before (kWh)"], each["net after (kWh)"])
+            for each in run.rows("corrections")
+        ]
+        wanted = [("message", "0.3", "0.3"), ("void", "0.3", "0.2")]
+        expect(f"the corrections: {rows}", rows == wanted)
+        run.end(signal.SIGKILL)
+        shutil.rmtree(run.folder / "out")
+        run.start("--close-day")
+        run.wait("three events again", run.has_events(3))
+        (session,) = run.rows("transactions")
+        expect(session["state"], session["state"] == "voided by jo: no end")
+        status, told = run.end()
+        expect(f"status {status}: {told}", status == 0)
+
+
 def what_is_refused_is_shown(program: str) -> None:
     """Each refused message and each line that can't be taken is told, in the table and counted on the page; the same
     after a start again. What the ledger keeps nothing of is none of these."""
@@ -333,6 +366,7 @@ SCENES = (
     an_operators_lines_are_kept,
     a_clock_far_from_the_log,
     a_new_station,
+    closed_sessions_are_shown,
     what_is_refused_is_shown,
     a_signal_ends_the_feeder_too,
 )

@@ -95,7 +95,8 @@ def row(station: str = "A", time: str = "2026-03-01T10:00:00Z") -> str:
 def script_of(folder: Path) -> list[str]:
     """The lines of the kept script behind its declarations."""
     text = (folder / "state/script").read_text()
-    head = BEGIN.decode() + "station north A\n#\n"
+    limits = "limits 4096 65536 65536 9223372036854775808\n"
+    head = f"{BEGIN.decode()}{limits}station north A\n#\n"
     assert text.startswith(head)
     return text.removeprefix(head).splitlines()
 
@@ -119,8 +120,9 @@ def test_a_log_becomes_a_script(
     ]
     assert len(lines) == 8 and len(untaken) == 1
     assert untaken[0].station == "B" and "a station is not in" in untaken[0].what
-    told = [record.getMessage() for record in caplog.records]
-    assert told == ["a time is none; its message goes without a time: 'never'"]
+    told = [one.getMessage() for one in caplog.records if one.levelno >= logging.WARNING]
+    said = "a time is none; its message goes without a time: 'never'"
+    assert told == [f"{tmp_path / 'log'}: {said}"]
     ledger.close()
     feed.kept.lock.close()
     again, ledger, untaken = feed_of(stub, tmp_path)

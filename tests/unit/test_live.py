@@ -215,8 +215,7 @@ def test_a_wrong_word_is_told_in_two_lines(capsys: pytest.CaptureFixture[str]) -
         arguments(["--out", "x", "script", "--evry", "3"], "ocpp-board live")
     assert ended.value.code == 2
     assert capsys.readouterr().err == (
-        "ocpp-board live: error: unrecognized arguments: --evry 3\n"
-        "ocpp-board live --help tells its words\n"
+        "ocpp-board live: error: unrecognized arguments: --evry 3\nsee ocpp-board live --help\n"
     )
 
 

@@ -249,7 +249,7 @@ def test_stations_are_declared_before_messages(tmp_path: Path) -> None:
     assert script == (
         "limits 1 2 3 4\nstation north A\nstation south B\nperiod south 300\n"
         f"now 2026-03-01T08:00:00Z\nmsg A {HEARTBEAT}\nmsg B {HEARTBEAT}\n"
-        '# untaken {"advice":"look at the line of the log; the options of log-to-script tell its '
+        '# untaken {"advice":"look at the line of the log; the options of log-to-script name its '
         'form","what":"not JSON: Expecting value at character 1"}\n'
         "board north\nboard south\n"
     )

@@ -7,11 +7,12 @@ from pathlib import Path
 import pytest
 
 from ocpp_board import tables
+from ocpp_board.answered import Answered
 from ocpp_board.boards import Part, Session
 from ocpp_board.energies import Flow
 from ocpp_board.ledger import Ledger
 from ocpp_board.operators import HEADS, Deed, Operators, commented, deed_of
-from ocpp_board.page_sections import state_text
+from ocpp_board.page_sections import problems_of, state_text
 from ocpp_board.statuses import Status
 from ocpp_board.told import Told
 from ocpp_board.troubles import FIRST, messages, sound
@@ -111,9 +112,8 @@ def test_what_is_voided_is_not_missing() -> None:
     assert state_text(session) == "voided by jo<br>2, 3 voided by jo: a &lt;b&gt;"
     some = marked(deeds[0]._replace(who=""))
     assert some.state == "numbers missing, voided by an operator"
-    assert "2 numbers missing: 2 to 3" in state_text(
-        some
-    ) and "2 voided by an operator" in state_text(some)
+    assert "1 number missing: 3<" in state_text(some)
+    assert "2 voided by an operator" in state_text(some)
     # One that was restored, or refused, is none.
     for more in (
         Deed("restore A t1 2", answer="accepted 10"),
@@ -121,6 +121,43 @@ def test_what_is_voided_is_not_missing() -> None:
     ):
         assert [number for number, *_ in marked(*deeds, more).voided] == [3]
     assert marked(Deed("void A T1 2", "jo", "", "", "refused AlreadyVoided")).voided == []
+
+
+@pytest.mark.parametrize(
+    ("number", "wanted"), [(3, "voided by jo: no end"), (0, "voided by jo: no start")]
+)
+def test_an_end_that_is_voided_is_not_yet_to_come(number: int, wanted: str) -> None:
+    told = Told()
+    for one in sound("T1", FIRST):
+        message = json.dumps([2, "1", "TransactionEvent", one.payload])
+        told.take(Answered(1, "north", "A", one.received, message, '[3,"1",{}]'))
+    told.operators.add(Deed(f"void A T1 {number}", "jo", "wrong car", "", "accepted 5"))
+    first, last = (0, 2) if number else (1, 3)
+    session = Session("t1", 1, 3, first, last, False, 0, Flow(), state="no end yet")
+    told.mark("north", Part("A", False, 900, sessions=[session]))
+    assert session.state == wanted
+    found = {
+        one.name: one.times for one in problems_of([Part("A", False, 900, sessions=[session])])
+    }
+    assert found["voided by an operator"] == 1 and "no end yet" not in found
+
+
+def test_a_period_with_a_voided_event_lacks_no_number() -> None:
+    def gaps_of(*deeds: Deed) -> list[int]:
+        told = Told()
+        for one in sound("T1", FIRST):
+            message = json.dumps([2, "1", "TransactionEvent", one.payload])
+            told.take(Answered(1, "north", "A", one.received, message, '[3,"1",{}]'))
+        for deed in deeds:
+            told.operators.add(deed)
+        part = Part("A", False, 900)
+        part.sessions = [Session("t1", 1, 3, 0, 3, False, 1, Flow(), [(2, 2)], "numbers missing")]
+        told.mark("north", part)
+        assert part.known
+        return [start for start, doubt in part.known.doubts.items() if doubt.has_gap]
+
+    assert gaps_of()
+    assert gaps_of(Deed("void A T1 2", "jo", "", "", "accepted 5")) == []
 
 
 def test_tables_of_a_script_have_the_operators_lines(reference: str, tmp_path: Path) -> None:

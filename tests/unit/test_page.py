@@ -3,6 +3,7 @@
 import asyncio
 import json
 import time
+from collections import Counter
 from datetime import date, datetime, timezone
 from types import SimpleNamespace
 from typing import Any
@@ -75,19 +76,20 @@ class Database:
 
     def __init__(self, password: bytes) -> None:
         self.hash = hashed(password, SALT_OF_ANN, OPERATOR)
-        self.failures, self.sessions = 0, list[bytes]()
+        self.failures, self.sessions = Counter[tuple[bool, str]](), list[bytes]()
 
     async def ask(self, query: str, *values: Any) -> list[Any]:
         if query == operators.TRY:
-            is_locked = self.failures >= 5
-            self.failures += not is_locked
+            key = (values[0] == "ann", values[1])
+            is_locked = self.failures[key] >= 5
+            self.failures[key] += not is_locked
             is_known = values[0] == "ann" and not is_locked
             hash_ = self.hash if is_known else None
             return [
                 {"is_locked": is_locked, "hash": hash_, "salt": SALT_OF_ANN if is_known else None}
             ]
         if query == operators.BEGIN:
-            self.failures = 0
+            del self.failures[values[0] == "ann", values[3]]
             self.sessions.append(values[1])
         return []
 
@@ -132,6 +134,17 @@ def test_a_locked_account_is_told_as_a_wrong_password() -> None:
     assert len(set(told)) == 1 and told[0] != "in"
 
 
+def test_a_name_is_locked_where_it_failed_and_nowhere_else() -> None:
+    database = Database(b"a right password")
+    begun(database, *[("ann", "a wrong one")] * 5)
+    assert begun(database, ("ann", "a right password"))[0] != "in"
+
+    async def elsewhere() -> str:
+        return await SignIns(database.ask).begin("ann", "a right password", "192.0.2.2")
+
+    assert asyncio.run(elsewhere()) and len(database.sessions) == 1
+
+
 def test_an_address_that_failed_often_waits(monkeypatch: pytest.MonkeyPatch) -> None:
     # A clock that stands still, since hashes take their time on a busy machine.
     monkeypatch.setattr(operators, "time", SimpleNamespace(monotonic=lambda: 1_000.0))
@@ -149,15 +162,17 @@ def test_hashes_at_once_are_bounded() -> None:
 
         async def watched(query: str, *values: Any) -> list[Any]:
             nonlocal most
-            most = max(most, sign_ins.waiting)
+            most = max(most, sign_ins.waiting.total())
             return await database.ask(query, *values)
 
         sign_ins.ask = watched
-        jobs = [sign_ins.begin(f"no{n}", "x", f"192.0.2.{n}") for n in range(WAITING + 15)]
+        jobs = [sign_ins.begin(f"no{n}", "x", WHERE) for n in range(WAITING + 15)]
+        jobs.append(sign_ins.begin("ann", "a right password", "192.0.2.2"))
         return await asyncio.gather(*jobs, return_exceptions=True)
 
     found = asyncio.run(run())
-    assert most == WAITING and sum(isinstance(one, Busy) for one in found) == 15
+    assert most == WAITING + 1 and sum(isinstance(one, Busy) for one in found) == 15
+    assert isinstance(found[-1], str)
     assert THREADS < WAITING
 
 

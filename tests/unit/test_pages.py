@@ -16,8 +16,8 @@ from ocpp_board.page_sections import (
     problems_of,
     said_of,
     session_heads,
-    session_order,
     session_row,
+    session_order,
     trouble_of,
 )
 from ocpp_board.pages import (
@@ -246,7 +246,7 @@ def test_sessions_with_troubles_come_first_and_then_the_latest() -> None:
     found = [one("old", 1), one("new", 5), one("open", 3, False), doubtful]
     found += [one("gap", 2, False, True), one("gap later", 3, False, True)]
     order = [one.tx for one in sorted(found, key=session_order)]
-    assert order == ["gap later", "gap", "open", "doubtful", "new", "old"]
+    assert order == ["doubtful", "gap later", "gap", "open", "new", "old"]
 
 
 def station(name: str, sessions: list[Session], voided: int = 0) -> Part:
@@ -286,13 +286,19 @@ def test_stations_with_troubles_come_first() -> None:
     doubtful = session([], complete=True)
     doubtful.findings = [Finding(Kind.CLOCK_BACK, 1)]
     assert Index.station_row(station("doubtful", [doubtful]), "doubtful", False)[0] == MARK
+    wrong, lacks = station("wrong", [doubtful]), session([], complete=True)
+    lacks.findings = [Finding(Kind.NO_READING, 1)]
     parts = [
         sound,
         station("voided", [session([], complete=True)], 1),
         station("gap", [session([(1, 1)])]),
+        wrong,
     ]
     order = [part.name for part in sorted([*parts, lost], key=trouble_of)]
-    assert order == ["lost", "gap", "voided", "sound"]
+    assert order == ["lost", "wrong", "gap", "voided", "sound"]
+    # So do sessions: a number that is wrong, numbers that are missing, and what lacks energy.
+    some = [session([], complete=True), lacks, session([(1, 1)]), doubtful]
+    assert sorted(some, key=session_order) == [some[3], some[2], some[1], some[0]]
     assert Index.station_row(sound, "sound", False)[0] == ""
     assert Index.station_row(parts[1], "voided", False)[0] == MARK
 
@@ -380,10 +386,9 @@ def test_stations_with_troubles_and_the_last_day_come_first_on_a_page(tmp_path: 
     text = (tmp_path / "x.html").read_text()
     assert re.findall(r"<h3[^>]*>Station (CS-\d)<", text) == ["CS-1", "CS-0"]
     assert re.findall(r">(CS-\d)</a></th>", text) == ["CS-1", "CS-0"]
-    assert re.findall(r'">([\d-]+)</a> (\w+)</th>', text) == [
-        ("2026-03-02", "Mon"),
-        ("2026-03-01", "Sun"),
-    ]
+    # The days of the month, the last one first, and those of each week, the last week first.
+    both = [("2026-03-02", "Mon"), ("2026-03-01", "Sun")]
+    assert re.findall(r'">([\d-]+)</a> (\w+)</th>', text) == both + both
     first, second = ((tmp_path / f"x.2026-03-0{day}.html").read_text() for day in (1, 2))
     assert '<a href="x.2026-03-02.html">\N{RIGHTWARDS ARROW} 2026-03-02 Mon</a>' in first
     assert '<a href="x.2026-03-01.html">\N{LEFTWARDS ARROW} 2026-03-01 Sun</a>' in second
@@ -411,7 +416,10 @@ def test_no_page_is_larger_than_300_kb(tmp_path: Path) -> None:
     sizes = {path.name: path.stat().st_size for path in tmp_path.iterdir()}
     assert max(sizes.values()) < 300_000 and len(sizes) > 1_460
     text = "".join(path.read_text() for path in sorted(tmp_path.glob("x*.html")))
-    assert text.count("<h3>Days</h3>") == 4 and text.count('<th role="rowheader"') >= 1_200
+    assert (
+        len(re.findall("<figure class=.heat.>", text)) == 48
+        and text.count('<th role="rowheader"') >= 1_200
+    )
     assert len(re.findall(r'<h3 id="b1-\d+">Station CS-', text)) == 120
 
 
@@ -433,17 +441,19 @@ def test_several_boards_have_a_table_of_sites(tmp_path: Path) -> None:
     index.close()
     text = (tmp_path / "x.html").read_text()
     assert "<title>Site boards</title>" in text and '<main class="one">' not in text
-    assert '<a href="x.html#b2">south</a></th><td>2</td><td>0.000</td>' in text
+    assert re.search('<a href="x.html#b2">south</a></th>(<td[^>]*>(2|0.000)</td>){2}', text)
+    # Both together: the energy, and what else can be added up.
+    assert re.search("All of these</th>(<td[^>]*>(|8.000|100.0%|1|0)</td>)+</tr>", text)
 
 
 def test_a_page_leads_to_those_of_several_sites(tmp_path: Path) -> None:
     index = Index(layout(tmp_path))
     index.add(board(1))
     index.close()
-    write_sites(Layout(str(tmp_path / "index"), Calendar(), DAY, oldest=1, until=DAY), index.rows)
+    write_sites(Layout(str(tmp_path / "index"), Calendar(), DAY, oldest=1, until=DAY), index.sites)
     text = (tmp_path / "index.html").read_text()
-    row = '<a href="x.html#b1">a&amp;b</a></th><td>1</td><td>8.000</td><td>100.0%</td>'
-    assert row in text and "Data up to" in text and "<td>2026-03-01</td></tr>" in text
+    row = '<a href="x.html#b1">a&amp;b</a></th>(<td[^>]*>(1|8.000|100.0%)</td>){3}'
+    assert re.search(row, text) and "Data up to" in text and ">2026-03-01</td></tr>" in text
 
 
 def test_a_day_that_is_full_tells_on_which_page_it_is(

@@ -250,7 +250,7 @@ def test_the_reading_that_is_none_is_named() -> None:
 @pytest.mark.parametrize(
     ("action", "cause", "remedy"),
     [
-        ("FirmwareStatusNotification", "is one of OCPP 2.0.1 of which the ledger", "nothing is to"),
+        ("FirmwareStatusNotification", "is one of OCPP 2.0.1; the ledger", "nothing is to"),
         ("StopTransaction", "is one of OCPP 1.6, which the ledger does not read", "leave out"),
         ("TransactionEvnt", "is none that is answered", "the nearest is TransactionEvent"),
         ("Autorize", "is none that is answered", "the nearest is Authorize"),

@@ -20,9 +20,14 @@ from ocpp_board.fleet.station_tls import (  # noqa: E402
 
 
 def words(
-    certificate: str | None = None, key: str | None = None, client_ca: str | None = None
+    certificate: str | None = None,
+    key: str | None = None,
+    client_ca: str | None = None,
+    client_crl: str | None = None,
 ) -> argparse.Namespace:
-    return argparse.Namespace(certificate=certificate, key=key, client_ca=client_ca)
+    return argparse.Namespace(
+        certificate=certificate, key=key, client_ca=client_ca, client_crl=client_crl
+    )
 
 
 def test_the_common_name_of_a_certificate() -> None:
@@ -40,6 +45,8 @@ def test_without_a_certificate_there_is_no_tls(tmp_path: Path) -> None:
     for more in (words(key="key.pem"), words(client_ca="ca.pem")):
         with pytest.raises(Fault, match="need --certificate"):
             context_of(more)
+    with pytest.raises(Fault, match="--client-crl needs --client-ca"):
+        context_of(words("certificate.pem", client_crl="list.pem"))
     empty = tmp_path / "empty.pem"
     empty.touch()
     for name in (str(empty), str(tmp_path / "none.pem")):

@@ -53,7 +53,7 @@ def run(folder: Path, *words: str, text: str = BOARD) -> dict[str, str]:
     (folder / "script").write_text("a script\n")
     argv = [*words, "--out", str(folder / "x"), str(folder / "text")]
     assert tables.main(argv, "tables") == Status.DONE
-    return {path.name[2:]: path.read_text() for path in folder.glob("x.*")}
+    return {path.name[2:]: path.read_text() for path in folder.glob("x.*") if path.is_file()}
 
 
 def test_without_a_script_there_are_no_times_and_no_findings(tmp_path: Path) -> None:

@@ -1,6 +1,7 @@
 """The command, what tools tell, and the tools that write or explain scripts."""
 
 import asyncio
+import gzip
 import json
 import logging
 import sys
@@ -8,7 +9,7 @@ from pathlib import Path
 
 import pytest
 
-from ocpp_board import answered, cli, processes, statuses
+from ocpp_board import answered, cli, log_to_script, processes, statuses, tables
 from ocpp_board.answered import Replay
 from ocpp_board.escapes import csv_cell, from_copy, shown
 from ocpp_board import repeats
@@ -189,12 +190,12 @@ def test_traffic_that_has_no_room(words: list[str]) -> None:
         (b"Station north A", "the word 'Station' is not in lower case", "write station"),
         (b"statoin north A", "no line begins with 'statoin'", "write station"),
         (b"station north", "2 words, and not 3", "station <site> <station>"),
-        (b"station  north A", "two blanks stand at character 8", "one blank between words"),
-        (b"board north ", "a blank stands at the end", "no blank after the last word"),
-        (b"\xef\xbb\xbfboard x", "a byte order mark stands in front", "save the file as UTF-8"),
+        (b"station  north A", "there are two blanks at character 8", "one blank between words"),
+        (b"board north ", "there is a blank at the end", "no blank after the last word"),
+        (b"\xef\xbb\xbfboard x", "there is a byte order mark in front", "save the file as UTF-8"),
         (b"board \xff", "byte 7 is not UTF-8", "save the file as UTF-8"),
-        (b"board\tx", "a tab stands at character 6", "one blank between words"),
-        (b"void A T1 x", "the sequence number 'x' is no number", "digits alone"),
+        (b"board\tx", "there is a tab at character 6", "one blank between words"),
+        (b"void A T1 x", "the sequence number 'x' is no number", "only digits"),
         (b"void A T1 2147483648", "is above 2147483647", "a number in range"),
         (b"now 2026-03-01T10:00:00", "has no offset from UTC", "a time such as"),
         (b"station north a/b", "has '/', which no name has", "names have 1 to 48"),
@@ -258,8 +259,9 @@ def test_a_fall_that_a_repeat_made_is_hinted_at_once(
     assert said == (
         f"line {len(lines)}: in 6 sessions of site north, such as t1 of all, readings are listed again, and by "
         "sequence that is a fall and a second rise: their periods are wrong\n"
-        "  remedy: a line `order north moment` behind the first `station` line of the site takes readings by time\n"
-        f"lines: {len(lines) + 1}, told: 0\n"
+        "  remedy: `--order north=moment` of log-to-script or live (in a script line `order north moment` behind the "
+        "first `station` line of the site) takes readings by time\n"
+        f"lines: {len(lines) + 1}, reported: 0\n"
     )
 
 
@@ -299,7 +301,7 @@ def test_faults_of_an_order_are_explained(
         "line 5: order north moment\n"
         "  fault DeclaredLate: line 4 ('energy A') needed the ledgers, and what they keep is fixed from then on\n"
         "  remedy: put it before line 4\n"
-        "lines: 5, told: 3\n"
+        "lines: 5, reported: 3\n"
     )
 
 
@@ -337,3 +339,25 @@ def test_a_program_is_found_where_a_checkout_built_it(
 def test_a_program_that_is_not_there_is_named_with_how_to_build_it() -> None:
     with pytest.raises(FileNotFoundError, match="cd crates/ocpp_replay && rt run .* './nowhere'"):
         Replay("./nowhere")
+
+
+def test_mistakes_name_their_file(tmp_path: Path, capfd: pytest.CaptureFixture[str]) -> None:
+    log, text = tmp_path / "log", tmp_path / "text"
+    log.write_text("{}\n{}\n")
+    text.write_text("tx x\n")
+    out = str(tmp_path / "x")
+    assert cli.run("log-to-script", [str(log)], "log-to-script") == Status.TOLD
+    assert cli.run("tables", ["--out", out, str(text)], "tables") == Status.TOLD
+    said = capfd.readouterr().err
+    assert f"{log} line 1: 'site' is missing (--site-field names another field)\n" in said
+    assert f"{log}: the same of 1 more line 2: 'site' is missing" in said
+    assert f"{text} line 1: not read: 'tx x'\n" in said
+    for name in ("text", "script"):
+        packed = tmp_path / f"{name}.gz"
+        packed.write_bytes(gzip.compress(b"x"))
+        some = [str(packed)] if name == "text" else ["--script", str(packed), str(text)]
+        with pytest.raises(Mistaken, match=f"{packed}: the {name} is compressed by gzip"):
+            tables.run(tables.arguments(["--out", out, *some], "tables"))
+    words = log_to_script.arguments(["--form", "citrineos-csv", "--site", "n", str(log)], "x")
+    with pytest.raises(Mistaken, match=f"{log} line 1 names no column"):
+        log_to_script.convert(words)

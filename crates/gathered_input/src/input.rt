@@ -82,6 +82,13 @@ impl<R: Read, L: Readiness> Read for GatheredInput<R, L> {
     }
 }
 
+/// It is ready where its input is, and where a read has something to give already.
+impl<R: Read, L: Readiness> Readiness for GatheredInput<R, L> {
+    fn is_ready_within(&self, millis: u16) -> bool {
+        self.stop.is_some() || self.readiness.is_ready_within(millis)
+    }
+}
+
 // Reads on behind the first bytes while much more is there at once, and tells how many bytes there are then, and what a read
 // gave in place of more. Behind a read that gave little it ends: whoever waits for an answer may write one line at a time.
 fn gather<R: Read, L: Readiness>(
@@ -114,7 +121,7 @@ fn gather<R: Read, L: Readiness>(
 // Whether more comes within so many looks.
 fn has_more<L: Readiness>(readiness: &L) -> bool {
     for _ in 0..LOOKS {
-        if readiness.is_ready() {
+        if readiness.is_ready_within(0) {
             return true;
         }
     }
@@ -170,7 +177,7 @@ mod tests {
     }
 
     impl Readiness for Fixed<'_> {
-        fn is_ready(&self) -> bool {
+        fn is_ready_within(&self, _millis: u16) -> bool {
             self.looks.set(self.looks.get().saturating_add(1));
             self.is_ready
         }

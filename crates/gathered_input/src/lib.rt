@@ -3,7 +3,8 @@
 //! A pipe of Linux holds 64 KiB, so whoever reads it with long pauses is shown little at a time. Where a read gives much, more
 //! mostly follows at once: [`GatheredInput`] then looks for it, for about a tenth of a millisecond, and reads on while each
 //! read gives much and there is room for more. It looks without waiting (POSIX's `poll` with no time), and waits only for the
-//! first bytes, as any read does.
+//! first bytes, as any read does. Whoever must not wait in a read asks first whether there is something to read
+//! ([`Readiness`]).
 //!
 //! To a contract a [`GatheredInput`] is its input: the bytes that it gives are those of the input, in their order, with none
 //! lost and none added, and its end is the input's.

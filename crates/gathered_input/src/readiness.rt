@@ -3,24 +3,32 @@
 use libc::STDIN_FILENO;
 use libc::net::{POLLIN, poll};
 use libc::types::pollfd;
+use std::io::{BufReader, Read};
 
-/// What tells, without waiting, whether a read of an input would wait.
+/// What says whether a read of an input would wait.
 pub trait Readiness {
-    /// Whether a read gives something, the end or a fault at once.
-    fn is_ready(&self) -> bool;
+    /// Whether a read gives something, the end or a fault at once, or within so many milliseconds.
+    fn is_ready_within(&self, millis: u16) -> bool;
 }
 
-/// That of standard input.
+/// That of standard input, by POSIX's `poll`.
 #[derive(Clone, Copy)]
 pub struct StandardInput;
 
 impl Readiness for StandardInput {
-    fn is_ready(&self) -> bool {
+    fn is_ready_within(&self, millis: u16) -> bool {
         let mut asked = [pollfd {
             fd: STDIN_FILENO,
             events: POLLIN,
             revents: 0,
         }];
-        poll(&mut asked, 0) > 0
+        poll(&mut asked, i32::from(millis)) > 0
+    }
+}
+
+/// A buffered reader is ready while its buffer has bytes.
+impl<R: Read + Readiness> Readiness for BufReader<R> {
+    fn is_ready_within(&self, millis: u16) -> bool {
+        !self.buffer().is_empty() || self.get_ref().is_ready_within(millis)
     }
 }

@@ -1,5 +1,6 @@
 -- What a server's script and its boards are, of what its desk was when it was closed.
-use Rattle.std.proofs.Common.{◌≡◌, ℕ, zero, suc, ◌<◌, ◌≤◌, Bool, List, [], ◌∷◌, ◌++◌, Option, None, Some, Result, Ok, Err, OnOk, All, length, slice_get, refl, sym, ap, subst, ◌∙◌, arith}
+use Rattle.std.proofs.Common.{◌≡◌, ℕ, zero, suc, ◌<◌, ◌≤◌, Bool, List, [], ◌∷◌, ◌++◌, Option, None, Some, Result, Ok, Err, OnOk, IfOk, All, length, slice_get, refl, sym, ap, subst, ◌∙◌, arith}
+use Rattle.std.specs.Prelude.{IsOk}
 use Rattle.std.specs.Io.KnownBytes.{Appends, append_known}
 use Rattle.std.proofs.lemmas.List.Elements.{All-cons, All-head, All-nil, All-tail}
 use Rattle.board_report.specs.Texts.{board_text}
@@ -13,8 +14,11 @@ use Rattle.kept_desk.specs.Speaking.{AreSpoken, Speaks, SpeaksOf}
 use Rattle.journal_script.proofs.Boards.{boards_are_those_of_cells}
 use Rattle.journal_script.proofs.Journals.{journals_are_scripts}
 use Rattle.journal_script.specs.Restoring.{Grows}
+use Rattle.live_server.specs.Told.{Tells}
+use Rattle.site_book.specs.Prefix.{IsPrefix}
+use Rattle.site_desk.specs.declared.roster.StationPlace.{StationPlace}
 use Rattle.kept_desk.proofs.Fronts.{entry_accepted}
-use Rattle.kept_desk.specs.Kept.{IsLeftFrom, commands_of}
+use Rattle.kept_desk.specs.Kept.{AreBoardsBehind, IsLeftFrom, commands_of}
 use Rattle.kept_desk.specs.Opened.{AreFirst, content_or_empty, contents_of, names_of}
 use Rattle.std.proofs.lemmas.List.{length-map}
 use Rattle.std.proofs.lemmas.Option.{slice_get_within}
@@ -25,11 +29,11 @@ use Rattle.site_desk.specs.declared.plan.SitePlan.{SitePlan}
 use Rattle.site_desk.specs.declared.plan.StationPlan.{StationPlan}
 use Rattle.station_cell.specs.Cell.{Cell}
 use Rattle.site_desk.specs.Plan.{plan_fault}
-use Rattle.site_desk.specs.Roster.{AreCellsOf}
+use Rattle.site_desk.specs.Roster.{AreCellsOf, AreNewPlaces}
 use Rattle.site_desk.proofs.NewParts.{planned_names, planned_sites}
 use Rattle.journal_server.specs.Left.{Left}
 use Rattle.script_lines.specs.Lines.{Line}
-use Rattle.journal_server.specs.Served.{AreAccepted, AreLeftFrom, Declares, IsEnded, IsItsScript, IsToldOf, IsToldOfPlan, IsToldOfScript, Leaves, after, joined}
+use Rattle.journal_server.specs.Served.{AreAccepted, AreLeftFrom, IsEnded, IsItsScript, IsKeptAnswer, IsToldOf, Leaves, TellsNew, TellsRestored, after, joined}
 
 all_placed : (n : ℕ) (stations : List StationPlan) → ((k : ℕ) (s : StationPlan) → slice_get stations k ≡ Some s → s.site < n) → All (λ s. s.site < n) stations
 all_placed n [] each = All-nil (λ s. s.site < n)
@@ -86,11 +90,11 @@ all_accepted stations firsts cells log kept before e rest s f is at first =
     let there = cell_at cells e.station less in
     entry_accepted s.limits f.content there.0.content log before e rest is (kept.left e.station s f there.0 at first there.1)
 
-pub its_script : (front : List ℕ) (sites : List SitePlan) (stations : List StationPlan) (firsts : List Cell) (before : Option (List ℕ)) (left : Left)
+pub its_script : (front : List ℕ) (sites : List SitePlan) (stations : List StationPlan) (firsts : List Cell) (before : Option (List ℕ)) (left : Left) (tells : List Entry → Type 0)
     → plan_fault sites stations ≡ None → AreCellsOf sites stations firsts → Leaves front sites stations firsts
-    → IsEnded (names_of stations) (contents_of firsts) before sites stations left
-    → IsItsScript front sites stations firsts before left
-its_script front sites stations firsts before left none of_plan restored e =
+    → IsEnded (names_of stations) (contents_of firsts) before sites stations left tells
+    → IsItsScript front sites stations firsts before left tells
+its_script front sites stations firsts before left tells none of_plan restored e =
     let once = has_once sites stations none in
     let log = e.written.log in
     let spoken = all_spoken stations log e.written.written.notes e.written.spoken in
@@ -124,6 +128,7 @@ its_script front sites stations firsts before left none of_plan restored e =
           let held : (contents_of firsts k).changes ≡ f.content.changes = ap (λ (o : Content). o.changes) (ap content_or_empty first) in
           let long = length-map (of_station k log) (λ (x : Entry). x.command) in
           omega (arith, counted, more, held, long);
+      told = e.told;
       ended = ended;
       shown = record {
         texts = λ k. board_text (closed_site sites stations e.cells k);
@@ -131,13 +136,6 @@ its_script front sites stations firsts before left none of_plan restored e =
         answers = λ site line less says. boards_are_those_of_cells (after (front ++ text_of log)) sites stations e.cells site line once ended less says;
       };
     }
-
--- the same, by what is named
-pub ended_as : (name name' : ℕ → List ℕ) (first first' : ℕ → Content) (before before' : Option (List ℕ)) (sites : List SitePlan) (stations : List StationPlan) (left : Left)
-    → name ≡ name' → first ≡ first' → before ≡ before' → IsEnded name first before sites stations left → IsEnded name' first' before' sites stations left
-ended_as name name' first first' before before' sites stations left n f b e =
-    subst (λ x. IsEnded name' first' x sites stations left) b
-    (subst (λ x. IsEnded name' x before sites stations left) f (subst (λ x. IsEnded x first before sites stations left) n e))
 
 none_past : (stations : List StationPlan) (k : ℕ) → slice_get stations k ≡ None → length stations ≤ k
 none_past [] k e = omega arith
@@ -156,14 +154,14 @@ are_first sites stations cells parts first of_plan named same k c at = (own (sli
     own (Some s) e = (of_plan.each k s c e there).station
 
 -- the same, where the sites and stations are those of a plan
-pub script_of_plan : (front : List ℕ) (sites planned : List SitePlan) (stations plan : List StationPlan) (firsts : List Cell) (before : Option (List ℕ)) (left : Left)
+pub script_of_plan : (front : List ℕ) (sites planned : List SitePlan) (stations plan : List StationPlan) (firsts : List Cell) (before : Option (List ℕ)) (left : Left) (tells : List StationPlan → List SitePlan → List Entry → Type 0)
     → planned ≡ sites → plan ≡ stations → plan_fault sites stations ≡ None → AreCellsOf sites stations firsts → Leaves front sites stations firsts
-    → IsEnded (names_of plan) (contents_of firsts) before planned plan left
-    → IsItsScript front sites stations firsts before left
-script_of_plan front sites planned stations plan firsts before left s t none of_plan restored e =
-    its_script front sites stations firsts before left none of_plan restored
-    (subst (λ x. IsEnded (names_of stations) (contents_of firsts) before x stations left) s
-    (subst (λ x. IsEnded (names_of x) (contents_of firsts) before planned x left) t e))
+    → IsEnded (names_of plan) (contents_of firsts) before planned plan left (tells plan planned)
+    → IsItsScript front sites stations firsts before left (tells stations sites)
+script_of_plan front sites planned stations plan firsts before left tells s t none of_plan restored e =
+    its_script front sites stations firsts before left (tells stations sites) none of_plan restored
+    (subst (λ x. IsEnded (names_of stations) (contents_of firsts) before x stations left (tells stations x)) s
+    (subst (λ x. IsEnded (names_of x) (contents_of firsts) before planned x left (tells x planned)) t e))
 
 -- what was written behind a head was written behind what stood before it
 written_behind : (broken : Bool) (before begun now : Option (List ℕ)) (buffer head : List ℕ) (log : List Entry) → Appends before begun head → IsWritten broken begun now buffer log → IsWritten broken (append_known before head) now buffer log
@@ -171,9 +169,9 @@ written_behind broken None begun now buffer head log begins w = record { front =
 written_behind broken (Some bytes) None now buffer head log begins w = absurd begins
 written_behind broken (Some bytes) (Some more) now buffer head log begins w = subst (λ b. IsWritten broken (Some b) now buffer log) begins w
 
-pub script_behind : (front : List ℕ) (sites : List SitePlan) (stations : List StationPlan) (firsts : List Cell) (before begun : Option (List ℕ)) (head : List ℕ) (left : Left)
-    → Appends before begun head → IsItsScript front sites stations firsts begun left → IsItsScript front sites stations firsts (append_known before head) left
-script_behind front sites stations firsts before begun head left begins s = record {
+pub script_behind : (front : List ℕ) (sites : List SitePlan) (stations : List StationPlan) (firsts : List Cell) (before begun : Option (List ℕ)) (head : List ℕ) (left : Left) (tells : List Entry → Type 0)
+    → Appends before begun head → IsItsScript front sites stations firsts begun left tells → IsItsScript front sites stations firsts (append_known before head) left tells
+script_behind front sites stations firsts before begun head left tells begins s = record {
   log = s.log;
   written = written_behind left.broken before begun left.now left.buffer head s.log begins s.written;
   cells = s.cells;
@@ -182,19 +180,52 @@ script_behind front sites stations firsts before begun head left begins s = reco
   accepted = s.accepted;
   each = s.each;
   given = s.given;
+  told = s.told;
   ended = s.ended;
   shown = s.shown;
 }
 
--- what the console took at a desk of a plan that was read is of the plan that it declares
-pub told_of_plan : {F : Type 0} (ended : Result (Unit {0}) F) (sites read : List SitePlan) (stations own : List StationPlan) (cells : List Cell) (coming : Option (List Line)) (before now : Option (List ℕ)) → Declares sites read cells → own ≡ stations
-    → OnOk ended (IsToldOf read own coming before now) → OnOk ended (IsToldOfPlan sites stations coming before now)
-told_of_plan (Ok _) sites read stations own cells coming before now d same t =
-    record { read = read; names = d.names; periods = d.periods; orders = d.orders; told = subst (λ x. IsToldOf read x coming before now) same t }
-told_of_plan (Err _) sites read stations own cells coming before now d same t = t
+-- what holds of what was told more, holds of the script
+pub telling : (front : List ℕ) (sites : List SitePlan) (stations : List StationPlan) (firsts : List Cell) (before : Option (List ℕ)) (left : Left) (tells more : List Entry → Type 0)
+    → ((log : List Entry) → tells log → more log) → IsItsScript front sites stations firsts before left tells → IsItsScript front sites stations firsts before left more
+telling front sites stations firsts before left tells more on s = record {
+  log = s.log;
+  written = s.written;
+  cells = s.cells;
+  opened = s.opened;
+  spoken = s.spoken;
+  accepted = s.accepted;
+  each = s.each;
+  given = s.given;
+  told = on s.log s.told;
+  ended = s.ended;
+  shown = s.shown;
+}
 
--- what the console took behind a report
-pub told_of_script : {F : Type 0} (ended : Result (Unit {0}) F) (sites : List SitePlan) (stations : List StationPlan) (coming : Option (List Line)) (before reported now : Option (List ℕ)) → Grows before reported
-    → OnOk ended (IsToldOf sites stations coming reported now) → OnOk ended (IsToldOfScript coming before now)
-told_of_script (Ok _) sites stations coming before reported now grows t = record { reported = reported; grows = grows; sites = sites; stations = stations; told = t }
-told_of_script (Err _) sites stations coming before reported now grows t = t
+-- what a console took behind a report
+pub reported : {E : Type 0} (ended : Result (Unit {0}) E) (sites : List SitePlan) (stations : List StationPlan) (firsts : List Cell) (rest before middle now : Option (List ℕ)) → Grows before middle
+    → (log : List Entry) → TellsNew ended stations rest middle now sites firsts log → TellsRestored ended before now rest sites stations firsts log
+reported (Ok _) sites stations firsts rest before middle now grows log t = (middle, grows, t)
+reported (Err _) sites stations firsts rest before middle now grows log t = t
+
+-- what was told at a desk, of the list of its lines
+pub ended_telling : {S E F : Type 0} (ended : Result (Unit {0}) E) (ran : Result S F) (handed : S → List (List Entry)) (sites : List SitePlan) (stations : List StationPlan) (firsts : List Cell) (places : List StationPlace) (first : ℕ → Content) (coming : Option (List Line)) (before now : Option (List ℕ)) (log : List Entry)
+    → AreNewPlaces sites stations places → first ≡ contents_of firsts → OnOk ended (IsOk ran) → IfOk ran (λ seen. All (λ m. IsPrefix m log) (handed seen))
+    → IfOk ran (λ seen. Tells (IsKeptAnswer first) (AreBoardsBehind first places) sites places coming before now (handed seen)) → OnOk ended (IsToldOf sites stations (contents_of firsts) log coming before now)
+ended_telling (Ok _) (Ok s) handed sites stations firsts places first coming before now log placed same well begin tells =
+    record { places = places; placed = placed; seen = handed s; begin = begin; tells = subst (λ f. Tells (IsKeptAnswer f) (AreBoardsBehind f places) sites places coming before now (handed s)) same tells }
+ended_telling (Ok _) (Err _) handed sites stations firsts places first coming before now log placed same well begin tells = cc well
+ended_telling (Err _) ran handed sites stations firsts places first coming before now log placed same well begin tells = well
+
+-- what a desk was when it was closed, by what is named, with what was told more
+pub ended_as : (name name' : ℕ → List ℕ) (first first' : ℕ → Content) (before before' : Option (List ℕ)) (sites : List SitePlan) (stations : List StationPlan) (left : Left) (tells more : List Entry → Type 0)
+    → name ≡ name' → first ≡ first' → before ≡ before' → ((log : List Entry) → tells log → more log) → IsEnded name first before sites stations left tells → IsEnded name' first' before' sites stations left more
+ended_as name name' first first' before before' sites stations left tells more n f b on e =
+    subst (λ x. IsEnded name' first' x sites stations left more) b
+    (subst (λ x. IsEnded name' x before sites stations left more) f (subst (λ x. IsEnded x first before sites stations left more) n
+    (record { cells = e.cells; seen = e.seen; written = e.written; told = on e.written.log e.told; given = e.given; count = e.count; limits = e.limits; is = e.is })))
+
+-- moments that begin a list, by what is handed out
+pub begin_those : {S F : Type 0} (r : Result S F) (handed : S → List (List Entry)) (all : List (List Entry)) (log : List Entry) → IfOk r (λ s. all ≡ handed s) → All (λ m. IsPrefix m log) all → IfOk r (λ s. All (λ m. IsPrefix m log) (handed s))
+begin_those (Ok s) handed all log same begin = subst (All (λ m. IsPrefix m log)) same begin
+begin_those (Err _) handed all log same begin = same

@@ -1,15 +1,20 @@
 -- What a server with a journal read, wrote and showed.
-use Rattle.std.specs.Prelude.{◌≡◌, ℕ, zero, suc, ◌+◌, ◌<◌, Bool, false, true, List, [], ◌∷◌, ◌++◌, length, Option, IfSome, Some, All, map, slice_get}
-use Rattle.std.specs.Io.KnownBytes.{append_known}
+use Rattle.std.specs.Prelude.{◌≡◌, ℕ, zero, suc, ◌+◌, ◌<◌, Bool, false, true, List, [], ◌∷◌, ◌++◌, length, Option, IfSome, Some, All, OnOk, map, slice_get}
+use Rattle.std.specs.declared.result.Result.{Result}
+use Rattle.std.specs.Io.KnownBytes.{Consumes, append_known}
 use Rattle.board_report.specs.Closed.{boards_text}
 use Rattle.kept_desk.specs.declared.entry.Entry.{Entry}
-use Rattle.kept_desk.specs.Entries.{of_station, text_of}
+use Rattle.kept_desk.specs.Entries.{entry, of_station, text_of}
 use Rattle.kept_desk.specs.Journal.{IsWritten}
 use Rattle.journal_script.specs.Cuts.{run_begins}
 use Rattle.journal_script.specs.Journals.{EndsWhole, IsSpoken, Shows}
 use Rattle.journal_script.specs.Restoring.{Grows, HasNoListen, IsListen, loses, marked_by}
-use Rattle.kept_desk.specs.Kept.{IsAcceptedBehind, IsLeftFrom, IsWrittenDown, commands_of}
+use Rattle.kept_desk.specs.Kept.{AreBoardsBehind, IsAcceptedBehind, IsLeftFrom, IsReceived, IsWrittenDown, commands_of}
+use Rattle.kept_desk.specs.Opened.{contents_of}
+use Rattle.ledger_model.specs.declared.answer.Answer.{Answer}
 use Rattle.ledger_model.specs.declared.command.Command.{Command}
+use Rattle.site_book.specs.Book.{Known}
+use Rattle.site_book.specs.Prefix.{IsPrefix}
 use Rattle.ledger_model.specs.Content.{Content, empty_content}
 use Rattle.script_lines.specs.LineMeaning.{asks_board, line_meaning}
 use Rattle.script_lines.specs.Lines.{Line, lines_of}
@@ -21,6 +26,7 @@ use Rattle.site_desk.specs.declared.plan.StationPlan.{StationPlan}
 use Rattle.site_desk.specs.declared.roster.StationPlace.{StationPlace}
 use Rattle.site_desk.specs.Roster.{AreNewPlaces}
 use Rattle.live_server.specs.Told.{Tells}
+use Rattle.running_desk.specs.Ordered.{lines_in}
 use Rattle.site_desk.specs.Close.{changes_of}
 use Rattle.station_cell.specs.Cell.{Cell, Held}
 use Rattle.journal_server.specs.Left.{Left}
@@ -67,8 +73,8 @@ AreAccepted stations firsts log = (before : List Entry) (e : Entry) (rest : List
 abbrev pub AreGiven : List Cell → List Entry → List Held → Type 0
 AreGiven firsts log passes = (k : ℕ) (f : Cell) → slice_get firsts k ≡ Some f → changes_of k passes ≡ f.content.changes + length (of_station k log)
 
--- What a server wrote behind the front of its script, which leaves these sites and stations in the contents of the cells `firsts`, and the boards that it gave last. There is one list of lines. The writer, which held `before`, took their text, and where a write failed a front of one line more. Each line speaks for its command on its station, and was accepted where the earlier lines of the station lead. Each station's content is what its own lines leave, and its passes counted one accepted answer for each of them. The boards are what `replay` answers behind the front and the lines.
-pub record IsItsScript (front : List ℕ) (sites : List SitePlan) (stations : List StationPlan) (firsts : List Cell) (before : Option (List ℕ)) (left : Left) : Type 0 where
+-- What a server wrote behind the front of its script, which leaves these sites and stations in the contents of the cells `firsts`, and the boards that it gave last. There is one list of lines. The writer, which held `before`, took their text, and where a write failed a front of one line more. Each line speaks for its command on its station, and was accepted where the earlier lines of the station lead. Each station's content is what its own lines leave, and its passes counted one accepted answer for each of them. What was told is of this list. The boards are what `replay` answers behind the front and the lines.
+pub record IsItsScript (front : List ℕ) (sites : List SitePlan) (stations : List StationPlan) (firsts : List Cell) (before : Option (List ℕ)) (left : Left) (tells : List Entry → Type 0) : Type 0 where
   pub log : List Entry
   pub written : IsWritten left.broken before left.now left.buffer log
   pub cells : List Cell
@@ -77,26 +83,28 @@ pub record IsItsScript (front : List ℕ) (sites : List SitePlan) (stations : Li
   pub accepted : AreAccepted stations firsts log
   pub each : AreLeftFrom stations firsts cells log
   pub given : AreGiven firsts log left.passes
+  pub told : tells log
   pub ended : Shows (after (front ++ text_of log)) sites stations cells
   pub shown : AreAnswers (after (front ++ text_of log)) sites left.boards
 
--- A server that began anew with this plan: its script is what it wrote, a head that declares the plan's sites and stations, without a change, and its lines.
-pub record IsNewRun (sites : List SitePlan) (stations : List StationPlan) (before : Option (List ℕ)) (left : Left) : Type 0 where
+-- A server that began anew with this plan: its script is what it wrote, a head that declares the plan's sites and stations, without a change, and its lines. What it told is of these sites, of what the stations held first, and of these lines.
+pub record IsNewRun (sites : List SitePlan) (stations : List StationPlan) (before : Option (List ℕ)) (left : Left) (tells : List SitePlan → List Cell → List Entry → Type 0) : Type 0 where
   pub head : List ℕ
   pub read : List SitePlan
   pub firsts : List Cell
   pub declares : Declares sites read firsts
-  pub script : IsItsScript head read stations firsts (append_known before head) left
+  pub script : IsItsScript head read stations firsts (append_known before head) left (tells read firsts)
 
 -- An input, as far as it is known, begins with these bytes.
 abbrev pub Begins : Option (List ℕ) → List ℕ → Type 0
 Begins input front = IfSome input (λ bytes. (rest : List ℕ) × (bytes ≡ front ++ rest))
 
--- A server that was restored: its script is what it read, in whole lines, before the first line `listen`, followed by what it wrote, the first line of a run and its lines. The last line that was read ends with `#`, and none is lost unless that was allowed.
-pub record IsRestoredRun (allows : Bool) (input before : Option (List ℕ)) (left : Left) : Type 0 where
+-- A server that was restored: its script is what it read, in whole lines, before the first line `listen`, followed by what it wrote, the first line of a run and its lines. The last line that was read ends with `#`, and none is lost unless that was allowed. What it told is of what is left of the input, of these sites and stations, of what they held first, and of these lines.
+pub record IsRestoredRun (allows : Bool) (input before : Option (List ℕ)) (left : Left) (tells : Option (List ℕ) → List SitePlan → List StationPlan → List Cell → List Entry → Type 0) : Type 0 where
   pub read : List ℕ
   pub last : List ℕ
-  pub reads : Begins input (read ++ last)
+  pub rest : Option (List ℕ)
+  pub reads : Consumes input rest (read ++ last)
   pub listens : IsListen last
   pub whole : EndsWhole read
   pub marked : marked_by false (lines_of longest_line read) ≡ true
@@ -105,40 +113,40 @@ pub record IsRestoredRun (allows : Bool) (input before : Option (List ℕ)) (lef
   pub sites : List SitePlan
   pub stations : List StationPlan
   pub firsts : List Cell
-  pub script : IsItsScript (read ++ run_begins) sites stations firsts (append_known before run_begins) left
+  pub script : IsItsScript (read ++ run_begins) sites stations firsts (append_known before run_begins) left (tells rest sites stations firsts)
 
 -- A server that was not restored, since of what it read up to the line `listen` this is so.
 abbrev pub IsRefused : Option (List ℕ) → (List ℕ → Type 0) → Type 0
 IsRefused input why = (read last : List ℕ) × Begins input (read ++ last) × IsListen last × why read
 
--- What a desk with a journal was when it was closed, with its boards and its passes.
-pub record IsEnded (name : ℕ → List ℕ) (first : ℕ → Content) (before : Option (List ℕ)) (sites : List SitePlan) (stations : List StationPlan) (left : Left) : Type 0 where
+-- What a desk with a journal was when it was closed, with its boards and its passes, and what was told of its list of lines.
+pub record IsEnded (name : ℕ → List ℕ) (first : ℕ → Content) (before : Option (List ℕ)) (sites : List SitePlan) (stations : List StationPlan) (left : Left) (tells : List Entry → Type 0) : Type 0 where
   pub cells : List Cell
-  pub lines : ℕ
-  pub written : IsWrittenDown name first before left.broken left.now left.buffer cells [] lines
+  pub seen : List (List Entry)
+  pub written : IsWrittenDown name first before left.broken left.now left.buffer cells seen
+  pub told : tells written.log
   pub given : (k : ℕ) (c : Cell) → slice_get cells k ≡ Some c → c.content.changes ≡ changes_of k left.passes
   pub count : length cells ≡ length stations
   pub limits : (k : ℕ) (s : StationPlan) (c : Cell) → slice_get stations k ≡ Some s → slice_get cells k ≡ Some c → c.limits ≡ s.limits
   pub is : left.boards ≡ boards_text sites stations cells (length sites)
 
--- The console of a server, which held `before`, took where the server listens and then the answers to its operator's lines, at a desk of the plan's stations.
-pub record IsToldOf (sites : List SitePlan) (stations : List StationPlan) (coming : Option (List Line)) (before now : Option (List ℕ)) : Type 0 where
+-- With an answer to a command came what a desk with a journal hands out with it, for a line of the command and what stood in front of it.
+abbrev pub IsKeptAnswer : (ℕ → Content) → ℕ → StationPlace → Command → Answer → Option Known → Option (List Entry) → Type 0
+IsKeptAnswer first number at command answer told seen = (note line : List ℕ) × IsReceived at (first number) answer (entry number note line command) told seen
+
+-- The console of a server, which held `before`, took where the server listens and then the answers to its operator's lines, at a desk of the plan's stations with what they held first. What was seen of the journal with each answer begins this list of lines: an accepted command's line is the last of it, and the answer is the ledger's where the station's earlier lines lead; a board is that of what the lines of its stations in it leave.
+pub record IsToldOf (sites : List SitePlan) (stations : List StationPlan) (first : ℕ → Content) (log : List Entry) (coming : Option (List Line)) (before now : Option (List ℕ)) : Type 0 where
   pub places : List StationPlace
   pub placed : AreNewPlaces sites stations places
-  pub tells : Tells sites places coming before now
+  pub seen : List (List Entry)
+  pub begin : All (λ m. IsPrefix m log) seen
+  pub tells : Tells (IsKeptAnswer first) (AreBoardsBehind first places) sites places coming before now seen
 
--- The same of a plan that was written down and read again.
-pub record IsToldOfPlan (sites : List SitePlan) (stations : List StationPlan) (coming : Option (List Line)) (before now : Option (List ℕ)) : Type 0 where
-  pub read : List SitePlan
-  pub names : map (λ s. s.name) read ≡ map (λ s. s.name) sites
-  pub periods : map (λ s. s.period) read ≡ map (λ s. s.period) sites
-  pub orders : map (λ s. s.order) read ≡ map (λ s. s.order) sites
-  pub told : IsToldOf read stations coming before now
+-- After Ok the console of a server that began anew took that; its operator's lines are those of this input.
+abbrev pub TellsNew : {E : Type 0} → Result (Unit {0}) E → List StationPlan → Option (List ℕ) → Option (List ℕ) → Option (List ℕ) → List SitePlan → List Cell → List Entry → Type 0
+TellsNew ended stations input before now read firsts log = OnOk ended (IsToldOf read stations (contents_of firsts) log (lines_in input) before now)
 
--- The console of a server that was restored took first what was reported of the script, and then the same as that of any other server.
-pub record IsToldOfScript (coming : Option (List Line)) (before now : Option (List ℕ)) : Type 0 where
-  pub reported : Option (List ℕ)
-  pub grows : Grows before reported
-  pub sites : List SitePlan
-  pub stations : List StationPlan
-  pub told : IsToldOf sites stations coming reported now
+-- After Ok the console of a server that was restored took first what was reported of the script, and then that; its operator's lines are those of the rest of the input.
+abbrev pub TellsRestored : {E : Type 0} → Result (Unit {0}) E → Option (List ℕ) → Option (List ℕ) → Option (List ℕ) → List SitePlan → List StationPlan → List Cell → List Entry → Type 0
+TellsRestored ended before now rest sites stations firsts log =
+    OnOk ended ((reported : Option (List ℕ)) × Grows before reported × IsToldOf sites stations (contents_of firsts) log (lines_in rest) reported now)

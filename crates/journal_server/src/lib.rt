@@ -4,14 +4,15 @@
 //! journal ([`KeptDesk`](kept_desk::KeptDesk)): before an answer goes out, the line of its change was written. The journal
 //! is a script: a comment, the plan's declarations, and one line for each accepted change, before which the time of its
 //! receipt may stand as a comment. [`serve_restored`] begins with
-//! such a script, up to the line `listen`, and goes on behind it. An operator's lines are read on a thread of their own, so
-//! that a journal that can't be written ends the server at once.
+//! such a script, up to the line `listen`, and goes on behind it. While no line of its operator is there it looks
+//! whether the journal can still be written, and ends if not.
 //!
 //! The crate's one contract ([`Served`], `IsItsScript` of `specs/Served.antt`): the boards that a server writes at its end
 //! are the answers to `board <site>` behind one script, which is what it read and wrote; behind its front that script is
 //! the text of one list of lines. Each line was accepted where the earlier lines of its station lead, each station's content
 //! is what its own lines leave, and its passes counted as many accepted answers as it has lines. The console took where the
-//! server listens and answers to its operator (`IsToldOf`). That lines are out before their replies, and what a kill leaves,
+//! server listens and the answers to its operator's lines (`IsToldOf`): what was accepted is in that list, and a board is that
+//! of a front of it. That lines are out before their replies, and what a kill leaves,
 //! is shown by tests.
 //!
 //! ```text
@@ -22,7 +23,6 @@
 
 mod declared;
 mod fault;
-mod line_queue;
 mod receipt_time;
 mod run;
 mod same;

@@ -1,22 +1,22 @@
 //! A server with a journal, from its desk to its boards.
-ghost use Rattle.std.specs.Prelude.{◌≡◌, ◌<◌, ℕ, List, [], None, IfOk, OnOk, length};
+ghost use Rattle.std.specs.Prelude.{◌≡◌, ◌<◌, ℕ, List, [], None, All, IfOk, IsOk, OnOk, length};
 ghost use Rattle.std.specs.Io.Buffered.{writer_buffer, writer_inner};
 ghost use Rattle.kept_desk.specs.Opened.{contents_of, names_of};
 ghost use Rattle.site_book.specs.Tables.{HasTable, NamedBy};
 ghost use Rattle.site_desk.specs.Plan.{plan_fault};
 ghost use Rattle.site_desk.specs.Roster.{AreCellsOf, AreNewPlaces};
 ghost use Rattle.journal_server.specs.Left.{left_of};
-ghost use Rattle.journal_server.specs.Served.{IsEnded, IsItsScript, IsToldOf, Leaves};
+ghost use Rattle.journal_server.specs.Served.{IsEnded, IsItsScript, Leaves, TellsNew};
+ghost use Rattle.site_book.specs.Prefix.{IsPrefix};
 ghost use Rattle.script_ledgers.specs.Running.{AreTheirPasses};
 
-use crate::line_queue::{LineQueue, QueuedOrders, read_all};
 use crate::serve::Journalling;
 use crate::serving::Serving;
 use board_report::write_boards;
+use gathered_input::Readiness;
 use journal_script::Restored;
-use kept_desk::{JournalTable, KeptDesk, Opening};
+use kept_desk::{JournalTable, KeptDesk, Moment, Opening};
 use live_server::{Ran, Run, serve_plan_at};
-use running_desk::Orders;
 use site_book::{Naming, Tables, Viewer};
 use site_desk::{Parts, Plan};
 use site_server::{Host, ServiceFault};
@@ -24,10 +24,6 @@ use station_cell::{Pass, StationCell};
 use std::alloc::{AllocError, Global};
 use std::io::{BufRead, BufWriter, Write};
 use std::marker::Brand;
-use std::sync::{Arc, Mutex, Wait};
-use std::thread;
-use std::thread::Threads;
-use std::time::Clock;
 
 /// What a server with a journal leaves.
 #[derive(Drop)]
@@ -48,10 +44,10 @@ pub struct Served<W, T> {
     pub console: T,
 }
 
-// Serves the stations of a script that was restored until the operator's lines end, which a thread reads from the input.
+// Serves the stations of a script that was restored until the operator's lines end, which come from the input.
 pub(crate) fn run_restored<
-    R: AllocGlobal + Host + Clone + Send + 'static,
-    I: BufRead + Send + Drop + 'static,
+    R: AllocGlobal + Host,
+    I: BufRead + Readiness,
     W: Write + Send + Drop,
     T: Write + Drop,
     L: Write + Send + Drop,
@@ -59,7 +55,7 @@ pub(crate) fn run_restored<
     rt: &R,
     restored: Restored,
     journalling: Journalling,
-    input: I,
+    input: &mut I,
     journal: BufWriter<W>,
     console: T,
     lines: L,
@@ -68,9 +64,9 @@ pub(crate) fn run_restored<
     requires cells { AreCellsOf restored.draft.sites restored.draft.stations restored.cells.items }
     requires passes { AreTheirPasses restored.cells.items restored.passes.items }
     requires empty { writer_buffer journal ≡ [] }
-    ensures script { IfOk result (λ s. (front : List ℕ) → Leaves front restored.draft.sites restored.draft.stations restored.cells.items
-        → IsItsScript front restored.draft.sites restored.draft.stations restored.cells.items (W.contents (writer_inner journal)) (left_of W.contents s)) }
-    ensures console { IfOk result (λ s. OnOk s.ended (IsToldOf restored.draft.sites restored.draft.stations None (T.contents console) (T.contents s.console))) }
+    ensures { IfOk result (λ s. (front : List ℕ) → Leaves front restored.draft.sites restored.draft.stations restored.cells.items
+        → IsItsScript front restored.draft.sites restored.draft.stations restored.cells.items (W.contents (writer_inner journal)) (left_of W.contents s)
+        (TellsNew s.ended restored.draft.stations (I.remaining input.old) (T.contents console) (T.contents s.console) restored.draft.sites restored.cells.items)) }
 {
     let alloc = rt.alloc();
     let Restored {
@@ -81,10 +77,7 @@ pub(crate) fn run_restored<
     } = restored;
     let tables = Tables::make(alloc, draft.plan().sites.len() as u16)?;
     let table = JournalTable::new(alloc)?;
-    let queue = new_queue(alloc)?;
-    start_reader(rt, alloc, input, Arc::try_clone(&queue)?)?;
-    let mut orders = QueuedOrders::open(alloc, &*queue);
-    run_over::<Brand, Brand, R, QueuedOrders<'_>, W, T, L>(
+    run_over::<Brand, Brand, R, I, W, T, L>(
         rt,
         alloc,
         tables,
@@ -93,31 +86,11 @@ pub(crate) fn run_restored<
         cells,
         passes,
         journalling,
-        &mut orders,
+        input,
         journal,
         console,
         lines,
     )
-}
-
-// A queue that is empty.
-fn new_queue(alloc: Global) -> Result<Arc<LineQueue, Global>, AllocError> {
-    match Arc::new(alloc, Mutex::new(Vec::new(alloc))) {
-        Ok(queue) => Ok(queue),
-        Err(refused) => Err(AllocError::from(refused)),
-    }
-}
-
-// Starts the thread that reads an operator's lines. It is not joined: it may wait for a line that never comes.
-fn start_reader<
-    R: Threads + Wait + Clock + Clone + Send + 'static,
-    I: BufRead + Send + Drop + 'static,
->(rt: &R, alloc: Global, input: I, queue: Arc<LineQueue, Global>) -> Result<(), ServiceFault> {
-    let own = rt.clone()?;
-    match thread::spawn(rt, move || read_all(&own, alloc, input, &*queue)) {
-        Ok(_reader) => Ok(()),
-        Err(_refused) => Err(ServiceFault::OutOfMemory),
-    }
 }
 
 // Serves what was restored, under the naming of the desk's tables and of its journal.
@@ -125,7 +98,7 @@ fn run_over<
     J: Naming + Send + Sync,
     K: Opening + Send + Sync,
     R: Host,
-    O: Orders,
+    I: BufRead + Readiness,
     W: Write + Send + Drop,
     T: Write + Drop,
     L: Write + Send + Drop,
@@ -138,7 +111,7 @@ fn run_over<
     cells: Vec<StationCell>,
     passes: Vec<Pass>,
     journalling: Journalling,
-    orders: &mut O,
+    input: &mut I,
     journal: BufWriter<W>,
     console: T,
     lines: L,
@@ -153,9 +126,9 @@ fn run_over<
     requires faultless { plan_fault plan.now.sites.items plan.now.stations.items ≡ None }
     requires cells { AreCellsOf plan.now.sites.items plan.now.stations.items cells.items }
     requires passes { AreTheirPasses cells.items passes.items }
-    ensures ended { IfOk result (λ s. IsEnded (names_of plan.now.stations.items) (contents_of cells.items) (W.contents (writer_inner journal))
-        plan.now.sites.items plan.now.stations.items (left_of W.contents s)) }
-    ensures console { IfOk result (λ s. OnOk s.ended (IsToldOf plan.now.sites.items plan.now.stations.items (O.coming orders.old) (T.contents console) (T.contents s.console))) }
+    ensures { IfOk result (λ s. IsEnded (names_of plan.now.stations.items) (contents_of cells.items) (W.contents (writer_inner journal))
+        plan.now.sites.items plan.now.stations.items (left_of W.contents s)
+        (TellsNew s.ended plan.now.stations.items (I.remaining input.old) (T.contents console) (T.contents s.console) plan.now.sites.items cells.items)) }
 {
     let Journalling {
         live,
@@ -180,14 +153,8 @@ fn run_over<
         plan,
         live,
     };
-    let ran = serve_plan_at(run, &serving, passes, viewers, orders, console, lines)?;
-    let Ran {
-        passes,
-        viewers,
-        ended,
-        output,
-    } = ran;
-    end_run(alloc, plan, serving.kept, passes, viewers, ended, output)
+    let ran = serve_plan_at(run, &serving, passes, viewers, input, console, lines)?;
+    end_run(alloc, plan, serving.kept, ran)
 }
 
 // The desk of a plan over cells that took commands before, with a journal that has no lines yet, and its viewers.
@@ -222,25 +189,42 @@ fn open_over<J: Naming, K: Opening, W: Write + Drop>(
     Ok((kept, viewers))
 }
 
+// How the operator's lines ended, and what was seen of the journal with the answers to them.
+fn seen_of<M: Drop>(
+    alloc: Global,
+    ended: Result<Vec<M>, ServiceFault>,
+) -> (Result<(), ServiceFault>, Vec<M>)
+    ensures well { OnOk result.0 (IsOk ended) }
+    ensures seen { IfOk ended (λ seen. result.1.items ≡ seen.items) }
+{
+    match ended {
+        Ok(seen) => (Ok(()), seen),
+        Err(fault) => (Err(fault), Vec::new(alloc)),
+    }
+}
+
 // Closes a desk with a journal whose sessions have ended, and makes the board of each site, in the plan's order.
-fn end_run<J: Naming, K: Opening, W: Write + Drop, T: Drop>(
+fn end_run<J: Naming, K: Opening, W: Write + Drop, T: Write + Drop>(
     alloc: Global,
     plan: &Plan,
     kept: KeptDesk<J, K, W>,
-    passes: Vec<Pass>,
-    viewers: Vec<Viewer<J>>,
-    ended: Result<(), ServiceFault>,
-    console: T,
+    ran: Ran<J, Moment<K>, T>,
 ) -> Result<Served<W, T>, ServiceFault>
     requires opened { AreNewPlaces plan.now.sites.items plan.now.stations.items kept.stations }
     requires sites { kept.sites ≡ length plan.now.sites.items }
     requires faultless { plan_fault plan.now.sites.items plan.now.stations.items ≡ None }
-    ensures ended { IfOk result (λ s. IsEnded K.name K.first K.before plan.now.sites.items plan.now.stations.items (left_of W.contents s)) }
-    ensures console { IfOk result (λ s. s.console ≡ console) }
-    ensures lines { IfOk result (λ s. s.ended ≡ ended) }
+    ensures { IfOk result (λ s. IsEnded K.name K.first K.before plan.now.sites.items plan.now.stations.items (left_of W.contents s)
+        (λ log. (s.console ≡ ran.output) × OnOk s.ended (IsOk ran.ended) × IfOk ran.ended (λ seen. All (λ m. IsPrefix m log) seen.items))) }
 {
+    let Ran {
+        passes,
+        viewers,
+        ended,
+        output: console,
+    } = ran;
+    let (ended, seen) = seen_of(alloc, ended);
     let mut boards = Vec::new(alloc);
-    let closed = match kept.close(passes, viewers, Vec::new(alloc)) {
+    let closed = match kept.close(passes, viewers, seen) {
         Ok(closed) => closed,
         Err(refused) => return Err(ServiceFault::from(refused.fault)),
     };

@@ -10,12 +10,13 @@ ghost use Rattle.script_lines.specs.Ranges.{longest_line};
 ghost use Rattle.site_desk.specs.Plan.{plan_fault};
 ghost use Rattle.site_desk.specs.Roster.{AreCellsOf};
 ghost use Rattle.journal_server.specs.Left.{left_of};
-ghost use Rattle.journal_server.specs.Served.{IsNewRun, IsRefused, IsRestoredRun, IsToldOfPlan, IsToldOfScript};
+ghost use Rattle.journal_server.specs.Served.{IsNewRun, IsRefused, IsRestoredRun, TellsNew, TellsRestored};
 
 use crate::declared::{journal_head, run_head};
 use crate::fault::JournalFault;
 use crate::run::{Served, run_restored};
 use crate::same::is_declared;
+use gathered_input::Readiness;
 use itoa::Buffer;
 use journal_script::{RestoreFault, Restored, restore};
 use live_server::Live;
@@ -56,8 +57,8 @@ pub struct Restoring {
 ///
 /// A plan with a fault is told before anything is written.
 pub fn serve_journalled<
-    R: AllocGlobal + Host + Clone + Send + 'static,
-    I: BufRead + Send + Drop + 'static,
+    R: AllocGlobal + Host,
+    I: BufRead + Readiness,
     W: Write + Send + Drop,
     T: Write + Drop,
     L: Write + Send + Drop,
@@ -65,13 +66,13 @@ pub fn serve_journalled<
     rt: &R,
     plan: &Plan,
     journalling: Journalling,
-    input: I,
+    input: &mut I,
     journal: BufWriter<W>,
     console: T,
     lines: L,
 ) -> Result<Served<W, T>, JournalFault>
-    ensures served { IfOk result (λ s. IsNewRun plan.now.sites.items plan.now.stations.items (writer_contents W.contents journal) (left_of W.contents s)) }
-    ensures console { IfOk result (λ s. OnOk s.ended (IsToldOfPlan plan.now.sites.items plan.now.stations.items None (T.contents console) (T.contents s.console))) }
+    ensures served { IfOk result (λ s. IsNewRun plan.now.sites.items plan.now.stations.items (writer_contents W.contents journal) (left_of W.contents s)
+        (TellsNew s.ended plan.now.stations.items (I.remaining input.old) (T.contents console) (T.contents s.console))) }
 {
     if let Some(fault) = plan.fault() {
         return Err(JournalFault::Service(ServiceFault::from(fault)));
@@ -95,25 +96,25 @@ pub fn serve_journalled<
 /// written or listened on, unless it is asked to serve all the same: what the stations hold is less than the script tells
 /// then, as where a declaration is missing.
 pub fn serve_restored<
-    R: AllocGlobal + Host + Clone + Send + 'static,
-    I: BufRead + Send + Drop + 'static,
+    R: AllocGlobal + Host,
+    I: BufRead + Readiness,
     W: Write + Send + Drop,
     T: Write + Drop,
     L: Write + Send + Drop,
 >(
     rt: &R,
     restoring: Restoring,
-    mut input: I,
+    input: &mut I,
     journal: BufWriter<W>,
     mut console: T,
     lines: L,
 ) -> Result<Served<W, T>, JournalFault>
-    ensures serves { IfOk result (λ s. IsRestoredRun restoring.allows_left_out (I.remaining input) (writer_contents W.contents journal) (left_of W.contents s)) }
-    ensures console { IfOk result (λ s. OnOk s.ended (IsToldOfScript None (T.contents console) (T.contents s.console))) }
-    ensures unmarked { IfErr result (λ e. e ≡ JournalFault.Restore RestoreFault.NotMarked → IsRefused (I.remaining input) (λ read. IsUnmarked read)) }
-    ensures left_out { IfErr result (λ e. e ≡ JournalFault.LeftOut → (restoring.allows_left_out ≡ false) × IsRefused (I.remaining input) (λ read. loses start (lines_of longest_line read) ≡ true)) }
+    ensures serves { IfOk result (λ s. IsRestoredRun restoring.allows_left_out (I.remaining input.old) (writer_contents W.contents journal) (left_of W.contents s)
+        (TellsRestored s.ended (T.contents console) (T.contents s.console))) }
+    ensures unmarked { IfErr result (λ e. e ≡ JournalFault.Restore RestoreFault.NotMarked → IsRefused (I.remaining input.old) (λ read. IsUnmarked read)) }
+    ensures left_out { IfErr result (λ e. e ≡ JournalFault.LeftOut → (restoring.allows_left_out ≡ false) × IsRefused (I.remaining input.old) (λ read. loses start (lines_of longest_line read) ≡ true)) }
 {
-    let restored = restore(rt, &mut input, &mut console)?;
+    let restored = restore(rt, input, &mut console)?;
     if is_refused(restored.has_lost, restoring.allows_left_out) {
         return Err(JournalFault::LeftOut);
     }

@@ -12,11 +12,11 @@ ghost use Rattle.station_link.specs.Answer.{Asks, IsSubmitted};
 
 use crate::receipt_time::receipt_note;
 use journal_script::{is_script_line, laws, message_line};
-use kept_desk::{KeptCell, KeptDesk, Opening};
+use kept_desk::{KeptCell, KeptDesk, Moment, Opening};
 use ledger_model::{Answer, Command, Event, Key, Name, Refusal};
-use running_desk::Serves;
+use running_desk::{MayBreak, Seen, Serves};
 use site_book::{Naming, Told};
-use site_desk::{Desk, Gate, NoGate};
+use site_desk::{BoardFault, Desk, Gate, NoGate};
 use station_cell::Pass;
 use station_link::Delivers;
 use std::alloc::{AllocError, Global};
@@ -36,15 +36,20 @@ pub(crate) struct Serving<J: Naming, K: Opening, W: Write + Drop> {
 }
 
 // The answer that nothing more is accepted.
-fn exhausted<J: Naming>() -> (Answer, Option<Told<J>>)
+fn exhausted<J: Naming, K: Opening>() -> (Answer, Option<Told<J>>, Option<Moment<K>>)
     ensures answer { result.0 ≡ Answer.Refused Refusal.ChangesExhausted }
     ensures told { result.1 ≡ None }
+    ensures seen { result.2 ≡ None }
 {
-    (Answer::Refused(Refusal::ChangesExhausted), None)
+    (Answer::Refused(Refusal::ChangesExhausted), None, None)
 }
 
-impl<J: Naming, K: Opening, W: Write + Drop> Delivers<J> for Serving<J, K, W> {
+impl<J: Naming, K: Opening, W: Write + Drop> Delivers<J, Moment<K>> for Serving<J, K, W> {
+    ghost use Rattle.journal_server.specs.Served.{IsKeptAnswer};
+
     ghost stations = { λ s. s.kept.stations };
+
+    ghost gives = { λ _. IsKeptAnswer K.first };
 
     fn deliver<G: Gate, R: Wait + Clock>(
         &self,
@@ -55,7 +60,7 @@ impl<J: Naming, K: Opening, W: Write + Drop> Delivers<J> for Serving<J, K, W> {
         key: Key,
         event: Event,
         gate: &G,
-    ) -> Result<(Answer, Option<Told<J>>), AllocError> {
+    ) -> Result<(Answer, Option<Told<J>>, Option<Moment<K>>), AllocError> {
         let Some(name) = self.kept.desk().name_of(pass.station()) else {
             return Ok(exhausted());
         };
@@ -69,20 +74,21 @@ impl<J: Naming, K: Opening, W: Write + Drop> Delivers<J> for Serving<J, K, W> {
             return Ok(exhausted());
         }
         let command = Command::Deliver(key, event);
-        let (answer, told, _receipt) = self.kept.submit(
-            rt,
-            pass,
-            command,
-            note.as_str().as_bytes(),
-            line.as_slice(),
-            gate,
-        );
-        Ok((answer, told))
+        let note = note.as_str().as_bytes();
+        Ok(
+            self.kept
+                .submit(rt, pass, command, note, line.as_slice(), gate),
+        )
     }
 }
 
-impl<J: Naming, K: Opening, W: Write + Drop> Serves<J, KeptCell<K>> for Serving<J, K, W> {
+impl<J: Naming, K: Opening, W: Write + Drop> Serves<J, KeptCell<K>, Moment<K>>
+    for Serving<J, K, W> {
+    ghost use Rattle.kept_desk.specs.Kept.{AreBoardsBehind};
+
     ghost roster = { λ s. s.kept };
+
+    ghost shows = { λ s. AreBoardsBehind K.first s.kept.stations };
 
     fn desk(&self) -> &Desk<J, KeptCell<K>> {
         self.kept.desk()
@@ -95,7 +101,7 @@ impl<J: Naming, K: Opening, W: Write + Drop> Serves<J, KeptCell<K>> for Serving<
         name: &Name,
         what: Command,
         line: Option<&[u8]>,
-    ) -> (Answer, Option<Told<J>>) {
+    ) -> (Answer, Option<Told<J>>, Option<Moment<K>>) {
         let Some(bytes) = line else {
             return exhausted();
         };
@@ -103,12 +109,21 @@ impl<J: Naming, K: Opening, W: Write + Drop> Serves<J, KeptCell<K>> for Serving<
             return exhausted();
         }
         let note = receipt_note(rt, self.has_receipt_times);
-        let (answer, told, _receipt) = self
-            .kept
-            .submit(rt, pass, what, note.as_str().as_bytes(), bytes, &NoGate);
-        (answer, told)
+        self.kept
+            .submit(rt, pass, what, note.as_str().as_bytes(), bytes, &NoGate)
     }
 
+    fn boards<R: Wait>(
+        &self,
+        rt: &R,
+        alloc: Global,
+        site: u16,
+    ) -> Result<Seen<Moment<K>>, BoardFault> {
+        self.kept.site_boards(rt, alloc, site)
+    }
+}
+
+impl<J: Naming, K: Opening, W: Write + Drop> MayBreak for Serving<J, K, W> {
     fn is_broken(&self) -> bool {
         self.kept.is_broken()
     }

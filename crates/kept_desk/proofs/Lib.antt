@@ -5,6 +5,5 @@ pub mod Left
 pub mod Received
 pub mod Names
 mod Notes
-mod Counted
 mod Behind
 pub mod Fronts

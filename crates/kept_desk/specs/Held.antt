@@ -2,7 +2,7 @@ use Rattle.std.specs.Prelude.{◌≡◌, ℕ, Bool, List, [], Option}
 use Rattle.atomic_table.specs.Table.{Me}
 use Rattle.atomic_table.specs.Seated.{TableId}
 use Rattle.kept_desk.specs.declared.table.View.{View}
-use Rattle.kept_desk.specs.Journal.{AreSoMany, HaveLast, IsWritten}
+use Rattle.kept_desk.specs.Journal.{IsWritten}
 use Rattle.kept_desk.specs.Rule.{keeping, holding, knowing}
 use Rattle.kept_desk.specs.Speaking.{AreSpoken}
 
@@ -20,25 +20,18 @@ pub record IsUnused (table seat : TableId) (me : Seated) : Type 0 where
   pub sits : Sits table seat
   pub me_is : me ≡ (keeping [] 0, [])
 
--- What a journal keeps beside its table: its lines speak for their commands on the stations of these names; how many they are; and the number of shares, whether a write failed, and what its writer took, of which the buffer holds some back.
-pub record IsJournal (named : TableId) (name : ℕ → List ℕ) (before : Option (List ℕ)) (shares lines : ℕ) (broken : Bool) (now : Option (List ℕ)) (buffer : List ℕ) (table seat : TableId) (me : Seated) : Type 0 where
+-- What a journal keeps beside its table: its lines speak for their commands on the stations of these names; and the number of shares, whether a write failed, and what its writer took, of which the buffer holds some back.
+pub record IsJournal (named : TableId) (name : ℕ → List ℕ) (before : Option (List ℕ)) (shares : ℕ) (broken : Bool) (now : Option (List ℕ)) (buffer : List ℕ) (table seat : TableId) (me : Seated) : Type 0 where
   pub is_named : table ≡ named
   pub sits : Sits table seat
   pub me_is : me ≡ (keeping me.0.log shares, [])
   pub written : IsWritten broken before now buffer me.0.log
   pub spoken : AreSpoken name me.0.log
-  pub counted : AreSoMany lines me.0.log
 
 -- What a share is: a seat of this station at the table.
 pub record IsShare (named : TableId) (station : ℕ) (seat : TableId) (me : Seated) : Type 0 where
   pub is_named : seat ≡ named
   pub me_is : me ≡ (holding station me.0.mine, [])
-
--- What a receipt is: a seat at the table that knows one entry at least.
-pub record IsReceipt (named : TableId) (seat : TableId) (me : Seated) : Type 0 where
-  pub is_named : seat ≡ named
-  pub me_is : me ≡ (knowing me.0.seen, [])
-  pub ends : HaveLast me.0.seen
 
 -- What a moment is: a seat at the table.
 pub record IsMoment (named : TableId) (seat : TableId) (me : Seated) : Type 0 where

@@ -10,14 +10,6 @@ pub record Ledger : Type 0 where
   pub shares : ℕ
   pub broken : Bool
 
--- There are so many entries; the last number of 64 bits stands for that many or more.
-abbrev pub AreSoMany : ℕ → List Entry → Type 0
-AreSoMany lines entries = lines < 2 ^ 64 - 1 → length entries ≡ lines
-
--- The entries end with one.
-abbrev pub HaveLast : List Entry → Type 0
-HaveLast entries = (before : List Entry) × (e : Entry) × (entries ≡ before ++ e ∷ [])
-
 -- A station's share: its station's number, and that station's entries.
 pub record OwnEntries : Type 0 where
   pub station : ℕ

@@ -1,12 +1,13 @@
 use Rattle.std.specs.Prelude.{◌≡◌, ℕ, ◌+◌, ◌≤◌, Bool, List, [], ◌∷◌, ◌++◌, Option, All, map, length, None, Some, slice_get}
 use Rattle.kept_desk.specs.declared.entry.Entry.{Entry}
 use Rattle.kept_desk.specs.Entries.{of_station}
-use Rattle.kept_desk.specs.Journal.{AreSoMany, IsWritten, OwnEntries}
+use Rattle.kept_desk.specs.Journal.{IsWritten, OwnEntries}
 use Rattle.kept_desk.specs.Speaking.{AreSpoken}
 use Rattle.ledger_model.specs.declared.answer.Answer.{Answer}
 use Rattle.ledger_model.specs.declared.answer.Answer.TheVariants.{Accepted, Repeat, Refused}
 use Rattle.ledger_model.specs.declared.command.Command.{Command}
 use Rattle.site_book.specs.Book.{Known}
+use Rattle.site_book.specs.Prefix.{IsPrefix}
 use Rattle.ledger_model.specs.Admissible.{IsAdmissible}
 use Rattle.ledger_model.specs.Board.{Board, board_by}
 use Rattle.ledger_model.specs.Content.{Content, entries}
@@ -61,14 +62,6 @@ pub record IsKeptDesk (name : ℕ → List ℕ) (places : List StationPlace) (ce
   pub room_for_all : length places ≤ room
   pub few : length places ≤ 64
 
--- The receipt is of the list's entries up to one of them.
-pub record IsReceiptIn (log receipt : List Entry) : Type 0 where
-  pub before : List Entry
-  pub e : Entry
-  pub rest : List Entry
-  pub receipt_is : receipt ≡ before ++ e ∷ []
-  pub log_is : log ≡ before ++ e ∷ rest
-
 -- The command is accepted, as change n, at the content that the commands of these entries, each accepted, leave of the first one.
 pub record IsAcceptedBehind (limits : Bounds) (first : Content) (entries : List Entry) (command : Command) : Type 0 where
   pub before : Content
@@ -76,37 +69,36 @@ pub record IsAcceptedBehind (limits : Bounds) (first : Content) (entries : List 
   pub left : IsLeftFrom limits first before (commands_of entries)
   pub answered : answer limits before command ≡ Accepted n
 
--- What is known of a desk with a journal once it is closed: there is one list of entries, of which the writer took the text, whose lines speak for their commands, of which just each station's own leave its content, and of which each receipt is; and how many they are.
-pub record IsWrittenDown (name : ℕ → List ℕ) (first : ℕ → Content) (before : Option (List ℕ)) (broken : Bool) (now : Option (List ℕ)) (buffer : List ℕ) (cells : List Cell) (receipts : List (List Entry)) (lines : ℕ) : Type 0 where
+-- What is known of a desk with a journal once it is closed: there is one list of entries, of which the writer took the text, whose lines speak for their commands, of which just each station's own leave its content, and which begins with the entries of each of these moments.
+pub record IsWrittenDown (name : ℕ → List ℕ) (first : ℕ → Content) (before : Option (List ℕ)) (broken : Bool) (now : Option (List ℕ)) (buffer : List ℕ) (cells : List Cell) (moments : List (List Entry)) : Type 0 where
   pub log : List Entry
   pub written : IsWritten broken before now buffer log
   pub spoken : AreSpoken name log
   pub left : (k : ℕ) (c : Cell) → slice_get cells k ≡ Some c → IsLeftFrom c.limits (first k) c.content (commands_of (of_station k log))
-  pub received : All (IsReceiptIn log) receipts
-  pub counted : AreSoMany lines log
+  pub begins : All (λ m. IsPrefix m log) moments
 
--- The entry's command was accepted as change n at its own line: its receipt is of all entries that the journal had, of this one last, and the content at which it was accepted is what the commands of just its station's entries before it, each accepted, leave of the station's first content.
-pub record IsGiven (at : StationPlace) (first : Content) (n : ℕ) (e : Entry) (told : Option Known) (receipt : Option (List Entry)) : Type 0 where
+-- The entry's command was accepted as change n at its own line: the moment is of all entries that the journal had, of this one last, and the content at which it was accepted is what the commands of just its station's entries before it, each accepted, leave of the station's first content.
+pub record IsGiven (at : StationPlace) (first : Content) (n : ℕ) (e : Entry) (told : Option Known) (moment : Option (List Entry)) : Type 0 where
   pub log : List Entry
   pub before : Content
-  pub received : receipt ≡ Some (log ++ e ∷ [])
+  pub received : moment ≡ Some (log ++ e ∷ [])
   pub left : IsLeftFrom at.limits first before (commands_of (of_station e.station log))
   pub taken : IsTakenAt at before e.command n told
 
--- With an accepted answer comes the receipt of this entry, and with any other none.
+-- With an accepted answer comes the moment of this entry, and with any other none.
 abbrev pub IsReceived : StationPlace → Content → Answer → Entry → Option Known → Option (List Entry) → Type 0
-IsReceived at first (Accepted n) e told receipt = IsGiven at first n e told receipt
-IsReceived at first Repeat e told receipt = receipt ≡ None
-IsReceived at first (Refused why) e told receipt = receipt ≡ None
+IsReceived at first (Accepted n) e told moment = IsGiven at first n e told moment
+IsReceived at first Repeat e told moment = moment ≡ None
+IsReceived at first (Refused why) e told moment = moment ≡ None
 
--- A share had its station's entries in a list to which this entry was added, and the receipt is of that list.
-pub record IsNoted (share : OwnEntries) (e : Entry) (receipt : List Entry) : Type 0 where
+-- A share had its station's entries in a list to which this entry was added, and the moment is of that list.
+pub record IsNoted (share : OwnEntries) (e : Entry) (moment : List Entry) : Type 0 where
   pub log : List Entry
   pub own : share.entries ≡ of_station share.station log
-  pub received : receipt ≡ log ++ e ∷ []
+  pub received : moment ≡ log ++ e ∷ []
 
--- The receipt with this answer, where it is accepted.
+-- The moment with this answer, where it is accepted.
 abbrev pub given_with : Answer → List Entry → Option (List Entry)
-given_with (Accepted n) receipt = Some receipt
-given_with Repeat receipt = None
-given_with (Refused why) receipt = None
+given_with (Accepted n) moment = Some moment
+given_with Repeat moment = None
+given_with (Refused why) moment = None

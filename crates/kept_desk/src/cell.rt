@@ -10,8 +10,8 @@ ghost use Rattle.kept_desk.specs.Speaking.{SpeaksOf};
 
 use crate::broken::Broken;
 use crate::journal::Journal;
+use crate::moment::Moment;
 use crate::opening::Opening;
-use crate::receipt::Receipt;
 use crate::share::Share;
 use crate::way::Journalled;
 use ledger_model::{Answer, Command, Refusal};
@@ -105,7 +105,7 @@ impl<K: Opening> KeptCell<K> {
         pass: &mut Pass,
         command: Command,
         way: &Journalled<'_, K, W>,
-    ) -> (Answer, Option<Told<J>>, Option<Receipt<K>>)
+    ) -> (Answer, Option<Told<J>>, Option<Moment<K>>)
         requires can { CanJudge number place.now self.old pass.old }
         requires note { IsNote way.now.note.now }
         requires speaks { SpeaksOf (K.name number) way.now.line.now command }
@@ -133,7 +133,7 @@ impl<K: Opening> KeptCell<K> {
         pass: &mut Pass,
         judged: Judged,
         way: &Journalled<'_, K, W>,
-    ) -> (Answer, Option<Told<J>>, Option<Receipt<K>>)
+    ) -> (Answer, Option<Told<J>>, Option<Moment<K>>)
         requires can { CanJudge number place.now self.old pass.old }
         requires judged { IsJudged self.old.limits self.old.content judged.command judged.judgement.answer }
         requires accepted { IsAccepted judged.judgement.answer }
@@ -143,27 +143,27 @@ impl<K: Opening> KeptCell<K> {
         ensures received { IsReceived place.now (K.first number) result.0 (entry number way.now.note.now way.now.line.now judged.command) result.1 result.2 }
     {
         match way.write(rt, &mut self.share, &judged.command) {
-            Ok(receipt) => with_receipt(
+            Ok(moment) => with_moment(
                 settle_written(rt, &mut self.cell, book, number, place, pass, judged),
-                receipt,
+                moment,
             ),
             Err(Broken) => (Answer::Refused(Refusal::ChangesExhausted), None, None),
         }
     }
 }
 
-// The answer with what the book told, and with the receipt where the command was accepted.
-fn with_receipt<J: Naming, K: Opening>(
+// The answer with what the book told, and with the moment where the command was accepted.
+fn with_moment<J: Naming, K: Opening>(
     settled: (Answer, Option<Told<J>>),
-    receipt: Receipt<K>,
-) -> (Answer, Option<Told<J>>, Option<Receipt<K>>)
+    moment: Moment<K>,
+) -> (Answer, Option<Told<J>>, Option<Moment<K>>)
     ensures answer { result.0 ≡ settled.0 }
     ensures told { result.1 ≡ settled.1 }
-    ensures receipt { result.2 ≡ given_with settled.0 receipt }
+    ensures moment { result.2 ≡ given_with settled.0 moment }
 {
     let (answer, told) = settled;
     match answer {
-        Answer::Accepted(n) => (Answer::Accepted(n), told, Some(receipt)),
+        Answer::Accepted(n) => (Answer::Accepted(n), told, Some(moment)),
         Answer::Repeat => (Answer::Repeat, told, None),
         Answer::Refused(why) => (Answer::Refused(why), told, None),
     }

@@ -2,13 +2,14 @@
 ghost use Rattle.std.specs.Prelude.{◌≡◌, ℕ, ◌+◌, ◌≤◌, [], ◌++◌, length, IfOk, OnOk, Some, All, slice_get, vec_len, vec_capacity};
 ghost use Rattle.kept_desk.specs.Entries.{of_station};
 ghost use Rattle.station_cell.specs.Cell.{Cell, IsInService};
-ghost use Rattle.kept_desk.specs.Kept.{IsLeftFrom, IsReceiptIn, commands_of};
+ghost use Rattle.kept_desk.specs.Kept.{IsLeftFrom, commands_of};
 ghost use Rattle.kept_desk.specs.Opened.{AreFirst};
+ghost use Rattle.site_book.specs.Prefix.{IsPrefix};
 
 use crate::cell::KeptCell;
 use crate::journal::Journal;
+use crate::moment::Moment;
 use crate::opening::Opening;
-use crate::receipt::Receipt;
 use ledger_model::Command;
 use station_cell::StationCell;
 use std::alloc::{AllocError, Global};
@@ -50,16 +51,16 @@ pub(crate) fn free_cells<K: Opening, W: Write + Drop>(
     }
 }
 
-// Compares each receipt with the journal.
+// Compares each moment with the journal.
 pub(crate) fn confirm_all<K: Opening, W: Write + Drop>(
-    receipts: Vec<Receipt<K>>,
+    moments: Vec<Moment<K>>,
     log: &mut Journal<K, W>,
 )
     ensures log { log.new ≡ log.old }
-    ensures first { All (IsReceiptIn log.old.entries) receipts.items }
+    ensures first { All (λ m. IsPrefix m log.old.entries) moments.items }
 {
-    for receipt in receipts {
-        log.confirm(receipt);
+    for moment in moments {
+        log.confirm(moment);
     }
 }
 

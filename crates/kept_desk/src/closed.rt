@@ -1,6 +1,6 @@
 use crate::desk::KeptDesk;
+use crate::moment::Moment;
 use crate::opening::Opening;
-use crate::receipt::Receipt;
 use ledger_model::Listed;
 use site_book::{Naming, Viewer};
 use site_desk::{CloseFault, Closed};
@@ -16,11 +16,9 @@ pub struct KeptClosed<J: Naming, W: Write + Drop> {
     pub writer: BufWriter<W>,
     /// A write or a flush failed.
     pub is_broken: bool,
-    /// How many lines were written whole; 2^64 - 1 stands for that many or more.
-    pub lines: u64,
 }
 
-/// A desk that was not closed, with the passes, viewers and receipts that were handed in, all as they were.
+/// A desk that was not closed, with the passes, viewers and moments that were handed in, all as they were.
 #[derive(Drop)]
 pub struct KeptRefused<J: Naming, K: Opening, W: Write + Drop> {
     /// The desk.
@@ -29,8 +27,8 @@ pub struct KeptRefused<J: Naming, K: Opening, W: Write + Drop> {
     pub passes: Listed<Pass>,
     /// The viewers.
     pub viewers: Listed<Viewer<J>>,
-    /// The receipts.
-    pub receipts: Vec<Receipt<K>>,
+    /// The moments.
+    pub moments: Vec<Moment<K>>,
     /// Why it was not closed.
     pub fault: CloseFault,
 }

@@ -23,7 +23,6 @@ use crate::journal::Journal;
 use crate::journal_table::JournalTable;
 use crate::moment::Moment;
 use crate::opening::Opening;
-use crate::receipt::Receipt;
 use crate::way::Journalled;
 use ledger_model::{Answer, Command, Figures, Name};
 use site_book::{Naming, Told, Viewer};
@@ -143,7 +142,8 @@ impl<J: Naming, K: Opening, W: Write + Drop> KeptDesk<J, K, W> {
     /// station's and then its site's. `ChangesExhausted` also answers where the line can't be written, then
     /// and from then on; and where the site's book is not as it should be behind a line that was written,
     /// which no run of fewer than 2^62 accepted changes a site meets: the station's cell then leaves service,
-    /// and the desk doesn't close over it. With an accepted answer comes the receipt of the line's entry.
+    /// and the desk doesn't close over it. With an accepted answer comes the moment of the journal
+    /// at which the line's entry was its last.
     ///
     /// Conditions: in front of the line stands nothing or a comment line ([`is_note`](crate::is_note) tells), which is
     /// written with it, and the line speaks for the command on the pass's station.
@@ -155,7 +155,7 @@ impl<J: Naming, K: Opening, W: Write + Drop> KeptDesk<J, K, W> {
         note: &[u8],
         line: &[u8],
         gate: &G,
-    ) -> (Answer, Option<Told<J>>, Option<Receipt<K>>)
+    ) -> (Answer, Option<Told<J>>, Option<Moment<K>>)
         requires note { IsNote note.now }
         requires speaks { (at : StationPlace) → slice_get self.now.stations pass.old.station ≡ Some at → SpeaksOf at.name line.now command }
         ensures settled { (at : StationPlace) → slice_get self.now.stations pass.old.station ≡ Some at → Submitted at pass.old command result.0 pass.new result.1 }
@@ -170,15 +170,15 @@ impl<J: Naming, K: Opening, W: Write + Drop> KeptDesk<J, K, W> {
         self.desk.submit_by(rt, pass, command, gate, &way)
     }
 
-    /// Closes the desk as [`Desk::close`] does, and then compares each station's side, and each receipt that is
+    /// Closes the desk as [`Desk::close`] does, and then compares each station's side, and each moment that is
     /// handed in, with the journal. It takes no memory.
     pub fn close(
         self,
         passes: Vec<Pass>,
         viewers: Vec<Viewer<J>>,
-        receipts: Vec<Receipt<K>>,
+        moments: Vec<Moment<K>>,
     ) -> Result<KeptClosed<J, W>, KeptRefused<J, K, W>>
-        ensures kept { IfOk result (λ s. IsWrittenDown K.name K.first K.before s.is_broken (W.contents (writer_inner s.writer)) (writer_buffer s.writer) s.closed.cells receipts.items s.lines) }
+        ensures kept { IfOk result (λ s. IsWrittenDown K.name K.first K.before s.is_broken (W.contents (writer_inner s.writer)) (writer_buffer s.writer) s.closed.cells moments.items) }
         ensures stations { IfOk result (λ s. length s.closed.cells ≡ length self.stations) }
         ensures sites { IfOk result (λ s. length s.closed.books ≡ self.sites) }
         ensures whole { IfOk result (λ s. IsClosable self.stations self.viewers s.closed.cells s.closed.books passes.items viewers.items) }
@@ -188,20 +188,19 @@ impl<J: Naming, K: Opening, W: Write + Drop> KeptDesk<J, K, W> {
         ensures desk { IfErr result (λ r. r.desk ≡ self) }
         ensures passes { IfErr result (λ r. r.passes ≡ passes.items) }
         ensures viewers { IfErr result (λ r. r.viewers ≡ viewers.items) }
-        ensures receipts { IfErr result (λ r. r.receipts.items ≡ receipts.items) }
+        ensures moments { IfErr result (λ r. r.moments.items ≡ moments.items) }
     {
         let KeptDesk { desk, log, spare } = self;
         match desk.take_apart(passes, viewers) {
             Ok((kept, books, passes)) => {
                 let (mut log, mut cells) = (log.into_inner(), spare);
                 free_cells(kept, &mut log, &mut cells);
-                confirm_all(receipts, &mut log);
-                let (is_broken, lines) = (log.is_broken(), log.lines());
+                confirm_all(moments, &mut log);
+                let is_broken = log.is_broken();
                 Ok(KeptClosed {
                     closed: Closed::of(cells, books, passes),
                     writer: log.into_writer(),
                     is_broken,
-                    lines,
                 })
             }
             Err(refused) => {
@@ -215,7 +214,7 @@ impl<J: Naming, K: Opening, W: Write + Drop> KeptDesk<J, K, W> {
                     desk: KeptDesk { desk, log, spare },
                     passes,
                     viewers,
-                    receipts,
+                    moments,
                     fault,
                 })
             }

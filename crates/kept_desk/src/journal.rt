@@ -2,15 +2,13 @@ ghost use Rattle.std.specs.Prelude.{◌≡◌, ◌+◌, ◌≤◌, Bool, true, f
 ghost use Rattle.std.specs.Io.Buffered.{writer_buffer, writer_inner};
 ghost use Rattle.site_book.specs.Prefix.{IsPrefix};
 ghost use Rattle.kept_desk.specs.Entries.{IsNote, entry, of_station};
-ghost use Rattle.kept_desk.specs.Journal.{AreSoMany, IsWritten};
-ghost use Rattle.kept_desk.specs.Kept.{IsReceiptIn};
+ghost use Rattle.kept_desk.specs.Journal.{IsWritten};
 ghost use Rattle.kept_desk.specs.Speaking.{AreSpoken, SpeaksOf};
 
 use crate::broken::Broken;
 use crate::journal_table::JournalTable;
 use crate::moment::Moment;
 use crate::opening::Opening;
-use crate::receipt::Receipt;
 use crate::share::Share;
 use crate::steps::{agree, confirm, enlist, note_entry, receive};
 use crate::table::{EntryTable, TableSeat};
@@ -27,7 +25,6 @@ pub struct Journal<K: Opening, W: Write + Drop> {
     seat: TableSeat,
     writer: BufWriter<W>,
     shares: u32,
-    lines: u64,
     broken: bool,
     named: PhantomData<K>,
 }
@@ -41,7 +38,7 @@ impl<K: Opening, W: Write + Drop> Model for Journal<K, W> {
 
     ghost view = { λ j. record { entries = j.seat.me.0.log; shares = j.shares; broken = j.broken } };
 
-    ghost invariant = { λ j. IsJournal K.table K.name K.before j.shares j.lines j.broken (W.contents (writer_inner j.writer)) (writer_buffer j.writer) j.table.shared.table_id j.seat.table_id j.seat.me };
+    ghost invariant = { λ j. IsJournal K.table K.name K.before j.shares j.broken (W.contents (writer_inner j.writer)) (writer_buffer j.writer) j.table.shared.table_id j.seat.table_id j.seat.me };
 }
 
 impl<K: Opening, W: Write + Drop> Journal<K, W> {
@@ -60,7 +57,6 @@ impl<K: Opening, W: Write + Drop> Journal<K, W> {
             seat,
             writer,
             shares: 0,
-            lines: 0,
             broken: false,
             named: PhantomData,
         }
@@ -71,13 +67,6 @@ impl<K: Opening, W: Write + Drop> Journal<K, W> {
         ensures { result ≡ self.now.shares }
     {
         self.shares
-    }
-
-    /// How many entries it has; 2^64 - 1 stands for that many or more.
-    pub fn lines(&self) -> u64
-        ensures { AreSoMany result self.now.entries }
-    {
-        self.lines
     }
 
     /// Tells whether a write or a flush failed: then no more is taken.
@@ -107,7 +96,7 @@ impl<K: Opening, W: Write + Drop> Journal<K, W> {
     }
 
     /// Writes what stands in front of the line, the line and a line feed and flushes them, then notes the entry, here
-    /// and in the share, and gives the receipt. After an error nothing is noted, and the journal takes nothing more. The
+    /// and in the share, and gives the moment. After an error nothing is noted, and the journal takes nothing more. The
     /// command is noted for contracts alone.
     ///
     /// Conditions: in front of the line stands nothing or a comment line ([`is_note`](crate::is_note) tells), and the
@@ -118,13 +107,13 @@ impl<K: Opening, W: Write + Drop> Journal<K, W> {
         note: &[u8],
         line: &[u8],
         command: &Command,
-    ) -> Result<Receipt<K>, Broken>
+    ) -> Result<Moment<K>, Broken>
         requires note { IsNote note.now }
         requires speaks { SpeaksOf (K.name share.old.station) line.now command.now }
         ensures added { OnOk result (self.new ≡ record self.old { entries = self.old.entries ++ entry share.old.station note.now line.now command.now ∷ [] }) }
         ensures known { OnOk result (share.new ≡ record share.old { entries = share.old.entries ++ entry share.old.station note.now line.now command.now ∷ [] }) }
         ensures own { OnOk result (share.old.entries ≡ of_station share.old.station self.old.entries) }
-        ensures receipt { IfOk result (λ r. r ≡ self.new.entries) }
+        ensures moment { IfOk result (λ m. m ≡ self.new.entries) }
         ensures whole { OnOk result (self.old.broken ≡ false) }
         ensures broken { OnErr result (self.new ≡ record self.old { broken = true }) }
         ensures same { OnErr result (share.new ≡ share.old) }
@@ -145,9 +134,8 @@ impl<K: Opening, W: Write + Drop> Journal<K, W> {
             command,
         );
         let seat = receive(&table.shared, &mut self.seat);
-        self.lines = self.lines.saturating_add(1);
         self.broken = false;
-        Ok(Receipt {
+        Ok(Moment {
             seat,
             named: PhantomData,
         })
@@ -160,15 +148,6 @@ impl<K: Opening, W: Write + Drop> Journal<K, W> {
     {
         let table = &self.table;
         agree(&table.shared, &mut self.seat, &mut share.seat);
-    }
-
-    /// Compares a receipt with the journal: its entries begin the journal's.
-    pub fn confirm(&mut self, receipt: Receipt<K>)
-        ensures first { IsReceiptIn self.old.entries receipt }
-        ensures same { self.new ≡ self.old }
-    {
-        let table = &self.table;
-        confirm(&table.shared, &mut self.seat, receipt.seat);
     }
 
     /// The entries that it has now.
@@ -185,7 +164,7 @@ impl<K: Opening, W: Write + Drop> Journal<K, W> {
     }
 
     /// Compares a moment with the journal: its entries begin the journal's.
-    pub fn confirm_moment(&mut self, moment: Moment<K>)
+    pub fn confirm(&mut self, moment: Moment<K>)
         ensures first { IsPrefix moment self.old.entries }
         ensures same { self.new ≡ self.old }
     {
@@ -204,7 +183,6 @@ impl<K: Opening, W: Write + Drop> Journal<K, W> {
             seat: _,
             writer,
             shares: _,
-            lines: _,
             broken: _,
             named: _,
         } = self;

@@ -17,8 +17,9 @@
 //! station's ledger holds what just its own entries leave; each entry's line asks for its command on the
 //! station of its name, as a line of a script does (`specs/Speaking.antt`). The contract of `submit` is that of
 //! [`Desk::submit`](site_desk::Desk::submit), word for word, and that an accepted answer comes with a
-//! [`Receipt`]: the entries that the journal had then, the last of them just this line's. The entries of each
-//! receipt begin those that `close` speaks of.
+//! [`Moment`] of the journal: the entries that it had then, the last of them just this line's. The boards of a site come
+//! with the moment that they show ([`KeptDesk::site_boards`]). The entries of each moment begin those that `close` speaks
+//! of.
 //!
 //! Below the desk stands the journal itself, which knows nothing of ledgers. A [`Journal`] writes lines for
 //! stations: [`Journal::add`] writes and flushes one line, and then notes it as an [`Entry`], with the command
@@ -37,8 +38,8 @@
 //! ```text
 //! let (desk, viewers) = KeptDesk::open(alloc, &plan, parts, table, writer)?;
 //! let mut pass = desk.desk().enlist(rt, &name)?;
-//! desk.submit(rt, &mut pass, Command::Void(key), b"", b"void A T1 3", &NoGate);   // (Accepted(1), Some(told), Some(receipt))
-//! let closed = desk.close(passes, viewers, receipts)?;                       // closed.writer took the line
+//! desk.submit(rt, &mut pass, Command::Void(key), b"", b"void A T1 3", &NoGate);   // (Accepted(1), Some(told), Some(moment))
+//! let closed = desk.close(passes, viewers, moments)?;                        // closed.writer took the line
 //! ```
 #![tactic(auto)]
 
@@ -53,8 +54,6 @@ mod journal;
 mod journal_table;
 mod moment;
 mod opening;
-mod receipt;
-mod receipts;
 mod share;
 mod steps;
 mod table;
@@ -70,7 +69,5 @@ pub use journal::Journal;
 pub use journal_table::JournalTable;
 pub use moment::Moment;
 pub use opening::Opening;
-pub use receipt::Receipt;
-pub use receipts::Receipts;
 pub use share::Share;
 pub use write::is_note;

@@ -2,7 +2,7 @@ use crate::opening::Opening;
 use crate::table::TableSeat;
 use std::marker::{Model, PhantomData};
 
-/// Tells of a moment of a journal: to a contract, the entries that it had then. It may be dropped; where it is handed in
+/// A moment of a journal: to a contract, the entries that it had then. It may be dropped; where it is handed in
 /// when its journal's desk is closed, its entries begin those of the journal. It has no bytes.
 #[derive(Drop)]
 pub struct Moment<K: Opening> {

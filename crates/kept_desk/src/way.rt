@@ -9,8 +9,8 @@ ghost use Rattle.ledger_model.specs.declared.command.Command.{Command};
 use crate::broken::Broken;
 use crate::cell::KeptCell;
 use crate::journal::Journal;
+use crate::moment::Moment;
 use crate::opening::Opening;
-use crate::receipt::Receipt;
 use crate::share::Share;
 use ledger_model::{Answer, Command, Refusal};
 use site_book::{Naming, SiteBook, Told};
@@ -29,13 +29,13 @@ pub(crate) struct Journalled<'a, K: Opening, W: Write + Drop> {
 }
 
 impl<'a, K: Opening, W: Write + Drop> Journalled<'a, K, W> {
-    // Writes the line under the journal's lock, notes it with its command, and gives the receipt.
+    // Writes the line under the journal's lock, notes it with its command, and gives the moment.
     pub(crate) fn write<R: Wait>(
         &self,
         rt: &R,
         share: &mut Share<K>,
         command: &Command,
-    ) -> Result<Receipt<K>, Broken>
+    ) -> Result<Moment<K>, Broken>
         requires note { IsNote self.now.note.now }
         requires speaks { SpeaksOf (K.name share.old.station) self.now.line.now command.now }
         ensures known { OnOk result (share.new ≡ record share.old { entries = share.old.entries ++ entry share.old.station self.now.note.now self.now.line.now command.now ∷ [] }) }
@@ -47,7 +47,7 @@ impl<'a, K: Opening, W: Write + Drop> Journalled<'a, K, W> {
     }
 }
 
-impl<'a, J: Naming, K: Opening, W: Write + Drop> Settles<J, KeptCell<K>, Receipt<K>>
+impl<'a, J: Naming, K: Opening, W: Write + Drop> Settles<J, KeptCell<K>, Moment<K>>
     for Journalled<'a, K, W> {
     ghost use Rattle.kept_desk.specs.Entries.{IsNote, entry};
     ghost use Rattle.kept_desk.specs.Kept.{IsReceived};
@@ -55,7 +55,7 @@ impl<'a, J: Naming, K: Opening, W: Write + Drop> Settles<J, KeptCell<K>, Receipt
 
     ghost asks = { λ w number command. IsNote w.note.now × SpeaksOf (K.name number) w.line.now command };
 
-    ghost gives = { λ w number at command answer told receipt. IsReceived at (K.first number) answer (entry number w.note.now w.line.now command) told receipt };
+    ghost gives = { λ w number at command answer told moment. IsReceived at (K.first number) answer (entry number w.note.now w.line.now command) told moment };
 
     fn settle<R: Wait>(
         &self,
@@ -66,7 +66,7 @@ impl<'a, J: Naming, K: Opening, W: Write + Drop> Settles<J, KeptCell<K>, Receipt
         place: &StationPlace,
         pass: &mut Pass,
         command: Command,
-    ) -> (Answer, Option<Told<J>>, Option<Receipt<K>>) {
+    ) -> (Answer, Option<Told<J>>, Option<Moment<K>>) {
         if can_judge(held.cell(), number, place, pass) {
             held.take(rt, book, number, place, pass, command, self)
         } else {

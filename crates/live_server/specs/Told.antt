@@ -1,10 +1,11 @@
 -- What a live server writes to its output.
-use Rattle.std.specs.Prelude.{ℕ, List, [], ◌∷◌, ◌++◌, Option, None, Some, All, map, codes}
+use Rattle.std.specs.Prelude.{ℕ, List, [], ◌∷◌, ◌++◌, Option, None, Some, codes}
 use Rattle.std.specs.Fmt.{decimal}
 use Rattle.std.specs.Io.KnownBytes.{Appends}
-use Rattle.std.specs.List.{flat_map}
 use Rattle.board_report.specs.Closed.{AreBoards}
-use Rattle.script_lines.specs.LineMeaning.{line_meaning}
+use Rattle.ledger_model.specs.declared.answer.Answer.{Answer}
+use Rattle.ledger_model.specs.declared.command.Command.{Command}
+use Rattle.ledger_model.specs.Board.{Board}
 use Rattle.script_lines.specs.Lines.{Line}
 use Rattle.site_desk.specs.declared.plan.SitePlan.{SitePlan}
 use Rattle.site_desk.specs.declared.plan.StationPlan.{StationPlan}
@@ -12,8 +13,9 @@ use Rattle.site_desk.specs.declared.roster.StationPlace.{StationPlace}
 use Rattle.site_desk.specs.Roster.{AreNewPlaces}
 use Rattle.site_server.specs.Written.{listening}
 use Rattle.station_cell.specs.Cell.{Held}
-use Rattle.running_desk.specs.Ordered.{AreAnswered}
-use Rattle.running_desk.specs.Replied.{IsReplyOrMemory}
+use Rattle.running_desk.specs.Replied.{gives_nothing, shows_nothing}
+use Rattle.running_desk.specs.Replies.{AddsReplies}
+use Rattle.site_book.specs.Book.{Known}
 
 -- The line that tells the port of 127.0.0.1 where browsers find boards.
 abbrev pub boards_at : ℕ → List ℕ
@@ -24,24 +26,21 @@ abbrev pub ports : ℕ → Option ℕ → List ℕ
 ports port None = listening port
 ports port (Some browsers) = listening port ++ boards_at browsers
 
--- Behind what stood before, it was written where the server listens, and then the answers to the operator's lines that come, up to the line `close`.
-pub record Tells (sites : List SitePlan) (places : List StationPlace) (coming : Option (List Line)) (before now : Option (List ℕ)) : Type 0 where
+-- Behind what stood before, it was written where the server listens, and then the answers to the operator's lines that come, up to the line `close`; and what was seen of the desk's journal with these answers was handed out.
+pub record Tells {M : Type 0} (gives : ℕ → StationPlace → Command → Answer → Option Known → Option M → Type 0) (shows : ℕ → List (List ℕ × Board) → M → Type 0) (sites : List SitePlan) (places : List StationPlace) (coming : Option (List Line)) (before now : Option (List ℕ)) (handed : List M) : Type 0 where
   pub port : ℕ
   pub browsers : Option ℕ
-  pub lines : List (Line × List ℕ)
-  pub those : AreAnswered coming (map (λ l. l.0) lines)
-  pub replies : All (λ l. IsReplyOrMemory sites places (line_meaning l.0) l.1) lines
-  pub adds : Appends before now (ports port browsers ++ flat_map (λ l. l.1) lines)
+  pub answered : Option (List ℕ)
+  pub listens : Appends before answered (ports port browsers)
+  pub replies : AddsReplies gives shows sites places coming answered now handed
 
--- All that a server wrote behind what stood before: where it listens; the answers to the operator's lines that come, up to the line `close`, at a desk of the plan's stations; and the boards of the plan's sites, of as many changes as these passes made.
+-- All that a server without a journal wrote behind what stood before: where it listens; the answers to the operator's lines that come, up to the line `close`, at a desk of the plan's stations; and the boards of the plan's sites, of as many changes as these passes made.
 pub record IsServed (sites : List SitePlan) (stations : List StationPlan) (coming : Option (List Line)) (before now : Option (List ℕ)) (passes : List Held) : Type 0 where
-  pub port : ℕ
-  pub browsers : Option ℕ
   pub places : List StationPlace
   pub placed : AreNewPlaces sites stations places
-  pub lines : List (Line × List ℕ)
-  pub those : AreAnswered coming (map (λ l. l.0) lines)
-  pub replies : All (λ l. IsReplyOrMemory sites places (line_meaning l.0) l.1) lines
+  pub told : Option (List ℕ)
+  pub handed : List (Unit {0})
+  pub tells : Tells gives_nothing shows_nothing sites places coming before told handed
   pub boards : List ℕ
-  pub writes : Appends before now (ports port browsers ++ (flat_map (λ l. l.1) lines ++ boards))
+  pub writes : Appends told now boards
   pub shown : AreBoards sites stations passes boards

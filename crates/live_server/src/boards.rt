@@ -11,6 +11,7 @@ use crate::connection::{Connection, ConnectionStream, Patience};
 use crate::reply::{Status, response};
 use crate::request::{Request, read_request};
 use crate::workers::Workers;
+use board_report::running_board;
 use ledger_model::Name;
 use running_desk::{Running, Serves, site_of};
 use site_book::Naming;
@@ -46,11 +47,11 @@ const NO_MEMORY: &[u8] =
     b"HTTP/1.1 503 Service Unavailable\r\nContent-Length: 0\r\nConnection: close\r\n\r\n";
 
 // Answers one request after the other until the server closes.
-pub(crate) fn serve_boards<J: Naming, C: HasCell, S: Serves<J, C>, R: Wait + Clock>(
+pub(crate) fn serve_boards<J: Naming, C: HasCell, M: Drop, S: Serves<J, C, M>, R: Wait + Clock>(
     rt: &R,
     alloc: Global,
     acceptor: &Acceptor<'_>,
-    running: &Running<'_, J, C, S>,
+    running: &Running<'_, J, C, M, S>,
     workers: &Workers,
 ) {
     for _ in rt.forever() {
@@ -63,10 +64,10 @@ pub(crate) fn serve_boards<J: Naming, C: HasCell, S: Serves<J, C>, R: Wait + Clo
 }
 
 // Reads a request and writes its answer.
-fn serve_request<J: Naming, C: HasCell, S: Serves<J, C>, R: Wait + Clock>(
+fn serve_request<J: Naming, C: HasCell, M: Drop, S: Serves<J, C, M>, R: Wait + Clock>(
     rt: &R,
     alloc: Global,
-    running: &Running<'_, J, C, S>,
+    running: &Running<'_, J, C, M, S>,
     workers: &Workers,
     stream: TcpStream,
 ) {
@@ -80,10 +81,10 @@ fn serve_request<J: Naming, C: HasCell, S: Serves<J, C>, R: Wait + Clock>(
 }
 
 // Answers the request of a connection over its stream.
-fn answer_request<J: Naming, C: HasCell, S: Serves<J, C>, R: Wait + Clock>(
+fn answer_request<J: Naming, C: HasCell, M: Drop, S: Serves<J, C, M>, R: Wait + Clock>(
     rt: &R,
     alloc: Global,
-    running: &Running<'_, J, C, S>,
+    running: &Running<'_, J, C, M, S>,
     connection: &Connection<'_, R>,
     stream: &mut ConnectionStream<'_, R>,
 ) -> io::Result<()> {
@@ -137,10 +138,10 @@ fn read_head<S: Read>(stream: &mut S, head: &mut [u8]) -> io::Result<Request> {
 }
 
 // Writes the answer to a request.
-fn put_answer<J: Naming, C: HasCell, S: Serves<J, C>, R: Wait, W: Write>(
+fn put_answer<J: Naming, C: HasCell, M: Drop, S: Serves<J, C, M>, R: Wait, W: Write>(
     rt: &R,
     alloc: Global,
-    running: &Running<'_, J, C, S>,
+    running: &Running<'_, J, C, M, S>,
     request: Request,
     stream: &mut W,
 ) -> io::Result<()> {
@@ -163,10 +164,10 @@ fn read_rest<S: Read>(stream: &mut S) {
 }
 
 // The bytes that answer a request.
-fn answer<J: Naming, C: HasCell, S: Serves<J, C>, R: Wait>(
+fn answer<J: Naming, C: HasCell, M: Drop, S: Serves<J, C, M>, R: Wait>(
     rt: &R,
     alloc: Global,
-    running: &Running<'_, J, C, S>,
+    running: &Running<'_, J, C, M, S>,
     request: Request,
 ) -> Result<Vec<u8>, AllocError>
     ensures { IfOk result (λ bytes. IsBrowsed running.now.plan.now.sites.items running.now.desk.desk.now.stations request bytes.items) }
@@ -188,11 +189,11 @@ fn told(alloc: Global, status: Status) -> Result<Vec<u8>, AllocError>
     response(alloc, status, TEXT, status.text().as_bytes())
 }
 
-// The board of the site of this name.
-fn answer_board<J: Naming, C: HasCell, S: Serves<J, C>, R: Wait>(
+// The board of the site of this name. It waits for no journal, so a browser is answered while a journal's output stalls.
+fn answer_board<J: Naming, C: HasCell, M: Drop, S: Serves<J, C, M>, R: Wait>(
     rt: &R,
     alloc: Global,
-    running: &Running<'_, J, C, S>,
+    running: &Running<'_, J, C, M, S>,
     name: &Name,
 ) -> Result<Vec<u8>, AllocError>
     ensures { IfOk result (λ bytes. IsBoardAnswer running.now.plan.now.sites.items running.now.desk.desk.now.stations (position (λ s. bytes_eq name.now s.name) running.now.plan.now.sites.items) bytes.items) }
@@ -200,7 +201,7 @@ fn answer_board<J: Naming, C: HasCell, S: Serves<J, C>, R: Wait>(
     let Some(site) = site_of(running.plan, name) else {
         return told(alloc, Status::NotFound);
     };
-    match running.board(rt, alloc, site) {
+    match running_board(rt, alloc, running.plan, running.desk.desk, site) {
         Ok(text) => response(alloc, Status::Found, TEXT, &text),
         Err(_) => told(alloc, Status::NoMemory),
     }

@@ -8,8 +8,7 @@
 //! ([`response`]). At the end it joins them all, closes the desk with all its checks, and writes the
 //! board of each site. `Seats` tell which worker serves a session of which station, and whom to send away: the oldest of
 //! three sessions of a station, or the oldest handshake.
-//! [`serve_plan_at`] serves so at anything that [`Serves`](running_desk::Serves), a desk or one that keeps more, with lines
-//! from anything that gives [`Orders`](running_desk::Orders), and gives passes, viewers and the output back.
+//! [`serve_plan_at`] serves so at anything that [`Serves`](running_desk::Serves), a desk or one that keeps more, and gives passes, viewers and the output back.
 //!
 //! The output takes where the server listens, then the answers to the operator's lines in their order up to `close`, and
 //! last, for each site in the plan's order, the board from scratch from the content of its stations' ledgers, of as many

@@ -1,5 +1,5 @@
 //! A whole live server, from its desk to its boards.
-ghost use Rattle.std.specs.Prelude.{◌≡◌, ◌≤◌, ◌<◌, ℕ, List, Ok, IfOk, OnOk, length, sum_by};
+ghost use Rattle.std.specs.Prelude.{◌≡◌, ◌≤◌, ◌<◌, ℕ, List, IfOk, IsOk, OnOk, length, sum_by};
 ghost use Rattle.std.specs.Io.KnownBytes.{Appends};
 ghost use Rattle.std.specs.Thread.{IsSend, IsSync};
 ghost use Rattle.site_book.specs.Tables.{HasTable, NamedBy};
@@ -17,7 +17,8 @@ use crate::session::work;
 use crate::shared::Shared;
 use crate::watch::watch;
 use core::thread::{Anything, Stack};
-use running_desk::{Orders, ReadOrders, Serves, operate};
+use gathered_input::Readiness;
+use running_desk::{Serves, operate};
 use site_book::{Naming, Tables, Viewer};
 use site_desk::{Desk, HasCell, Plan};
 use site_server::{Host, ServiceFault, close_desk, open_desk};
@@ -74,7 +75,7 @@ pub struct Run<'a, R> {
 /// boards count.
 ///
 /// A plan with a fault is told before anything is listened on.
-pub fn serve_live<R: Host, I: BufRead, W: Write + Drop, L: Write + Send + Drop>(
+pub fn serve_live<R: Host, I: BufRead + Readiness, W: Write + Drop, L: Write + Send + Drop>(
     rt: &R,
     alloc: Global,
     plan: &Plan,
@@ -99,7 +100,7 @@ pub fn serve_live<R: Host, I: BufRead, W: Write + Drop, L: Write + Send + Drop>(
 fn serve_under<
     J: Naming + Send + Sync,
     R: Host,
-    I: BufRead,
+    I: BufRead + Readiness,
     W: Write + Drop,
     L: Write + Send + Drop,
 >(
@@ -114,27 +115,32 @@ fn serve_under<
     ensures { IfOk result (λ r. IsServed run.entry.plan.now.sites.items run.entry.plan.now.stations.items (lines_in (I.remaining input.old)) (W.contents output) (W.contents r.0) r.1.items) }
 {
     let (desk, viewers) = open_desk::<J>(run.alloc, tables, run.plan)?;
-    let mut orders = ReadOrders::open(run.alloc, input);
-    serve_desk(run, desk, viewers, &mut orders, output, lines)
+    serve_desk(run, desk, viewers, input, output, lines)
 }
 
 // Serves a plan at the desk that was opened, closes it, and writes the boards.
-fn serve_desk<J: Naming + Send + Sync, R: Host, O: Orders, W: Write + Drop, L: Write + Send + Drop>(
+fn serve_desk<
+    J: Naming + Send + Sync,
+    R: Host,
+    I: BufRead + Readiness,
+    W: Write + Drop,
+    L: Write + Send + Drop,
+>(
     run: Run<'_, R>,
     desk: Desk<J>,
     viewers: Vec<Viewer<J>>,
-    orders: &mut O,
+    input: &mut I,
     output: W,
     lines: L,
 ) -> Result<(W, Vec<Pass>), ServiceFault>
     requires sites { desk.sites ≡ length run.plan.now.sites.items }
     requires opened { AreNewPlaces run.plan.now.sites.items run.plan.now.stations.items desk.stations }
     requires readings { sum_by (λ s. s.limits.readings) run.plan.now.stations.items ≤ most_plan_readings }
-    ensures { IfOk result (λ r. IsServed run.entry.plan.now.sites.items run.entry.plan.now.stations.items (O.coming orders.old) (W.contents output) (W.contents r.0) r.1.items) }
+    ensures { IfOk result (λ r. IsServed run.entry.plan.now.sites.items run.entry.plan.now.stations.items (lines_in (I.remaining input.old)) (W.contents output) (W.contents r.0) r.1.items) }
 {
     let (alloc, plan) = (run.alloc, run.plan);
     let passes = Vec::new(alloc);
-    let ran = serve_plan_at(run, &desk, passes, viewers, orders, output, lines)?;
+    let ran = serve_plan_at(run, &desk, passes, viewers, input, output, lines)?;
     end_run(alloc, plan, desk, ran)
 }
 
@@ -144,12 +150,12 @@ fn end_run<J: Naming, W: Write + Drop>(
     alloc: Global,
     plan: &Plan,
     desk: Desk<J>,
-    ran: Ran<J, W>,
+    ran: Ran<J, (), W>,
 ) -> Result<(W, Vec<Pass>), ServiceFault>
     requires sites { desk.sites ≡ length plan.now.sites.items }
     requires opened { AreNewPlaces plan.now.sites.items plan.now.stations.items desk.stations }
     requires readings { sum_by (λ s. s.limits.readings) plan.now.stations.items ≤ most_plan_readings }
-    ensures ended { OnOk result (ran.ended ≡ Ok tt) }
+    ensures ended { OnOk result (IsOk ran.ended) }
     ensures boards { IfOk result (λ r. (boards : List ℕ) × Appends (W.contents ran.output) (W.contents r.0) boards
         × AreBoards plan.now.sites.items plan.now.stations.items r.1.items boards) }
 {
@@ -161,20 +167,21 @@ fn end_run<J: Naming, W: Write + Drop>(
     } = ran;
     let passes = close_desk(alloc, plan, desk, passes, viewers, &mut output)?;
     match ended {
-        Ok(()) => Ok((output, passes)),
+        Ok(_seen) => Ok((output, passes)),
         Err(fault) => Err(fault),
     }
 }
 
-/// What stands when all threads have ended.
+/// What is left when all threads have ended.
 #[derive(Drop)]
-pub struct Ran<J: Naming, W: Write + Drop> {
+pub struct Ran<J: Naming, M, W: Write + Drop> {
     /// All passes that were laid back.
     pub passes: Vec<Pass>,
     /// The viewers.
     pub viewers: Vec<Viewer<J>>,
-    /// How the operator's lines ended, or why no connection was served.
-    pub ended: Result<(), ServiceFault>,
+    /// How the operator's lines ended, or why no connection was served; with what was seen of the desk's journal with the
+    /// answers to these lines.
+    pub ended: Result<Vec<M>, ServiceFault>,
     /// The output.
     pub output: W,
 }
@@ -187,9 +194,10 @@ pub struct Ran<J: Naming, W: Write + Drop> {
 pub fn serve_plan_at<
     J: Naming + Send + Sync,
     C: HasCell + Send,
-    S: Serves<J, C> + Sync,
+    M: Drop + Send,
+    S: Serves<J, C, M> + Sync,
     R: Host,
-    O: Orders,
+    I: BufRead + Readiness,
     W: Write + Drop,
     L: Write + Send + Drop,
 >(
@@ -197,13 +205,14 @@ pub fn serve_plan_at<
     serves: &S,
     passes: Vec<Pass>,
     viewers: Vec<Viewer<J>>,
-    orders: &mut O,
+    input: &mut I,
     mut output: W,
     lines: L,
-) -> Result<Ran<J, W>, ServiceFault>
+) -> Result<Ran<J, M, W>, ServiceFault>
     requires opened { AreNewPlaces run.plan.now.sites.items run.plan.now.stations.items (S.roster serves.now).stations }
     requires readings { sum_by (λ s. s.limits.readings) run.plan.now.stations.items ≤ most_plan_readings }
-    ensures { IfOk result (λ r. OnOk r.ended (Tells run.entry.plan.now.sites.items (S.roster serves.now).stations (O.coming orders.old) (W.contents output) (W.contents r.output))) }
+    ensures { IfOk result (λ r. IfOk r.ended (λ seen. Tells (S.gives serves.now) (S.shows serves.now) run.entry.plan.now.sites.items (S.roster serves.now).stations
+        (lines_in (I.remaining input.old)) (W.contents output) (W.contents r.output) seen.items)) }
 {
     let listeners = Listeners::open(run.rt, run.live, &mut output)?;
     let workers = workers_for(run.plan);
@@ -211,7 +220,7 @@ pub fn serve_plan_at<
     let shared = Shared::open(
         run.alloc, run.plan, serves, passes, workers, lines, is_logged,
     )?;
-    Ok(serve_all(run, shared, &listeners, viewers, orders, output))
+    Ok(serve_all(run, shared, &listeners, viewers, input, output))
 }
 
 // How many workers there are: two for each station, and some more.
@@ -224,23 +233,25 @@ fn workers_for(plan: &Plan) -> usize {
 fn serve_all<
     J: Naming + Send + Sync,
     C: HasCell + Send,
-    S: Serves<J, C> + Sync,
+    M: Drop + Send,
+    S: Serves<J, C, M> + Sync,
     R: Host,
-    O: Orders,
+    I: BufRead + Readiness,
     W: Write + Drop,
     L: Write + Send + Drop,
 >(
     run: Run<'_, R>,
-    shared: Shared<'_, J, C, S, L>,
+    shared: Shared<'_, J, C, M, S, L>,
     listeners: &Listeners,
     viewers: Vec<Viewer<J>>,
-    orders: &mut O,
+    input: &mut I,
     output: W,
-) -> Ran<J, W>
-    ensures { OnOk result.ended (AddsReplies shared.entry.running.plan.now.sites.items shared.entry.running.desk.desk.now.stations (O.coming orders.old) (W.contents output) (W.contents result.output)) }
+) -> Ran<J, M, W>
+    ensures { IfOk result.ended (λ seen. AddsReplies (S.gives shared.entry.running.serves.now) (S.shows shared.entry.running.serves.now) shared.entry.running.plan.now.sites.items shared.entry.running.desk.desk.now.stations
+        (lines_in (I.remaining input.old)) (W.contents output) (W.contents result.output) seen.items) }
 {
     let acceptors = Acceptors::open(&listeners.stations, listeners.browsers.as_ref());
-    let (ended, viewers, output) = serve_beside(run, &shared, &acceptors, viewers, orders, output);
+    let (ended, viewers, output) = serve_beside(run, &shared, &acceptors, viewers, input, output);
     Ran {
         passes: shared.into_passes(),
         viewers,
@@ -249,35 +260,38 @@ fn serve_all<
     }
 }
 
-/// What stands at the end of the threads: how the operator's lines ended, the viewers, and the output.
-type Ended<J, W> = (Result<(), ServiceFault>, Vec<Viewer<J>>, W);
+// What is left at the end of the threads: how the operator's lines ended, the viewers, and the output.
+type Ended<J, M, W> = (Result<Vec<M>, ServiceFault>, Vec<Viewer<J>>, W);
 
 // Serves on threads while this one answers the operator's lines, and then ends them all.
 fn serve_beside<
     J: Naming + Send + Sync,
     C: HasCell + Send,
-    S: Serves<J, C> + Sync,
+    M: Drop + Send,
+    S: Serves<J, C, M> + Sync,
     R: Host,
-    O: Orders,
+    I: BufRead + Readiness,
     W: Write + Drop,
     L: Write + Send + Drop,
 >(
     run: Run<'_, R>,
-    shared: &Shared<'_, J, C, S, L>,
+    shared: &Shared<'_, J, C, M, S, L>,
     acceptors: &Acceptors<'_>,
     viewers: Vec<Viewer<J>>,
-    orders: &mut O,
+    input: &mut I,
     output: W,
-) -> Ended<J, W>
-    ensures { OnOk result.0 (AddsReplies shared.now.running.plan.now.sites.items shared.now.running.desk.desk.now.stations (O.coming orders.old) (W.contents output) (W.contents result.2)) }
+) -> Ended<J, M, W>
+    ensures { IfOk result.0 (λ seen. AddsReplies (S.gives shared.now.running.serves.now) (S.shows shared.now.running.serves.now) shared.now.running.plan.now.sites.items shared.now.running.desk.desk.now.stations
+        (lines_in (I.remaining input.old)) (W.contents output) (W.contents result.2) seen.items) }
 {
     let (rt, alloc, glances) = (run.rt, run.alloc, run.live.glances);
     thread::scope(
         thread::scope_env(),
         rt,
-        |scope| -> Ended<J, W>
-            requires { IsSync R.row × IsSend J.row × IsSync J.row × IsSend C.row × IsSync S.row × IsSend L.row }
-            ensures { OnOk result.0 (AddsReplies shared.entry.now.running.plan.now.sites.items shared.entry.now.running.desk.desk.now.stations (O.coming orders.entry.now) (W.contents output) (W.contents result.2)) }
+        |scope| -> Ended<J, M, W>
+            requires { IsSync R.row × IsSend J.row × IsSync J.row × IsSend C.row × IsSend M.row × IsSync S.row × IsSend L.row }
+            ensures { IfOk result.0 (λ seen. AddsReplies (S.gives shared.entry.now.running.serves.now) (S.shows shared.entry.now.running.serves.now) shared.entry.now.running.plan.now.sites.items shared.entry.now.running.desk.desk.now.stations
+                (lines_in (I.remaining input.entry.now)) (W.contents output) (W.contents result.2) seen.items) }
         {
             let mut own = output;
             let watching = Stack::new().stack_size(SMALL_STACK).spawn_scoped_with(
@@ -285,7 +299,7 @@ fn serve_beside<
                 Anything,
                 move || watch(rt, shared, glances, viewers),
             );
-            let ended = serve_until_end(scope, rt, alloc, shared, acceptors, orders, &mut own);
+            let ended = serve_until_end(scope, rt, alloc, shared, acceptors, input, &mut own);
             let viewers = match watching {
                 Ok(watching) => watching.join(rt),
                 Err(refused) => (refused.value)(),
@@ -301,24 +315,26 @@ fn serve_until_end<
     E: 's,
     J: Naming + Send + Sync,
     C: HasCell + Send,
-    S: Serves<J, C> + Sync,
+    M: Drop + Send,
+    S: Serves<J, C, M> + Sync,
     R: Host,
-    O: Orders,
+    I: BufRead + Readiness,
     W: Write,
     L: Write + Send + Drop,
 >(
     scope: &'s Scope<'s, E>,
     rt: &'s R,
     alloc: Global,
-    shared: &'s Shared<'_, J, C, S, L>,
+    shared: &'s Shared<'_, J, C, M, S, L>,
     acceptors: &'s Acceptors<'_>,
-    orders: &mut O,
+    input: &mut I,
     output: &mut W,
-) -> Result<(), ServiceFault>
-    ensures { OnOk result (AddsReplies shared.now.running.plan.now.sites.items shared.now.running.desk.desk.now.stations (O.coming orders.old) (W.contents output.old) (W.contents output.new)) }
+) -> Result<Vec<M>, ServiceFault>
+    ensures { IfOk result (λ seen. AddsReplies (S.gives shared.now.running.serves.now) (S.shows shared.now.running.serves.now) shared.now.running.plan.now.sites.items shared.now.running.desk.desk.now.stations
+        (lines_in (I.remaining input.old)) (W.contents output.old) (W.contents output.new) seen.items) }
 {
     let ended = if start_all(scope, rt, alloc, shared, acceptors) {
-        operate(rt, alloc, &shared.running, orders, output)
+        operate(rt, alloc, &shared.running, input, output)
     } else {
         Err(ServiceFault::OutOfMemory)
     };
@@ -333,14 +349,15 @@ fn start_all<
     E: 's,
     J: Naming + Send + Sync,
     C: HasCell + Send,
-    S: Serves<J, C> + Sync,
+    M: Drop + Send,
+    S: Serves<J, C, M> + Sync,
     R: Threads + Wait + Clock + Sync,
     L: Write + Send + Drop,
 >(
     scope: &'s Scope<'s, E>,
     rt: &'s R,
     alloc: Global,
-    shared: &'s Shared<'_, J, C, S, L>,
+    shared: &'s Shared<'_, J, C, M, S, L>,
     acceptors: &'s Acceptors<'_>,
 ) -> bool {
     for worker in 0..shared.workers.marks.len() {
@@ -360,14 +377,15 @@ fn start_worker<
     E: 's,
     J: Naming + Send + Sync,
     C: HasCell + Send,
-    S: Serves<J, C> + Sync,
+    M: Drop + Send,
+    S: Serves<J, C, M> + Sync,
     R: Threads + Wait + Clock + Sync,
     L: Write + Send + Drop,
 >(
     scope: &'s Scope<'s, E>,
     rt: &'s R,
     alloc: Global,
-    shared: &'s Shared<'_, J, C, S, L>,
+    shared: &'s Shared<'_, J, C, M, S, L>,
     acceptor: &'s Acceptor<'_>,
     worker: usize,
 ) -> bool {
@@ -388,14 +406,15 @@ fn start_boards<
     E: 's,
     J: Naming + Send + Sync,
     C: HasCell + Send,
-    S: Serves<J, C> + Sync,
+    M: Drop + Send,
+    S: Serves<J, C, M> + Sync,
     R: Threads + Wait + Clock + Sync,
     L: Write + Send + Drop,
 >(
     scope: &'s Scope<'s, E>,
     rt: &'s R,
     alloc: Global,
-    shared: &'s Shared<'_, J, C, S, L>,
+    shared: &'s Shared<'_, J, C, M, S, L>,
     acceptor: &'s Acceptor<'_>,
 ) -> bool {
     let started = Stack::new().stack_size(SMALL_STACK).spawn_scoped_with(

@@ -31,14 +31,15 @@ const PATIENCE: Patience = Patience {
 pub(crate) fn work<
     J: Naming,
     C: HasCell,
-    S: Serves<J, C>,
+    M: Drop,
+    S: Serves<J, C, M>,
     R: Threads + Wait + Clock,
     L: Write + Drop,
 >(
     rt: &R,
     alloc: Global,
     acceptor: &Acceptor<'_>,
-    shared: &Shared<'_, J, C, S, L>,
+    shared: &Shared<'_, J, C, M, S, L>,
     worker: usize,
     mark: &AtomicBool,
 ) {
@@ -54,10 +55,17 @@ pub(crate) fn work<
 }
 
 // Serves a connection: its handshake, and what comes behind it.
-fn serve_one<J: Naming, C: HasCell, S: Serves<J, C>, R: Threads + Wait + Clock, L: Write + Drop>(
+fn serve_one<
+    J: Naming,
+    C: HasCell,
+    M: Drop,
+    S: Serves<J, C, M>,
+    R: Threads + Wait + Clock,
+    L: Write + Drop,
+>(
     rt: &R,
     alloc: Global,
-    shared: &Shared<'_, J, C, S, L>,
+    shared: &Shared<'_, J, C, M, S, L>,
     worker: usize,
     mark: &AtomicBool,
     stream: TcpStream,
@@ -75,10 +83,17 @@ fn serve_one<J: Naming, C: HasCell, S: Serves<J, C>, R: Threads + Wait + Clock, 
 }
 
 // Serves the session of a client behind its handshake, where it is let in.
-fn receive<J: Naming, C: HasCell, S: Serves<J, C>, R: Threads + Wait + Clock, L: Write + Drop>(
+fn receive<
+    J: Naming,
+    C: HasCell,
+    M: Drop,
+    S: Serves<J, C, M>,
+    R: Threads + Wait + Clock,
+    L: Write + Drop,
+>(
     rt: &R,
     alloc: Global,
-    shared: &Shared<'_, J, C, S, L>,
+    shared: &Shared<'_, J, C, M, S, L>,
     worker: usize,
     connection: &Connection<'_, R>,
     greeted: Greeted<ConnectionStream<'_, R>>,
@@ -102,10 +117,17 @@ fn receive<J: Naming, C: HasCell, S: Serves<J, C>, R: Threads + Wait + Clock, L:
 }
 
 // Serves a session to its end.
-fn attend<J: Naming, C: HasCell, S: Serves<J, C>, R: Threads + Wait + Clock, L: Write + Drop>(
+fn attend<
+    J: Naming,
+    C: HasCell,
+    M: Drop,
+    S: Serves<J, C, M>,
+    R: Threads + Wait + Clock,
+    L: Write + Drop,
+>(
     rt: &R,
     alloc: Global,
-    shared: &Shared<'_, J, C, S, L>,
+    shared: &Shared<'_, J, C, M, S, L>,
     socket: &mut WebSocket<ConnectionStream<'_, R>, NoMask>,
     name: &Name,
     pass: Pass,
@@ -130,9 +152,9 @@ fn attend<J: Naming, C: HasCell, S: Serves<J, C>, R: Threads + Wait + Clock, L: 
 }
 
 // Tells how a session ended that began with so many changes, and lays its pass back.
-fn finish<J: Naming, C: HasCell, S: Serves<J, C>, R: Wait, L: Write + Drop>(
+fn finish<J: Naming, C: HasCell, M: Drop, S: Serves<J, C, M>, R: Wait, L: Write + Drop>(
     rt: &R,
-    shared: &Shared<'_, J, C, S, L>,
+    shared: &Shared<'_, J, C, M, S, L>,
     name: &Name,
     before: u64,
     end: SessionEnd,

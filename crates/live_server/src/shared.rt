@@ -15,14 +15,21 @@ use std::io::Write;
 
 // What all threads of a live server look at.
 #[derive(Drop)]
-pub(crate) struct Shared<'a, J: Naming, C: HasCell, S: Serves<J, C>, L: Write + Drop> {
-    pub(crate) running: Running<'a, J, C, S>,
+pub(crate) struct Shared<'a, J: Naming, C: HasCell, M: Drop, S: Serves<J, C, M>, L: Write + Drop> {
+    pub(crate) running: Running<'a, J, C, M, S>,
     pub(crate) workers: Workers,
     pub(crate) log: Log<L>,
     pub(crate) near: NearLimits,
 }
 
-impl<'a, J: Naming, C: HasCell, S: Serves<J, C>, L: Write + Drop> Shared<'a, J, C, S, L> {
+impl<'a, J: Naming, C: HasCell, M: Drop, S: Serves<J, C, M>, L: Write + Drop> Shared<
+    'a,
+    J,
+    C,
+    M,
+    S,
+    L,
+> {
     // The desk of this plan, so many workers who serve nobody, and where it is told. The passes lie in the pool.
     pub(crate) fn open(
         alloc: Global,
@@ -36,6 +43,7 @@ impl<'a, J: Naming, C: HasCell, S: Serves<J, C>, L: Write + Drop> Shared<'a, J, 
         requires opened { AreNewPlaces plan.now.sites.items plan.now.stations.items (S.roster serves.now).stations }
         requires readings { sum_by (λ s. s.limits.readings) plan.now.stations.items ≤ most_plan_readings }
         ensures plan { IfOk result (λ s. s.running.plan.now ≡ plan.now) }
+        ensures serves { IfOk result (λ s. s.running.serves.now ≡ serves.now) }
         ensures desk { IfOk result (λ s. s.running.desk.desk.now ≡ S.roster serves.now) }
     {
         let workers = Workers::open(alloc, workers)?;

@@ -14,9 +14,16 @@ use std::time::{Clock, Duration};
 const SECONDS_BETWEEN: u64 = 1;
 
 // Glances so often at the totals of each viewer's site, a second apart, and tells them, until the server closes.
-pub(crate) fn watch<J: Naming, C: HasCell, S: Serves<J, C>, R: Wait + Clock, L: Write + Drop>(
+pub(crate) fn watch<
+    J: Naming,
+    C: HasCell,
+    M: Drop,
+    S: Serves<J, C, M>,
+    R: Wait + Clock,
+    L: Write + Drop,
+>(
     rt: &R,
-    shared: &Shared<'_, J, C, S, L>,
+    shared: &Shared<'_, J, C, M, S, L>,
     glances: u16,
     mut viewers: Vec<Viewer<J>>,
 ) -> Vec<Viewer<J>> {

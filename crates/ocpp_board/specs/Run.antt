@@ -12,7 +12,7 @@ use Rattle.journal_script.specs.declared.fault.RestoreFault.TheVariants as resto
 use Rattle.journal_server.specs.declared.fault.JournalFault.{JournalFault}
 use Rattle.journal_server.specs.declared.fault.JournalFault.TheVariants.{Service, Restore, LeftOut}
 use Rattle.journal_server.specs.Left.{Left}
-use Rattle.journal_server.specs.Served.{IsNewRun, IsRestoredRun, IsToldOfPlan, IsToldOfScript}
+use Rattle.journal_server.specs.Served.{IsNewRun, IsRestoredRun, TellsNew, TellsRestored}
 use Rattle.live_server.specs.Told.{IsServed}
 use Rattle.running_desk.specs.Ordered.{lines_in}
 use Rattle.script_lines.specs.declared.fault.ReplayFault.{ReplayFault}
@@ -100,22 +100,22 @@ pub record IsServerEnd {W E : Type 0} (reports : E → Option (List ℕ)) (error
 abbrev pub IsServerRun : {W E : Type 0} → (W → Option (List ℕ)) → (E → Option (List ℕ)) → E → Ended W E → (Option (List ℕ) → Type 0) → Type 0
 IsServerRun contents reports errors run holds = (ended : Result (Unit {0}) JournalFault) × IsServerEnd reports errors run ended × OnOk ended (HasOutput contents run.output holds)
 
--- A server with a journal, which its output took. Where the output is given back the journal is as it has to be. After Ok it is given back, and the console took what it has to, and then the boards.
-pub record IsJournalRun {W C E : Type 0} (contents : W → Option (List ℕ)) (consoles : C → Option (List ℕ)) (reports : E → Option (List ℕ)) (errors : E) (ran : Ran W C E) (holds : Left → Type 0) (shows : Option (List ℕ) → Type 0) : Type 0 where
+-- A server with a journal, which its output took. Where the output is given back the journal is as it has to be, and after Ok it is given back. Then the console took what it has to, which is told of the journal's lines, and then the boards.
+pub record IsJournalRun {W C E : Type 0} (contents : W → Option (List ℕ)) (consoles : C → Option (List ℕ)) (reports : E → Option (List ℕ)) (errors : E) (ran : Ran W C E) (holds : Left → Result (Unit {0}) JournalFault → Option (List ℕ) → Type 0) : Type 0 where
   pub ended : Result (Unit {0}) JournalFault
   pub end : IsServerEnd reports errors ran.ended ended
   pub buffer : List ℕ
   pub broken : Bool
   pub boards : List ℕ
-  pub journal : IfSome ran.ended.output (λ output. holds (record { now = contents output; buffer = buffer; broken = broken; boards = boards; passes = ran.passes.items }))
+  pub journal : IfSome ran.ended.output (λ output. (answered : Option (List ℕ)) × holds (record { now = contents output; buffer = buffer; broken = broken; boards = boards; passes = ran.passes.items }) ended answered
+      × OnOk ended (HasOutput consoles ran.console (λ now. Appends answered now boards)))
   pub given : OnOk ended (is_some ran.ended.output ≡ true)
-  pub console : OnOk ended ((answered : Option (List ℕ)) × shows answered × HasOutput consoles ran.console (λ now. Appends answered now boards))
 
 -- A server that is restored, without a journal. After Ok there is a list of lines as that of a journal, which is not written, and the output took what a console has to take, and then the boards.
-abbrev pub IsRestoredLive : {W C E : Type 0} → (W → Option (List ℕ)) → (E → Option (List ℕ)) → E → Ran W C E → (Left → Type 0) → (Option (List ℕ) → Type 0) → Type 0
-IsRestoredLive contents reports errors ran holds shows =
+abbrev pub IsRestoredLive : {W C E : Type 0} → (W → Option (List ℕ)) → (E → Option (List ℕ)) → E → Ran W C E → (Left → Result (Unit {0}) JournalFault → Option (List ℕ) → Type 0) → Type 0
+IsRestoredLive contents reports errors ran holds =
     (ended : Result (Unit {0}) JournalFault) × IsServerEnd reports errors ran.ended ended
-    × OnOk ended ((left : Left) × holds left × (left.passes ≡ ran.passes.items) × ((answered : Option (List ℕ)) × shows answered × HasOutput contents ran.ended.output (λ now. Appends answered now left.boards)))
+    × OnOk ended ((left : Left) × (answered : Option (List ℕ)) × holds left ended answered × (left.passes ≡ ran.passes.items) × HasOutput contents ran.ended.output (λ now. Appends answered now left.boards))
 
 -- A server that is not begun since its words make no plan: the exit status is 2, nothing is written to its output, and standard error has `fault <name>` and a line with the cause.
 abbrev pub IsWordMistake : {W E : Type 0} → (E → Option (List ℕ)) → WordFault → W → E → Ended W E → Type 0
@@ -132,11 +132,11 @@ Runs contents consoles reports (ServeLive (Ok plan) live) input output console e
     IsServerRun contents reports errors ran.ended (λ now. IsServed plan.sites.items plan.stations.items (lines_in input) (contents output) now ran.passes.items)
 Runs contents consoles reports (ServeJournalled (Err fault) journalling) input output console errors ran = IsWordMistake reports fault output errors ran.ended
 Runs contents consoles reports (ServeJournalled (Ok plan) journalling) input output console errors ran =
-    IsJournalRun contents consoles reports errors ran (IsNewRun plan.sites.items plan.stations.items (contents output)) (IsToldOfPlan plan.sites.items plan.stations.items None (consoles console))
+    IsJournalRun contents consoles reports errors ran (λ left ended answered. IsNewRun plan.sites.items plan.stations.items (contents output) left (TellsNew ended plan.stations.items input (consoles console) answered))
 Runs contents consoles reports (ServeRestored restoring true) input output console errors ran =
-    IsJournalRun contents consoles reports errors ran (IsRestoredRun restoring.allows_left_out input (contents output)) (IsToldOfScript None (consoles console))
+    IsJournalRun contents consoles reports errors ran (λ left ended answered. IsRestoredRun restoring.allows_left_out input (contents output) left (TellsRestored ended (consoles console) answered))
 Runs contents consoles reports (ServeRestored restoring false) input output console errors ran =
-    IsRestoredLive contents reports errors ran (IsRestoredRun restoring.allows_left_out input None) (IsToldOfScript None (contents output))
+    IsRestoredLive contents reports errors ran (λ left ended answered. IsRestoredRun restoring.allows_left_out input None left (TellsRestored ended (contents output) answered))
 Runs contents consoles reports (Simulate stations events) input output console errors ran =
     IsServerRun contents reports errors ran.ended (λ now. ShowsBoards (simulated_sites stations) (simulated_stations stations) stations [] (contents output) now ran.passes.items)
 

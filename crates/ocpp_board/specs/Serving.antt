@@ -1,6 +1,8 @@
 -- What the steps of a server's run leave.
-use Rattle.std.specs.Prelude.{◌≡◌, ℕ, List, Option, OnOk}
-use Rattle.std.specs.Io.KnownBytes.{Keeps}
+use Rattle.std.specs.Prelude.{◌≡◌, ℕ, List, Option, IfSome, OnOk}
+use Rattle.std.specs.declared.result.Result.{Result}
+use Rattle.std.specs.Io.KnownBytes.{Appends, Keeps}
+use Rattle.journal_server.specs.declared.fault.JournalFault.{JournalFault}
 use Rattle.journal_server.specs.Left.{Left}
 use Rattle.script_replay.specs.Whole.{HasOutput}
 use Rattle.station_cell.specs.Cell.{Held}
@@ -14,3 +16,7 @@ IsClosed contents written passes closed = OnOk closed.ended ((closed.passes.item
 -- What a server with a journal left, with this output.
 abbrev pub kept_left : {W C : Type 0} → (W → Option (List ℕ)) → Kept W C → W → Left
 kept_left contents kept output = record { now = contents output; buffer = kept.unwritten.items; broken = kept.is_broken; boards = kept.boards.items; passes = kept.passes.items }
+
+-- Where the output is given back, of what a server with a journal left, of its end and of what its console took before the boards this holds; and after Ok the console took the boards behind that.
+abbrev pub IsKept : {W C : Type 0} → (W → Option (List ℕ)) → (C → Option (List ℕ)) → Kept W C → (Left → Result (Unit {0}) JournalFault → Option (List ℕ) → Type 0) → Type 0
+IsKept contents consoles kept holds = IfSome kept.output (λ o. (answered : Option (List ℕ)) × holds (kept_left contents kept o) kept.ended answered × OnOk kept.ended (HasOutput consoles kept.console (λ now. Appends answered now kept.boards.items)))

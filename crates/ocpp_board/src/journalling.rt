@@ -3,16 +3,17 @@ ghost use Rattle.std.specs.Prelude.{◌≡◌, ℕ, List, None, Err, Ok, Option,
 ghost use Rattle.std.specs.Io.Buffered.{writer_contents};
 ghost use Rattle.std.specs.Io.KnownBytes.{Appends, Keeps};
 ghost use Rattle.journal_server.specs.Left.{Left, left_of};
-ghost use Rattle.journal_server.specs.Served.{IsNewRun, IsRestoredRun, IsToldOfPlan, IsToldOfScript};
+ghost use Rattle.journal_server.specs.Served.{IsNewRun, IsRestoredRun, TellsNew, TellsRestored};
 ghost use Rattle.ocpp_board.specs.declared.asked.Asked.{Asked};
 ghost use Rattle.ocpp_board.specs.Run.{IsServerEnd, Runs};
-ghost use Rattle.ocpp_board.specs.Serving.{kept_left};
+ghost use Rattle.ocpp_board.specs.Serving.{IsKept, kept_left};
 ghost use Rattle.script_replay.specs.Whole.{HasOutput};
 
 use crate::report::{cause_of, end_server};
 use crate::run::{Ran, Streams};
 use crate::serving::{Closed, close_badly, close_well, end_closed};
 use board_report::write_out;
+use gathered_input::Readiness;
 use journal_server::{
     JournalFault, Journalling, Restoring, Served, serve_journalled, serve_restored,
 };
@@ -116,8 +117,8 @@ fn end_kept<W, C, E: Write>(kept: Kept<W, C>, cause: &[u8], errors: E) -> Ran<W,
 
 /// Serves a plan until its operator's lines end; its output is a journal.
 pub fn journalled<
-    X: AllocGlobal + Host + Clone + Send + 'static,
-    R: Read + Send + Drop + 'static,
+    X: AllocGlobal + Host,
+    R: Read + Readiness + Drop,
     W: Write + Send + Drop,
     C: Write + Drop,
     E: Write,
@@ -139,8 +140,8 @@ pub fn journalled<
 
 // Serves a plan with a journal, through buffers.
 fn journalled_through<
-    X: AllocGlobal + Host + Clone + Send + 'static,
-    R: Read + Send + Drop + 'static,
+    X: AllocGlobal + Host,
+    R: Read + Readiness + Drop,
     W: Write + Send + Drop,
     C: Write + Drop,
     L: Write + Send + Drop,
@@ -153,15 +154,14 @@ fn journalled_through<
     console: C,
     lines: L,
 ) -> Kept<W, C>
-    ensures journal { IfSome result.output (λ o. IsNewRun plan.now.sites.items plan.now.stations.items (W.contents output) (kept_left W.contents result o)) }
+    ensures kept { IsKept W.contents C.contents result (λ left ended answered. IsNewRun plan.now.sites.items plan.now.stations.items (W.contents output) left
+        (TellsNew ended plan.now.stations.items (R.remaining input) (C.contents console) answered)) }
     ensures given { OnOk result.ended (is_some result.output ≡ true) }
-    ensures console { OnOk result.ended ((answered : Option (List ℕ)) × IsToldOfPlan plan.now.sites.items plan.now.stations.items None (C.contents console) answered
-        × HasOutput C.contents result.console (λ now. Appends answered now result.boards.items)) }
 {
-    let Ok((reader, journal)) = buffered(rt, input, output) else {
+    let Ok((mut reader, journal)) = buffered(rt, input, output) else {
         return lose(rt.alloc(), JournalFault::Service(ServiceFault::OutOfMemory));
     };
-    match serve_journalled(rt, plan, journalling, reader, journal, console, lines) {
+    match serve_journalled(rt, plan, journalling, &mut reader, journal, console, lines) {
         Ok(served) => keep(served),
         Err(fault) => lose(rt.alloc(), fault),
     }
@@ -169,8 +169,8 @@ fn journalled_through<
 
 /// Serves the stations of the script that the input begins with; its output goes on with the journal.
 pub fn restored<
-    X: AllocGlobal + Host + Clone + Send + 'static,
-    R: Read + Send + Drop + 'static,
+    X: AllocGlobal + Host,
+    R: Read + Readiness + Drop,
     W: Write + Send + Drop,
     C: Write + Drop,
     E: Write,
@@ -193,21 +193,20 @@ pub fn restored<
 
 // Serves the stations of a script with a journal, through buffers.
 fn restored_through<
-    X: AllocGlobal + Host + Clone + Send + 'static,
-    R: Read + Send + Drop + 'static,
+    X: AllocGlobal + Host,
+    R: Read + Readiness + Drop,
     W: Write + Send + Drop,
     C: Write + Drop,
     L: Write + Send + Drop,
 >(rt: &X, restoring: Restoring, input: R, output: W, console: C, lines: L) -> Kept<W, C>
-    ensures journal { IfSome result.output (λ o. IsRestoredRun restoring.allows_left_out (R.remaining input) (W.contents output) (kept_left W.contents result o)) }
+    ensures kept { IsKept W.contents C.contents result (λ left ended answered. IsRestoredRun restoring.allows_left_out (R.remaining input) (W.contents output) left
+        (TellsRestored ended (C.contents console) answered)) }
     ensures given { OnOk result.ended (is_some result.output ≡ true) }
-    ensures console { OnOk result.ended ((answered : Option (List ℕ)) × IsToldOfScript None (C.contents console) answered
-        × HasOutput C.contents result.console (λ now. Appends answered now result.boards.items)) }
 {
-    let Ok((reader, journal)) = buffered(rt, input, output) else {
+    let Ok((mut reader, journal)) = buffered(rt, input, output) else {
         return lose(rt.alloc(), JournalFault::Service(ServiceFault::OutOfMemory));
     };
-    match serve_restored(rt, restoring, reader, journal, console, lines) {
+    match serve_restored(rt, restoring, &mut reader, journal, console, lines) {
         Ok(served) => keep(served),
         Err(fault) => lose(rt.alloc(), fault),
     }
@@ -216,8 +215,8 @@ fn restored_through<
 /// Serves the stations of the script that the input begins with, without a journal. Its output takes what the console of
 /// a server with one takes.
 pub fn restored_live<
-    X: AllocGlobal + Host + Clone + Send + 'static,
-    R: Read + Send + Drop + 'static,
+    X: AllocGlobal + Host,
+    R: Read + Readiness + Drop,
     W: Write + Drop,
     C: Write + Drop,
     E: Write,
@@ -240,22 +239,22 @@ pub fn restored_live<
 
 // Serves the stations of a script through buffers, with a journal that is written nowhere.
 fn restored_nowhere<
-    X: AllocGlobal + Host + Clone + Send + 'static,
-    R: Read + Send + Drop + 'static,
+    X: AllocGlobal + Host,
+    R: Read + Readiness + Drop,
     W: Write + Drop,
     L: Write + Send + Drop,
 >(rt: &X, restoring: Restoring, input: R, output: W, lines: L) -> Closed<W>
-    ensures { OnOk result.ended ((left : Left) × IsRestoredRun restoring.allows_left_out (R.remaining input) None left × (left.passes ≡ result.passes.items)
-        × ((answered : Option (List ℕ)) × IsToldOfScript None (W.contents output) answered × HasOutput W.contents result.output (λ now. Appends answered now left.boards))) }
+    ensures { OnOk result.ended ((left : Left) × (answered : Option (List ℕ)) × IsRestoredRun restoring.allows_left_out (R.remaining input) None left (TellsRestored result.ended (W.contents output) answered)
+        × (left.passes ≡ result.passes.items) × HasOutput W.contents result.output (λ now. Appends answered now left.boards)) }
 {
     let memory = JournalFault::Service(ServiceFault::OutOfMemory);
-    let Ok((reader, writer)) = buffered(rt, input, output) else {
+    let Ok((mut reader, writer)) = buffered(rt, input, output) else {
         return close_badly(rt.alloc(), memory);
     };
     let Ok(nowhere) = BufWriter::with_capacity(rt.alloc(), 0, io::sink()) else {
         return close_badly(rt.alloc(), memory);
     };
-    match serve_restored(rt, restoring, reader, nowhere, writer, lines) {
+    match serve_restored(rt, restoring, &mut reader, nowhere, writer, lines) {
         Ok(served) => close_kept(rt.alloc(), keep(served)),
         Err(fault) => close_badly(rt.alloc(), fault),
     }

@@ -20,7 +20,7 @@ mod serving;
 mod station_words;
 
 use crate::run::{Streams, refuse_unread, run};
-use gathered_input::gathered;
+use gathered_input::{Readiness, gathered};
 use std::io::{Read, Write};
 use std::net::{Net, TcpListener, TcpStream};
 use std::process::ExitCode;
@@ -45,12 +45,9 @@ fn run_words<
         + Wait
         + Clock
         + RandomSource
-        + Clone
-        + Send
         + Sync
-        + Net<Listener = TcpListener, Stream = TcpStream>
-        + 'static,
-    R: Read + Send + Drop + 'static,
+        + Net<Listener = TcpListener, Stream = TcpStream>,
+    R: Read + Readiness + Drop,
     W: Write + Send + Drop,
     C: Write + Drop,
     E: Write + Drop,

@@ -17,6 +17,7 @@ use crate::report::refuse_plan;
 use crate::serving::{live, serve, simulated};
 use crate::station_words::WordFault;
 use clap::Error;
+use gathered_input::Readiness;
 use journal_server::Journalling;
 use live_server::Live;
 use script_replay::{Ended, ReplayFault, end_run, refuse, run_replay, show};
@@ -62,9 +63,9 @@ pub struct Ran<W, C, E> {
 /// Runs the program, by the commands and options of [`program`]: does what its words ask for, the first of which is its
 /// name.
 pub fn run<
-    X: AllocGlobal + Host + RandomSource + Clone + Send + 'static,
+    X: AllocGlobal + Host + RandomSource,
     S: AsStr,
-    R: Read + Send + Drop + 'static,
+    R: Read + Readiness + Drop,
     W: Write + Send + Drop,
     C: Write + Drop,
     E: Write + Drop,
@@ -127,8 +128,8 @@ fn refuse_words<R: Drop, W: Write, C: Drop, E: Write, L: Drop>(
 
 // Does what is asked for.
 fn run_asked<
-    X: AllocGlobal + Host + RandomSource + Clone + Send + 'static,
-    R: Read + Send + Drop + 'static,
+    X: AllocGlobal + Host + RandomSource,
+    R: Read + Readiness + Drop,
     W: Write + Send + Drop,
     C: Write + Drop,
     E: Write + Drop,
@@ -174,7 +175,7 @@ fn serve_words<
 // Serves until the operator's lines end, where the words make a plan.
 fn live_words<
     X: AllocGlobal + Host,
-    R: Read + Drop,
+    R: Read + Readiness + Drop,
     W: Write + Drop,
     C: Write + Drop,
     E: Write + Drop,
@@ -195,8 +196,8 @@ fn live_words<
 
 // Serves with a journal, where the words make a plan.
 fn journalled_words<
-    X: AllocGlobal + Host + Clone + Send + 'static,
-    R: Read + Send + Drop + 'static,
+    X: AllocGlobal + Host,
+    R: Read + Readiness + Drop,
     W: Write + Send + Drop,
     C: Write + Drop,
     E: Write + Drop,

@@ -14,6 +14,7 @@ ghost use Rattle.station_link.specs.Sim.{IsSimulated};
 
 use crate::report::{cause_of, end_server};
 use crate::run::{Ran, Streams};
+use gathered_input::Readiness;
 use journal_server::JournalFault;
 use live_server::{Live, serve_live};
 use script_replay::buffered;
@@ -139,7 +140,7 @@ fn serve_through<X: AllocGlobal + Host, R: Read + Drop, W: Write + Drop, L: Writ
 /// Serves a plan until its operator's lines end.
 pub fn live<
     X: AllocGlobal + Host,
-    R: Read + Drop,
+    R: Read + Readiness + Drop,
     W: Write + Drop,
     C: Write + Drop,
     E: Write,
@@ -160,14 +161,12 @@ pub fn live<
 }
 
 // Serves a plan until its operator's lines end, through buffers.
-fn live_through<X: AllocGlobal + Host, R: Read + Drop, W: Write + Drop, L: Write + Send + Drop>(
-    rt: &X,
-    plan: &Plan,
-    live: Live,
-    input: R,
-    output: W,
-    lines: L,
-) -> Closed<W>
+fn live_through<
+    X: AllocGlobal + Host,
+    R: Read + Readiness + Drop,
+    W: Write + Drop,
+    L: Write + Send + Drop,
+>(rt: &X, plan: &Plan, live: Live, input: R, output: W, lines: L) -> Closed<W>
     ensures { OnOk result.ended (HasOutput W.contents result.output (λ now. IsServed plan.now.sites.items plan.now.stations.items
         (lines_in (R.remaining input)) (W.contents output) now result.passes.items)) }
 {

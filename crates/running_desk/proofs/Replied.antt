@@ -21,7 +21,7 @@ use Rattle.site_desk.specs.Operator.{AreTotalsOfName}
 use Rattle.site_desk.specs.Roster.{IsNamed}
 use Rattle.site_desk.specs.Submit.{IsAnswered, Submitted}
 use Rattle.station_cell.specs.Cell.{Held}
-use Rattle.station_link.specs.Answer.{Answers, AnswersMeaning}
+use Rattle.station_link.specs.Answer.{Answers, AnswersMeaning, IsGivenAt}
 use Rattle.transaction_event.specs.Message.{Meaning, Event, Ready, Silence, message}
 use Rattle.transaction_event.specs.Reply.{event_reply_bytes}
 use Rattle.running_desk.specs.declared.operator.Asked.{Asked}
@@ -83,8 +83,8 @@ totals_told Export places name f e x h =
     }
 
 -- the line of a command that was submitted is what a replay answers
-pub commanded : (places : List StationPlace) (name : List ℕ) (p : Held) (command : Command) (p' : Held) (line : List ℕ) (named : IsNamed places name p.station) → IsCommandLine named.place p command p' line → IsCommanded places name command line
-commanded places name p command p' line named h =
+pub commanded : {M : Type 0} (gives : Command → Answer → Option Known → Option M → Type 0) (seen : Option M) (places : List StationPlace) (name : List ℕ) (p : Held) (command : Command) (p' : Held) (line : List ℕ) (named : IsNamed places name p.station) → IsCommandLine gives named.place p command p' line seen → IsCommanded places name command line
+commanded gives seen places name p command p' line named h =
     elim (stepped named.place p command h.answer p' h.told h.submitted) [
       | inl s ↦ inl (record {
         station = Some (with_content name named.place.limits s.content);
@@ -95,14 +95,14 @@ commanded places name p command p' line named h =
     ]
 
 -- a meaning's answer, as a line, is what a replay answers
-replied : (places : List StationPlace) (name : List ℕ) (p : Held) (named : IsNamed places name p.station) (moment : ℕ) (m : Meaning) (text : Option (List ℕ)) (p' : Held) (told : Option Known) (line : List ℕ)
-    → AnswersMeaning places p m text p' told → line ≡ ended_line (unwrap_or text (codes "silent"))
+replied : {M : Type 0} (gives : ℕ → StationPlace → Command → Answer → Option Known → Option M → Type 0) (seen : Option M) (places : List StationPlace) (name : List ℕ) (p : Held) (named : IsNamed places name p.station) (moment : ℕ) (m : Meaning) (text : Option (List ℕ)) (p' : Held) (told : Option Known) (line : List ℕ)
+    → AnswersMeaning gives places p m text p' told seen → line ≡ ended_line (unwrap_or text (codes "silent"))
     → ((s : Station) × IsStationOf places name s × (line ≡ (by_meaning m s (record start { moment = moment })).1)) ⊎ IsExhausted m line
-replied places name p named moment Silence text p' told line h is =
+replied gives seen places name p named moment Silence text p' told line h is =
     inl (with_content name named.place.limits empty_content, stands_with places name p.station named zero empty_content refl, is ∙ ap (λ (t : Option (List ℕ)). ended_line (unwrap_or t (codes "silent"))) h.same)
-replied places name p named moment (Ready reply) text p' told line h is =
+replied gives seen places name p named moment (Ready reply) text p' told line h is =
     inl (with_content name named.place.limits empty_content, stands_with places name p.station named zero empty_content refl, is ∙ ap (λ (t : Option (List ℕ)). ended_line (unwrap_or t (codes "silent"))) h.same)
-replied places name p named moment (Event id request) text p' told line h is =
+replied gives seen places name p named moment (Event id request) text p' told line h is =
     let said = is ∙ ap (λ (t : Option (List ℕ)). ended_line (unwrap_or t (codes "silent"))) h.reply in
     elim (stepped named.place p (Deliver request.key request.event) h.answer p' told (h.submitted.settled named.place named.there)) [
       | inl s ↦ inl (
@@ -114,32 +114,33 @@ replied places name p named moment (Event id request) text p' told line h is =
     ]
 
 -- words that were read
-sent_read : (places : List StationPlace) (name : List ℕ) (p : Held) (named : IsNamed places name p.station) (words : List ℕ) (moment : ℕ) (text : Option (List ℕ)) (p' : Held) (told : Option Known) (memory : Bool) (line : List ℕ)
-    → Answers places p words moment text p' told memory → line ≡ ended_line (unwrap_or text (codes "silent")) → IsSent places name words moment line
-sent_read places name p named words moment text p' told true line h is =
+sent_read : {M : Type 0} (gives : ℕ → StationPlace → Command → Answer → Option Known → Option M → Type 0) (seen : Option M) (places : List StationPlace) (name : List ℕ) (p : Held) (named : IsNamed places name p.station) (words : List ℕ) (moment : ℕ) (text : Option (List ℕ)) (p' : Held) (told : Option Known) (memory : Bool) (line : List ℕ)
+    → Answers gives places p words moment text p' told seen memory → line ≡ ended_line (unwrap_or text (codes "silent")) → IsSent places name words moment line
+sent_read gives seen places name p named words moment text p' told true line h is =
     inr (inr (record { reply = h.reply; tells = h.tells; is = is ∙ ap (λ (t : Option (List ℕ)). ended_line (unwrap_or t (codes "silent"))) h.ready.same }))
-sent_read places name p named words moment text p' told false line h is =
-    elim (replied places name p named moment (message words moment) text p' told line h is) [
+sent_read gives seen places name p named words moment text p' told false line h is =
+    elim (replied gives seen places name p named moment (message words moment) text p' told line h is) [
       | inl s ↦ inl (record { station = Some s.0; stands = s.1; is = s.2 })
       | inr e ↦ inr (inl e)
     ]
 
 -- the line of a message that was answered is what a replay answers
-pub sent : (places : List StationPlace) (name : List ℕ) (p : Held) (named : IsNamed places name p.station) (words : List ℕ) (p' : Held) (line : List ℕ) → IsMessageLine places p words p' line → (moment : ℕ) × IsSent places name words moment line
-sent places name p named words p' line h = (h.moment, sent_read places name p named words h.moment h.text p' h.told h.memory line h.answers h.is)
+pub sent : {M : Type 0} (gives : ℕ → StationPlace → Command → Answer → Option Known → Option M → Type 0) (seen : Option M) (places : List StationPlace) (name : List ℕ) (p : Held) (named : IsNamed places name p.station) (words : List ℕ) (p' : Held) (line : List ℕ) → IsMessageLine gives places p words p' line seen → (moment : ℕ) × IsSent places name words moment line
+sent gives seen places name p named words p' line h = (h.moment, sent_read gives seen places name p named words h.moment h.text p' h.told h.memory line h.answers h.is)
 
--- the line of the answer to a command that was submitted
-pub submitted_line : {T E : Type 0} (r : Result T E) (places roster : List StationPlace) (p p' : Held) (command : Command) (a : Answer) (told : Option Known) (before now : List ℕ) → places ≡ roster → before ≡ []
-    → ((at : StationPlace) → slice_get roster p.station ≡ Some at → Submitted at p command a p' told) → OnOk r (now ≡ before ++ ended_line (answer_text a))
-    → OnOk r ((at : StationPlace) → slice_get places p.station ≡ Some at → IsCommandLine at p command p' now)
-submitted_line (Ok _) places roster p p' command a told before now same empty settled put =
-    λ at there. record {
+-- the line of the answer to a command that was submitted, with what was seen
+pub submitted_line : {M : Type 0} (gives : ℕ → StationPlace → Command → Answer → Option Known → Option M → Type 0) (seen : Option M) (places roster : List StationPlace) (p p' : Held) (command : Command) (a : Answer) (told : Option Known) (before now : List ℕ) → places ≡ roster → before ≡ []
+    → ((at : StationPlace) → slice_get roster p.station ≡ Some at → Submitted at p command a p' told) → IsGivenAt gives roster p.station command a told seen → now ≡ before ++ ended_line (answer_text a)
+    → (at : StationPlace) → slice_get places p.station ≡ Some at → IsCommandLine (gives p.station at) at p command p' now seen
+submitted_line gives seen places roster p p' command a told before now same empty settled given put at there =
+    let here = ap (λ (x : List StationPlace). slice_get x p.station) (sym same) ∙ there in
+    record {
       answer = a;
       told = told;
-      submitted = settled at (ap (λ (x : List StationPlace). slice_get x p.station) (sym same) ∙ there);
+      submitted = settled at here;
+      given = given at here;
       is = put ∙ ap (λ (b : List ℕ). b ++ ended_line (answer_text a)) empty;
     }
-submitted_line (Err _) places roster p p' command a told before now same empty settled put = put
 
 -- the line of the totals that are asked for
 pub totals_line_told : {T E : Type 0} (r : Result T E) (asked : Asked) (places : List StationPlace) (name : List ℕ) (f : figures.Figures) (e x : Energy) (now : List ℕ) → AreTotalsOfName places name f e x

@@ -1,16 +1,12 @@
--- How an operator's lines come, which of them are answered, and why they end.
+-- How an operator's lines come, and which of them are answered.
 use Rattle.std.specs.Prelude.{◌≡◌, ℕ, ⊤, Bool, false, true, List, [], ◌∷◌, Option, None, Some, codes, if◌then◌else◌, option_map}
 use Rattle.std.specs.Str.{bytes_eq}
 use Rattle.script_lines.specs.Lines.{Line, lines_of}
 use Rattle.script_lines.specs.Ranges.{longest_line}
 use Rattle.running_desk.specs.declared.orders.Came.{Came}
 use Rattle.running_desk.specs.declared.orders.Came.TheVariants as came
-use Rattle.script_lines.specs.declared.fault.ReplayFault.{ReplayFault}
-use Rattle.script_lines.specs.declared.fault.ReplayFault.TheVariants as read
 use Rattle.script_lines.specs.declared.line_reader.LineEnd.{LineEnd}
 use Rattle.script_lines.specs.declared.line_reader.LineEnd.TheVariants.{Feed, Input}
-use Rattle.site_server.specs.declared.fault.ServiceFault.{ServiceFault}
-use Rattle.site_server.specs.declared.fault.ServiceFault.TheVariants as told
 
 -- What came, of a line that ended so with these bytes: where the input ended and none are left, no line.
 abbrev pub came_of : LineEnd → List ℕ → Came
@@ -18,22 +14,14 @@ came_of Feed held = came.Line
 came_of Input [] = came.End
 came_of Input (b ∷ bs) = came.LastLine
 
--- The fault that is told where no line more is read.
-abbrev pub told_as : ReplayFault → ServiceFault
-told_as read.ReadFault = told.ReadFault
-told_as read.WriteFault = told.WriteFault
-told_as read.TooMuchInput = told.ReadFault
-told_as read.OutOfMemory = told.OutOfMemory
-
 -- The lines of these bytes, where the bytes are known.
 abbrev pub lines_in : Option (List ℕ) → Option (List Line)
 lines_in bytes = option_map (lines_of longest_line) bytes
 
--- What comes of the lines to come: the first of them, the last of them, nothing yet, or nothing more; and the lines that are to come then.
+-- What comes of the lines to come: the first of them, the last of them, or nothing more; and the lines that are to come then.
 abbrev pub Gives : List Line → Came → Line → List Line → Type 0
 Gives lines came.Line line rest = lines ≡ line ∷ rest
 Gives lines came.LastLine line rest = (lines ≡ line ∷ []) × (rest ≡ [])
-Gives lines came.Nothing line rest = rest ≡ lines
 Gives lines came.End line rest = (lines ≡ []) × (rest ≡ [])
 
 -- The same, where it is known which lines are to come.
@@ -51,7 +39,6 @@ is_close (Some bytes) = bytes_eq bytes (codes "close")
 abbrev pub ends : Came → Line → Bool
 ends came.Line line = is_close line
 ends came.LastLine line = is_close line
-ends came.Nothing line = false
 ends came.End line = true
 
 -- The lines in front of the first that says `close`, or all where none does.

@@ -9,10 +9,11 @@ use Rattle.ledger_model.specs.declared.command.Command.{Command}
 use Rattle.ledger_model.specs.declared.figures.Figures as figures
 use Rattle.ledger_model.specs.declared.order.Order.{Order}
 use Rattle.ledger_model.specs.declared.order.Order.TheVariants.{Sequence}
+use Rattle.ledger_model.specs.Board.{Board}
 use Rattle.ledger_model.specs.Step.{Reached}
 use Rattle.ledger_model.specs.World.{Station}
-use Rattle.board_report.specs.Texts.{total_text}
-use Rattle.board_report.specs.Running.{IsRunningBoard}
+use Rattle.board_report.specs.Texts.{board_text, total_text}
+use Rattle.board_report.specs.Running.{running_site}
 use Rattle.energy_flow.specs.Flow.{Energy}
 use Rattle.running_desk.specs.declared.operator.Asked.{Asked}
 use Rattle.running_desk.specs.declared.operator.Asked.TheVariants.{Figures, Import, Export}
@@ -24,13 +25,23 @@ use Rattle.script_lines.specs.Texts.{answer_text, ended_line, fault_line}
 use Rattle.site_book.specs.Book.{Known}
 use Rattle.site_desk.specs.declared.plan.SitePlan.{SitePlan}
 use Rattle.site_desk.specs.declared.roster.StationPlace.{StationPlace}
-use Rattle.site_desk.specs.Roster.{IsNamed}
+use Rattle.site_desk.specs.declared.plan.StationPlan.{StationPlan}
+use Rattle.site_desk.specs.Operator.{AreBoardsAt}
+use Rattle.site_desk.specs.Roster.{AreNewPlaces, IsNamed}
 use Rattle.site_desk.specs.Submit.{Submitted}
 use Rattle.station_cell.specs.Cell.{Held}
-use Rattle.station_link.specs.Answer.{Answers}
+use Rattle.station_link.specs.Answer.{Answers, IsGivenAt}
 use Rattle.transaction_event.specs.Message.{Meaning, Event, Ready, Silence, message}
 use Rattle.transaction_event.specs.MessageMeaning.{IsMemoryReply}
 use Rattle.transaction_event.specs.Reply.{event_reply_bytes}
+
+-- Of an answer at a desk without a journal nothing more is seen,
+abbrev pub gives_nothing : ℕ → StationPlace → Command → Answer → Option Known → Option (Unit {0}) → Type 0
+gives_nothing number at command answer told seen = Unit {0}
+
+-- and nothing of its boards.
+abbrev pub shows_nothing : ℕ → List (List ℕ × Board) → Unit {0} → Type 0
+shows_nothing site boards seen = Unit {0}
 
 -- A replay may have this station under the name: the desk has one of the name, of these limits, and some accepted commands lead to its content.
 pub record IsStationOf (places : List StationPlace) (name : List ℕ) (s : Station) : Type 0 where
@@ -83,22 +94,38 @@ totals_line Export f e x = export_line x
 abbrev pub IsTotals : List StationPlace → List ℕ → Asked → List ℕ → Type 0
 IsTotals places name asked text = AreTotals places name asked text ⊎ (text ≡ torn)
 
--- The answer to a question for the board of the site of this number, if there is one.
-abbrev pub IsBoard : List SitePlan → List StationPlace → Option ℕ → List ℕ → Type 0
-IsBoard sites places None text = text ≡ fault_line UnknownSite
-IsBoard sites places (Some site) text = IsRunningBoard sites places site text ⊎ (text ≡ torn)
+-- The boards are of the stations of the site of this number, of a desk that was opened for this plan.
+pub record AreBoardsOfPlan (sites : List SitePlan) (stations : List StationPlan) (site : ℕ) (boards : List (List ℕ × Board)) : Type 0 where
+  pub places : List StationPlace
+  pub opened : AreNewPlaces sites stations places
+  pub of_site : AreBoardsAt places site boards
 
--- A command was submitted with a pass at a station of this place, and the line tells the answer to it.
-pub record IsCommandLine (at : StationPlace) (p : Held) (command : Command) (p' : Held) (line : List ℕ) : Type 0 where
+-- The text is that of the board over boards of the site's stations, each once and in the plan's order, of which each is made by a content that accepted commands leave; and what was seen is of these boards.
+pub record IsShownBoard {M : Type 0} (shows : ℕ → List (List ℕ × Board) → M → Type 0) (sites : List SitePlan) (places : List StationPlace) (site : ℕ) (text : List ℕ) (seen : Option M) : Type 0 where
+  pub boards : List (List ℕ × Board)
+  pub of_site : AreBoardsAt places site boards
+  pub is : text ≡ board_text (running_site sites site boards)
+  pub own : M
+  pub seen_is : seen ≡ Some own
+  pub shown : shows site boards own
+
+-- The answer to a question for the board of the site of this number, if there is one, and what was seen with it.
+abbrev pub IsBoard : {M : Type 0} → (ℕ → List (List ℕ × Board) → M → Type 0) → List SitePlan → List StationPlace → Option ℕ → List ℕ → Option M → Type 0
+IsBoard shows sites places None text seen = text ≡ fault_line UnknownSite
+IsBoard shows sites places (Some site) text seen = IsShownBoard shows sites places site text seen ⊎ (text ≡ torn)
+
+-- A command was submitted with a pass at a station of this place, the line tells the answer to it, and what was seen is of that answer.
+pub record IsCommandLine {M : Type 0} (gives : Command → Answer → Option Known → Option M → Type 0) (at : StationPlace) (p : Held) (command : Command) (p' : Held) (line : List ℕ) (seen : Option M) : Type 0 where
   pub answer : Answer
   pub told : Option Known
   pub submitted : Submitted at p command answer p' told
+  pub given : gives command answer told seen
   pub is : line ≡ ended_line (answer_text answer)
 
 -- The command was submitted with a pass of the station of this name, and the text is the desk's answer to it; or there is no such station, and the text says so.
-abbrev pub IsSubmitted : List StationPlace → List ℕ → Command → List ℕ → Type 0
-IsSubmitted places name command text =
-    ((p p' : Held) × (named : IsNamed places name p.station) × IsCommandLine named.place p command p' text)
+abbrev pub IsSubmitted : {M : Type 0} → (ℕ → StationPlace → Command → Answer → Option Known → Option M → Type 0) → List StationPlace → List ℕ → Command → List ℕ → Option M → Type 0
+IsSubmitted gives places name command text seen =
+    ((p p' : Held) × (named : IsNamed places name p.station) × IsCommandLine (gives p.station named.place) named.place p command p' text seen)
     ⊎ ((list_any (λ s. bytes_eq name s.name) places ≡ false) × (text ≡ fault_line UnknownStation))
 
 -- The answer to a command, which may be that changes are exhausted whatever the content is.
@@ -123,31 +150,37 @@ IsSent places name words moment text =
     IsOf places name (λ station. (sent_to station (record start { moment = moment }) words).1) text
     ⊎ (IsExhausted (message words moment) text ⊎ TellsMemory words text)
 
--- What an operator's line is answered at a desk of these sites and stations, by what it says. A moment is the clock's, so a line that tells one is at fault.
-abbrev pub IsReply : List SitePlan → List StationPlace → LineMeaning → List ℕ → Type 0
-IsReply sites places nothing text = text ≡ []
-IsReply sites places (fails fault) text = text ≡ fault_line fault
-IsReply sites places (sets_limits transactions events readings changes) text = text ≡ fault_line DeclaredLate
-IsReply sites places (declares site name) text = text ≡ fault_line DeclaredLate
-IsReply sites places (sets_period site seconds) text = text ≡ fault_line DeclaredLate
-IsReply sites places (sets_order site order) text = text ≡ fault_line DeclaredLate
-IsReply sites places (tells nanos) text = text ≡ fault_line BadLine
-IsReply sites places (sends name words) text = (moment : ℕ) × IsSent places name words moment text
-IsReply sites places (commands name command) text = IsCommanded places name command text × IsSubmitted places name command text
-IsReply sites places (asks_energy name) text = IsTotals places name Import text
-IsReply sites places (asks_export name) text = IsTotals places name Export text
-IsReply sites places (asks_total name) text = IsTotals places name Figures text
-IsReply sites places (asks_board name) text = IsBoard sites places (position (λ s. bytes_eq name s.name) sites) text
-
--- An operator's line is answered so, or by `fault OutOfMemory`.
-abbrev pub IsReplyOrMemory : List SitePlan → List StationPlace → LineMeaning → List ℕ → Type 0
-IsReplyOrMemory sites places meaning text = IsReply sites places meaning text ⊎ (text ≡ ended_line (codes "fault OutOfMemory"))
-
--- A station's words were answered with a pass at some moment, and the line tells that answer.
-pub record IsMessageLine (places : List StationPlace) (p : Held) (words : List ℕ) (p' : Held) (line : List ℕ) : Type 0 where
+-- A station's words were answered with a pass at some moment, the line tells that answer, and what was seen is of it.
+pub record IsMessageLine {M : Type 0} (gives : ℕ → StationPlace → Command → Answer → Option Known → Option M → Type 0) (places : List StationPlace) (p : Held) (words : List ℕ) (p' : Held) (line : List ℕ) (seen : Option M) : Type 0 where
   pub moment : ℕ
   pub text : Option (List ℕ)
   pub told : Option Known
   pub memory : Bool
-  pub answers : Answers places p words moment text p' told memory
+  pub answers : Answers gives places p words moment text p' told seen memory
   pub is : line ≡ ended_line (unwrap_or text (codes "silent"))
+
+-- The words were answered with a pass of the station of this name; or there is no such station, and the text says so.
+abbrev pub IsMessaged : {M : Type 0} → (ℕ → StationPlace → Command → Answer → Option Known → Option M → Type 0) → List StationPlace → List ℕ → List ℕ → List ℕ → Option M → Type 0
+IsMessaged gives places name words text seen =
+    ((p p' : Held) × IsNamed places name p.station × IsMessageLine gives places p words p' text seen)
+    ⊎ ((list_any (λ s. bytes_eq name s.name) places ≡ false) × (text ≡ fault_line UnknownStation))
+
+-- What an operator's line is answered at a desk of these sites and stations, by what it says, and what was seen of the desk's journal then: of an answer to a command it gives that, and of a site's boards it shows that. A moment is the clock's, so a line that tells one is at fault.
+abbrev pub IsReply : {M : Type 0} → (ℕ → StationPlace → Command → Answer → Option Known → Option M → Type 0) → (ℕ → List (List ℕ × Board) → M → Type 0) → List SitePlan → List StationPlace → LineMeaning → List ℕ → Option M → Type 0
+IsReply gives shows sites places nothing text seen = text ≡ []
+IsReply gives shows sites places (fails fault) text seen = text ≡ fault_line fault
+IsReply gives shows sites places (sets_limits transactions events readings changes) text seen = text ≡ fault_line DeclaredLate
+IsReply gives shows sites places (declares site name) text seen = text ≡ fault_line DeclaredLate
+IsReply gives shows sites places (sets_period site seconds) text seen = text ≡ fault_line DeclaredLate
+IsReply gives shows sites places (sets_order site order) text seen = text ≡ fault_line DeclaredLate
+IsReply gives shows sites places (tells nanos) text seen = text ≡ fault_line BadLine
+IsReply gives shows sites places (sends name words) text seen = ((moment : ℕ) × IsSent places name words moment text) × IsMessaged gives places name words text seen
+IsReply gives shows sites places (commands name command) text seen = IsCommanded places name command text × IsSubmitted gives places name command text seen
+IsReply gives shows sites places (asks_energy name) text seen = IsTotals places name Import text
+IsReply gives shows sites places (asks_export name) text seen = IsTotals places name Export text
+IsReply gives shows sites places (asks_total name) text seen = IsTotals places name Figures text
+IsReply gives shows sites places (asks_board name) text seen = IsBoard shows sites places (position (λ s. bytes_eq name s.name) sites) text seen
+
+-- An operator's line is answered so, or by `fault OutOfMemory`.
+abbrev pub IsReplyOrMemory : {M : Type 0} → (ℕ → StationPlace → Command → Answer → Option Known → Option M → Type 0) → (ℕ → List (List ℕ × Board) → M → Type 0) → List SitePlan → List StationPlace → LineMeaning → List ℕ → Option M → Type 0
+IsReplyOrMemory gives shows sites places meaning text seen = IsReply gives shows sites places meaning text seen ⊎ (text ≡ ended_line (codes "fault OutOfMemory"))

@@ -1,30 +1,37 @@
 -- What an operator's lines are answered, one behind the other.
-use Rattle.std.specs.Prelude.{ℕ, List, [], Option, All, map}
+use Rattle.std.specs.Prelude.{◌≡◌, ℕ, List, [], ◌∷◌, Option, None, Some, All, map}
 use Rattle.std.specs.Io.KnownBytes.{Appends}
 use Rattle.std.specs.List.{flat_map}
+use Rattle.ledger_model.specs.declared.answer.Answer.{Answer}
+use Rattle.ledger_model.specs.declared.command.Command.{Command}
+use Rattle.ledger_model.specs.Board.{Board}
 use Rattle.script_lines.specs.LineMeaning.{line_meaning}
 use Rattle.script_lines.specs.Lines.{Line}
+use Rattle.site_book.specs.Book.{Known}
 use Rattle.site_desk.specs.declared.plan.SitePlan.{SitePlan}
 use Rattle.site_desk.specs.declared.roster.StationPlace.{StationPlace}
-use Rattle.running_desk.specs.declared.orders.Came.{Came}
-use Rattle.running_desk.specs.declared.orders.Came.TheVariants as came
 use Rattle.running_desk.specs.Ordered.{AreAnswered}
 use Rattle.running_desk.specs.Replied.{IsReplyOrMemory}
 
--- Behind what stood before, the answers to the operator's lines that come were written, up to the line that says `close`, one behind the other, and nothing else. Each line is there with its answer.
-pub record AddsReplies (sites : List SitePlan) (places : List StationPlace) (coming : Option (List Line)) (before now : Option (List ℕ)) : Type 0 where
-  pub lines : List (Line × List ℕ)
-  pub those : AreAnswered coming (map (λ l. l.0) lines)
-  pub replies : All (λ l. IsReplyOrMemory sites places (line_meaning l.0) l.1) lines
-  pub adds : Appends before now (flat_map (λ l. l.1) lines)
+-- A line, its answer, and what was seen of the desk's journal with it.
+pub record Replied (M : Type 0) : Type 0 where
+  pub line : Line
+  pub text : List ℕ
+  pub seen : Option M
+
+-- A list of what there is, or of nothing.
+abbrev pub if_seen : {M : Type 0} → Option M → List M
+if_seen None = []
+if_seen (Some m) = m ∷ []
+
+-- Behind what stood before, the answers to the operator's lines that come were written, up to the line that says `close`, one behind the other, and nothing else. Each line is there with its answer and with what was seen of the desk's journal, which is all that was handed out.
+pub record AddsReplies {M : Type 0} (gives : ℕ → StationPlace → Command → Answer → Option Known → Option M → Type 0) (shows : ℕ → List (List ℕ × Board) → M → Type 0) (sites : List SitePlan) (places : List StationPlace) (coming : Option (List Line)) (before now : Option (List ℕ)) (handed : List M) : Type 0 where
+  pub lines : List (Replied M)
+  pub those : AreAnswered coming (map (λ l. l.line) lines)
+  pub replies : All (λ l. IsReplyOrMemory gives shows sites places (line_meaning l.line) l.text l.seen) lines
+  pub adds : Appends before now (flat_map (λ l. l.text) lines)
+  pub all : handed ≡ flat_map (λ l. if_seen l.seen) lines
 
 -- The answer to a line was written.
-abbrev pub AddsReply : List SitePlan → List StationPlace → Line → Option (List ℕ) → Option (List ℕ) → Type 0
-AddsReply sites places line before now = (text : List ℕ) × Appends before now text × IsReplyOrMemory sites places (line_meaning line) text
-
--- The answer to what came was written; where nothing came, nothing was.
-abbrev pub AddsAnswer : List SitePlan → List StationPlace → Came → Line → Option (List ℕ) → Option (List ℕ) → Type 0
-AddsAnswer sites places came.Line line before now = AddsReply sites places line before now
-AddsAnswer sites places came.LastLine line before now = AddsReply sites places line before now
-AddsAnswer sites places came.Nothing line before now = Appends before now []
-AddsAnswer sites places came.End line before now = AddsReply sites places line before now
+abbrev pub AddsReply : {M : Type 0} → (ℕ → StationPlace → Command → Answer → Option Known → Option M → Type 0) → (ℕ → List (List ℕ × Board) → M → Type 0) → List SitePlan → List StationPlace → Line → Option (List ℕ) → Option (List ℕ) → Option M → Type 0
+AddsReply gives shows sites places line before now seen = (text : List ℕ) × Appends before now text × IsReplyOrMemory gives shows sites places (line_meaning line) text seen

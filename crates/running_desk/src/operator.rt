@@ -1,5 +1,5 @@
 //! An operator's lines, which are answered while stations are served.
-ghost use Rattle.std.specs.Prelude.{◌≡◌, ℕ, List, [], OnOk, Some, slice_get};
+ghost use Rattle.std.specs.Prelude.{◌≡◌, ℕ, List, [], ◌++◌, IfOk, OnOk, Some, slice_get};
 ghost use Rattle.std.specs.List.{position};
 ghost use Rattle.std.specs.Str.{bytes_eq};
 ghost use Rattle.script_lines.specs.LineMeaning.{commands, line_meaning};
@@ -10,9 +10,9 @@ ghost use Rattle.script_lines.specs.Texts.{fault_line};
 ghost use Rattle.site_desk.specs.declared.roster.StationPlace.{StationPlace};
 ghost use Rattle.site_desk.specs.Roster.{IsNamed};
 ghost use Rattle.running_desk.specs.declared.pooled_desk.PassFault.{PassFault};
-ghost use Rattle.running_desk.specs.Replied.{IsBoard, IsCommandLine, IsCommanded, IsMessageLine, IsReply, IsSent, IsSubmitted, IsTotals, totals_line};
-ghost use Rattle.running_desk.specs.Ordered.{ends, is_close};
-ghost use Rattle.running_desk.specs.Replies.{AddsAnswer, AddsReplies, AddsReply};
+ghost use Rattle.running_desk.specs.Replied.{IsBoard, IsCommandLine, IsCommanded, IsMessageLine, IsMessaged, IsReply, IsSent, IsSubmitted, IsTotals, totals_line};
+ghost use Rattle.running_desk.specs.Ordered.{ends, is_close, lines_in};
+ghost use Rattle.running_desk.specs.Replies.{AddsReplies, AddsReply, if_seen};
 
 use crate::orders::{Came, Orders};
 use crate::pooled_desk::PassFault;
@@ -20,6 +20,7 @@ use crate::running::{Running, site_of};
 use crate::serves::Serves;
 use board_report::{energy_text, export_text, total_text, write_out};
 use energy_flow::Flow;
+use gathered_input::Readiness;
 use ledger_model::{Command, Figures, Name};
 use script_lines::{LineFault, ScriptLine, put_answer, put_fault, put_line, read_line};
 use site_book::Naming;
@@ -28,7 +29,7 @@ use site_server::{ServiceFault, SystemMoments};
 use station_cell::Pass;
 use station_link::{answer_text, present};
 use std::alloc::{AllocError, Global};
-use std::io::Write;
+use std::io::{BufRead, Write};
 use std::sync::Wait;
 use std::thread::Threads;
 use std::time::Clock;
@@ -45,38 +46,54 @@ const MOST_ANSWER: usize = 513;
 // What a line is answered whose station or site does not stand behind its lock as it should, which no run meets.
 const TORN: &str = "fault Torn";
 
-/// Answers line after line until the input ends, a line says `close`, or no change is accepted any more. An answer is out
-/// before the next line is read.
+/// Answers line after line of the input until it ends, a line says `close`, or no change is accepted any more, which is a
+/// `WriteFault`. An answer is out before the next line is read. While no line is there it looks ten times a second whether
+/// changes are still accepted. It gives what was seen of the desk's journal with the answers, in their order.
 pub fn operate<
     J: Naming,
     C: HasCell,
-    S: Serves<J, C>,
+    M: Drop,
+    S: Serves<J, C, M>,
     R: Threads + Wait + Clock,
-    O: Orders,
+    I: BufRead + Readiness,
     W: Write,
 >(
     rt: &R,
     alloc: Global,
-    running: &Running<'_, J, C, S>,
-    orders: &mut O,
+    running: &Running<'_, J, C, M, S>,
+    input: &mut I,
     writer: &mut W,
-) -> Result<(), ServiceFault>
-    ensures { OnOk result (AddsReplies running.now.plan.now.sites.items running.now.desk.desk.now.stations (O.coming orders.old) (W.contents writer.old) (W.contents writer.new)) }
+) -> Result<Vec<M>, ServiceFault>
+    ensures { IfOk result (λ seen. AddsReplies (S.gives running.now.serves.now) (S.shows running.now.serves.now) running.now.plan.now.sites.items running.now.desk.desk.now.stations
+        (lines_in (I.remaining input.old)) (W.contents writer.old) (W.contents writer.new) seen.items) }
 {
+    let mut orders = Orders::open(rt, alloc, input, running.serves);
+    let mut seen = Vec::new(alloc);
     for _ in rt.forever() {
-        let came = orders.next(rt)?;
+        let came = orders.next()?;
         if is_last(came, orders.line()) {
-            return Ok(());
+            return Ok(seen);
         }
-        put_came(rt, alloc, running, came, orders.line(), writer)?;
+        let own = put_reply(rt, alloc, running, orders.line(), writer)?;
+        keep(&mut seen, own)?;
         if running.serves.is_broken() {
             return Err(ServiceFault::WriteFault);
         }
         if let Came::LastLine = came {
-            return Ok(());
+            return Ok(seen);
         }
     }
     unreachable!()
+}
+
+// Keeps what was seen with an answer, if anything was, behind what was seen before.
+fn keep<M: Drop>(seen: &mut Vec<M>, own: Option<M>) -> Result<(), AllocError>
+    ensures { OnOk result (seen.new.items ≡ seen.old.items ++ if_seen own) }
+{
+    if let Some(one) = own {
+        seen.push(one)?;
+    }
+    Ok(())
 }
 
 // Tells whether what came ends the server: a line that says `close`, or the end of the input and nothing else.
@@ -85,7 +102,6 @@ fn is_last(came: Came, line: Option<&[u8]>) -> bool
 {
     match came {
         Came::End => true,
-        Came::Nothing => false,
         Came::Line | Came::LastLine => says_close(line),
     }
 }
@@ -100,98 +116,93 @@ fn says_close(line: Option<&[u8]>) -> bool
     }
 }
 
-// Writes the answer to a line, if one came.
-fn put_came<J: Naming, C: HasCell, S: Serves<J, C>, R: Threads + Wait + Clock, W: Write>(
-    rt: &R,
-    alloc: Global,
-    running: &Running<'_, J, C, S>,
-    came: Came,
-    line: Option<&[u8]>,
-    writer: &mut W,
-) -> Result<(), ServiceFault>
-    ensures { OnOk result (AddsAnswer running.now.plan.now.sites.items running.now.desk.desk.now.stations came (line_bytes line.entry) (W.contents writer.old) (W.contents writer.new)) }
-{
-    match came {
-        Came::Nothing => Ok(()),
-        Came::Line | Came::LastLine | Came::End => put_reply(rt, alloc, running, line, writer),
-    }
-}
-
 // Writes the answer to a line.
-fn put_reply<J: Naming, C: HasCell, S: Serves<J, C>, R: Threads + Wait + Clock, W: Write>(
+fn put_reply<
+    J: Naming,
+    C: HasCell,
+    M: Drop,
+    S: Serves<J, C, M>,
+    R: Threads + Wait + Clock,
+    W: Write,
+>(
     rt: &R,
     alloc: Global,
-    running: &Running<'_, J, C, S>,
+    running: &Running<'_, J, C, M, S>,
     line: Option<&[u8]>,
     writer: &mut W,
-) -> Result<(), ServiceFault>
-    ensures { OnOk result (AddsReply running.now.plan.now.sites.items running.now.desk.desk.now.stations (line_bytes line.entry) (W.contents writer.old) (W.contents writer.new)) }
+) -> Result<Option<M>, ServiceFault>
+    ensures { IfOk result (λ seen. AddsReply (S.gives running.now.serves.now) (S.shows running.now.serves.now) running.now.plan.now.sites.items running.now.desk.desk.now.stations
+        (line_bytes line.entry) (W.contents writer.old) (W.contents writer.new) seen) }
 {
     let mut reply = Vec::new(alloc);
-    let text = match answer_line(rt, alloc, running, line, &mut reply) {
-        Ok(()) => reply.as_slice(),
-        Err(_) => NO_MEMORY,
+    let (text, seen) = match answer_line(rt, alloc, running, line, &mut reply) {
+        Ok(seen) => (reply.as_slice(), seen),
+        Err(_) => (NO_MEMORY, None),
     };
     write_out(writer, text)?;
-    Ok(())
+    Ok(seen)
 }
 
 // Appends the answer to an operator's line, which is that of a script's line after its declarations. A moment is the
 // clock's, so a line that tells one is `BadLine`.
-fn answer_line<J: Naming, C: HasCell, S: Serves<J, C>, R: Threads + Wait + Clock>(
+fn answer_line<J: Naming, C: HasCell, M: Drop, S: Serves<J, C, M>, R: Threads + Wait + Clock>(
     rt: &R,
     alloc: Global,
-    running: &Running<'_, J, C, S>,
+    running: &Running<'_, J, C, M, S>,
     line: Option<&[u8]>,
     reply: &mut Vec<u8>,
-) -> Result<(), AllocError>
+) -> Result<Option<M>, AllocError>
     requires { reply.old.items ≡ [] }
-    ensures { OnOk result (IsReply running.now.plan.now.sites.items running.now.desk.desk.now.stations (line_meaning (line_bytes line.entry)) reply.new.items) }
+    ensures { IfOk result (λ seen. IsReply (S.gives running.now.serves.now) (S.shows running.now.serves.now) running.now.plan.now.sites.items running.now.desk.desk.now.stations (line_meaning (line_bytes line.entry)) reply.new.items seen) }
 {
     answer_said(rt, alloc, running, read_line(line), line, reply)
 }
 
 // Appends the answer to what an operator's line says.
-fn answer_said<J: Naming, C: HasCell, S: Serves<J, C>, R: Threads + Wait + Clock>(
+fn answer_said<J: Naming, C: HasCell, M: Drop, S: Serves<J, C, M>, R: Threads + Wait + Clock>(
     rt: &R,
     alloc: Global,
-    running: &Running<'_, J, C, S>,
+    running: &Running<'_, J, C, M, S>,
     said: ScriptLine<'_>,
     line: Option<&[u8]>,
     reply: &mut Vec<u8>,
-) -> Result<(), AllocError>
+) -> Result<Option<M>, AllocError>
     requires said { meaning_of said ≡ line_meaning (line_bytes line) }
     requires empty { reply.old.items ≡ [] }
-    ensures { OnOk result (IsReply running.now.plan.now.sites.items running.now.desk.desk.now.stations (meaning_of said.entry) reply.new.items) }
+    ensures { IfOk result (λ seen. IsReply (S.gives running.now.serves.now) (S.shows running.now.serves.now) running.now.plan.now.sites.items running.now.desk.desk.now.stations (meaning_of said.entry) reply.new.items seen) }
 {
     match said {
-        ScriptLine::Nothing => Ok(()),
-        ScriptLine::Fails(fault) => put_fault(reply, fault),
+        ScriptLine::Sends(name, text) => return receive(rt, alloc, running, &name, text, reply),
+        ScriptLine::Commands(name, what) => {
+            return put_command(rt, running, &name, what, line, reply);
+        }
+        ScriptLine::AsksBoard(name) => return put_board(rt, alloc, running, &name, reply),
+        ScriptLine::Nothing => {}
+        ScriptLine::Fails(fault) => put_fault(reply, fault)?,
         ScriptLine::Limits(_, _, _, _)
         | ScriptLine::Declares(_, _)
         | ScriptLine::SetsPeriod(_, _)
-        | ScriptLine::SetsOrder(_, _) => put_fault(reply, LineFault::DeclaredLate),
-        ScriptLine::Tells(_) => put_fault(reply, LineFault::BadLine),
-        ScriptLine::Sends(name, text) => receive(rt, alloc, running, &name, text, reply),
-        ScriptLine::Commands(name, what) => put_command(rt, running, &name, what, line, reply),
-        ScriptLine::AsksEnergy(name) => put_totals(rt, running, &name, Asked::Import, reply),
-        ScriptLine::AsksExport(name) => put_totals(rt, running, &name, Asked::Export, reply),
-        ScriptLine::AsksTotal(name) => put_totals(rt, running, &name, Asked::Figures, reply),
-        ScriptLine::AsksBoard(name) => put_board(rt, alloc, running, &name, reply),
+        | ScriptLine::SetsOrder(_, _) => put_fault(reply, LineFault::DeclaredLate)?,
+        ScriptLine::Tells(_) => put_fault(reply, LineFault::BadLine)?,
+        ScriptLine::AsksEnergy(name) => put_totals(rt, running, &name, Asked::Import, reply)?,
+        ScriptLine::AsksExport(name) => put_totals(rt, running, &name, Asked::Export, reply)?,
+        ScriptLine::AsksTotal(name) => put_totals(rt, running, &name, Asked::Figures, reply)?,
     }
+    Ok(None)
 }
 
 // Delivers a message of the station of this name at the clock's moment, and appends its reply.
-fn receive<J: Naming, C: HasCell, S: Serves<J, C>, R: Threads + Wait + Clock>(
+fn receive<J: Naming, C: HasCell, M: Drop, S: Serves<J, C, M>, R: Threads + Wait + Clock>(
     rt: &R,
     alloc: Global,
-    running: &Running<'_, J, C, S>,
+    running: &Running<'_, J, C, M, S>,
     name: &Name,
     text: &str,
     reply: &mut Vec<u8>,
-) -> Result<(), AllocError>
+) -> Result<Option<M>, AllocError>
     requires { reply.old.items ≡ [] }
-    ensures { OnOk result ((moment : ℕ) × IsSent running.now.desk.desk.now.stations name.now text.now moment reply.new.items) }
+    ensures sent { OnOk result ((moment : ℕ) × IsSent running.now.desk.desk.now.stations name.now text.now moment reply.new.items) }
+    ensures messaged { IfOk result (λ seen. IsMessaged (S.gives running.now.serves.now) running.now.desk.desk.now.stations name.now text.now reply.new.items seen) }
 {
     match running.desk.pass_of(rt, name) {
         Ok(mut pass) => {
@@ -199,44 +210,48 @@ fn receive<J: Naming, C: HasCell, S: Serves<J, C>, R: Threads + Wait + Clock>(
             let _lost = running.desk.lay(rt, pass);
             delivered
         }
-        Err(fault) => put_pass_fault(reply, fault),
+        Err(fault) => {
+            put_pass_fault(reply, fault)?;
+            Ok(None)
+        }
     }
 }
 
 // Delivers a message with a pass, and appends its reply.
-fn deliver<J: Naming, C: HasCell, S: Serves<J, C>, R: Threads + Wait + Clock>(
+fn deliver<J: Naming, C: HasCell, M: Drop, S: Serves<J, C, M>, R: Threads + Wait + Clock>(
     rt: &R,
     alloc: Global,
-    running: &Running<'_, J, C, S>,
+    running: &Running<'_, J, C, M, S>,
     pass: &mut Pass,
     text: &str,
     reply: &mut Vec<u8>,
-) -> Result<(), AllocError>
+) -> Result<Option<M>, AllocError>
     requires { reply.old.items ≡ [] }
-    ensures { OnOk result (IsMessageLine running.now.desk.desk.now.stations pass.old text.now pass.new reply.new.items) }
+    ensures { IfOk result (λ seen. IsMessageLine (S.gives running.now.serves.now) running.now.desk.desk.now.stations pass.old text.now pass.new reply.new.items seen) }
 {
     reply.reserve(MOST_ANSWER)?;
     let now = present(&mut SystemMoments { rt });
     let answered = answer_text(running.serves, rt, alloc, pass, text, now, &NoGate);
     match answered.text {
-        Some(text) => put_line(reply, text.as_str()),
-        None => put_line(reply, "silent"),
+        Some(text) => put_line(reply, text.as_str())?,
+        None => put_line(reply, "silent")?,
     }
+    Ok(answered.seen)
 }
 
 // Submits an operator's command on the station of this name, and appends its answer.
-fn put_command<J: Naming, C: HasCell, S: Serves<J, C>, R: Threads + Wait + Clock>(
+fn put_command<J: Naming, C: HasCell, M: Drop, S: Serves<J, C, M>, R: Threads + Wait + Clock>(
     rt: &R,
-    running: &Running<'_, J, C, S>,
+    running: &Running<'_, J, C, M, S>,
     name: &Name,
     what: Command,
     line: Option<&[u8]>,
     reply: &mut Vec<u8>,
-) -> Result<(), AllocError>
+) -> Result<Option<M>, AllocError>
     requires line { line_meaning (line_bytes line) ≡ commands name.now what }
     requires empty { reply.old.items ≡ [] }
     ensures answer { OnOk result (IsCommanded running.now.desk.desk.now.stations name.now what reply.new.items) }
-    ensures submitted { OnOk result (IsSubmitted running.now.desk.desk.now.stations name.now what reply.new.items) }
+    ensures submitted { IfOk result (λ seen. IsSubmitted (S.gives running.now.serves.now) running.now.desk.desk.now.stations name.now what reply.new.items seen) }
 {
     match running.desk.pass_of(rt, name) {
         Ok(mut pass) => {
@@ -244,28 +259,33 @@ fn put_command<J: Naming, C: HasCell, S: Serves<J, C>, R: Threads + Wait + Clock
             let _lost = running.desk.lay(rt, pass);
             submitted
         }
-        Err(fault) => put_pass_fault(reply, fault),
+        Err(fault) => {
+            put_pass_fault(reply, fault)?;
+            Ok(None)
+        }
     }
 }
 
 // Submits an operator's command with a pass of the station of this name, and appends its answer.
-fn submit<J: Naming, C: HasCell, S: Serves<J, C>, R: Threads + Wait + Clock>(
+fn submit<J: Naming, C: HasCell, M: Drop, S: Serves<J, C, M>, R: Threads + Wait + Clock>(
     rt: &R,
-    running: &Running<'_, J, C, S>,
+    running: &Running<'_, J, C, M, S>,
     pass: &mut Pass,
     name: &Name,
     what: Command,
     line: Option<&[u8]>,
     reply: &mut Vec<u8>,
-) -> Result<(), AllocError>
+) -> Result<Option<M>, AllocError>
     requires named { IsNamed running.now.desk.desk.now.stations name.now pass.old.station }
     requires line { line_meaning (line_bytes line) ≡ commands name.now what }
     requires empty { reply.old.items ≡ [] }
-    ensures { OnOk result ((at : StationPlace) → slice_get running.now.desk.desk.now.stations pass.old.station ≡ Some at → IsCommandLine at pass.old what pass.new reply.new.items) }
+    ensures { IfOk result (λ seen. (at : StationPlace) → slice_get running.now.desk.desk.now.stations pass.old.station ≡ Some at
+        → IsCommandLine (S.gives running.now.serves.now pass.old.station at) at pass.old what pass.new reply.new.items seen) }
 {
     reply.reserve(MOST_ANSWER)?;
-    let (answer, _told) = running.serves.command(rt, pass, name, what, line);
-    put_answer(reply, answer)
+    let (answer, _told, seen) = running.serves.command(rt, pass, name, what, line);
+    put_answer(reply, answer)?;
+    Ok(seen)
 }
 
 // Appends why there was no pass.
@@ -288,9 +308,9 @@ pub enum Asked {
 }
 
 // Appends totals of the station of this name.
-fn put_totals<J: Naming, C: HasCell, S: Serves<J, C>, R: Wait>(
+fn put_totals<J: Naming, C: HasCell, M: Drop, S: Serves<J, C, M>, R: Wait>(
     rt: &R,
-    running: &Running<'_, J, C, S>,
+    running: &Running<'_, J, C, M, S>,
     name: &Name,
     asked: Asked,
     reply: &mut Vec<u8>,
@@ -323,25 +343,30 @@ fn put_total(
 }
 
 // Appends the board of the site of this name.
-fn put_board<J: Naming, C: HasCell, S: Serves<J, C>, R: Wait>(
+fn put_board<J: Naming, C: HasCell, M: Drop, S: Serves<J, C, M>, R: Wait>(
     rt: &R,
     alloc: Global,
-    running: &Running<'_, J, C, S>,
+    running: &Running<'_, J, C, M, S>,
     name: &Name,
     reply: &mut Vec<u8>,
-) -> Result<(), AllocError>
+) -> Result<Option<M>, AllocError>
     requires { reply.old.items ≡ [] }
-    ensures { OnOk result (IsBoard running.now.plan.now.sites.items running.now.desk.desk.now.stations (position (λ s. bytes_eq name.now s.name) running.now.plan.now.sites.items) reply.new.items) }
+    ensures { IfOk result (λ seen. IsBoard (S.shows running.now.serves.now) running.now.plan.now.sites.items running.now.desk.desk.now.stations
+        (position (λ s. bytes_eq name.now s.name) running.now.plan.now.sites.items) reply.new.items seen) }
 {
     let Some(site) = site_of(running.plan, name) else {
-        return put_fault(reply, LineFault::UnknownSite);
+        put_fault(reply, LineFault::UnknownSite)?;
+        return Ok(None);
     };
     match running.board(rt, alloc, site) {
-        Ok(text) => {
+        Ok((text, seen)) => {
             *reply = text;
-            Ok(())
+            Ok(Some(seen))
         }
         Err(BoardFault::OutOfMemory) => Err(AllocError),
-        Err(BoardFault::Torn | BoardFault::UnknownStation) => put_line(reply, TORN),
+        Err(BoardFault::Torn | BoardFault::UnknownStation) => {
+            put_line(reply, TORN)?;
+            Ok(None)
+        }
     }
 }

@@ -1,40 +1,47 @@
 //! The desk of a plan while it is served.
-ghost use Rattle.std.specs.Prelude.{◌≡◌, ◌≤◌, ◌<◌, IfOk, IfSome, length, sum_by};
+ghost use Rattle.std.specs.Prelude.{◌≡◌, ◌≤◌, ◌<◌, IfOk, IfSome, Some, length, map, sum_by};
 ghost use Rattle.std.specs.List.{position};
 ghost use Rattle.std.specs.Str.{bytes_eq};
-ghost use Rattle.board_report.specs.Running.{IsRunningBoard};
+ghost use Rattle.board_report.specs.Running.{running_site};
+ghost use Rattle.board_report.specs.Texts.{board_text};
+ghost use Rattle.ledger_model.specs.Board.{sum_of_figures};
 ghost use Rattle.ledger_model.specs.Ranges.{most_plan_readings};
+ghost use Rattle.running_desk.specs.Replied.{AreBoardsOfPlan, IsShownBoard};
+ghost use Rattle.site_desk.specs.Operator.{AreBoardsAt};
 ghost use Rattle.site_desk.specs.Roster.{AreNewPlaces, IsNamed};
 ghost use Rattle.station_link.specs.Session.{MayLackPass};
 
 use crate::pooled_desk::{PassFault, PooledDesk};
 use crate::serves::Serves;
-use board_report::running_board;
-use ledger_model::Name;
+use board_report::{site_board, write_board};
+use ledger_model::{Figures, Name};
 use site_book::Naming;
 use site_desk::{BoardFault, HasCell, Plan};
 use station_cell::Pass;
+use station_ledger::StationBoard;
 use station_link::Why;
-use std::alloc::Global;
-use std::sync::Wait;
+use std::alloc::{AllocError, Global};
+use std::marker::PhantomData;
+use std::sync::{Mutex, Wait};
 use std::thread::Threads;
 
 /// The desk of a plan while it is served, with the pool of its passes.
 #[derive(Drop)]
-pub struct Running<'a, J: Naming, C: HasCell, S: Serves<J, C>> {
+pub struct Running<'a, J: Naming, C: HasCell, M, S: Serves<J, C, M>> {
     /// The plan.
     pub plan: &'a Plan,
     /// What is served.
     pub serves: &'a S,
     /// Its desk, with the pool of its passes.
     pub desk: PooledDesk<'a, J, C>,
+    named: PhantomData<Mutex<M>>,
     ghost same: { desk.desk.now ≡ S.roster serves.now },
     ghost stations: { desk.desk.now.stations ≡ S.stations serves.now },
     ghost opened: { AreNewPlaces plan.now.sites.items plan.now.stations.items desk.desk.now.stations },
     ghost readings: { sum_by (λ s. s.limits.readings) plan.now.stations.items ≤ most_plan_readings },
 }
 
-impl<'a, J: Naming, C: HasCell, S: Serves<J, C>> Running<'a, J, C, S> {
+impl<'a, J: Naming, C: HasCell, M: Drop, S: Serves<J, C, M>> Running<'a, J, C, M, S> {
     /// The desk of this plan, with the passes in the pool that were given out before.
     ///
     /// Conditions: the desk was opened for this plan, whose limits allow no more than 1,048,576 readings in all.
@@ -42,10 +49,16 @@ impl<'a, J: Naming, C: HasCell, S: Serves<J, C>> Running<'a, J, C, S> {
         requires opened { AreNewPlaces plan.now.sites.items plan.now.stations.items (S.roster serves.now).stations }
         requires readings { sum_by (λ s. s.limits.readings) plan.now.stations.items ≤ most_plan_readings }
         ensures plan { result.plan.now ≡ plan.now }
+        ensures serves { result.serves.now ≡ serves.now }
         ensures desk { result.desk.desk.now ≡ S.roster serves.now }
     {
         let desk = PooledDesk::open(serves.desk(), passes);
-        Running { plan, serves, desk }
+        Running {
+            plan,
+            serves,
+            desk,
+            named: PhantomData,
+        }
     }
 
     /// A pass of the station that a request asks for, with its name.
@@ -63,15 +76,47 @@ impl<'a, J: Naming, C: HasCell, S: Serves<J, C>> Running<'a, J, C, S> {
         }
     }
 
-    /// The text of the board of the site of this number, from 0. It waits for the locks of the site.
+    /// The text of the board of the site of this number, from 0, with what was seen of the journal then. It waits for the
+    /// locks of the site, and behind a write to the journal.
     ///
     /// Condition: the plan has the site ([`site_of`] tells).
-    pub fn board<R: Wait>(&self, rt: &R, alloc: Global, site: u16) -> Result<Vec<u8>, BoardFault>
+    pub fn board<R: Wait>(
+        &self,
+        rt: &R,
+        alloc: Global,
+        site: u16,
+    ) -> Result<(Vec<u8>, M), BoardFault>
         requires { site < length self.now.plan.now.sites.items }
-        ensures { IfOk result (λ text. IsRunningBoard self.now.plan.now.sites.items self.now.desk.desk.now.stations site text.items) }
+        ensures { IfOk result (λ r. IsShownBoard (S.shows self.now.serves.now) self.now.plan.now.sites.items self.now.desk.desk.now.stations site r.0.items (Some r.1)) }
     {
-        running_board(rt, alloc, self.plan, self.desk.desk, site)
+        let (boards, totals, seen) = self.serves.boards(rt, alloc, site)?;
+        match site_text(alloc, self.plan, site, boards, totals) {
+            Ok(text) => Ok((text, seen)),
+            Err(_) => Err(BoardFault::OutOfMemory),
+        }
     }
+}
+
+// The text of the board of the site of this number over these boards of its stations and the sum of their figures.
+fn site_text(
+    alloc: Global,
+    plan: &Plan,
+    site: u16,
+    boards: Vec<(Name, StationBoard)>,
+    totals: Figures,
+) -> Result<Vec<u8>, AllocError>
+    requires opened { AreBoardsOfPlan plan.now.sites.items plan.now.stations.items site boards.items }
+    requires totals { totals ≡ sum_of_figures (map (λ s. s.1.figures) boards.items) }
+    requires readings { sum_by (λ s. s.limits.readings) plan.now.stations.items ≤ most_plan_readings }
+    requires planned { site < length plan.now.sites.items }
+    ensures { IfOk result (λ text. text.items ≡ board_text (running_site plan.now.sites.items site boards.items)) }
+{
+    let number = site as usize;
+    let name = plan.sites.as_slice()[number].name.copied();
+    let period = plan.period(number);
+    let order = plan.order(number);
+    let board = site_board(alloc, &name, period, order, totals, boards)?;
+    write_board(alloc, &board)
 }
 
 // Why a station that got no pass is refused.

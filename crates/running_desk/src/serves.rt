@@ -1,24 +1,41 @@
 //! What a live server serves.
 ghost use Rattle.std.specs.Prelude.{◌≡◌, Some, slice_get};
 
-use ledger_model::{Answer, Command, Name};
+use ledger_model::{Answer, Command, Figures, Name};
 use site_book::{Naming, Told};
-use site_desk::{Desk, HasCell, NoGate};
+use site_desk::{BoardFault, Desk, HasCell, NoGate};
 use station_cell::{Pass, StationCell};
+use station_ledger::StationBoard;
 use station_link::Delivers;
+use std::alloc::Global;
 use std::sync::Wait;
 use std::time::Clock;
 
-/// A desk that a live server serves: how it takes what stations send and what an operator commands.
-pub trait Serves<J: Naming, C: HasCell>: Delivers<J> {
-    ghost use Rattle.std.specs.Prelude.{◌≡◌, Some, slice_get};
+/// What may come to accept no change any more, whatever comes; a server then ends.
+pub trait MayBreak {
+    /// Tells whether it is so. It waits for nobody.
+    fn is_broken(&self) -> bool;
+}
+
+/// The boards of a site's stations, the sums of their figures, and what was seen of the journal then (M).
+pub type Seen<M> = (Vec<(Name, StationBoard)>, Figures, M);
+
+/// A desk that a live server serves: how it takes what stations send and what an operator commands, and the boards of its
+/// sites. With the boards of a site it hands out what it saw of its journal then; `shows` says what that tells of them.
+pub trait Serves<J: Naming, C: HasCell, M>: Delivers<J, M> + MayBreak {
+    ghost use Rattle.std.specs.Prelude.{◌≡◌, ℕ, List, Some, IfOk, map, slice_get};
+    ghost use Rattle.ledger_model.specs.Board.{Board, sum_of_figures};
     ghost use Rattle.script_lines.specs.LineMeaning.{commands, line_meaning};
     ghost use Rattle.script_lines.specs.Lines.{line_bytes};
     ghost use Rattle.site_desk.specs.declared.roster.StationPlace.{StationPlace};
     ghost use Rattle.site_desk.specs.Roster.{IsNamed, Roster};
+    ghost use Rattle.site_desk.specs.Operator.{AreBoardsAt};
     ghost use Rattle.site_desk.specs.Submit.{Submitted};
+    ghost use Rattle.station_link.specs.Answer.{IsGivenAt};
 
     ghost roster: { Self → Roster };
+
+    ghost shows: { Self → ℕ → List (List ℕ × Board) → M → Type 0 };
 
     /// The desk, of which boards and totals are read.
     fn desk(&self) -> &Desk<J, C>
@@ -36,17 +53,30 @@ pub trait Serves<J: Naming, C: HasCell>: Delivers<J> {
         name: &Name,
         what: Command,
         line: Option<&[u8]>,
-    ) -> (Answer, Option<Told<J>>)
+    ) -> (Answer, Option<Told<J>>, Option<M>)
         requires named { IsNamed (roster self.now).stations name.now pass.old.station }
         requires line { line_meaning (line_bytes line) ≡ commands name.now what }
-        ensures settled { (at : StationPlace) → slice_get (roster self.now).stations pass.old.station ≡ Some at → Submitted at pass.old what result.0 pass.new result.1 };
+        ensures settled { (at : StationPlace) → slice_get (roster self.now).stations pass.old.station ≡ Some at → Submitted at pass.old what result.0 pass.new result.1 }
+        ensures given { IsGivenAt (Self.gives self.now) (roster self.now).stations pass.old.station what result.0 result.1 result.2 };
 
-    /// Tells whether it accepts no change any more, whatever comes; a server then ends. It waits for nobody.
-    fn is_broken(&self) -> bool;
+    /// The boards of the stations of the site of this number, as [`Desk::site_boards`](site_desk::Desk::site_boards) gives
+    /// them.
+    fn boards<R: Wait>(&self, rt: &R, alloc: Global, site: u16) -> Result<Seen<M>, BoardFault>
+        ensures boards { IfOk result (λ r. AreBoardsAt (roster self.now).stations site r.0.items) }
+        ensures totals { IfOk result (λ r. r.1 ≡ sum_of_figures (map (λ s. s.1.figures) r.0.items)) }
+        ensures shown { IfOk result (λ r. shows self.now site r.0.items r.2) };
 }
 
-impl<J: Naming> Serves<J, StationCell> for Desk<J> {
+impl<J: Naming> MayBreak for Desk<J> {
+    fn is_broken(&self) -> bool {
+        false
+    }
+}
+
+impl<J: Naming> Serves<J, StationCell, ()> for Desk<J> {
     ghost roster = { λ d. d };
+
+    ghost shows = { λ _ _ _ _. Unit {0} };
 
     fn desk(&self) -> &Desk<J> {
         self
@@ -59,11 +89,13 @@ impl<J: Naming> Serves<J, StationCell> for Desk<J> {
         _name: &Name,
         what: Command,
         _line: Option<&[u8]>,
-    ) -> (Answer, Option<Told<J>>) {
-        self.submit(rt, pass, what, &NoGate)
+    ) -> (Answer, Option<Told<J>>, Option<()>) {
+        let (answer, told) = self.submit(rt, pass, what, &NoGate);
+        (answer, told, None)
     }
 
-    fn is_broken(&self) -> bool {
-        false
+    fn boards<R: Wait>(&self, rt: &R, alloc: Global, site: u16) -> Result<Seen<()>, BoardFault> {
+        let (boards, totals) = self.site_boards(rt, alloc, site)?;
+        Ok((boards, totals, ()))
     }
 }

@@ -82,13 +82,13 @@ pub submitted_pass : (stations : List StationPlace) (p : Held) (command : Comman
 submitted_pass stations p command a p' told h = next_by stations (slice_get stations p.station) p command a p' told refl h
 
 -- what is answered to a delivery has a reply
-pub delivered_is_replied : {E : Type 0} (stations : List StationPlace) (p : Held) (key : KeyName) (event : EventContent) (result : Result (Answer × Option Known) E) (p' : Held) → EachDeliveryIsAnswered
+pub delivered_is_replied : {E M : Type 0} (stations : List StationPlace) (p : Held) (key : KeyName) (event : EventContent) (result : Result (Answer × Option Known × Option M) E) (p' : Held) → EachDeliveryIsAnswered
     → IfOk result (λ r. IsSubmitted stations p (Deliver key event) r.0 p' r.1) → IfOk result (λ r. answers_delivery r.0 ≡ true)
 delivered_is_replied stations p key event (Ok r) p' law h = submitted_is_replied stations p key event r.0 p' r.1 law h
 delivered_is_replied stations p key event (Err e) p' law h = h
 
 -- the pass after a delivery, and where there was no memory for it
-pub delivered_pass : {E : Type 0} (stations : List StationPlace) (p : Held) (command : Command) (result : Result (Answer × Option Known) E) (p' : Held)
+pub delivered_pass : {E M : Type 0} (stations : List StationPlace) (p : Held) (command : Command) (result : Result (Answer × Option Known × Option M) E) (p' : Held)
     → IfOk result (λ r. IsSubmitted stations p command r.0 p' r.1) → OnErr result (p' ≡ p) → IsNextPass p p'
 delivered_pass stations p command (Ok r) p' h same = submitted_pass stations p command r.0 p' r.1 h
 delivered_pass stations p command (Err e) p' h same =

@@ -31,15 +31,20 @@ pub record IsSubmitted (stations : List StationPlace) (p : Held) (command : Comm
   pub settled : (at : StationPlace) → slice_get stations p.station ≡ Some at → Submitted at p command answer p' told
   pub stranger : slice_get stations p.station ≡ None → (answer ≡ Refused ChangesExhausted) × IsUnchanged p p' told
 
+-- What comes with the answer to a command with a pass of the station of this number: what is known of it at the station's place.
+abbrev pub IsGivenAt : {M : Type 0} → (ℕ → StationPlace → Command → Answer → Option Known → Option M → Type 0) → List StationPlace → ℕ → Command → Answer → Option Known → Option M → Type 0
+IsGivenAt gives stations number command answer told seen = (at : StationPlace) → slice_get stations number ≡ Some at → gives number at command answer told seen
+
 -- The pass after one text: it is of the same station, and made at most one change more.
 pub record IsNextPass (p p' : Held) : Type 0 where
   pub station : p'.station ≡ p.station
   pub changes : p'.changes ≤ p.changes + 1
 
--- The reply to an event is that to an answer which the desk can give to its delivery.
-pub record IsDelivered (stations : List StationPlace) (p : Held) (id : List ℕ) (request : Request) (text : Option (List ℕ)) (p' : Held) (told : Option Known) : Type 0 where
+-- The reply to an event is that to an answer which the desk can give to its delivery, and what comes with it is of that answer.
+pub record IsDelivered {M : Type 0} (gives : ℕ → StationPlace → Command → Answer → Option Known → Option M → Type 0) (stations : List StationPlace) (p : Held) (id : List ℕ) (request : Request) (text : Option (List ℕ)) (p' : Held) (told : Option Known) (seen : Option M) : Type 0 where
   pub answer : Answer
   pub submitted : IsSubmitted stations p (Deliver request.key request.event) answer p' told
+  pub given : IsGivenAt gives stations p.station (Deliver request.key request.event) answer told seen
   pub reply : text ≡ Some (event_reply_bytes id request.token answer)
 
 -- This text is ready, or none is, and nothing changed.
@@ -54,15 +59,15 @@ pub record TellsMemory (words : List ℕ) (p : Held) (text : Option (List ℕ)) 
   pub ready : IsReady (Some reply) p text p' told
 
 -- What a meaning is answered: silence, the ready reply, or the reply to the delivery.
-abbrev pub AnswersMeaning : List StationPlace → Held → Meaning → Option (List ℕ) → Held → Option Known → Type 0
-AnswersMeaning stations p Silence text p' told = IsReady None p text p' told
-AnswersMeaning stations p (Ready reply) text p' told = IsReady (Some reply) p text p' told
-AnswersMeaning stations p (Event id request) text p' told = IsDelivered stations p id request text p' told
+abbrev pub AnswersMeaning : {M : Type 0} → (ℕ → StationPlace → Command → Answer → Option Known → Option M → Type 0) → List StationPlace → Held → Meaning → Option (List ℕ) → Held → Option Known → Option M → Type 0
+AnswersMeaning gives stations p Silence text p' told seen = IsReady None p text p' told
+AnswersMeaning gives stations p (Ready reply) text p' told seen = IsReady (Some reply) p text p' told
+AnswersMeaning gives stations p (Event id request) text p' told seen = IsDelivered gives stations p id request text p' told seen
 
 -- What a station's words are answered at a moment; the last tells whether there was no memory to read them.
-abbrev pub Answers : List StationPlace → Held → List ℕ → ℕ → Option (List ℕ) → Held → Option Known → Bool → Type 0
-Answers stations p words now text p' told true = TellsMemory words p text p' told
-Answers stations p words now text p' told false = AnswersMeaning stations p (message words now) text p' told
+abbrev pub Answers : {M : Type 0} → (ℕ → StationPlace → Command → Answer → Option Known → Option M → Type 0) → List StationPlace → Held → List ℕ → ℕ → Option (List ℕ) → Held → Option Known → Option M → Bool → Type 0
+Answers gives stations p words now text p' told seen true = TellsMemory words p text p' told
+Answers gives stations p words now text p' told seen false = AnswersMeaning gives stations p (message words now) text p' told seen
 
 -- The reply in a text that was lent, where there is one.
 abbrev pub reply_of : Bool → List ℕ → Option (List ℕ)

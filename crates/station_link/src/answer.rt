@@ -3,7 +3,7 @@ ghost use Rattle.std.specs.Prelude.{◌≡◌, ◌≤◌, IsTrue, IfOk, OnErr, c
 ghost use Rattle.ledger_model.specs.declared.command.Command.{Command};
 ghost use Rattle.ocppj_frame.specs.Ranges.{longest_message};
 ghost use Rattle.transaction_event.specs.Reply.{answers_delivery, memory_reply};
-ghost use Rattle.station_link.specs.Answer.{Answers, Asks, IsNextPass, IsSubmitted, reply_of};
+ghost use Rattle.station_link.specs.Answer.{Answers, Asks, IsGivenAt, IsNextPass, IsSubmitted, reply_of};
 
 use crate::delivers::Delivers;
 use arrayvec::ArrayString;
@@ -19,28 +19,32 @@ use transaction_event::{Asked, Delivery, deliveries_are_answered, put_event_repl
 
 /// What a text of a station came to.
 #[derive(Drop)]
-pub struct Answered<J: Naming> {
+pub struct Answered<J: Naming, M> {
     /// The reply; `None` where the text gets none.
     pub text: Option<ArrayString<512>>,
     /// What the site's book told, where the text's event was accepted.
     pub told: Option<Told<J>>,
+    /// What the desk handed out with it.
+    pub seen: Option<M>,
     /// Whether the reply tells that there was no memory; nothing changed then.
     pub memory: bool,
 }
 
 /// What a text of a station came to, whose reply was put into a text that was lent.
 #[derive(Drop)]
-pub struct Replied<J: Naming> {
+pub struct Replied<J: Naming, M> {
     /// Whether it has a reply, which is then the lent text.
     pub has_reply: bool,
     /// What the site's book told, where the text's event was accepted.
     pub told: Option<Told<J>>,
+    /// What the desk handed out with it.
+    pub seen: Option<M>,
     /// Whether the reply tells that there was no memory; nothing changed then.
     pub memory: bool,
 }
 
 // The answer to the delivery of an event, which always has a reply.
-fn deliver<J: Naming, D: Delivers<J>, G: Gate, R: Wait + Clock>(
+fn deliver<J: Naming, M: Drop, D: Delivers<J, M>, G: Gate, R: Wait + Clock>(
     desk: &D,
     rt: &R,
     alloc: Global,
@@ -49,9 +53,10 @@ fn deliver<J: Naming, D: Delivers<J>, G: Gate, R: Wait + Clock>(
     key: Key,
     event: Event,
     gate: &G,
-) -> Result<(Answer, Option<Told<J>>), AllocError>
+) -> Result<(Answer, Option<Told<J>>, Option<M>), AllocError>
     requires { Asks text.now key event }
     ensures submitted { IfOk result (λ r. IsSubmitted (D.stations desk.now) pass.old (Command.Deliver key event) r.0 pass.new r.1) }
+    ensures given { IfOk result (λ r. IsGivenAt (D.gives desk.now) (D.stations desk.now) pass.old.station (Command.Deliver key event) r.0 r.1 r.2) }
     ensures answered { IfOk result (λ r. answers_delivery r.0 ≡ true) }
     ensures same { OnErr result (pass.new ≡ pass.old) }
     ensures next { IsNextPass pass.old pass.new }
@@ -71,7 +76,7 @@ fn memory_reply() -> ArrayString<512>
 /// and the reply is that to the desk's answer; any other text has a ready reply or none. It may wait for the
 /// locks of the station and its site. Memory is taken only before the desk takes the event, so a text that finds
 /// none changes nothing.
-pub fn answer_text<J: Naming, D: Delivers<J>, G: Gate, R: Wait + Clock>(
+pub fn answer_text<J: Naming, M: Drop, D: Delivers<J, M>, G: Gate, R: Wait + Clock>(
     desk: &D,
     rt: &R,
     alloc: Global,
@@ -79,8 +84,8 @@ pub fn answer_text<J: Naming, D: Delivers<J>, G: Gate, R: Wait + Clock>(
     text: &str,
     now: Moment,
     gate: &G,
-) -> Answered<J>
-    ensures answers { Answers (D.stations desk.now) pass.old text.now now (option_map (λ t. t.bytes) result.text) pass.new result.told result.memory }
+) -> Answered<J, M>
+    ensures answers { Answers (D.gives desk.now) (D.stations desk.now) pass.old text.now now (option_map (λ t. t.bytes) result.text) pass.new result.told result.seen result.memory }
     ensures next { IsNextPass pass.old pass.new }
     ensures while_reading { IsTrue result.memory → length text.now ≤ longest_message }
 {
@@ -88,18 +93,20 @@ pub fn answer_text<J: Naming, D: Delivers<J>, G: Gate, R: Wait + Clock>(
     let Replied {
         has_reply,
         told,
+        seen,
         memory,
     } = put_answer(desk, rt, alloc, pass, text, now, gate, &mut reply);
     Answered {
         text: if has_reply { Some(reply) } else { None },
         told,
+        seen,
         memory,
     }
 }
 
 /// Answers a text as [`answer_text`] does, and puts the reply into `reply`, in the place of what it had. What that holds
 /// where the text gets none has no meaning.
-pub fn put_answer<J: Naming, D: Delivers<J>, G: Gate, R: Wait + Clock>(
+pub fn put_answer<J: Naming, M: Drop, D: Delivers<J, M>, G: Gate, R: Wait + Clock>(
     desk: &D,
     rt: &R,
     alloc: Global,
@@ -108,8 +115,8 @@ pub fn put_answer<J: Naming, D: Delivers<J>, G: Gate, R: Wait + Clock>(
     now: Moment,
     gate: &G,
     reply: &mut ArrayString<512>,
-) -> Replied<J>
-    ensures answers { Answers (D.stations desk.now) pass.old text.now now (reply_of result.has_reply reply.new.bytes) pass.new result.told result.memory }
+) -> Replied<J, M>
+    ensures answers { Answers (D.gives desk.now) (D.stations desk.now) pass.old text.now now (reply_of result.has_reply reply.new.bytes) pass.new result.told result.seen result.memory }
     ensures next { IsNextPass pass.old pass.new }
     ensures while_reading { IsTrue result.memory → length text.now ≤ longest_message }
 {
@@ -122,11 +129,12 @@ pub fn put_answer<J: Naming, D: Delivers<J>, G: Gate, R: Wait + Clock>(
                 token,
             },
         ) => match deliver(desk, rt, alloc, pass, text, key, event, gate) {
-            Ok((answer, told)) => {
+            Ok((answer, told, seen)) => {
                 put_event_reply(reply, id.as_str(), token, &answer);
                 Replied {
                     has_reply: true,
                     told,
+                    seen,
                     memory: false,
                 }
             }
@@ -135,6 +143,7 @@ pub fn put_answer<J: Naming, D: Delivers<J>, G: Gate, R: Wait + Clock>(
                 Replied {
                     has_reply: true,
                     told: None,
+                    seen: None,
                     memory: true,
                 }
             }
@@ -142,11 +151,13 @@ pub fn put_answer<J: Naming, D: Delivers<J>, G: Gate, R: Wait + Clock>(
         Asked::Reply { memory } => Replied {
             has_reply: true,
             told: None,
+            seen: None,
             memory,
         },
         Asked::Silent => Replied {
             has_reply: false,
             told: None,
+            seen: None,
             memory: false,
         },
     }

@@ -7,14 +7,20 @@ use std::alloc::{AllocError, Global};
 use std::sync::Wait;
 use std::time::Clock;
 
-/// What takes the events that the texts of sessions ask to deliver: a desk, or one with a journal.
-pub trait Delivers<J: Naming> {
-    ghost use Rattle.std.specs.Prelude.{◌≡◌, List, IfOk, OnErr};
+/// What takes the events that the texts of sessions ask to deliver: a desk, or one with a journal. With an answer it may
+/// hand out what it saw of its journal then (M); `gives` says what that tells of the command on the station of this number
+/// and place.
+pub trait Delivers<J: Naming, M> {
+    ghost use Rattle.std.specs.Prelude.{◌≡◌, ℕ, List, Option, IfOk, OnErr};
+    ghost use Rattle.ledger_model.specs.declared.answer.Answer.{Answer};
     ghost use Rattle.ledger_model.specs.declared.command.Command.{Command};
     ghost use Rattle.site_desk.specs.declared.roster.StationPlace.{StationPlace};
-    ghost use Rattle.station_link.specs.Answer.{Asks, IsSubmitted};
+    ghost use Rattle.site_book.specs.Book.{Known};
+    ghost use Rattle.station_link.specs.Answer.{Asks, IsGivenAt, IsSubmitted};
 
     ghost stations: { Self → List StationPlace };
+
+    ghost gives: { Self → ℕ → StationPlace → Command → Answer → Option Known → Option M → Type 0 };
 
     /// Takes the delivery that a text asks for, with a pass, and answers it as
     /// [`Desk::submit`](site_desk::Desk::submit) does. Where there is no memory, nothing changed.
@@ -29,14 +35,17 @@ pub trait Delivers<J: Naming> {
         key: Key,
         event: Event,
         gate: &G,
-    ) -> Result<(Answer, Option<Told<J>>), AllocError>
+    ) -> Result<(Answer, Option<Told<J>>, Option<M>), AllocError>
         requires { Asks text.now key event }
         ensures submitted { IfOk result (λ r. IsSubmitted (stations self.now) pass.old (Command.Deliver key event) r.0 pass.new r.1) }
+        ensures given { IfOk result (λ r. IsGivenAt (gives self.now) (stations self.now) pass.old.station (Command.Deliver key event) r.0 r.1 r.2) }
         ensures same { OnErr result (pass.new ≡ pass.old) };
 }
 
-impl<J: Naming> Delivers<J> for Desk<J> {
+impl<J: Naming> Delivers<J, ()> for Desk<J> {
     ghost stations = { λ d. d.stations };
+
+    ghost gives = { λ _ _ _ _ _ _ _. Unit {0} };
 
     fn deliver<G: Gate, R: Wait + Clock>(
         &self,
@@ -47,7 +56,8 @@ impl<J: Naming> Delivers<J> for Desk<J> {
         key: Key,
         event: Event,
         gate: &G,
-    ) -> Result<(Answer, Option<Told<J>>), AllocError> {
-        Ok(self.submit(rt, pass, Command::Deliver(key, event), gate))
+    ) -> Result<(Answer, Option<Told<J>>, Option<()>), AllocError> {
+        let (answer, told) = self.submit(rt, pass, Command::Deliver(key, event), gate);
+        Ok((answer, told, None))
     }
 }

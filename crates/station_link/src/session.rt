@@ -115,7 +115,8 @@ pub fn serve_connection<
 /// sent. It gives the pass back whatever ends the session, want of memory included.
 pub fn serve_session<
     J: Naming,
-    D: Delivers<J>,
+    M: Drop,
+    D: Delivers<J, M>,
     R: Wait + Clock,
     S: Read + Write + Drop,
     G: Gate,
@@ -184,7 +185,8 @@ struct Ended {
 // Answers message after message until the session ends.
 fn answer_all<
     J: Naming,
-    D: Delivers<J>,
+    M: Drop,
+    D: Delivers<J, M>,
     R: Wait + Clock,
     S: Read + Write + Drop,
     G: Gate,
@@ -282,7 +284,8 @@ fn is_tick(error: &Error) -> bool {
 // Answers a message that came, with a text for the reply, and tells whether it was a text.
 fn answer_message<
     J: Naming,
-    D: Delivers<J>,
+    M: Drop,
+    D: Delivers<J, M>,
     R: Wait + Clock,
     S: Read + Write + Drop,
     G: Gate,

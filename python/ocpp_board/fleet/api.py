@@ -23,7 +23,7 @@ from ocpp_board.energies import FLOW, MWH_OF_A_KWH, flow_of
 from ocpp_board.fleet import api_queries, billing
 from ocpp_board.fleet.api_schema import OPENAPI, SCHEMAS
 from ocpp_board.fleet.cells import Site, Wrong, merged
-from ocpp_board.fleet.histories import Entry, History, history_of, stations_of
+from ocpp_board.fleet.histories import Entry, History, history_of, named_in_log, stations_of
 from ocpp_board.fleet.operators import SEES
 from ocpp_board.fleet.page_app import Asked, desk_of, text_or_wrong
 from ocpp_board.fleet.page_render import zone_of
@@ -337,7 +337,7 @@ async def transactions(asked: Asked) -> Response:
     found = await cell.ask(api_queries.TRANSACTIONS, *values, paging.key[0], paging.rows + 1)
     late = set[str]()
     if any(one["closing"] is not None for one in found):
-        late = {one["name"] for one in await cell.ask(api_queries.LATE, *values)}
+        late = await named_in_log(cell, *values)
     lines = [transaction_json(one, row, one["transaction"] in late) for one in found]
     page = paging.page("transactions", lines, lambda one: [one["transaction"]])
     return answer({"station": name, "site": row["site"], "zone": row["zone"], **page})

@@ -79,12 +79,6 @@ select distinct on (transaction collate "C") * from (
     from own_board_transaction where shard = $1 and station = $2 and transaction collate "C" > $3) as t
 order by transaction collate "C", closing is null limit $4
 """
-# The transactions that lines of a station in the log name.
-LATE = r"""
-select distinct lower(coalesce((regexp_match(line, '"transactionId"[ \t\r\n]*:[ \t\r\n]*"([^"]*)"'))[1],
-    split_part(line, ' ', 3))) as name
-from own_log where shard = $1 and split_part(line, ' ', 2) = $2
-"""
 REFUSALS = """
 select r.* from own_refusal r join own_station t using (shard, station)
 where t.site = $1 and r.shard = any($2)

@@ -22,9 +22,10 @@ from ocpp_board.fleet.plans import Plan, Reckoning
 from ocpp_board.fleet.replays import Replay
 from ocpp_board.limits import GREATEST_LIMITS
 
-# Of these transactions those that are archived, with their lines, or with the archive that an earlier version wrote.
+# Of these transactions those that are archived, with the site at which that was, and with their lines, or with the
+# archive that an earlier version wrote.
 ARCHIVED = """
-select w.station, w.transaction, l.lines, c.archive
+select w.station, w.transaction, coalesce(l.site, t.site) as site, l.lines, c.archive
 from unnest($2::text[], $3::text[]) as w (station, transaction)
 left join own_archived_lines l on l.shard = $1 and l.station = w.station and l.transaction = w.transaction
 left join own_archived_transaction t

@@ -1,11 +1,13 @@
 """The databases of the cells that pages and the API show: queries with an end to waiting, and operators' lines.
 
 A cell that does not answer is told, and the others are shown. All that is asked here is for sites that the operator
-sees; a site of others is as one that is not there.
+sees; a site of others is as one that is not there. What is shown may come from a standby; what changes something, or
+has to be of this moment, is asked of the host that takes writes.
 """
 
 import asyncio
 import secrets
+import time
 from collections.abc import Iterable, Sequence
 from datetime import date, datetime, timedelta
 from http import HTTPStatus
@@ -24,6 +26,7 @@ from ocpp_board.fleet.database import (
     connect,
     new_token,
     said,
+    session_of,
     within,
 )
 from ocpp_board.fleet.figures import Figures, joined
@@ -38,6 +41,8 @@ CONNECTIONS, MOST_WAITING = 4, 64
 PATIENCE, ANSWERED = 15, 15
 # Seconds for which lines may wait, or no worker beat, before boards are older than they should be.
 LATE = 30
+# Seconds for which no standby is asked, once none answered.
+WITHOUT = 5
 
 # A site's figures, of its stations in this cell and a shard: what is in the log, what archives have, what is settled.
 # What a closing archived counts once the board of a station is without it, some seconds later.
@@ -94,16 +99,22 @@ where p.site = $1 order by p.shard
 """
 ARCHIVED = """
 select s.station, s.transactions - coalesce(l.transactions, 0)::bigint as transactions,
-       s.complete - coalesce(l.complete, 0)::bigint as complete, s.missing - coalesce(l.missing, 0)::bigint as missing
+       s.complete - coalesce(l.complete, 0)::bigint as complete, s.missing - coalesce(l.missing, 0)::bigint as missing,
+       s.up - coalesce(l.up, 0)::bigint as up, s.down - coalesce(l.down, 0)::bigint as down,
+       s.export_up - coalesce(l.export_up, 0)::bigint as export_up,
+       s.export_down - coalesce(l.export_down, 0)::bigint as export_down
 from own_archived_sum s left join (
-    select station, sum(transactions) as transactions, sum(complete) as complete, sum(missing) as missing
+    select station, sum(transactions) as transactions, sum(complete) as complete, sum(missing) as missing,
+        sum(up) as up, sum(down) as down, sum(export_up) as export_up, sum(export_down) as export_down
     from own_archived_total where shard = $1 and site = $2 and closing > $3 group by station) l using (station)
 where s.shard = $1 and s.site = $2
 """
+# The periods of some time: with years of others a page would be long, and long in the making.
 FLOWS = """
 select station, starts, sum(up)::bigint as up, sum(down)::bigint as down, sum(export_up)::bigint as export_up,
        sum(export_down)::bigint as export_down
-from own_archived_period where shard = $1 and site = $2 and closing <= $3 group by station, starts
+from own_archived_period where shard = $1 and site = $2 and closing <= $3 and starts >= $4 and starts < $5
+group by station, starts
 """
 FINDINGS = """
 select station, transaction, finding, times, first, detail from own_finding where shard = $1 and site = $2
@@ -163,10 +174,12 @@ class Deed(NamedTuple):
 class Cell:
     """A cell's database, and the answers that are waited for."""
 
-    def __init__(self, dsn: str) -> None:
+    def __init__(self, dsn: str, has_standby: bool = False) -> None:
+        """`has_standby`: what is shown comes from a standby, where one answers."""
         self.dsn, self.name = dsn, f"page_{secrets.token_hex(6)}"
-        # Sessions that are free.
-        self.free: list[Any] = []
+        self.has_standby, self.without_until = has_standby, 0.0
+        # Sessions that are free, with the host that takes writes and with a standby.
+        self.free: dict[bool, list[Any]] = {False: [], True: []}
         self.room = Room(CONNECTIONS, MOST_WAITING)
         # The session that is told answers, by whose tokens they are known; whoever no longer waits is gone from here.
         self.listening: Any = None
@@ -174,22 +187,32 @@ class Cell:
         self.waiting: WeakValueDictionary[int, asyncio.Future[str]] = WeakValueDictionary()
 
     async def ask(self, query: str, *values: Any) -> list[Any]:
-        """The rows of a query, which is asked once more where its session turns out to have ended. Raises Wrong where
-        too much is asked at once."""
+        """The rows of a query that shows something. Raises Wrong where too much is asked at once."""
         async with self.room:
-            return await self.asked(query, *values)
+            if self.has_standby and time.monotonic() >= self.without_until:
+                try:
+                    return await self.asked(True, query, *values)
+                except (Unreachable, Fault, asyncpg.PostgresError):
+                    self.without_until = time.monotonic() + WITHOUT
+            return await self.asked(False, query, *values)
 
-    async def asked(self, query: str, *values: Any) -> list[Any]:
-        """The rows of a query by a session that is free, or by a new one."""
+    async def do(self, query: str, *values: Any) -> list[Any]:
+        """The same of a query that changes something, or what it gives has to be of this moment."""
+        async with self.room:
+            return await self.asked(False, query, *values)
+
+    async def asked(self, wants_standby: bool, query: str, *values: Any) -> list[Any]:
+        """The rows of a query by a session that is free, or by a new one. It is asked once more where its session turns
+        out to have ended."""
+        sessions = self.free[wants_standby]
         while True:
-            had = self.free.pop() if self.free else None
-            session = had or await connect(
-                self.dsn, application_name=self.name, statement_timeout=f"{PATIENCE}s"
-            )
+            had = sessions.pop() if sessions else None
+            settings = {"application_name": self.name, "statement_timeout": f"{PATIENCE}s"}
+            session = had or await session_of(self.dsn, wants_standby, settings)
             try:
                 rows: list[Any] = await within(PATIENCE, session, "fetch", query, *values)
             except asyncpg.QueryCanceledError:
-                self.free.append(session)
+                sessions.append(session)
                 raise Wrong(
                     HTTPStatus.SERVICE_UNAVAILABLE,
                     f"the database took more than {PATIENCE} seconds",
@@ -200,9 +223,9 @@ class Cell:
                     raise Unreachable(f"{self.dsn}: {said(fault)}") from None
                 continue
             except asyncpg.PostgresError:
-                self.free.append(session)
+                sessions.append(session)
                 raise
-            self.free.append(session)
+            sessions.append(session)
             return rows
 
     def answered(self, _session: Any, _pid: int, _channel: str, payload: str) -> None:
@@ -242,14 +265,14 @@ class Cell:
             answer: str = await asyncio.wait_for(wait, ANSWERED)
         except asyncio.TimeoutError:
             return f"none yet: the line came as number {number}, and no worker answered in {ANSWERED} seconds"
-        await self.ask(TELL, token, answer)
+        await self.do(TELL, token, answer)
         return answer
 
     async def done_before(self, form: str) -> str:
         """The answer to what a form asked for before."""
         end = asyncio.get_running_loop().time() + ANSWERED
         while True:
-            rows = await self.ask(DONE, form)
+            rows = await self.do(DONE, form)
             if rows and rows[0]["answer"] is not None:
                 return str(rows[0]["answer"])
             if asyncio.get_running_loop().time() > end:
@@ -278,19 +301,18 @@ class Found(NamedTuple):
 class Cells:
     """All cells. The first one has the operators."""
 
-    def __init__(self, dsns: Sequence[str]) -> None:
-        self.cells = [Cell(dsn) for dsn in dsns]
+    def __init__(self, dsns: Sequence[str], has_standby: bool = False) -> None:
+        self.cells = [Cell(dsn, has_standby) for dsn in dsns]
 
     @property
     def home(self) -> Cell:
         """The cell that has the operators."""
         return self.cells[0]
 
-    async def ask_all(self, query: str, *values: Any) -> Found:
-        """Each cell's rows. Raises Wrong where none answers."""
-        found = await asyncio.gather(
-            *(cell.ask(query, *values) for cell in self.cells), return_exceptions=True
-        )
+    async def ask_all(self, query: str, *values: Any, is_new: bool = False) -> Found:
+        """Each cell's rows. `is_new`: they have to be of this moment. Raises Wrong where no cell answers."""
+        jobs = (cell.do if is_new else cell.ask for cell in self.cells)
+        found = await asyncio.gather(*(job(query, *values) for job in jobs), return_exceptions=True)
         rows, faults = list[tuple[Cell, list[Any]]](), list[str]()
         for cell, answer in zip(self.cells, found):
             if isinstance(answer, (Unreachable, Fault, asyncpg.PostgresError)):
@@ -335,7 +357,7 @@ class Cells:
 
     async def behind(self) -> list[Late]:
         """Why boards are older than they should be."""
-        found, late = await self.ask_all(WAITS), list[Late]()
+        found, late = await self.ask_all(WAITS, is_new=True), list[Late]()
         for _, row in found.pairs():
             begin = row["now"] - timedelta(seconds=LATE)
             if row["waits"] and row["waits"] < begin:
@@ -358,9 +380,11 @@ async def merged(
     return found
 
 
-async def board_text(name: str, rows: Iterable[tuple[Cell, Any]]) -> tuple[str, int]:
-    """A site's board for each way in which it is reckoned, with what archives have, and how many sessions these
-    are."""
+async def board_text(
+    name: str, rows: Iterable[tuple[Cell, Any]], begin: datetime, end: datetime
+) -> tuple[str, int]:
+    """A site's board for each way in which it is reckoned, with what archives have, and how many sessions these are. Of
+    archives it has the periods between these moments; its totals are of all."""
     rows, boards, count = list(rows), list[str](), 0
     for reckoning in dict.fromkeys(Reckoning.of(row) for _, row in rows):
         same = [(cell, row) for cell, row in rows if Reckoning.of(row) == reckoning]
@@ -371,12 +395,15 @@ async def board_text(name: str, rows: Iterable[tuple[Cell, Any]]) -> tuple[str, 
                 continue
             place = (row["shard"], name, row["closing"])
             for one in await cell.ask(ARCHIVED, *place):
-                keys = ("transactions", "complete", "missing")
-                totals[one["station"]] = {key: one[key] for key in keys}
+                totals[one["station"]] = {key: one[key] for key in (*SESSIONS, *FLOW)}
                 count += one["transactions"]
-            for one in await cell.ask(FLOWS, *place):
+            for one in await cell.ask(FLOWS, *place, begin, end):
                 key = (one["station"], "period", one["starts"].strftime(MOMENT))
                 flows[key] = {part: one[part] for part in FLOW}
+                # What is shown is added once more.
+                total = totals.setdefault(one["station"], dict.fromkeys((*SESSIONS, *FLOW), 0))
+                for part in FLOW:
+                    total[part] -= one[part]
         texts = (row["text"] for _, row in same if row["text"])
         boards.append(joined(name, reckoning, texts, totals, flows))
     return "".join(boards), count

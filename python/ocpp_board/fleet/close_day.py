@@ -12,7 +12,8 @@ script, which any `replay` reads. What was refused leaves the log, too, and has 
 for want of room stays there, and is taken once there is some. A transaction that never becomes complete keeps its
 room: `--incomplete CS-1 TX-9` archives it as it is, and archived_transaction has it as not complete. A line that comes
 later for an archived transaction is told here, and replayed behind its archived ones; the file of this closing has it
-whole again. Repeats are removed, as `ocpp-board compact` does, which comes first where a log is large. Before anything
+whole again. What is corrected is booked at the site where it was settled, also where the station was given to another
+one since. Repeats are removed, as `ocpp-board compact` does, which comes first where a log is large. Before anything
 is taken from the log, the file and the lines that are left are replayed, and their figures together have to be those
 of the log.
 
@@ -26,16 +27,13 @@ import argparse
 import logging
 import os
 from collections.abc import Collection, Iterable, Mapping, Sequence
-from contextlib import suppress
 from datetime import date, datetime, time, timedelta
 from pathlib import Path
 from typing import Any, NamedTuple
 from zoneinfo import ZoneInfo
 
-import asyncpg
-
-from ocpp_board.energies import FLOW, Flow, flow_of
-from ocpp_board.fleet import compact, findings, parts
+from ocpp_board.energies import Flow, flow_of
+from ocpp_board.fleet import closing_queries, compact, findings, parts
 from ocpp_board.fleet.archives import ARCHIVED, packed, unpacked, widened
 from ocpp_board.fleet.begun_anew import begun_anew, reserve
 from ocpp_board.fleet.database import Fault, said
@@ -63,89 +61,6 @@ log = logging.getLogger(__name__)
 NAME = "ocpp-board close-day"
 # Bytes of a log that is compacted before it is closed.
 LARGE = LONGEST_SCRIPT // 16
-BYTES = "select bytes from numbering where shard = $1"
-REMOVE = "delete from own_log where shard = $1 and place = any($2::bigint[])"
-# Its worker begins a replay anew from what is left; the plan that lines were replayed under is still that.
-REPLAN = "update own_shard set plan = plan + 1 where shard = $1 and plan = $2 and moving_to is null"
-# The same where lines came to be known: it tells the worker.
-ANEW = "with one as (update own_shard set plan = plan + 1 where shard = $1) select tell('plan', $1::text)"
-BEFORE = "select day, period, reading_order from own_closing where shard = $1 and site = $2 order by closing"
-# Which of these transactions are archived.
-HAD = """
-select station, transaction from own_archived_transaction
-where shard = $1 and (station, transaction) in (select * from unnest($2::text[], $3::text[]))
-"""
-# What an earlier version archived, whose lines are in its files alone.
-UNPACKED = """
-select t.station, t.transaction, t.site, t.closing, c.archive
-from own_archived_transaction t join own_closing c using (shard, site, closing)
-where c.shard = $1 and not c.packed and t.station = any($2) and not exists (
-    select from own_archived_lines l where (l.shard, l.station, l.transaction) = (t.shard, t.station, t.transaction))
-"""
-MAY_BE_UNPACKED = "select from own_closing where shard = $1 and not packed limit 1"
-# Closings all lines of which are packed; they are not looked at again.
-ARE_PACKED = """
-update own_closing c set packed = true where shard = $1 and not packed and not exists (
-    select from own_archived_transaction t
-    where (t.shard, t.site, t.closing) = (c.shard, c.site, c.closing) and not exists (
-        select from own_archived_lines l
-        where (l.shard, l.station, l.transaction) = (t.shard, t.station, t.transaction)))
-"""
-# What is settled and archived is a station's, whichever site it was given to before; of stations that are not in the
-# plan nothing is corrected, since nothing of theirs was replayed. Both tables have their rows by site first.
-SUMS = """
-select station, starts, sum(up)::bigint as up, sum(down)::bigint as down, sum(export_up)::bigint as export_up,
-    sum(export_down)::bigint as export_down
-from unnest($2::text[], $3::timestamptz[]) as w (station, starts)
-cross join (select distinct site from own_closing where shard = $1) s
-join {} f using (site, station, starts) where f.shard = $1 group by station, starts
-"""
-KEPT, SETTLED = SUMS.format("own_archived_period"), SUMS.format("own_closed_period")
-# Periods that differ from what archives have, since the log had something of them or they were not over.
-OPEN = "select station, starts from own_open_period where shard = $1 and station = any($2)"
-OPENED = """
-insert into own_open_period (shard, station, starts)
-select $1, * from unnest($2::text[], $3::timestamptz[]) on conflict do nothing
-"""
-OVER = """
-delete from own_open_period o using unnest($2::text[], $3::timestamptz[]) as w (station, starts)
-where o.shard = $1 and (o.station, o.starts) = (w.station, w.starts)
-"""
-CLOSING = """
-insert into own_closing (shard, site, closing, day, period, reading_order, place, archive, plan, packed)
-values ($1, $2, $3, $4, $5, $6, $7, $8, $9, true)
-"""
-CLOSED = """
-insert into own_closed_period (shard, site, closing, station, starts, day, up, down, export_up, export_down)
-values ($1, $2, $3, $4, $5, $6, $7, $8, $9, $10)
-"""
-ARCHIVED_PERIOD = """
-insert into own_archived_period (shard, site, closing, station, starts, up, down, export_up, export_down)
-values ($1, $2, $3, $4, $5, $6, $7, $8, $9)
-"""
-ARCHIVED_TOTAL = """
-insert into own_archived_total (shard, site, closing, station, transactions, complete, missing, up, down, export_up,
-    export_down, corrects_transactions, corrects_complete, corrects_missing)
-values ($1, $2, $3, $4, $5, $6, $7, $8, $9, $10, $11, $12, $13, $14)
-"""
-# A transaction is archived once, and has figures where it has a live event.
-FORGET = """
-delete from own_archived_transaction
-where shard = $1 and (station, transaction) in (select * from unnest($2::text[], $3::text[]))
-returning station, transaction, complete, missing, up, down, export_up, export_down, corrections
-"""
-TRANSACTION = """
-insert into own_archived_transaction (shard, site, closing, station, transaction, complete, missing, up, down,
-    export_up, export_down, evse, events, first, last, begun, started, ended, corrections)
-values ($1, $2, $3, $4, $5, $6, $7, $8, $9, $10, $11, $12, $13, $14, $15, $16, $17, $18, $19)
-"""
-PACKED = """
-insert into own_archived_lines (shard, site, closing, station, transaction, lines) values ($1, $2, $3, $4, $5, $6)
-on conflict (shard, station, transaction) do update
-    set site = excluded.site, closing = excluded.closing, lines = excluded.lines
-"""
-
-
 # A station, and when its period begins.
 Period = tuple[str, datetime]
 
@@ -163,6 +78,30 @@ class Line(NamedTuple):
         """Whether it was refused for good."""
         is_taken = self.is_change or is_repeat(self.answer, False)
         return not is_taken and not is_for_room(self.answer)
+
+
+class Share(NamedTuple):
+    """What of an archive is a site's: all of it; and what was archived there before, as it was and with what came."""
+
+    whole: Figures
+    was: Figures
+    now: Figures
+
+    def moved(self) -> Flows:
+        """By how much it changes what is archived of periods."""
+        return differences(periods(self.whole), periods(self.was))
+
+
+class Booking(NamedTuple):
+    """What a closing writes for a site: which closing it is there, its share, and rows of what is settled."""
+
+    head: tuple[int, str, int]
+    day: date
+    reckoning: Reckoning
+    share: Share
+    zone: ZoneInfo
+    moved: Flows
+    settled: list[tuple[Any, ...]]
 
 
 class Sorted(NamedTuple):
@@ -220,8 +159,11 @@ class Closing:
         )
         self.zone, self.reckoning = zone_of(site), Reckoning.of(site)
         self.stations: list[dict[str, Any]] = []
-        # Transactions that were named to be archived, and are.
+        # Transactions that were named to be archived, and are; and where those were archived that something came for.
         self.had = set[Transaction]()
+        self.homes: dict[Transaction, str] = {}
+        # Before which moment history left the cell.
+        self.aged: datetime | None = None
 
     async def fetch(self, query: str, *values: Any) -> Any:
         """The rows of a query about the shard."""
@@ -237,7 +179,7 @@ class Closing:
         query = "select * from own_station where shard = $1 and site = $2 order by place"
         self.stations = [dict(row) for row in await self.fetch(query, self.site)]
         named = ([one[part] for one in self.named()] for part in (0, 1))
-        rows = await self.fetch(HAD, *named)
+        rows = await self.fetch(closing_queries.HAD, *named)
         self.had = {(row["station"], row["transaction"]) for row in rows}
 
     async def read(self) -> tuple[int, int, list[Any]]:
@@ -247,17 +189,19 @@ class Closing:
         place = rows[-1]["place"] if rows else 0
         return plan, place, [row for row in rows if station_of(row["line"]) in names]
 
-    def plan(self, lines: list[str]) -> Plan:
+    def plan(self, lines: list[str], reckoning: Reckoning | None = None) -> Plan:
         """The plan of the site's stations, with limits that take these lines whatever they were."""
         own: dict[str, list[str]] = {}
         for line in lines:
             own.setdefault(station_of(line), []).append(line)
         rows = [widened(row, own.get(row["station"], [])) for row in self.stations]
-        return Plan(rows, {self.site: self.reckoning}, self.words.known)
+        return Plan(rows, {self.site: reckoning or self.reckoning}, self.words.known)
 
-    async def replayed(self, lines: list[str]) -> Figures:
+    async def replayed(self, lines: list[str], reckoning: Reckoning | None = None) -> Figures:
         """The figures of the site's stations after these lines."""
-        made = await compact.replayed(self.words.program, self.plan(lines), lines)
+        if not lines:
+            return {}
+        made = await compact.replayed(self.words.program, self.plan(lines, reckoning), lines)
         return figures(made.boards[0].decode()) if made.boards else {}
 
     async def sorted_out(self, rows: list[Any], front: list[str]) -> list[Line]:
@@ -320,7 +264,7 @@ class Closing:
 
     async def make_small(self) -> None:
         """Compacts a large log first: what is left of it is read at once."""
-        if (await self.fetch(BYTES))[0]["bytes"] > LARGE:
+        if (await self.fetch(closing_queries.BYTES))[0]["bytes"] > LARGE:
             told = await compact.compacted(
                 self.words.program, self.words.known, self.session, self.shard
             )
@@ -329,7 +273,7 @@ class Closing:
     async def pack(self) -> None:
         """Packs the lines of what an earlier version archived, where the archives are there."""
         names = dict[str, dict[Transaction, Any]]()
-        for row in await self.fetch(UNPACKED, self.names()):
+        for row in await self.fetch(closing_queries.UNPACKED, self.names()):
             names.setdefault(row["archive"], {})[row["station"], row["transaction"]] = row
         for name, rows in names.items():
             try:
@@ -341,11 +285,11 @@ class Closing:
             texts = [packed(lines[one]) for one in rows]
             async with self.session.transaction():
                 await self.session.executemany(
-                    PACKED, [(*place, text) for place, text in zip(places, texts)]
+                    closing_queries.PACKED, [(*place, text) for place, text in zip(places, texts)]
                 )
-                await self.session.execute(ANEW, self.shard)
-        if await self.fetch(MAY_BE_UNPACKED):
-            await self.session.execute(ARE_PACKED, self.shard)
+                await self.session.execute(closing_queries.ANEW, self.shard)
+        if await self.fetch(closing_queries.MAY_BE_UNPACKED):
+            await self.session.execute(closing_queries.ARE_PACKED, self.shard)
 
     async def archived(self, rows: list[Any]) -> dict[Transaction, list[str]]:
         """The archived transactions that these rows are of, with their lines. Raises Fault where these are missing."""
@@ -358,23 +302,46 @@ class Closing:
                     f"{row['station']}, which it has"
                 )
             found[row["station"], row["transaction"]] = unpacked(row["lines"])
+            self.homes[row["station"], row["transaction"]] = row["site"]
         return found
 
-    async def archive(self, name: str, lines: list[str]) -> Figures:
-        """Writes an archive, and gives its figures as they are read again from the disk."""
-        path, fresh = self.words.archive / name, self.words.archive / f"{name}.part"
+    async def archive(
+        self, closing: int, leaving: Mapping[Transaction, list[str]]
+    ) -> tuple[str | None, Figures]:
+        """Writes an archive, where something leaves, and gives its name and its figures as they are read again from the
+        disk."""
+        lines = [line for own in leaving.values() for line in own]
+        if not lines:
+            return None, {}
+        cell = await self.session.fetchval(closing_queries.CELL)
+        front = f"{self.site}.cell-{cell}.shard-{self.shard}.{closing}"
+        fresh = self.words.archive / f"{front}.part"
         with open(fresh, "wb") as file:
             file.write(self.plan(lines).lines)
             file.writelines(f"{line}\n".encode() for line in lines)
             file.flush()
             os.fsync(file.fileno())
-        os.replace(fresh, path)
+        path = self.named_anew(front, fresh)
         folder = os.open(self.words.archive, os.O_RDONLY)
         try:
             os.fsync(folder)
         finally:
             os.close(folder)
-        return await self.read_again(path)
+        return path.name, await self.read_again(path)
+
+    def named_anew(self, front: str, fresh: Path) -> Path:
+        """Gives a file a name that no other one has. One that is there is of a closing that was killed, or of a
+        database that was restored since, and stays."""
+        number, path = 1, Path(self.words.archive, f"{front}.script")
+        while True:
+            try:
+                os.link(fresh, path)
+                break
+            except FileExistsError:
+                number += 1
+                path = path.with_name(f"{front}-{number}.script")
+        fresh.unlink()
+        return path
 
     async def read_again(self, path: Path) -> Figures:
         """The figures of an archive, which is read some lines at a time."""
@@ -404,13 +371,44 @@ class Closing:
         was, now = (await self.replayed(old), await self.replayed(again)) if late else ({}, {})
         return Sorted(live, late, known, gone, whole, rest, was, now)
 
+    async def shares(self, log_lines: Sorted, in_file: Figures) -> dict[str, Share]:
+        """What of an archive is this site's, and others' at which sessions were archived that something came for."""
+        known = log_lines.known
+        others = sorted({self.homes[one] for one in known} - {self.site})
+        if not others:
+            return {self.site: Share(in_file, log_lines.was, log_lines.now)}
+        lines = [line for line in log_lines.live if line.is_change]
+        gone = [line.text for line in lines if line.transaction in log_lines.gone]
+        was, now = await self.came_for(self.site, log_lines)
+        own = Share(added([await self.replayed(gone), now]), was, now)
+        shares = {self.site: own}
+        for site in others:
+            was, now = await self.came_for(site, log_lines)
+            shares[site] = Share(now, was, now)
+        return shares
+
+    async def came_for(self, site: str, log_lines: Sorted) -> tuple[Figures, Figures]:
+        """The sessions that were archived at a site, as they were and with what came, as that site reckons."""
+        ones = {one for one in log_lines.known if self.homes[one] == site}
+        was = [line for one in ones for line in log_lines.known[one]]
+        late = [line for line in log_lines.late if line.is_change and line.transaction in ones]
+        reckoning = await self.reckoned(site)
+        now = was + [line.text for line in late]
+        return await self.replayed(was, reckoning), await self.replayed(now, reckoning)
+
+    async def reckoned(self, site: str) -> Reckoning:
+        """How a site of the shard was closed last."""
+        before = await self.fetch(closing_queries.BEFORE, site) if site != self.site else None
+        return Reckoning.of(before[-1]) if before else self.reckoning
+
     async def run(self, day: date) -> str:
         """Closes the day, and says in one line what that was."""
         await self.reserve()
         await self.pack()
         await self.make_small()
+        self.aged = await self.session.fetchval(closing_queries.AGED)
         plan, place, rows = await self.read()
-        before = await self.fetch(BEFORE, self.site)
+        before = await self.fetch(closing_queries.BEFORE, self.site)
         if before and (had := Reckoning.of(before[-1])) != self.reckoning:
             raise Fault(
                 f"site {self.site} was closed by {had.told()}, and its plan has {self.reckoning.told()}: give its "
@@ -419,40 +417,75 @@ class Closing:
         day = max([day, *(row["day"] for row in before)])
         log_lines = await self.sorted_all(rows, day)
         leaving = log_lines.leaving()
-        head = (self.shard, self.site, len(before) + 1)
-        name = f"{self.site}.shard-{self.shard}.{head[2]}.script" if leaving else None
-        lines = [line for own in leaving.values() for line in own]
-        in_file = await self.archive(name, lines) if name else {}
+        name, in_file = await self.archive(len(before) + 1, leaving)
         self.compare(log_lines, in_file)
-        moved = differences(periods(in_file), periods(log_lines.was))
-        flows = periods(log_lines.rest)
-        for key, flow in moved.items():
-            flows[key] = flows.get(key, Flow()).plus(flow)
+        flows, shares = periods(log_lines.rest), await self.shares(log_lines, in_file)
+        for share in shares.values():
+            for key, flow in share.moved().items():
+                flows[key] = flows.get(key, Flow()).plus(flow)
+        flows = self.lasting(flows)
         opened = await self.opened()
         settled, removed = await self.unsettled(day, flows, opened), log_lines.removed()
-        if not (settled or removed) and before and before[-1]["day"] == day:
+        rows = [row for site in settled.values() for row in site]
+        if not (rows or removed) and before and before[-1]["day"] == day:
             return (
                 f"{self.site}, shard {self.shard}: {day} is closed already, and nothing came since"
             )
-        values = (day, *self.reckoning, place, name, plan + 1)
+        bookings = await self.bookings(day, len(before) + 1, shares, settled)
         async with self.session.transaction():
-            await self.session.execute(CLOSING, *head, *values)
-            await self.session.executemany(CLOSED, [(*head, *row) for row in settled])
-            await self.session.executemany(
-                ARCHIVED_PERIOD, [(*head, *key, *flow) for key, flow in moved.items()]
-            )
-            await self.session.executemany(
-                ARCHIVED_TOTAL, [(*head, *row) for row in totals(log_lines, in_file)]
-            )
+            for booking in bookings:
+                await self.book(booking, place, name, plan + 1)
             await self.note_open(day, flows.keys() | opened, periods(log_lines.rest))
             found = await self.write_findings(log_lines)
-            await self.write_transactions(head, in_file, leaving, found)
+            heads = {booking.head[1]: booking.head for booking in bookings}
+            await self.write_transactions(heads, in_file, leaving, found)
             await self.take_out(plan, removed)
         # Behind the commit: to be told, others would wait for it. Its worker looks by itself, too.
-        with suppress(asyncpg.ProgramLimitExceededError):
-            await self.session.execute("select tell('plan', $1)", str(self.shard))
+        await self.session.execute("select tell('plan', $1)", str(self.shard))
         self.tell_late(log_lines.late)
         return self.told(day, log_lines, settled, [row["day"] for row in before], name)
+
+    async def bookings(
+        self,
+        day: date,
+        closing: int,
+        shares: dict[str, Share],
+        settled: dict[str, list[tuple[Any, ...]]],
+    ) -> list[Booking]:
+        """What is written for this site, and for others at which it corrects something."""
+        made = list[Booking]()
+        for site in sorted(shares.keys() | settled.keys()):
+            number, last, reckoning = closing, day, self.reckoning
+            if site != self.site:
+                before = await self.fetch(closing_queries.BEFORE, site)
+                number, last, reckoning = (
+                    len(before) + 1,
+                    before[-1]["day"],
+                    Reckoning.of(before[-1]),
+                )
+            share = shares.get(site, Share({}, {}, {}))
+            head, rows = (self.shard, site, number), settled.get(site, [])
+            zone, moved = await self.zone_at(site), self.lasting(share.moved())
+            made.append(Booking(head, last, reckoning, share, zone, moved, rows))
+        return made
+
+    async def book(self, booking: Booking, place: int, name: str | None, plan: int) -> None:
+        """Writes what of this is a site's."""
+        head = booking.head
+        values = (booking.day, *booking.reckoning, place, name, plan)
+        await self.session.execute(closing_queries.CLOSING, *head, *values)
+        await self.session.executemany(
+            closing_queries.CLOSED, [(*head, *row) for row in booking.settled]
+        )
+        periods_of = [
+            (*head, *key, key[1].astimezone(booking.zone).date(), *flow)
+            for key, flow in booking.moved.items()
+        ]
+        await self.session.executemany(closing_queries.ARCHIVED_PERIOD, periods_of)
+        rows = totals(booking.share, booking.moved)
+        await self.session.executemany(
+            closing_queries.ARCHIVED_TOTAL, [(*head, *row) for row in rows]
+        )
 
     def compare(self, log_lines: Sorted, in_file: Figures) -> None:
         """Raises Fault where the archive and what is left are not together what the log and older archives had."""
@@ -467,7 +500,7 @@ class Closing:
 
     async def write_transactions(
         self,
-        head: tuple[int, str, int],
+        heads: Mapping[str, tuple[int, str, int]],
         in_file: Figures,
         leaving: dict[Transaction, list[str]],
         found: Findings,
@@ -475,14 +508,20 @@ class Closing:
         """Writes the archived transactions: their figures, their times, and their lines."""
         names = ([one[part] for one in leaving] for part in (0, 1))
         had = {
-            (row["station"], row["transaction"]): row for row in await self.fetch(FORGET, *names)
+            (row["station"], row["transaction"]): row
+            for row in await self.fetch(closing_queries.FORGET, *names)
         }
+        own = {one: heads[self.homes.get(one, self.site)] for one in leaving}
+        rows = transactions(in_file, had, found.times(in_file))
+        if self.aged:
+            # A session that left the cell does not come back.
+            rows = [row for row in rows if row[:2] in had or (row[14] or self.aged) >= self.aged]
         await self.session.executemany(
-            TRANSACTION,
-            [(*head, *row) for row in transactions(in_file, had, found.times(in_file))],
+            closing_queries.TRANSACTION, [(*own[row[0], row[1]], *row) for row in rows]
         )
         await self.session.executemany(
-            PACKED, [(*head, *one, packed(lines)) for one, lines in leaving.items()]
+            closing_queries.PACKED,
+            [(*own[one], *one, packed(lines)) for one, lines in leaving.items()],
         )
 
     async def write_findings(self, log_lines: Sorted) -> Findings:
@@ -501,8 +540,10 @@ class Closing:
     async def take_out(self, plan: int, removed: list[Any]) -> None:
         """Takes rows out of the log. Raises Fault where that or the plan was changed meanwhile."""
         done = [
-            await self.session.execute(REPLAN, self.shard, plan),
-            await self.session.execute(REMOVE, self.shard, [row["place"] for row in removed]),
+            await self.session.execute(closing_queries.REPLAN, self.shard, plan),
+            await self.session.execute(
+                closing_queries.REMOVE, self.shard, [row["place"] for row in removed]
+            ),
         ]
         if done != ["UPDATE 1", f"DELETE {len(removed)}"]:
             raise Fault(
@@ -510,10 +551,18 @@ class Closing:
             )
 
     def told(
-        self, day: date, log_lines: Sorted, settled: list[Any], before: list[date], name: str | None
+        self,
+        day: date,
+        log_lines: Sorted,
+        booked: dict[str, list[Any]],
+        before: list[date],
+        name: str | None,
     ) -> str:
         """What a closing did, in one line."""
-        corrections = sum(row[2] <= max(before) for row in settled) if before else 0
+        settled = [row for rows in booked.values() for row in rows]
+        corrections = sum(map(len, booked.values())) - len(booked.get(self.site, []))
+        if before:
+            corrections += sum(row[2] <= max(before) for row in booked.get(self.site, []))
         repeats = sum(is_repeat(line.answer, line.is_change) for line in log_lines.live)
         return (
             f"{self.site}, shard {self.shard}: settled up to {day}, {len(settled)} rows, {corrections} of them "
@@ -524,7 +573,7 @@ class Closing:
 
     async def opened(self) -> set[Period]:
         """The periods that differed from what archives have when they were settled."""
-        rows = await self.fetch(OPEN, self.names())
+        rows = await self.fetch(closing_queries.OPEN, self.names())
         return {(row["station"], row["starts"]) for row in rows}
 
     async def sums(self, query: str, keys: Iterable[Period]) -> Flows:
@@ -534,21 +583,42 @@ class Closing:
 
     async def unsettled(
         self, day: date, flows: Flows, opened: set[Period]
-    ) -> list[tuple[Any, ...]]:
-        """The rows by which what is settled comes to be what log and archives say, up to this day. `flows`: what is in
-        the log and what this closing archives. Only these periods may differ, and those that did before.
+    ) -> dict[str, list[tuple[Any, ...]]]:
+        """The rows by which what is settled comes to be what log and archives say, up to this day, by the site where
+        they are booked: that where the period was settled. `flows`: what is in the log and what this closing archives.
+        Only these periods may differ, and those that did before.
         """
         touched = flows.keys() | opened
-        kept, settled = await self.sums(KEPT, touched), await self.sums(SETTLED, touched)
+        kept = await self.sums(closing_queries.KEPT, touched)
+        settled = await self.sums(closing_queries.SETTLED, touched)
         actual = {
             key: flows.get(key, Flow()).plus(kept.get(key, Flow()))
             for key in flows.keys() | kept.keys()
         }
-        rows = list[tuple[Any, ...]]()
-        for (station, starts), flow in sorted(differences(actual, settled).items()):
-            if (local := starts.astimezone(self.zone).date()) <= day:
-                rows.append((station, starts, local, *flow))
+        found = differences(actual, settled)
+        homes = {
+            (row["station"], row["starts"]): row["site"]
+            for row in await self.fetch(closing_queries.SITES, *columns(found))
+        }
+        zones = {site: await self.zone_at(site) for site in {self.site, *homes.values()}}
+        rows: dict[str, list[tuple[Any, ...]]] = {}
+        for key, flow in sorted(found.items()):
+            site = homes.get(key, self.site)
+            local = key[1].astimezone(zones[site]).date()
+            if local <= day or site != self.site:
+                rows.setdefault(site, []).append((*key, local, *flow))
         return rows
+
+    async def zone_at(self, site: str) -> ZoneInfo:
+        """The zone of a site of the shard."""
+        if site == self.site:
+            return self.zone
+        zone = await self.session.fetchval(closing_queries.ZONE, self.shard, site)
+        return zone_of({"site": site, "zone": zone or "UTC"})
+
+    def lasting(self, flows: Flows) -> Flows:
+        """Those of periods that have not left the cell."""
+        return {key: flow for key, flow in flows.items() if not (self.aged and key[1] < self.aged)}
 
     async def note_open(self, day: date, touched: set[Period], in_log: Collection[Period]) -> None:
         """Notes which periods the next closing has to look at, whatever comes: those of the log, and those behind the
@@ -556,8 +626,8 @@ class Closing:
         still = {
             key for key in touched if key in in_log or key[1].astimezone(self.zone).date() > day
         }
-        await self.session.execute(OPENED, self.shard, *columns(still))
-        await self.session.execute(OVER, self.shard, *columns(touched - still))
+        await self.session.execute(closing_queries.OPENED, self.shard, *columns(still))
+        await self.session.execute(closing_queries.OVER, self.shard, *columns(touched - still))
 
     def tell_late(self, late: list[Line]) -> None:
         """Tells of each archived transaction which lines came late for it."""
@@ -602,16 +672,16 @@ def differences(new: Flows, old: Flows) -> Flows:
     return found
 
 
-def totals(log_lines: Sorted, in_file: Figures) -> list[tuple[Any, ...]]:
+def totals(share: Share, moved: Flows) -> list[tuple[Any, ...]]:
     """By how much an archive changes the total lines of stations, as far as these tell of sessions and energies, and
     which numbers of sessions that were archived before it corrects."""
-    rows = list[tuple[Any, ...]]()
-    stations = {station for part in (in_file, log_lines.was) for station, _, _ in part}
-    for station in sorted(stations):
-        fresh, was, now = (
-            part.get((station, "total", ""), {}) for part in (in_file, log_lines.was, log_lines.now)
-        )
-        more = [fresh.get(name, 0) - was.get(name, 0) for name in (*SESSIONS, *FLOW)]
+    rows, flows = list[tuple[Any, ...]](), dict[str, Flow]()
+    for (station, _), flow in moved.items():
+        flows[station] = flows.get(station, Flow()).plus(flow)
+    for station in sorted({station for part in share for station, _, _ in part}):
+        whole, was, now = (part.get((station, "total", ""), {}) for part in share)
+        more = [whole.get(name, 0) - was.get(name, 0) for name in SESSIONS]
+        more += flows.get(station, Flow())
         corrects = [now.get(name, 0) != was.get(name, 0) for name in SESSIONS]
         if any(more) or any(corrects):
             rows.append((station, *more, *corrects))

@@ -13,8 +13,10 @@ read in parts, and one of more than a replay reads is replayed in parts.
 
 import argparse
 import logging
+import os
 from collections.abc import AsyncIterator, Awaitable, Collection, Iterator, Sequence
-from typing import Any, NamedTuple
+from tempfile import SpooledTemporaryFile
+from typing import IO, Any, NamedTuple
 
 import asyncpg
 
@@ -41,9 +43,9 @@ PART = "select place, line from own_log where shard = $1 and place > $2 order by
 PATIENCE = 60.0
 # Not under limits other than those that they were found under.
 REMOVE = "select remove_repeats($1, $2, $3)"
-# Bytes of a log that are handed to one replay, which reads three times as many with totals and what came before; and
-# those that are handed to it at once.
-PIECE, BLOCK_BYTES = LONGEST_SCRIPT // 3, 1 << 20
+# Bytes that are handed to one replay, with totals and what came before; those that are handed to it at once; and those
+# of lines that are kept in memory, and not in a file.
+PIECE, BLOCK_BYTES, IN_MEMORY = LONGEST_SCRIPT * 15 // 16, 1 << 20, 16 << 20
 
 
 def pieces(lines: list[str], most: int) -> Iterator[tuple[int, int]]:
@@ -64,12 +66,12 @@ class Piece:
         self.replay, self.plan = replay, plan
         self.totals: dict[str, bytes] = {}
 
-    async def open(self, kept: list[str]) -> None:
+    async def open(self, kept: IO[bytes]) -> None:
         """Begins with the lines that are known to change something. Raises Fault where they don't."""
         await self.replay.open(self.plan)
-        for front, end in pieces(kept, BLOCK_BYTES):
-            part = kept[front:end]
-            self.replay.write("".join(line + "\n" for line in part).encode())
+        kept.seek(0)
+        while part := kept.readlines(BLOCK_BYTES):
+            self.replay.write(b"".join(part))
             answers = await self.replay.answers(len(part))
             if not all(answer.startswith((b"[3,", b"accepted ")) for answer in answers):
                 raise Fault("a line that was taken once is not taken again")
@@ -106,29 +108,34 @@ class Replaying:
     def __init__(self, program: str, plan: Plan) -> None:
         self.program, self.plan = program, plan
         self.piece: Piece | None = None
-        # Lines that changed something, and bytes that the piece was handed.
-        self.kept, self.handed = list[str](), 0
+        # Lines that changed something, their bytes, and bytes that the piece was handed.
+        self.kept: IO[bytes] = SpooledTemporaryFile(IN_MEMORY)
+        self.size = self.handed = 0
 
     async def answered(self, lines: list[str]) -> list[tuple[bytes, bool]]:
         """The answer to each of the next lines, and whether it changed its station. Raises ReplayEnded, and Fault where
         what changed something is more than a replay reads."""
-        size = sum(len(line.encode()) + 1 for line in lines)
-        if self.piece is None or self.handed and self.handed + size > PIECE:
+        size = sum(len(line.encode()) + len(station_of(line)) + 8 for line in lines)
+        if self.piece is None or self.handed > self.size and self.handed + size > PIECE:
             await self.begin()
         assert self.piece
         self.handed += size
         answers = await self.piece.answered(lines)
-        self.kept += [line for line, (_, is_change) in zip(lines, answers) if is_change]
+        for line, (_, is_change) in zip(lines, answers):
+            if is_change:
+                self.size += self.kept.write(line.encode() + b"\n")
         return answers
 
     async def begin(self) -> None:
         """Begins a piece behind what is kept."""
-        self.close()
-        if sum(len(line.encode()) + 1 for line in self.kept) > PIECE:
+        if self.piece:
+            self.piece.replay.kill()
+        if self.size > PIECE:
             raise Fault(f"the lines that changed something have more than {PIECE:,} bytes")
         self.piece = Piece(await Replay.start(self.program), self.plan)
-        self.handed = 0
         await self.piece.open(self.kept)
+        self.kept.seek(0, os.SEEK_END)
+        self.handed = self.size
 
     async def boards(self) -> list[bytes]:
         """The boards of the sites."""
@@ -139,6 +146,7 @@ class Replaying:
 
     def close(self) -> None:
         """Ends the replay."""
+        self.kept.close()
         if self.piece:
             self.piece.replay.kill()
 
@@ -147,7 +155,7 @@ async def replayed(program: str, plan: Plan, lines: list[str]) -> Replayed:
     """Replays a log of any length. Raises as Replaying does."""
     replaying, found = Replaying(program, plan), list[tuple[bytes, bool]]()
     try:
-        for front, end in pieces(lines, min(PIECE, BLOCK_BYTES)):
+        for front, end in pieces(lines, min(PIECE // 4, BLOCK_BYTES)):
             found += await replaying.answered(lines[front:end])
         return Replayed(found, await replaying.boards())
     finally:
@@ -188,7 +196,7 @@ class Whole:
         texts = [row["line"] for row in rows]
         late = await self.late.places(self.session.fetch, texts)
         live = [number for number in range(len(rows)) if number not in late]
-        for front, end in pieces([texts[number] for number in live], min(PIECE, BLOCK_BYTES)):
+        for front, end in pieces([texts[number] for number in live], min(PIECE // 4, BLOCK_BYTES)):
             part = live[front:end]
             answers = await self.replaying.answered([texts[number] for number in part])
             for number, answer in zip(part, answers):

@@ -106,10 +106,17 @@ def places(dsn: str) -> tuple[list[tuple[str, int]], str, str]:
     return pairs, unquote(user), parts.path.strip("/")
 
 
-async def enter(host: str, port: int, user: str, database: str, settings: dict[str, str]) -> Any:
-    """A session with this host, where it takes writes. TLS with it is as PGSSLMODE says.
+async def enter(
+    host: str,
+    port: int,
+    user: str,
+    database: str,
+    settings: dict[str, str],
+    wants_standby: bool = False,
+) -> Any:
+    """A session with this host, where it takes writes, or where it is a standby. TLS with it is as PGSSLMODE says.
 
-    Raises Fault where it lets nobody in, and Unreachable where it does not answer or is a standby.
+    Raises Fault where it lets nobody in, and Unreachable where it does not answer or is not what is wanted.
     """
     try:
         session = await asyncpg.connect(
@@ -130,18 +137,19 @@ async def enter(host: str, port: int, user: str, database: str, settings: dict[s
         raise Unreachable(f"{host}:{port}: {said(fault)}") from None
     try:
         is_standby, why = await seen_at(session)
-        version = 0 if is_standby or why else await version_of(session)
+        is_wanted = is_standby == wants_standby
+        version = await version_of(session) if is_wanted and not why else 0
     except (*LOST, asyncpg.PostgresError) as lost:
         session.terminate()
         raise Unreachable(f"{host}:{port}: {said(lost)}") from None
     except asyncio.CancelledError:
         session.terminate()
         raise
-    if not (is_standby or why) and version == VERSION:
+    if is_wanted and not why and version == VERSION:
         return session
     session.terminate()
-    if is_standby:
-        raise Unreachable(f"{host}:{port}: a standby")
+    if not is_wanted:
+        raise Unreachable(f"{host}:{port}: {'a' if is_standby else 'no'} standby")
     if why:
         raise Fault(f"{host}:{port}: {why}")
     raise WrongVersion(
@@ -178,14 +186,20 @@ async def version_of(session: Any) -> int:
 
 
 async def connect(dsn: str, **settings: str) -> Any:
-    """A session with the host that takes writes. All are asked at once, so that one that hangs costs no time.
+    """A session with the host that takes writes. Raises as `session_of` does."""
+    return await session_of(dsn, False, settings)
+
+
+async def session_of(dsn: str, wants_standby: bool, settings: dict[str, str]) -> Any:
+    """A session with the host that takes writes, or with a standby. All are asked at once, so that one that hangs costs
+    no time.
 
     Raises Fault where every host gives one, or the one that takes writes has another version of the schema, and none
     let this program in before; and else Unreachable.
     """
     pairs, user, database = places(dsn)
     tries = [
-        asyncio.ensure_future(enter(host, port, user, database, SETTINGS | settings))
+        asyncio.ensure_future(enter(host, port, user, database, SETTINGS | settings, wants_standby))
         for host, port in pairs
     ]
     waited, session, reasons, faults = set(tries), None, list[str](), list[Fault]()

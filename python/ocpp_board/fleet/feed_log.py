@@ -4,7 +4,6 @@ import asyncio
 import logging
 import time
 from collections.abc import Awaitable, Callable
-from contextlib import suppress
 from typing import Any, NamedTuple
 
 import asyncpg
@@ -151,9 +150,7 @@ class Cell:
         is_whole = bool(sum(row["rows"] for row in rows) == len(events))
         self.is_stale |= not is_whole
         for payload in wakes({row["shard"]: row["first"] for row in rows}):
-            # Where the queue of notifications has no room workers look into their inboxes by themselves.
-            with suppress(asyncpg.ProgramLimitExceededError):
-                await self.within("execute", WAKE, payload)
+            await self.within("execute", WAKE, payload)
         return is_whole
 
 

@@ -1,7 +1,10 @@
-"""Takes drivers' tokens (`idToken`) out of a cell's log, of its archives with their comments, and of strays.
+"""Takes drivers' tokens (`idToken`) out of a cell's log, of its archives with their comments, and of strays; or years
+of history out of its tables.
 
     PGPASSWORD=.. ocpp-board forget --db postgresql://ledger_keeper@a/ledger --archive FOLDER --after 365
     PGPASSWORD=.. ocpp-board forget --db postgresql://ledger_keeper@a/ledger --archive FOLDER --token 04A2F7C1
+
+    PGPASSWORD=.. ocpp-board forget --db postgresql://ledger_keeper@a/ledger --archive FOLDER --years 10
 
 --after takes all tokens out of what came so many days ago or was archived then, and is for a timer; --token one of
 them out of all, at once, whatever its letters. Of a message all else stays as it was written. The ledger looks into no
@@ -9,11 +12,15 @@ token, so before anything is changed a replay of what was and one of what will b
 same boards. A station that sends the original once more is answered as before; that repeat has the token again, until
 the next compaction, closing or run of --after.
 
+--years keeps so many whole years of periods and sessions beside the present one: what lies before them is written into
+FOLDER, as CSV that is packed by gzip, and leaves the tables and their sums. Archives stay as they are.
+
 It may end at any time: call it again. Backups have tokens until they are removed.
 """
 
 import argparse
 import asyncio
+import gzip
 import logging
 import os
 import subprocess
@@ -55,6 +62,10 @@ PACKED = "select station, transaction, lines from own_archived_lines where (shar
 REPACK = """
 update own_archived_lines set lines = $4 where shard = $1 and station = $2 and transaction = $3 and lines = $5
 """
+# The archives that closings name. Others of this cell are of closings that were killed, or of a database before it was
+# restored.
+NAMED = "select distinct archive from own_closing where archive is not null"
+CELL = "select cell from own_cell"
 FORGOTTEN = (
     "insert into own_forgotten (shard, site, closing) values ($1, $2, $3) on conflict do nothing"
 )
@@ -62,6 +73,15 @@ STRAYS = "select id, line from stray where $1::timestamptz is null or at < $1"
 REWRITE_STRAY = "update stray set line = $2 where id = $1"
 KEPT = "select shard, id, line from inbox_kept"
 REWRITE_KEPT = "update inbox_kept set line = $3 where shard = $1 and id = $2"
+
+
+# What leaves the cell with its years: tables, their time, and the order of their rows.
+HISTORY = (
+    ("own_closed_period", "starts", "shard, site, station, starts, closing"),
+    ("own_archived_period", "starts", "shard, site, station, starts, closing"),
+    ("own_archived_transaction", "since", "shard, site, station, transaction"),
+)
+AGE = "select age_history($1)"
 
 
 class Keeper:
@@ -170,7 +190,14 @@ class Keeper:
         return True
 
     async def rest(self) -> None:
-        """Rewrites strays, and lines that were not placed yet."""
+        """Rewrites strays, lines that were not placed yet, and archives of this cell that no closing names."""
+        named = {row["archive"] for row in await self.session.fetch(NAMED)}
+        part = f".cell-{await self.session.fetchval(CELL)}."
+        for name, path in sorted(self.paths.items()):
+            since = datetime.fromtimestamp(path.stat().st_mtime, timezone.utc)
+            is_old = self.before is None or since < self.before
+            if part in name and name not in named and is_old:
+                self.file(name)
         for row in await self.session.fetch(STRAYS, self.before):
             if (new := self.new(row["line"])) != row["line"]:
                 await self.session.execute(REWRITE_STRAY, row["id"], new)
@@ -212,12 +239,13 @@ def replayed(program: str, lines: list[str]) -> bytes:
 
 
 def write(path: Path, data: bytes) -> None:
-    """Puts a file in the place of another one, once it is on disk."""
-    fresh = path.with_name(f"{path.name}.part")
+    """Puts a file in the place of another one, once it is on disk. It is as old as that one."""
+    fresh, had = path.with_name(f"{path.name}.part"), path.stat()
     with open(fresh, "wb") as file:
         file.write(data)
         file.flush()
         os.fsync(file.fileno())
+    os.utime(fresh, ns=(had.st_atime_ns, had.st_mtime_ns))
     os.replace(fresh, path)
 
 
@@ -226,6 +254,8 @@ async def run(words: argparse.Namespace) -> int:
     words.known = known_lines(words.program)
     if not words.archive.is_dir():
         raise Fault(f"{words.archive}: no folder for archives")
+    if words.years is not None:
+        return await aged(words)
     session = await connect(words.db, application_name=NAME)
     numbers = [row["shard"] for row in await session.fetch(SHARDS)]
     await session.close()
@@ -249,6 +279,50 @@ async def run(words: argparse.Namespace) -> int:
     return Status.TOLD if wrong else Status.DONE
 
 
+async def aged(words: argparse.Namespace) -> int:
+    """Takes years of history out of the cell. Raises Fault where a shard is in use, or a file is there already."""
+    year = datetime.now(timezone.utc).year - words.years - 1
+    session = await connect(words.db, application_name=NAME)
+    try:
+        for row in await session.fetch(SHARDS):
+            await reserve(session, row["shard"])
+        cell, rows = await session.fetchval(CELL), 0
+        end = datetime(year + 1, 1, 1, tzinfo=timezone.utc)
+        for table, key, order in HISTORY:
+            if await session.fetchval(f"select exists (select from {table} where {key} < $1)", end):
+                name = f"{table.removeprefix('own_')}.cell-{cell}.to-{year}.csv.gz"
+                rows += await copied(session, words.archive / name, table, key, order, end)
+        if rows:
+            await session.execute(AGE, year, timeout=None)
+    finally:
+        await session.close()
+    print(f"{rows:,} rows of periods and sessions up to {year} left the cell")
+    return Status.DONE
+
+
+async def copied(session: Any, path: Path, table: str, key: str, order: str, end: datetime) -> int:
+    """Writes what a table has of before a moment into a file, and gives how many rows that is. Raises Fault where the
+    file is there already."""
+    fresh = path.with_name(f"{path.name}.part")
+    query = f"select * from {table} where {key} < $1 order by {order}"
+    with open(fresh, "wb") as file, gzip.GzipFile(fileobj=file, mode="wb", mtime=0) as packed_file:
+
+        async def write(data: bytes) -> None:
+            await asyncio.to_thread(packed_file.write, data)
+
+        done = await session.copy_from_query(query, end, output=write, format="csv", header=True)
+        packed_file.close()
+        file.flush()
+        os.fsync(file.fileno())
+    try:
+        os.link(fresh, path)
+    except FileExistsError:
+        raise Fault(f"{path} is there already; nothing left the cell") from None
+    finally:
+        fresh.unlink()
+    return int(done.split(" ")[1])
+
+
 def token_of(text: str) -> str:
     """A token of the command line. Raises ArgumentTypeError."""
     if not 1 <= len(text) <= 255:
@@ -267,5 +341,8 @@ def main(argv: Sequence[str], prog: str) -> int:
     what = parser.add_mutually_exclusive_group(required=True)
     what.add_argument("--after", type=at_least_one, metavar="DAYS", help="all tokens, so old")
     what.add_argument("--token", type=token_of, metavar="TOKEN", help="this one, at once")
+    what.add_argument(
+        "--years", type=at_least_one, metavar="YEARS", help="history of before so many whole years"
+    )
     words = parts.parsed(parser, argv)
     return parts.ended(lambda: asyncio.run(run(words)))

@@ -25,7 +25,6 @@ from typing import Any, NamedTuple
 from urllib.parse import unquote, urlsplit
 
 import asyncpg
-from websockets.frames import Frame
 from websockets.http11 import Request, Response
 from websockets.server import ServerConnection
 
@@ -81,10 +80,10 @@ LONGEST_ID = 36
 # costs more than to append it together.
 BATCH, BATCH_BYTES, GATHERED = 1000, 4_000_000, 0.015
 # Seconds: for the database to answer, for a handshake from its connection on, and without a byte from a
-# station, twice its heartbeat interval; between looks for stations that the plan did not have, and for answers that no
-# notification told, which come one after the other where there are some.
+# station, twice its heartbeat interval; between looks for stations that the plan did not have, for answers that no
+# notification told, which come one after the other where there are some, and for all else while nothing is told.
 ANSWER, HANDSHAKE, SILENCE, LOOKS = 10, 10, 600, 0.05
-POLLS, FAST_POLLS = 1.0, 0.1
+POLLS, FAST_POLLS, CATCHING_UP = 1.0, 0.1, 5.0
 # Shards of which a change of the plan was heard that are read by their numbers; of more all are read.
 REPLANNED = 1_000
 # What one who is not let in is told, whatever of it was wrong.
@@ -114,20 +113,12 @@ woken as (
     from firsts group by part)
 select coalesce(sum(rows), 0)::int as rows, count(told) from woken
 """
-# The same where the queue of notifications has no room: workers then look into their inboxes again and again.
-APPEND_UNTOLD = """
-with added as (
-    insert into inbox (shard, gateway, token, line)
-    select w.shard, $1, w.token, w.line
-    from unnest($2::int[], $3::bigint[], $4::text[]) with ordinality as w (shard, token, line, place)
-    join own_shard s on s.shard = w.shard where s.moving_to is null order by w.place
-    returning shard)
-select count(*)::int from added
-"""
 # Answers that no notification could tell. Those of gateways that are gone go, too.
 UNTOLD = """
 delete from untold where gateway = $1 or at < now() - interval '1 minute' returning gateway, payload
 """
+# Whether nothing is told (`tell` of the schema).
+IS_FULL = "select pg_notification_queue_usage() >= 0.9"
 STATIONS = """
 select t.shard, t.station from own_station t join own_shard s using (shard)
 where s.moving_to is null and t.retired is null and ($1::int[] is null or s.shard = any($1))
@@ -143,11 +134,6 @@ with written as (
     select w.station, $1, w.number from unnest($2::text[], $3::bigint[]) as w (station, number) order by 1
     on conflict (station) do update set gateway = excluded.gateway, number = excluded.number returning station)
 select tell('let_in', string_agg(station, ' ')) from written
-"""
-SERVE_UNTOLD = """
-insert into served (station, gateway, number)
-select w.station, $1, w.number from unnest($2::text[], $3::bigint[]) as w (station, number) order by 1
-on conflict (station) do update set gateway = excluded.gateway, number = excluded.number
 """
 # Of these stations those that are retired, and the hashes of those that have passwords.
 RETIRED = "select station from own_station where station = any($1) and retired is not null"
@@ -197,9 +183,9 @@ class Pace:
         return max(0.0, self.due - now)
 
 
-def digest(text: str) -> bytes:
+def digest(data: bytes) -> bytes:
     """By what a text is known again."""
-    return hashlib.blake2b(text.encode(), digest_size=16).digest()
+    return hashlib.blake2b(data, digest_size=16).digest()
 
 
 class Wait(NamedTuple):
@@ -297,13 +283,8 @@ class Cell:
         await listen(listener, "plan", lambda *words: self.heard_plan(words[3]))
         await listen(listener, "password", lambda *words: self.heard_password(words[3]))
         await listen(listener, "let_in", lambda *words: self.heard_let_in(words[3].split(" ")))
-        self.gateway.door.forget_all()
-        # Changes may have been missed.
-        self.changed.update(self.gateway.served)
-        self.has_changed.set()
         self.has_let_in.set()
-        self.heard_let_in(self.gateway.served)
-        await self.load(None)
+        await self.catch_up()
         if self.last_told:
             self.tell_once(f"{self.dsn}: connected")
         self.is_up, self.last_told = True, ""
@@ -311,6 +292,14 @@ class Cell:
             token for token, wait in self.gateway.waiting.items() if self.is_home(wait.link.name)
         )
         self.filled.set()
+
+    async def catch_up(self) -> None:
+        """Looks for all that may have changed without being heard."""
+        self.gateway.door.forget_all()
+        self.changed.update(self.gateway.served)
+        self.has_changed.set()
+        self.heard_let_in(self.gateway.served)
+        await self.load(None)
 
     def is_home(self, station: str) -> bool:
         """Whether the station's events go to this cell."""
@@ -376,9 +365,13 @@ class Cell:
                 self.gateway.end(name, "its password was changed")
 
     async def poll(self) -> None:
-        """Takes answers that no notification told."""
+        """Takes answers that no notification told, and, while the queue of these is full, all else."""
+        due = 0.0
         while True:
             rows = await self.ask("fetch", UNTOLD, self.gateway.channel)
+            if time.monotonic() > due and await self.ask("fetchval", IS_FULL):
+                await self.catch_up()
+                due = time.monotonic() + CATCHING_UP
             for row in rows:
                 if row["gateway"] == self.gateway.channel:
                     self.gateway.answered(None, 0, "", row["payload"])
@@ -436,10 +429,7 @@ class Cell:
                 there = [one for one in some if self.gateway.is_served(*one)]
                 if there:
                     values = (self.gateway.name, *map(list, zip(*there)))
-                    try:
-                        await self.ask("execute", SERVE, *values)
-                    except asyncpg.ProgramLimitExceededError:
-                        await self.ask("execute", SERVE_UNTOLD, *values)
+                    await self.ask("execute", SERVE, *values)
                 for station, number in some:
                     if self.let_in.get(station) == number:
                         del self.let_in[station]
@@ -493,10 +483,7 @@ class Cell:
         if not tokens:
             return
         values = (self.gateway.channel, shards, tokens, lines)
-        try:
-            count = await within(ANSWER, session, "fetchval", APPEND, *values)
-        except asyncpg.ProgramLimitExceededError:
-            count = await within(ANSWER, session, "fetchval", APPEND_UNTOLD, *values)
+        count = await within(ANSWER, session, "fetchval", APPEND, *values)
         if count != len(tokens):
             # A shard is moving. What was appended may be so again.
             await self.load(sorted(set(shards)))
@@ -570,6 +557,8 @@ class StationLink(Link):
                 return self.reject(
                     http.HTTPStatus.FORBIDDEN, "the certificate is of another name\n"
                 )
+            if self.gateway.certificates.is_revoked(self.transport):
+                return self.reject(http.HTTPStatus.FORBIDDEN, "the certificate is revoked\n")
             is_open = True
         if self.name in self.gateway.homes and (
             is_open or self.gateway.door.is_known(self.name, given)
@@ -634,7 +623,7 @@ class StationLink(Link):
         self.flush()
         if self.is_lost:
             return
-        self.is_in = response.status_code == 101
+        self.is_in = self.cuts_frames = response.status_code == 101
         self.transport.resume_reading()
         if not self.is_in:
             return
@@ -664,27 +653,27 @@ class StationLink(Link):
             return None
         head = HEAD.match(text)
         if head[1] == "TransactionEvent" if head else "TransactionEvent" in text or "\\" in text:
-            self.keep(one_line(text))
+            self.keep(one_line(text), digest(data))
         elif head and head[1] in NOTIFICATIONS and (answer := empty_answer(text)):
             self.answer(answer.encode())
         else:
             self.gateway.own.ask(self, one_line(text))
         return None
 
-    def keep(self, text: str) -> None:
+    def keep(self, text: str, own: bytes) -> None:
         """Has an event appended, or answers one that was accepted right before."""
         known, answer, since = self.last
-        own, now = digest(text), time.monotonic()
+        now = time.monotonic()
         if known == own and since > now - REPEATED:
             return self.answer(answer)
         return self.gateway.keep(Wait(self, text, own, now))
 
-    def count(self, frame: Frame) -> None:
+    def count(self, size: int) -> None:
         """Above its pace the station waits, whatever it sends: messages, parts of one, pings and pongs."""
         pace = self.gateway.paces.get(self.name)
         if pace is None:
             pace = self.gateway.paces[self.name] = Pace()
-        wait = pace.wait(len(frame.data), time.monotonic())
+        wait = pace.wait(size, time.monotonic())
         if wait > 0 and not self.is_paced:
             self.is_paced = True
             asyncio.get_running_loop().call_later(wait, self.paced)
@@ -744,7 +733,7 @@ class Gateway:
         self.cells = [Cell(self, dsn) for dsn in words.db]
         self.own = OwnReplay(words.program)
         self.door = Passwords()
-        self.certificates = station_tls.Certificates(words)
+        self.certificates = station_tls.Certificates(words, self.end_revoked)
         # Where each station's events go: its cell and its shard.
         self.homes: dict[str, tuple[Cell, int]] = {}
         self.waiting: dict[int, Wait] = {}
@@ -786,6 +775,12 @@ class Gateway:
         if link := self.served.get(station):
             log.info("station %s: its connection ends: %s", station, why)
             link.close(1008, why)
+
+    def end_revoked(self) -> None:
+        """Ends connections whose certificates are revoked."""
+        for station, link in list(self.served.items()):
+            if self.certificates.is_revoked(link.transport):
+                self.end(station, "its certificate is revoked")
 
     def is_served(self, station: str, number: int) -> bool:
         """Whether the connection of this number is still the one by which the station is served here."""

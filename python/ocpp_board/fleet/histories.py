@@ -182,19 +182,35 @@ def names_in(rows: Iterable[Any]) -> set[str]:
     return found
 
 
-async def history_of(
-    cells: Cells, program: str, known: frozenset[str], operator: Operator, station: str, name: str
-) -> History:
-    """The history of a session. Raises Wrong where there is none that the operator sees."""
-    cell, row = await cells.station(operator, station)
-    tx, shard = name.lower(), row["shard"]
+async def lines_of(cell: Cell, shard: int, station: str) -> list[Any]:
+    """A station's rows of the log. Raises Wrong where they are too many."""
     size = (await cell.ask(SIZE, shard, station))[0]["bytes"]
     if size > MOST_BYTES:
         raise Wrong(
             HTTPStatus.SERVICE_UNAVAILABLE,
             f"the log has {size:,} bytes of station {station}, and {MOST_BYTES:,} are read; a closing makes them fewer",
         )
-    rows = await cell.ask(LINES, shard, station)
+    return await cell.ask(LINES, shard, station)
+
+
+async def named_in_log(cell: Cell, shard: int, station: str) -> set[str]:
+    """The transactions of a station that lines of the log are of. Raises Wrong where these are too many."""
+    rows = await lines_of(cell, shard, station)
+
+    def named() -> set[str]:
+        ones = (transaction_of(row["line"]) for row in rows)
+        return {one[1] for one in ones if one}
+
+    return await asyncio.to_thread(named)
+
+
+async def history_of(
+    cells: Cells, program: str, known: frozenset[str], operator: Operator, station: str, name: str
+) -> History:
+    """The history of a session. Raises Wrong where there is none that the operator sees."""
+    cell, row = await cells.station(operator, station)
+    tx, shard = name.lower(), row["shard"]
+    rows = await lines_of(cell, shard, station)
     names = await asyncio.to_thread(names_in, rows)
     found = await cell.ask(ARCHIVED, shard, station, tx, [*names, tx])
     closing = next((one for one in found if one["transaction"] == tx), None)

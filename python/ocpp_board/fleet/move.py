@@ -73,13 +73,13 @@ HISTORY = (
     ),
     (
         "own_archived_period",
-        "site, closing, station, starts, up, down, export_up, export_down",
+        "site, closing, station, starts, day, up, down, export_up, export_down",
         "starts",
     ),
     (
         "own_archived_transaction",
         "site, closing, station, transaction, complete, missing, up, down, export_up, export_down, evse, events, "
-        "first, last, begun, started, ended, corrections",
+        "first, last, begun, started, ended, corrections, since",
         "transaction",
     ),
     (

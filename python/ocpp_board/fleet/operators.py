@@ -2,7 +2,8 @@
 
 Names, roles, sites, sessions and tokens are rows of one cell's database (schema/0002_operators.sql), so that any number
 of pages agree on them. What browsers and programs have is a secret of 32 bytes chosen at random; the database has its
-hash. Failures are counted there for the name that was given, and here for the address that they come from.
+hash. Failures are counted there for the name that was given from an address, and here for that address. So a stranger
+elsewhere locks nobody out, and whoever is signed in stays so.
 """
 
 import asyncio
@@ -12,12 +13,13 @@ import logging
 import re
 import secrets
 import time
+from collections import Counter
 from collections.abc import Awaitable, Callable, Sequence
 from concurrent.futures import ThreadPoolExecutor
 from typing import Any, NamedTuple
 
 from ocpp_board.fleet import passwords
-from ocpp_board.fleet.passwords import SALT, Cost, Tries, hashed, network_of
+from ocpp_board.fleet.passwords import SALT, Cost, Places, Tries, hashed, network_of
 
 log = logging.getLogger(__name__)
 
@@ -26,16 +28,16 @@ NAME = re.compile(r"[a-z0-9][a-z0-9._@+-]{0,63}")
 # Characters of a password. People choose it, so a guess has to be dear.
 SHORTEST, LONGEST = 12, 200
 OPERATOR = Cost(32_768, 8, 2)
-# Hashes at once, and people who may wait for one.
-THREADS, WAITING = 2, 20
+# Hashes at once, and people of one address, and of all, who may wait for one.
+THREADS, WAITING, MOST_WAITING = 2, 5, 200
 # Bytes of a secret, and the characters of its text.
 SECRET = 32
 SECRET_TEXT = re.compile(r"[A-Za-z0-9_-]{43}")
 # Seconds for which a form is good.
 HOLDS = 600
 
-TRY = "select is_locked, hash, salt from try_operator($1)"
-BEGIN = "select begin_session($1, $2, $3)"
+TRY = "select is_locked, hash, salt from try_operator($1, $2)"
+BEGIN = "select begin_session($1, $2, $3, $4)"
 USE = "select * from use_session($1, $2)"
 END = "select end_session($1)"
 USE_TOKEN = "select * from use_token($1)"
@@ -99,43 +101,47 @@ class SignIns:
         self.ask = ask
         self.tries = Tries()
         self.pool = ThreadPoolExecutor(THREADS, "password")
-        self.waiting = 0
+        self.places = Places(THREADS)
+        self.waiting = Counter[str]()
 
     async def begin(self, name: str, password: str, address: str) -> str:
         """The secret of a new session. Raises Refused; a name that is unknown, a wrong password and an account that is
         locked are answered alike, and after as much work."""
-        key = f"address {network_of(address)}"
-        if (pause := self.tries.wait(key, time.monotonic())) > 0:
+        network = network_of(address)
+        if (pause := self.tries.wait(network, time.monotonic())) > 0:
             raise Busy("too many wrong passwords came from this address", pause)
-        if self.waiting >= WAITING:
+        if self.waiting[network] >= WAITING or self.waiting.total() >= MOST_WAITING:
             raise Busy("too many sign in at once", 5)
-        self.waiting += 1
+        self.waiting[network] += 1
         try:
-            is_right, what = await self.judged(name, password)
+            is_right, what = await self.judged(name, password, network)
         finally:
-            self.waiting -= 1
+            self.waiting[network] -= 1
+            if not self.waiting[network]:
+                del self.waiting[network]
         if not is_right:
-            self.tries.fail(key, time.monotonic())
+            self.tries.fail(network, time.monotonic())
             log.warning("%s: %s", address, what)
             raise Refused("The name or the password is wrong, or there were too many wrong ones.")
         secret = new_secret()
-        await self.ask(BEGIN, name, digest(secret), address)
+        await self.ask(BEGIN, name, digest(secret), address, network)
         log.info("%s: operator %s signed in", address, name)
         return secret
 
-    async def judged(self, name: str, password: str) -> tuple[bool, str]:
+    async def judged(self, name: str, password: str, network: str) -> tuple[bool, str]:
         """Whether a password is right, and what is told of one that is not. A name that is none is not told: it may be
         a password."""
         row, hash_, salt = None, None, bytes(SALT)
         if NAME.fullmatch(name) and len(password) <= LONGEST:
-            row = (await self.ask(TRY, name))[0]
+            row = (await self.ask(TRY, name, network))[0]
             hash_, salt = row["hash"], row["salt"] or salt
         loop = asyncio.get_running_loop()
         given = password[:LONGEST].encode("utf-8", "replace")
-        found = await loop.run_in_executor(self.pool, hashed, given, salt, OPERATOR)
+        async with self.places.one_of(network):
+            found = await loop.run_in_executor(self.pool, hashed, given, salt, OPERATOR)
         is_right = hash_ is not None and hmac.compare_digest(found, hash_)
         if row and row["is_locked"]:
-            return is_right, f"operator {name}, who is locked"
+            return is_right, f"operator {name}, who is locked from here"
         return is_right, f"a wrong password of {name}" if hash_ else "a name of no operator"
 
     async def known(self, secret: str, is_use: bool = True) -> Operator | None:

@@ -4,7 +4,8 @@
 
 `--db` is given once for each cell; one that does not answer is told on the page, and the others are shown. The first
 one has the operators, whom `ocpp-board operator` makes. TLS is nginx's, before it; `--proxy` names its address, so
-that where people come from is known. Without TLS, as in a laboratory, `--http` lets browsers keep sessions.
+that where people come from is known. Without TLS, as in a laboratory, `--http` lets browsers keep sessions. With
+`--from-standby` what is shown comes from a standby, and costs the host that takes writes nothing.
 
     /                      all sites with their figures
     /site/NAME/            a site's pages, days and tables, with what archives have, and a month for billing
@@ -67,7 +68,7 @@ async def watch(desk: page_app.Desk) -> None:
     while True:
         for cell in desk.cells.cells:
             try:
-                rows = await cell.ask(LOCKED)
+                rows = await cell.do(LOCKED)
                 seen.cells[metrics.cell_of(cell.dsn)] = True
                 if cell is desk.cells.home:
                     seen.locked = rows[0]["locked"]
@@ -78,17 +79,17 @@ async def watch(desk: page_app.Desk) -> None:
 
 async def serve(words: argparse.Namespace) -> None:
     """Listens until a signal comes. Raises Fault where a cell lets nobody in, and OSError."""
-    cells = Cells(words.db)
+    cells = Cells(words.db, words.from_standby)
     for cell in cells.cells:
         try:
-            await cell.ask("select 1")
+            await cell.do("select 1")
         except Unreachable as fault:
             log.error("%s; tried again with each request", fault)
     desk = page_app.Desk(cells, words.program, known_lines(words.program), words.proxy, words.http)
     app = page_app.application(desk, ROUTES)
     metrics.serve(words.metrics, desk.seen.watch())
     watching = asyncio.create_task(watch(desk))
-    server = PageServer(app, listener_at(words.host, words.port), words.host)
+    server = PageServer(app, listener_at(words.host, words.port), words.host, words.proxy)
     try:
         await server.listen()
     finally:
@@ -119,6 +120,11 @@ def main(argv: Sequence[str], prog: str) -> int:
     )
     parser.add_argument(
         "--http", action="store_true", help="browsers keep sessions without TLS, in a laboratory"
+    )
+    parser.add_argument(
+        "--from-standby",
+        action="store_true",
+        help="what is shown comes from a standby among the hosts of --db, where one answers",
     )
     words = parts.parsed(parser, argv)
     return parts.ended(lambda: run(words))

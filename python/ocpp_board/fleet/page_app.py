@@ -40,8 +40,8 @@ from ocpp_board.fleet.passwords import address_told
 
 log = logging.getLogger(__name__)
 
-# Bytes and fields of a form, and seconds for it.
-MOST_BYTES, MOST_FIELDS, PATIENCE = 8192, 16, 20
+# Bytes and fields of a form.
+MOST_BYTES, MOST_FIELDS = 8192, 16
 HEADERS = {
     "cache-control": "no-store",
     "content-security-policy": "default-src 'none'; style-src 'unsafe-inline'; form-action 'self'; base-uri 'none'; "
@@ -64,11 +64,12 @@ AGAIN, AGAIN_WORD = 60, "again"
 
 
 def text_or_wrong(text: str) -> str:
-    """A text of a request, where the database can look for it. Raises Wrong where it has a NUL or half a surrogate
-    pair."""
-    if "\0" in text or any("\ud800" <= letter <= "\udfff" for letter in text):
+    """A text of a request, where the database can look for it. Raises Wrong where it has a NUL, half a surrogate pair,
+    or bytes that are no UTF-8, which come as U+FFFD."""
+    if any(letter in "\0\ufffd" or "\ud800" <= letter <= "\udfff" for letter in text):
         raise Wrong(
-            HTTPStatus.BAD_REQUEST, "a text of the request has a NUL or half a surrogate pair"
+            HTTPStatus.BAD_REQUEST,
+            "a text of the request has a NUL, half a surrogate pair or bytes that are no UTF-8",
         )
     return text
 
@@ -82,7 +83,7 @@ class Desk:
         self.cells, self.program, self.known = cells, program, known
         self.proxies, self.is_plain = proxies, is_plain
         self.seen = PageSeen()
-        self.sign_ins = SignIns(cells.home.ask)
+        self.sign_ins = SignIns(cells.home.do)
         self.templates = environment()
         self.cookie = "session" if is_plain else "__Host-session"
 
@@ -223,8 +224,7 @@ def local_path(text: str) -> str:
 
 
 async def fields_of(request: Request) -> dict[str, str]:
-    """The fields of a form that this page gave. Raises Wrong where it is too long, comes too slowly or is of another
-    page."""
+    """The fields of a form that this page gave. Raises Wrong where it is too long or of another page."""
     origin = request.headers.get("origin")
     if origin is not None and urlsplit(origin).netloc != request.headers.get("host"):
         raise Wrong(HTTPStatus.FORBIDDEN, "this form is of another page; nothing was done")
@@ -235,12 +235,7 @@ async def fields_of(request: Request) -> dict[str, str]:
         raise Wrong(
             HTTPStatus.UNSUPPORTED_MEDIA_TYPE, "a form is application/x-www-form-urlencoded"
         )
-    try:
-        data = await asyncio.wait_for(body_of(request), PATIENCE)
-    except asyncio.TimeoutError:
-        raise Wrong(
-            HTTPStatus.REQUEST_TIMEOUT, f"a form has to come in {PATIENCE} seconds"
-        ) from None
+    data = await body_of(request)
     try:
         text = data.decode()
         fields = parse_qs(text, keep_blank_values=True, max_num_fields=MOST_FIELDS, errors="strict")

@@ -133,7 +133,7 @@ async def closings_page(
     """The form that asks for a closing, and what was asked for."""
     cells, wanted = asked.desk.cells, asked.operator.wanted()
     sites = await cells.ask_all(SITES, wanted)
-    asked_for = await cells.ask_all(REQUESTS, wanted)
+    asked_for = await cells.ask_all(REQUESTS, wanted, is_new=True)
     rows = sorted((row for _, row in asked_for.pairs()), key=itemgetter("at"), reverse=True)
     heads = (
         "Site",
@@ -181,7 +181,7 @@ async def ask_closing(asked: Asked) -> Response:
         rows, _ = await asked.desk.cells.site(asked.operator, words.site)
         for cell in unique(cell for cell, _ in rows):
             values = (words.site, day, reason, asked.operator.name, asked.address, number)
-            await cell.ask(REQUEST, *values)
+            await cell.do(REQUEST, *values)
     except Wrong as why:
         if why.status is HTTPStatus.SERVICE_UNAVAILABLE:
             raise

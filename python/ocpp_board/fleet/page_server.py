@@ -1,61 +1,102 @@
 """The server of the page: uvicorn, whose connections have an end each, so that who is slow holds up nobody.
 
-A connection has one request. It has so many seconds for its head, and so many for all of it. Where too many connections
-are open the oldest that has sent no whole head ends.
+A connection has one request, which has so many seconds to come whole, and so many for all. Where too many connections
+are open, of one address or of all, the oldest whose request is not whole ends.
 """
 
 import asyncio
 import socket
+from collections.abc import Sequence
 from contextlib import suppress
 from typing import Any
 
+import h11
 from uvicorn import Config, Server
 from uvicorn.protocols.http.h11_impl import H11Protocol
 
-# Seconds for the head of a request, for a connection, and for what is open at the end; connections at once.
-HEAD, WHOLE, ENDING, CONNECTIONS = 10.0, 180.0, 20.0, 256
+from ocpp_board.fleet.passwords import address_told, network_of
+
+# Seconds for a request with its body, for a connection, and for what is open at the end; connections at once, of all
+# and of one address.
+REQUEST, WHOLE, ENDING, CONNECTIONS, EACH = 10.0, 180.0, 20.0, 256, 64
 
 
 class Patient(H11Protocol):  # type: ignore[misc]
     """A connection that ends in time."""
 
-    # Connections that have sent no whole head yet, the oldest first.
-    headless: "dict[Patient, None]" = {}
-    ends: asyncio.TimerHandle
-    head_ends: asyncio.TimerHandle
+    # Connections whose request is not whole yet, the oldest first, and all of each address.
+    unfinished: "dict[Patient, None]" = {}
+    by_address: "dict[str, dict[Patient, None]]" = {}
+    # Who tells where connections come from.
+    proxies: Sequence[str] = ()
+    address = ""
+    timers: tuple[asyncio.TimerHandle, ...] = ()
 
     def connection_made(self, transport: Any) -> None:
         """It begins."""
         super().connection_made(transport)
+        Patient.unfinished[self] = None
+        times = (REQUEST, WHOLE)
+        self.timers = tuple(self.loop.call_later(seconds, self.give_up) for seconds in times)
         if len(self.connections) > CONNECTIONS:
-            oldest = next(iter(Patient.headless), self)
-            oldest.transport.abort()
-            if oldest is self:
-                return
-        Patient.headless[self] = None
-        self.ends = self.loop.call_later(WHOLE, transport.abort)
-        self.head_ends = self.loop.call_later(HEAD, transport.abort)
+            next(iter(Patient.unfinished)).give_up()
+        if self.peer() not in Patient.proxies:
+            self.count(self.peer())
+
+    def peer(self) -> str:
+        """Who is at the other end."""
+        return str(self.client[0]) if self.client else "unknown"
+
+    def count(self, address: str) -> None:
+        """Counts it among those of its address, of which the oldest whose request is not whole ends where they are too
+        many, or this one."""
+        self.address = network_of(address)
+        own = Patient.by_address.setdefault(self.address, {})
+        own[self] = None
+        if len(own) > EACH:
+            next((one for one in own if one in Patient.unfinished), self).give_up()
 
     def handle_events(self) -> None:
-        """Something came; a whole head is told by its request being in work."""
+        """Something came: a head tells where it is from, where a proxy hands it on."""
         super().handle_events()
-        if self.cycle is not None and self in Patient.headless:
-            del Patient.headless[self]
-            self.head_ends.cancel()
+        if self.cycle is None or self not in Patient.unfinished:
+            return
+        if not self.address:
+            heads = self.cycle.scope["headers"]
+            told = [value.decode("latin-1") for name, value in heads if name == b"x-forwarded-for"]
+            self.count(address_told(self.peer(), told, Patient.proxies))
+        if self.conn.their_state is not h11.SEND_BODY:
+            Patient.unfinished.pop(self, None)
+            self.timers[0].cancel()
+
+    def give_up(self) -> None:
+        """Ends it."""
+        self.forget()
+        self.transport.abort()
+
+    def forget(self) -> None:
+        """Counts it no longer."""
+        Patient.unfinished.pop(self, None)
+        own = Patient.by_address.get(self.address, {})
+        own.pop(self, None)
+        if not own:
+            Patient.by_address.pop(self.address, None)
+        for timer in self.timers:
+            timer.cancel()
 
     def connection_lost(self, exc: Exception | None) -> None:
         """It is over."""
-        Patient.headless.pop(self, None)
-        for name in ("ends", "head_ends"):
-            if timer := getattr(self, name, None):
-                timer.cancel()
+        self.forget()
         super().connection_lost(exc)
 
 
 class PageServer(Server):  # type: ignore[misc]
     """A server that tells where it listens."""
 
-    def __init__(self, app: Any, listener: socket.socket, said: str) -> None:
+    def __init__(
+        self, app: Any, listener: socket.socket, said: str, proxies: Sequence[str]
+    ) -> None:
+        Patient.proxies = proxies
         config = Config(
             app,
             http=Patient,

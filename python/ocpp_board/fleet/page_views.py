@@ -4,6 +4,7 @@ import asyncio
 import json
 import re
 from collections.abc import Iterable, Sequence
+from contextlib import suppress
 from datetime import date, datetime, time, timedelta, timezone
 from http import HTTPStatus
 from operator import itemgetter
@@ -25,7 +26,7 @@ from ocpp_board.fleet.page_app import Asked, view
 from ocpp_board.fleet.page_render import Line, heads_of, lines_of, link, moment, zone_of
 from ocpp_board.fleet.plans import DEFAULT_ORDER
 from ocpp_board.fleet.site_pages import fragment_of, session_path
-from ocpp_board.fleet.site_store import SiteStore
+from ocpp_board.fleet.site_store import DAYS, SiteStore
 from ocpp_board.fleet.states import CORRECTED, PROVISIONAL, SETTLED, sessions_said, state_of
 from ocpp_board.limits import TRANSACTION, is_name
 from ocpp_board.page_sections import UNKNOWN
@@ -170,15 +171,19 @@ async def site_file(asked: Asked) -> Response:
         raise Wrong(HTTPStatus.NOT_FOUND, f"a site has no page {file!r}")
     cells = asked.desk.cells
     rows, faults = await cells.site(asked.operator, name)
-    pages = await STORE.pages(name, rows)
+    day = None
+    if found := FILE_DAY.match(file):
+        with suppress(ValueError):
+            day = date.fromisoformat(found[1])
+    pages = await STORE.pages(name, rows, day)
     if file not in pages.files:
         text = f"site {name!r} has no energy on this day, so no page {file!r}"
         raise Wrong(HTTPStatus.NOT_FOUND, text)
     if file.endswith(".csv"):
         return csv_response(pages.files[file], f"{name}.{file.removeprefix('board.')}")
     fragment = fragment_of(pages.files[file].decode())
-    if day := FILE_DAY.match(file):
-        told = await day_told(rows, name, date.fromisoformat(day[1]))
+    if day:
+        told = await day_told(rows, name, day)
     else:
         told = site_told((await cells.sites(asked.operator, name))[0][0])
     refused = await cells.ask_all(REFUSED_COUNT, name)
@@ -193,6 +198,7 @@ async def site_file(asked: Asked) -> Response:
         body=Markup(fragment.body),
         told=told,
         archived=f"{pages.archived:,}" if pages.archived else "",
+        days=DAYS,
         refused=refused_said(times),
         refused_path=f"/refused?{urlencode({'site': name})}",
         month=f"{datetime.now(timezone.utc):%Y-%m}",

@@ -41,9 +41,12 @@ class Replay:
             start_new_session=True,
             env=without_secrets(replay_environment()),
         )
-        # That its input broke is told by its output, which ends.
+        # That its input broke is told by its output, which ends. A task that waits for the end of the input would be
+        # cancelled with the program, and what it waits for with it, which asyncio takes for a fault.
         assert process.stdin
-        asyncio.ensure_future(process.stdin.wait_closed()).add_done_callback(seen)
+        process.stdin._protocol._get_close_waiter(  # type: ignore[attr-defined]
+            process.stdin
+        ).add_done_callback(seen)
         return cls(process)
 
     def write(self, data: bytes) -> None:

@@ -21,7 +21,7 @@
 \endif
 \if :{?to}
 \else
-    \set to 6
+    \set to 7
 \endif
 
 begin;
@@ -1057,6 +1057,11 @@ select :to >= 6 and not exists (select from schema_version where version = 6) as
 \if :is_due
     \ir schema/0006_nobody_stops_another.sql
     insert into schema_version (version) values (6);
+\endif
+select :to >= 7 and not exists (select from schema_version where version = 7) as is_due \gset
+\if :is_due
+    \ir schema/0007_history.sql
+    insert into schema_version (version) values (7);
 \endif
 
 -- Passwords of the roles ----------------------------------------------------------------------------------------------

@@ -43,7 +43,8 @@ PROGRAM = "ocpp-board operator"
 MOST_DAYS, DAYS = 1100, 365
 LIST = """
 select name, roles, sites, disabled_at, (select count(*) from operator_session s where s.operator = name) as sessions,
-    (select locked_until from sign_in i where i.name = operator.name and locked_until > now()) as locked_until
+    (select string_agg(format('%s until %s UTC', network, to_char(locked_until at time zone 'UTC', 'HH24:MI:SS')), ', ')
+     from sign_in i where i.name = operator.name and locked_until > now()) as locked
 from operator order by name
 """
 TOKENS = "select token, operator, label, roles, sites, ends, revoked_at, seen_at from api_token order by token"
@@ -118,7 +119,7 @@ async def show(session: Any) -> None:
         told = [row["name"], ",".join(row["roles"]), sites_said(row["sites"])]
         told += [f"sessions={row['sessions']}"]
         told += ["disabled"] if row["disabled_at"] else []
-        told += [f"locked until {row['locked_until']:%H:%M:%S} UTC"] if row["locked_until"] else []
+        told += [f"locked from {row['locked']}"] if row["locked"] else []
         print("  ".join(told))
     for row in await session.fetch(TOKENS):
         state = "revoked" if row["revoked_at"] else f"until {row['ends']:%Y-%m-%d %H:%M} UTC"

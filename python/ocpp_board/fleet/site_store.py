@@ -4,7 +4,7 @@ import asyncio
 import json
 import tempfile
 from collections import OrderedDict
-from datetime import datetime
+from datetime import date, datetime, time, timedelta, timezone
 from http import HTTPStatus
 from pathlib import Path
 from typing import Any, NamedTuple
@@ -17,6 +17,8 @@ from ocpp_board.fleet.states import figures_said, station_states
 
 # Sites whose pages are kept, processes at once that make some with those that wait, and seconds for one.
 KEPT, MAKERS, WAITING, PATIENCE = 16, 2, 16, 60
+# Days of which a site's pages have the archived periods. One before them is made by itself.
+DAYS = 92
 # A shard has no more stations.
 MOST_STATIONS = 64
 MARKS = ("shard", "period", "reading_order", "zone", "place", "at", "closing")
@@ -39,25 +41,44 @@ class SiteStore:
         self.makers = Room(MAKERS, WAITING)
         self.making: dict[str, asyncio.Lock] = {}
 
-    async def pages(self, name: str, rows: list[tuple[Cell, Any]]) -> SitePages:
-        """A site's pages of these boards. Raises Wrong where they can't be made."""
-        mark = [(cell.dsn, *(row[key] for key in MARKS)) for cell, row in rows]
-        async with self.making.setdefault(name, asyncio.Lock()):
-            if (had := self.kept.get(name)) and had.mark == mark:
-                self.kept.move_to_end(name)
+    async def pages(
+        self, name: str, rows: list[tuple[Cell, Any]], day: date | None = None
+    ) -> SitePages:
+        """A site's pages of these boards, or those of one day, where that is earlier than they go. Raises Wrong where
+        they can't be made."""
+        zone = zone_of(rows[0][1]["zone"])
+        first = datetime.now(zone).date() - timedelta(days=DAYS)
+        last = date(2100, 1, 1)
+        if day is not None and day < first:
+            first, last = day, day + timedelta(days=1)
+        key = f"{name} {first if last < date(2100, 1, 1) else ''}"
+        span = [
+            datetime.combine(one, time(), zone).astimezone(timezone.utc) for one in (first, last)
+        ]
+        mark = [(cell.dsn, first, *(row[one] for one in MARKS)) for cell, row in rows]
+        async with self.making.setdefault(key, asyncio.Lock()):
+            if (had := self.kept.get(key)) and had.mark == mark:
+                self.kept.move_to_end(key)
                 return had
             async with self.makers:
-                made = await self.made(name, mark, rows)
-            self.kept[name] = made
-            self.kept.move_to_end(name)
+                made = await self.made(name, mark, rows, *span)
+            self.kept[key] = made
+            self.kept.move_to_end(key)
             while len(self.kept) > KEPT:
                 gone, _ = self.kept.popitem(last=False)
                 self.making.pop(gone, None)
             return made
 
-    async def made(self, name: str, mark: Any, rows: list[tuple[Cell, Any]]) -> SitePages:
-        """Makes a site's pages."""
-        text, archived = await board_text(name, rows)
+    async def made(
+        self,
+        name: str,
+        mark: Any,
+        rows: list[tuple[Cell, Any]],
+        begin: datetime,
+        end: datetime,
+    ) -> SitePages:
+        """Makes a site's pages, with the archived periods of some time."""
+        text, archived = await board_text(name, rows, begin, end)
         until = max(filter(None, (row["at"] for _, row in rows)), default=None)
         findings = [
             dict(one) | {"first": one["first"] and one["first"].isoformat()}

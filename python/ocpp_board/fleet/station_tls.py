@@ -11,11 +11,13 @@ import os
 import re
 import signal
 import ssl
+from collections.abc import Callable
 from typing import Any
 
 from websockets.datastructures import Headers
 
 from ocpp_board.fleet.database import Fault
+from ocpp_board.fleet.revocations import Named, named, revoked_in
 
 log = logging.getLogger(__name__)
 
@@ -41,7 +43,12 @@ def add_options(parser: argparse.ArgumentParser) -> None:
         metavar="FILE",
         help="ask stations for a certificate of these authorities (PEM) in place of a password",
     )
-
+    parser.add_argument(
+        "--client-crl",
+        metavar="FILE",
+        help="with --client-ca: the revocation lists of these authorities (PEM); SIGHUP has it read again, and ends "
+        "the connections of certificates that it names",
+    )
     parser.add_argument(
         "--client-header",
         metavar="NAME",
@@ -104,6 +111,8 @@ def unescaped(found: "re.Match[bytes]") -> bytes:
 
 def context_of(words: argparse.Namespace) -> ssl.SSLContext | None:
     """What connections begin with; nothing where TLS is not asked for. Raises Fault where it can't be had."""
+    if words.client_crl and not words.client_ca:
+        raise Fault("--client-crl needs --client-ca")
     if words.certificate is None:
         if words.key or words.client_ca:
             raise Fault("--key and --client-ca need --certificate")
@@ -116,8 +125,12 @@ def context_of(words: argparse.Namespace) -> ssl.SSLContext | None:
         if words.client_ca:
             context.load_verify_locations(words.client_ca)
             context.verify_mode = ssl.CERT_REQUIRED
+        if words.client_crl:
+            context.load_verify_locations(words.client_crl)
+            context.verify_flags |= ssl.VerifyFlags.VERIFY_CRL_CHECK_LEAF
     except (OSError, ValueError) as fault:
-        files = ", ".join(filter(None, (words.certificate, words.key, words.client_ca)))
+        names = (words.certificate, words.key, words.client_ca, words.client_crl)
+        files = ", ".join(filter(None, names))
         raise Fault(f"{files}: {fault}") from None
     return context
 
@@ -125,10 +138,12 @@ def context_of(words: argparse.Namespace) -> ssl.SSLContext | None:
 class Certificates:
     """What connections begin with: what the files had when they were read last."""
 
-    def __init__(self, words: argparse.Namespace) -> None:
-        self.words = words
+    def __init__(self, words: argparse.Namespace, renewed: Callable[[], None]) -> None:
+        """`renewed` is called once the files were read again."""
+        self.words, self.renewed = words, renewed
         # A server has one context for ever. To load a pair into it would leave one of another kind of key there.
         self.first = self.latest = context_of(words)
+        self.revoked = revoked_of(words)
         if self.first:
             self.first.sni_callback = self.hand_on
 
@@ -146,11 +161,26 @@ class Certificates:
         if self.first is None:
             return
         try:
-            self.latest = context_of(self.words)
+            self.latest, self.revoked = context_of(self.words), revoked_of(self.words)
         except Fault as fault:
             log.error("%s; the certificate stays as it was", fault)
         else:
             log.warning("%s was read again", self.words.certificate)
+            self.renewed()
+
+    def is_revoked(self, transport: asyncio.Transport) -> bool:
+        """Whether the certificate of a connection is named by a revocation list, as these are now."""
+        connection = transport.get_extra_info("ssl_object") if self.revoked else None
+        certificate = connection.getpeercert(True) if connection else None
+        return certificate is not None and named(certificate) in self.revoked
+
+
+def revoked_of(words: argparse.Namespace) -> frozenset[Named]:
+    """The certificates that the revocation lists name. Raises Fault where these can't be read."""
+    try:
+        return revoked_in(words.client_crl) if words.client_crl else frozenset()
+    except (OSError, ValueError) as fault:
+        raise Fault(f"{words.client_crl}: {fault}") from None
 
 
 def common_name(certificate: Any) -> str:

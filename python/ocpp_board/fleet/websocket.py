@@ -1,4 +1,8 @@
-"""One end of a WebSocket connection: what `websockets` knows of the protocol, on a transport of asyncio."""
+"""One end of a WebSocket connection: what `websockets` knows of the protocol, on a transport of asyncio.
+
+A gateway's end cuts what comes into frames by itself. A whole text in one frame, as nearly all are, it reads and writes
+by itself as well, since that takes a third of the time; each other frame `websockets` gets.
+"""
 
 import asyncio
 from collections import deque
@@ -7,6 +11,7 @@ from typing import cast
 from websockets.client import ClientConnection
 from websockets.connection import Connection, State
 from websockets.frames import OP_BINARY, OP_CONT, OP_TEXT, Frame
+from websockets.frames import apply_mask  # type: ignore[attr-defined]
 from websockets.http11 import Request, Response
 from websockets.typing import Subprotocol
 from websockets.uri import parse_uri
@@ -18,8 +23,25 @@ SUBPROTOCOL = Subprotocol(PROTOCOL)
 MOST = 524_288
 # Seconds until a connection that was closed from this side is cut.
 CLOSING = 5.0
-# Bytes that are read at once. Behind each part the reader may stop, however small the frames in it are.
+# Bytes that `websockets` reads at once. Behind each part the reader may stop, however small the frames in it are.
 PART = 4096
+# The first byte of a text in one frame, and bits of the second: whether it is masked, and its length (RFC 6455, 5.2).
+WHOLE_TEXT, MASKED, LENGTH = 0x81, 0x80, 0x7F
+TWO_BYTES, EIGHT_BYTES = 126, 127
+# Bytes of a frame with its head.
+LONGEST = MOST + 14
+
+
+def extent(data: bytes | bytearray) -> tuple[int, int]:
+    """How many bytes the masked frame has that begins with these: its head with the mask, and all of it. Zeros where
+    too few of its head came."""
+    length = data[1] & LENGTH if len(data) > 1 else EIGHT_BYTES
+    more = 0 if length < TWO_BYTES else 2 if length == TWO_BYTES else 8
+    if len(data) < 2 + more:
+        return 0, 0
+    if more:
+        length = int.from_bytes(data[2 : 2 + more], "big")
+    return 6 + more, 6 + more + length
 
 
 class Link(asyncio.Protocol):
@@ -30,8 +52,10 @@ class Link(asyncio.Protocol):
     def __init__(self, connection: Connection) -> None:
         self.connection = connection
         self.opcode, self.parts = OP_TEXT, list[bytes]()
-        # What came and is not read yet.
+        # What came and is not read yet; and, where it is cut into frames here, the front of those that are not whole.
         self.unread = deque[bytes]()
+        self.begun = bytearray()
+        self.cuts_frames = False
         self.is_lost = self.is_reading = False
 
     def handshake(self, event: Request | Response) -> None:
@@ -50,12 +74,12 @@ class Link(asyncio.Protocol):
         """Whether something speaks against reading more."""
         return False
 
-    def count(self, frame: Frame) -> None:
-        """A frame of any kind came."""
+    def count(self, size: int) -> None:
+        """A frame of any kind came, with so many bytes."""
 
     def data_received(self, data: bytes) -> None:
         """Bytes came."""
-        if len(data) <= PART:
+        if len(data) <= PART or self.cuts_frames:
             self.unread.append(data)
         else:
             self.unread.extend(data[at : at + PART] for at in range(0, len(data), PART))
@@ -66,19 +90,63 @@ class Link(asyncio.Protocol):
         if self.is_reading:
             return  # An answer to what is being read.
         self.is_reading = True
-        while self.unread and not (self.is_lost or self.is_held()):
-            self.connection.receive_data(self.unread.popleft())
-            for event in self.connection.events_received():
-                self.take(event)
+        while not (self.is_lost or self.is_held()) and self.step():
+            pass
         self.is_reading = False
         self.flush()
+
+    def step(self) -> bool:
+        """Reads the next frame, or a part of what came. Whether there was something to read."""
+        if not self.cuts_frames:
+            if self.unread:
+                self.hand_on(self.unread.popleft())
+                return True
+            return False
+        begun = self.begun
+        if not begun and self.unread:
+            # Mostly one frame comes, and it is whole.
+            head, size = extent(self.unread[0])
+            if size == len(self.unread[0]):
+                self.take_frame(self.unread.popleft(), head)
+                return True
+        head, size = extent(begun)
+        while not 0 < size <= len(begun):
+            if size > LONGEST or len(begun) > 1 and not begun[1] & MASKED:
+                # Too long, or not masked: `websockets` tells the other end, and gets all that comes.
+                self.cuts_frames = False
+                self.unread.appendleft(bytes(begun))
+                return True
+            if not self.unread:
+                return False
+            begun += self.unread.popleft()
+            head, size = extent(begun)
+        frame = bytes(begun[:size])
+        del begun[:size]
+        self.take_frame(frame, head)
+        return True
+
+    def take_frame(self, frame: bytes, head: int) -> None:
+        """Takes a whole frame, which begins with a head of so many bytes."""
+        size = len(frame)
+        is_text = frame[0] == WHOLE_TEXT and frame[1] & MASKED and not self.parts
+        if is_text and size <= LONGEST and self.connection.state is State.OPEN:
+            self.count(size - head)
+            self.text(apply_mask(frame[head:], frame[head - 4 : head]))
+        else:
+            self.hand_on(frame)
+
+    def hand_on(self, data: bytes) -> None:
+        """Has `websockets` read something."""
+        self.connection.receive_data(data)
+        for event in self.connection.events_received():
+            self.take(event)
 
     def take(self, event: Request | Response | Frame) -> None:
         """Takes what was read."""
         if not isinstance(event, Frame):
             self.handshake(event)
             return
-        self.count(event)
+        self.count(len(event.data))
         if event.opcode in (OP_TEXT, OP_BINARY, OP_CONT):
             self.frame(event)
 
@@ -98,7 +166,17 @@ class Link(asyncio.Protocol):
 
     def send(self, data: bytes) -> None:
         """Sends a text, where the connection is open."""
-        if self.connection.state is State.OPEN:
+        if self.connection.state is not State.OPEN:
+            return
+        if self.cuts_frames and len(data) < 1 << 16 and not self.is_lost:
+            size = len(data)
+            head = (
+                (WHOLE_TEXT, size)
+                if size < TWO_BYTES
+                else (WHOLE_TEXT, TWO_BYTES, *size.to_bytes(2, "big"))
+            )
+            self.transport.write(bytes(head) + data)
+        else:
             self.connection.send_text(data)
             self.flush()
 

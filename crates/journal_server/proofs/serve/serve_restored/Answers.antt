@@ -7,7 +7,7 @@ use Rattle.journal_script.specs.Cuts.{run_begins}
 use Rattle.journal_script.specs.Restoring.{IsUnmarked}
 use Rattle.journal_server.proofs.Comments.{consumed_first, kept_unless, lost_so, refused, restored_after}
 use Rattle.journal_script.proofs.Growing.{grows_on}
-use Rattle.journal_server.proofs.Ends.{script_behind, told_of_script}
+use Rattle.journal_server.proofs.Ends.{reported, script_behind, telling}
 use Rattle.journal_server.proofs.serve.serve_restored.Goals as goal
 
 pub returns-clause-serves : goal.returns-clause-serves
@@ -16,11 +16,12 @@ returns-clause-serves g c =
     let told = c.in_ok-restored.ensures.restored in
     let begun = g.W.Write.contents c.in_ok-journal.journal.inner in
     let begins = subst (Appends (writer_contents g.W.Write.contents c.args.journal) begun) (c.as_slice-2.ensures.value ∙ c.in_ok-head.ensures) c.in_ok-journal.ensures.begins in
-    let ran = c.in_ok-served.ensures.script (told.0 ++ run_begins) (restored_after told.0 restored told.4) in
+    let ran = c.in_ok-served.ensures (told.0 ++ run_begins) (restored_after told.0 restored told.4) in
     record {
       read = told.0;
       last = told.1;
-      reads = consumed_first _ _ _ told.2;
+      rest = g.I.Read.remaining c.restore.new.reader;
+      reads = told.2;
       listens = told.3;
       whole = told.4.whole;
       marked = told.4.marked;
@@ -29,12 +30,11 @@ returns-clause-serves g c =
       sites = restored.draft.sites;
       stations = restored.draft.stations;
       firsts = restored.cells.items;
-      script = script_behind _ _ _ _ _ begun run_begins _ begins ran;
+      script = script_behind _ _ _ _ _ begun run_begins _ _ begins
+          (telling _ _ _ _ _ _ _ _
+          (reported c.in_ok-served.served.ended restored.draft.sites restored.draft.stations restored.cells.items _ _ _ _ (grows_on _ _ _ c.in_ok-restored.ensures.grows c.tell_restored.ensures))
+          ran);
     }
-
-pub returns-clause-console : goal.returns-clause-console
-returns-clause-console g c =
-    told_of_script c.in_ok-served.served.ended _ _ _ _ _ _ (grows_on _ _ _ c.in_ok-restored.ensures.grows c.tell_restored.ensures) c.in_ok-served.ensures.console
 
 pub returns-in_err-restored-clause-unmarked : goal.returns-in_err-restored-clause-unmarked
 returns-in_err-restored-clause-unmarked g c =

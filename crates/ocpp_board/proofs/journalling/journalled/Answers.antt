@@ -1,5 +1,4 @@
-use Rattle.std.proofs.Common.{None}
-use Rattle.journal_server.specs.Served.{IsNewRun, IsToldOfPlan}
+use Rattle.journal_server.specs.Served.{IsNewRun, TellsNew}
 use Rattle.ocpp_board.proofs.Runs.{journal_run}
 use Rattle.ocpp_board.proofs.journalling.journalled.Goals as goal
 
@@ -7,6 +6,7 @@ pub returns : goal.returns
 returns g c =
     let plan = c.args.plan.now in
     let kept = c.journalled_through-kept in
-    journal_run g.W.Write.contents g.C.Write.contents g.E.Write.contents c.args.streams.errors c.end_kept.result kept.result
-    (IsNewRun plan.sites.items plan.stations.items (g.W.Write.contents c.args.streams.output)) (IsToldOfPlan plan.sites.items plan.stations.items None (g.C.Write.contents c.args.streams.console))
-    c.end_kept.ensures.output c.end_kept.ensures.console c.end_kept.ensures.passes c.end_kept.ensures.end kept.ensures.journal kept.ensures.given kept.ensures.console
+    let streams = c.args.streams in
+    journal_run g.W.Write.contents g.C.Write.contents g.E.Write.contents streams.errors c.end_kept.result kept.result
+    (λ left ended answered. IsNewRun plan.sites.items plan.stations.items (g.W.Write.contents streams.output) left (TellsNew ended plan.stations.items (g.R.Read.remaining streams.input) (g.C.Write.contents streams.console) answered))
+    c.end_kept.ensures.output c.end_kept.ensures.console c.end_kept.ensures.passes c.end_kept.ensures.end kept.ensures.given kept.ensures.kept

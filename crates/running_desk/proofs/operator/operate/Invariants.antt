@@ -1,6 +1,10 @@
 use Rattle.running_desk.proofs.Replies.{SoFar}
+use Rattle.running_desk.specs.Ordered.{lines_in}
+use Rattle.running_desk.specs.Reading.{orders_coming}
 use Rattle.running_desk.proofs.operator.operate.Given as goal
 
 -- the lines that were answered so far
 abbrev pub invariant-loop : goal.invariant-loop
-invariant-loop g l = SoFar l.running.plan.now.sites.items l.running.desk.desk.now.stations (g.O.Orders.coming l.fn.orders) (g.O.Orders.coming l.orders) (g.W.Write.contents l.fn.writer) (g.W.Write.contents l.writer)
+invariant-loop g l =
+    SoFar (g.S.Delivers.gives l.running.serves.now) (g.S.Serves.shows l.running.serves.now) l.running.plan.now.sites.items l.running.desk.desk.now.stations
+    (lines_in (g.I.Read.remaining l.fn.input)) (orders_coming g.I.Read.remaining l.orders) (g.W.Write.contents l.fn.writer) (g.W.Write.contents l.writer) l.seen.items

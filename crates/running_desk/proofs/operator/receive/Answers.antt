@@ -1,6 +1,11 @@
+use Rattle.std.proofs.Common.{inl}
 use Rattle.board_report.proofs.ClosedSites.{value_told}
 use Rattle.running_desk.proofs.Replied.{sent}
 use Rattle.running_desk.proofs.operator.receive.Goals as goal
 
-pub returns-in-Ok : goal.returns-in-Ok
-returns-in-Ok g c = value_told c.deliver-delivered.result _ _ (λ _ h. sent _ _ _ c.in-Ok.ensures.named _ _ _ h) c.deliver-delivered.ensures
+pub returns-in-Ok-clause-sent : goal.returns-in-Ok-clause-sent
+returns-in-Ok-clause-sent g c = value_told c.deliver-delivered.result _ _ (λ seen h. sent (g.S.Delivers.gives c.args.running.now.serves.now) seen _ _ _ c.in-Ok.ensures.named _ _ _ h) c.deliver-delivered.ensures
+
+pub returns-in-Ok-clause-messaged : goal.returns-in-Ok-clause-messaged
+returns-in-Ok-clause-messaged g c =
+    value_told c.deliver-delivered.result _ _ (λ seen h. inl (c.in-Ok.pass, c.deliver-delivered.new.pass, c.in-Ok.ensures.named, h)) c.deliver-delivered.ensures

@@ -41,7 +41,7 @@ returns-in-Ok-clause-received g c =
     let note = c.args.way.now.note.now in
     let line = c.args.way.now.line.now in
     let command = c.args.judged.command in
-    subst (λ (x : Answer × Option Known). IsReceived c.args.place.now (g.K.Opening.first c.args.number) x.0 (entry c.args.number note line command) x.1 c.with_receipt.result.2)
-    (λ i. (sym c.with_receipt.ensures.answer i, sym c.with_receipt.ensures.told i))
+    subst (λ (x : Answer × Option Known). IsReceived c.args.place.now (g.K.Opening.first c.args.number) x.0 (entry c.args.number note line command) x.1 c.with_moment.result.2)
+    (λ i. (sym c.with_moment.ensures.answer i, sym c.with_moment.ensures.told i))
     (received c.args.place.now g.K.Opening.first c.args.number c.self.inside.cell c.self.inside.share note line command stands (c.self.invariant serves)
-    c.settle_written.result.0 c.settle_written.result.1 c.in-Ok.receipt c.with_receipt.result.2 c.in-Ok.ensures.noted c.settle_written.ensures.tells c.with_receipt.ensures.receipt)
+    c.settle_written.result.0 c.settle_written.result.1 c.in-Ok.moment c.with_moment.result.2 c.in-Ok.ensures.noted c.settle_written.ensures.tells c.with_moment.ensures.moment)

@@ -8,7 +8,8 @@ use Rattle.ledger_model.specs.declared.command.Command.{Command}
 use Rattle.station_cell.specs.Cell.{Cell, IsInService}
 use Rattle.site_desk.specs.Close.{IsClosable, Saw}
 use Rattle.site_desk.specs.Parts.{AreTied}
-use Rattle.kept_desk.specs.Kept.{IsKeptDesk, IsLeftFrom, IsReceiptIn, commands_of}
+use Rattle.kept_desk.specs.Kept.{IsKeptDesk, IsLeftFrom, commands_of}
+use Rattle.site_book.specs.Prefix.{IsPrefix}
 use Rattle.kept_desk.proofs.Names.{all_at}
 use Rattle.kept_desk.proofs.desk.KeptDesk.close.Goals as goal
 
@@ -31,8 +32,7 @@ returns-in-Ok-clause-kept g c =
       log = log;
       written = subst (λ b. IsWritten b g.K.Opening.before (g.W.Write.contents c.into_writer.result.inner) c.into_writer.result.buf.items log) (sym c.is_broken-is_broken.ensures) written.written;
       spoken = written.spoken;
-      received = subst (λ (j : Ledger). All (IsReceiptIn j.entries) c.args.receipts.items) (sym c.confirm_all.ensures.log) c.confirm_all.ensures.first;
-      counted = c.lines-lines.ensures;
+      begins = subst (λ (j : Ledger). All (λ m. IsPrefix m j.entries) c.args.moments.items) (sym c.confirm_all.ensures.log) c.confirm_all.ensures.first;
       left = λ k d at.
           let there : slice_get kept k ≡ Some d = ap (λ cs. slice_get cs k) (sym c.free_cells.ensures.cells ∙ sym (ap (λ e. e.cells) c.of.ensures)) ∙ at in
           let station = (c.in-Ok.ensures.whole.whole k d (ap (λ cs. slice_get cs k) (map-id kept) ∙ there)).placed.stands.station in

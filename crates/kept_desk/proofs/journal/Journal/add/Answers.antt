@@ -2,10 +2,9 @@ use Rattle.std.proofs.Common.{◌≡◌, false, [], ◌∷◌, ◌++◌, ap, sym
 use Rattle.std.proofs.lemmas.List.Elements.{All-push}
 use Rattle.kept_desk.specs.declared.entry.Entry.{Entry}
 use Rattle.kept_desk.specs.Entries.{entry}
-use Rattle.kept_desk.specs.Journal.{AreSoMany, IsWritten, OwnEntries}
+use Rattle.kept_desk.specs.Journal.{IsWritten, OwnEntries}
 use Rattle.kept_desk.specs.Rule.{keeping}
 use Rattle.kept_desk.specs.Speaking.{AreSpoken, SpeaksOf}
-use Rattle.kept_desk.proofs.Counted.{one_line}
 use Rattle.kept_desk.proofs.Lines.{cut, added}
 use Rattle.kept_desk.proofs.journal.Journal.add.Goals as goal
 
@@ -20,7 +19,6 @@ invariant_of-self g c =
           cut _ _ _ _ _ _ c.self.inside.seat.me.0.log c.args.note.now c.args.line.now c.requires.note c.requires.speaks.speaks.feedless c.if-self.false i.written
           c.in_err-write_entry.ensures.written;
       spoken = i.spoken;
-      counted = i.counted;
     }
 
 pub invariant_of-self-2 : goal.invariant_of-self-2
@@ -41,5 +39,4 @@ invariant_of-self-2 g c =
           c.in_ok-write_entry.ensures.written c.in_ok-write_entry.ensures.handed_on);
       spoken = subst (AreSpoken g.K.Opening.name) (sym grown) (All-push (λ (x : Entry). SpeaksOf (g.K.Opening.name x.station) x.line x.command) log e i.spoken
           (subst (λ n. SpeaksOf (g.K.Opening.name n) c.args.line.now c.args.command.now) (sym (ap (λ (s : OwnEntries). s.station) c.share.view_is)) c.requires.speaks));
-      counted = subst (AreSoMany _) (sym grown) (one_line c.self.inside.lines _ log e c.saturating_add-self-inside.ensures i.counted);
     }

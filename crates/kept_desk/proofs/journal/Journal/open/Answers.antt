@@ -18,5 +18,4 @@ invariant_of-result g c =
       me_is = unused.me_is ∙ ap (λ log. (keeping log 0, [])) (sym empty);
       written = none _ _ _ _ c.requires.before c.requires.empty empty;
       spoken = subst (AreSpoken g.K.Opening.name) (sym empty) (All-nil (λ (e : Entry). SpeaksOf (g.K.Opening.name e.station) e.line e.command));
-      counted = λ less. ap length empty;
     }

@@ -1,0 +1,6 @@
+use Rattle.std.proofs.Common.{subst}
+use Rattle.site_desk.specs.Submit.{CanJudge}
+use Rattle.kept_desk.proofs.way.JournalledSettlesKeptCellMoment.settle.Goals as goal
+
+pub take-requires-clause-can : goal.take-requires-clause-can
+take-requires-clause-can g c = subst (λ d. CanJudge c.args.number c.args.place.now d c.args.pass.now) c.cell.ensures (c.can_judge.ensures c.if-can_judge.true)

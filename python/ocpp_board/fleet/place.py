@@ -1,0 +1,187 @@
+"""Chooses cell and shard for a new station, and proposes which shards should move.
+
+    PGPASSWORD=.. ocpp-board place --db postgresql://ledger_provisioner@a/ledger \\
+        --db postgresql://ledger_provisioner@c/ledger --site north --reason 'a new station' CS-00441
+    PGPASSWORD=.. ocpp-board place --db .. --db .. --moves
+
+`--db` is given once for each cell. A station goes to a shard that has its site, the fullest one with room; else to the
+cell with the least load, and there to the fullest shard with room for a site, or to a new shard. Shards are filled with
+56 stations, so that limits can grow. A site that is new in a shard gets the period, the zone and the order of readings
+that it has elsewhere.
+
+The load of a shard is the lines of its last day. --moves writes the commands that bring cells near to the same load,
+the largest step first, and changes nothing.
+"""
+
+import argparse
+from collections.abc import Iterable, Sequence
+from typing import Any, NamedTuple
+
+from ocpp_board.fleet import parts
+from ocpp_board.fleet.database import Fault, connect
+from ocpp_board.limits import is_name
+from ocpp_board.words import parser_of
+
+NAME = "ocpp-board place"
+# Stations of a shard that is filled here, and what a shard may have: sites, and readings of all its stations.
+FILLED, SITES, READINGS = 56, 16, 1_048_576
+# Readings that a new station may keep (the plan's default).
+NEW = 2_048
+# Cells whose loads differ by less than this part are left.
+NEAR = 0.2
+
+SHARDS = "select * from placement()"
+SITE = "select * from place_of($1, $2)"
+PLACE = "select place_station($1, $2, $3, $4, $5, $6)"
+
+
+class Load(NamedTuple):
+    """A shard: its cell, as the number of its `--db`, and what it has."""
+
+    cell: int
+    shard: int
+    is_moving: bool
+    stations: int
+    readings: int
+    sites: frozenset[str]
+    lines: int
+
+    def has_room(self, site: str) -> bool:
+        """Whether a new station of a site may go there."""
+        has_place = self.stations < FILLED and self.readings + NEW <= READINGS
+        return not self.is_moving and has_place and (site in self.sites or len(self.sites) < SITES)
+
+
+class Move(NamedTuple):
+    """A shard that should move from one cell to another."""
+
+    shard: int
+    lines: int
+    source: int
+    target: int
+
+
+def weights(cells: int, loads: Iterable[Load]) -> list[tuple[int, int]]:
+    """What each cell carries: lines of a day, and stations."""
+    lines, stations = [0] * cells, [0] * cells
+    for one in loads:
+        lines[one.cell] += one.lines
+        stations[one.cell] += one.stations
+    return list(zip(lines, stations))
+
+
+def chosen(cells: int, loads: Sequence[Load], site: str) -> tuple[int, int]:
+    """The cell and the shard for a new station of a site."""
+    carried = weights(cells, loads)
+    own = [one for one in loads if site in one.sites and one.has_room(site)]
+    if not own:
+        # A site stays in one cell, where it has one.
+        at = {one.cell for one in loads if site in one.sites} or set(range(cells))
+        cell = min(at, key=lambda number: (*carried[number], number))
+        own = [one for one in loads if one.cell == cell and one.has_room(site)]
+        if not own:
+            return cell, 1 + max((one.shard for one in loads), default=-1)
+    best = max(own, key=lambda one: (one.stations, -one.cell, -one.shard))
+    return best.cell, best.shard
+
+
+def moves(cells: int, loads: Sequence[Load]) -> list[Move]:
+    """Moves that bring cells near to the same load, the largest step first."""
+    there, found = {one.shard: one.cell for one in loads}, list[Move]()
+    free = {one.shard: one.lines for one in loads if not one.is_moving}
+    while cells > 1:
+        carried = [0] * cells
+        for one in loads:
+            carried[there[one.shard]] += one.lines
+        source, target = carried.index(max(carried)), carried.index(min(carried))
+        gap = carried[source] - carried[target]
+        own = [shard for shard in free if there[shard] == source and 0 < free[shard] < gap]
+        if gap <= NEAR * sum(carried) / cells or not own:
+            break
+        # What comes nearest to half of the gap.
+        shard = min(own, key=lambda number: (abs(2 * free[number] - gap), number))
+        found.append(Move(shard, free.pop(shard), source, target))
+        there[shard] = target
+    return found
+
+
+async def run(words: argparse.Namespace) -> None:
+    """Places the station, or proposes moves. Raises Fault where the station is in a cell already."""
+    sessions = [await connect(dsn, application_name=NAME) for dsn in words.db]
+    try:
+        loads = [
+            Load(
+                *(cell, row["shard"], row["is_moving"], row["stations"], row["readings"]),
+                *(frozenset(row["sites"]), row["lines"]),
+            )
+            for cell, session in enumerate(sessions)
+            for row in await session.fetch(SHARDS)
+        ]
+        if words.moves:
+            propose(words, loads)
+        else:
+            await place(words, sessions, loads)
+    finally:
+        for session in sessions:
+            await session.close()
+
+
+def propose(words: argparse.Namespace, loads: Sequence[Load]) -> None:
+    """Writes the commands of moves."""
+    told = moves(len(words.db), loads)
+    for one in told:
+        source, target = (
+            words.db[cell].replace("ledger_provisioner@", "ledger_mover@")
+            for cell in (one.source, one.target)
+        )
+        print(
+            f"ocpp-board move --from {source} --to {target} --shard {one.shard} "
+            f"--reason 'load: {one.lines} lines a day'"
+        )
+    if not told:
+        print("# no move brings the cells nearer to the same load")
+
+
+async def place(words: argparse.Namespace, sessions: Sequence[Any], loads: list[Load]) -> None:
+    """Places the station."""
+    settings = (900, "UTC", "sequence")
+    for session in sessions:
+        row = await session.fetchrow(SITE, words.site, words.station)
+        if row["shard"] is not None:
+            raise Fault(
+                f"station {words.station} is in shard {row['shard']} of cell {row['cell']} already"
+            )
+        if row["period"] is not None:
+            settings = (row["period"], row["zone"], row["reading_order"])
+    cell, shard = chosen(len(sessions), loads, words.site)
+    await parts.say_why(sessions[cell], words.reason)
+    await sessions[cell].execute(PLACE, shard, words.site, words.station, *settings)
+    number = (await sessions[cell].fetchrow(SITE, words.site, words.station))["cell"]
+    print(f"{words.station}: site {words.site}, shard {shard} of cell {number}")
+
+
+def name_of(text: str) -> str:
+    """A name of the command line. Raises ArgumentTypeError."""
+    if not is_name(text):
+        raise argparse.ArgumentTypeError(f"{text!r} is no name of a station or a site")
+    return text
+
+
+def main(argv: Sequence[str], prog: str) -> int:
+    """Runs the program with these words; gives its exit status."""
+    parser = parser_of(prog, __doc__)
+    parts.add_cells(parser)
+    parser.add_argument(
+        "station", nargs="?", type=name_of, metavar="STATION", help="which station comes"
+    )
+    parser.add_argument("--site", type=name_of, help="the station's site")
+    parser.add_argument(
+        "--reason", type=parts.reason_of, help="why, in 3 to 500 characters, beside the change"
+    )
+    parser.add_argument("--moves", action="store_true", help="propose moves of shards by load")
+    words = parts.parsed(parser, argv)
+    if words.moves == bool(words.station):
+        parser.error("either a station with --site and --reason, or --moves")
+    if words.station and not (words.site and words.reason):
+        parser.error("a station needs --site and --reason")
+    return parts.done(lambda: run(words))

@@ -1,0 +1,242 @@
+"""The page of a session: its figures, what came with its answers, who voided what and why, and its lines."""
+
+from collections.abc import Iterator, Mapping, Sequence
+from dataclasses import dataclass, field
+from datetime import datetime
+from html import escape
+from pathlib import Path
+from urllib.parse import quote
+
+from ocpp_board.bills import file_of
+from ocpp_board.boards import Part, Session
+from ocpp_board.calendars import Calendar
+from ocpp_board.energies import kwh
+from ocpp_board.mending import MendedMessages
+from ocpp_board.operators import Deed
+from ocpp_board.page_sections import UNKNOWN, finding_text, voided_text, when
+from ocpp_board.pages import FOOT, MARK, Row, head, kept, link, ranges, table
+from ocpp_board.refusals import Refusals, Row as Refused
+from ocpp_board.script_lines import ScriptLines
+from ocpp_board.session_times import duration
+from ocpp_board.told import Told
+from ocpp_board.transactions import Event, moment
+
+# Rows of a page's tables, and characters of the lines that it has.
+MOST_ROWS, MOST_CHARACTERS = 1_000, 100_000
+HEADS = ["Event", " Its time", " Received", " Readings, kWh", " Answer"]
+DEEDS = ["When", " Who", " What", " Why", " Answer"]
+
+
+def path_of(out: str, station: str, tx: str) -> Path:
+    """The page of a session. `out`: how the files begin."""
+    return Path(f"{out}.sessions") / file_of(station, tx, "html")
+
+
+def href_of(out: str, station: str, tx: str) -> str:
+    """The address of that page, for pages beside the folder of sessions."""
+    path = path_of(out, station, tx)
+    return quote(f"{path.parent.name}/{path.name}")
+
+
+@dataclass
+class Known:
+    """What is known of sessions beside their boards, and which pages are written already."""
+
+    told: Told
+    refusals: Refusals
+    script: ScriptLines
+    mended: MendedMessages = field(default_factory=MendedMessages)
+    # By site, station and transaction, what its page shows.
+    shown: dict[tuple[str, str, str], int] = field(default_factory=dict)
+
+
+class SessionPages:
+    """A sink of boards that writes the pages of sessions that changed. `later`: it is asked to, once the board is
+    read."""
+
+    def __init__(self, out: str, calendar: Calendar, known: Known, later: bool = False) -> None:
+        self.out, self.calendar, self.known, self.later = out, calendar, known, later
+        self.site = ""
+        self.sessions = list[tuple[str, str, Session]]()
+
+    def board(self, number: int, site: str, line: int) -> None:
+        """A board begins."""
+        self.site = site
+
+    def part(self, part: Part) -> None:
+        """Takes the sessions of a station."""
+        self.sessions += [(self.site, part.name, session) for session in part.sessions]
+
+    def end(self) -> None:
+        """The board ends."""
+        if not self.later:
+            self.write()
+
+    def write(self) -> int:
+        """Writes the pages of sessions that changed, and gives how many. Raises OSError."""
+        count, refused = 0, self.known.refusals.of_sessions()
+        for site, station, session in self.sessions:
+            rows = refused.get((station, session.tx), [])
+            if self.is_new(site, station, session, rows):
+                path = path_of(self.out, station, session.tx)
+                path.parent.mkdir(parents=True, exist_ok=True)
+                text = "".join(self.page(site, station, session, rows))
+                path.write_text(text, encoding="utf-8", newline="")
+                count += 1
+        self.sessions = []
+        return count
+
+    def is_new(self, site: str, station: str, session: Session, rows: Sequence[Refused]) -> bool:
+        """Whether a session's page is not written as it would be."""
+        whole = self.known.told.transactions.of(site, station, session.tx)
+        deeds = self.known.told.operators.of(station, session.tx)
+        counts = (len(whole.events), len(whole.conflicts), sum(whole.again.values()), len(deeds))
+        said = (session.state, session.flow, [str(one) for one in session.findings])
+        mark = hash(repr((counts, said, [(row.refusal, row.times) for row in rows])))
+        key = site, station, session.tx
+        is_new = self.known.shown.get(key) != mark
+        self.known.shown[key] = mark
+        return is_new
+
+    def page(
+        self, site: str, station: str, session: Session, refused: Sequence[Refused]
+    ) -> Iterator[str]:
+        """The page of a session."""
+        whole = self.known.told.transactions.of(site, station, session.tx)
+        deeds = self.known.told.operators.of(station, session.tx)
+        back = link("", f"Site {escape(site)}")
+        back = back.replace('href=""', f'href="../{quote(Path(self.out).name)}.html"')
+        title = f"Session {escape(whole.sent or session.tx)}"
+        state = escape(session.state[:1].upper() + session.state[1:])
+        said = f"<p>Station {escape(station)}. {state}.</p>\n"
+        links = f'<nav aria-label="Site">{back}</nav>\n'
+        zone = f'<p class="stamp">{self.calendar.said()}.</p>\n'
+        yield head(title, said + zone, links)
+        yield "".join(figures(session, self.calendar))
+        voids = {number: (who, why) for number, who, why in session.voided}
+        rows = list(self.rows(whole.events, whole.conflicts, whole.again, voids, refused))
+        caption = "What came, in the order of the script"
+        if len(rows) > MOST_ROWS:
+            caption += f"; the last {MOST_ROWS:,} of {len(rows):,}"
+        some = (row for _, row in rows[-MOST_ROWS:])
+        yield "<h2>What came</h2>\n" + "".join(table(caption, HEADS, some, cards=True))
+        yield "<h2>Who did what</h2>\n" + deeds_of(deeds)
+        yield from self.lines([line for line, _ in rows if line])
+        yield FOOT
+
+    def rows(
+        self,
+        events: Mapping[int, Event],
+        conflicts: Sequence[Event],
+        again: Mapping[int, int],
+        voids: Mapping[int, tuple[str, str]],
+        refused: Sequence[Refused],
+    ) -> Iterator[tuple[int, Row]]:
+        """What came, each with its line of the script, in that order; at the end what was refused otherwise."""
+        accepted = [(event, self.answer(event, again, voids)) for event in events.values()]
+        others = [(event, (MARK, "refused: ConflictingEvent")) for event in conflicts]
+        for event, (mark, answer) in sorted([*accepted, *others], key=lambda row: row[0].line):
+            yield event.line, (mark, [*self.cells(event), answer])
+        for row in refused:
+            if row.refusal.cause != "ConflictingEvent":
+                yield 0, (MARK, refused_cells(row, self.calendar))
+
+    def cells(self, event: Event) -> list[str]:
+        """The cells of an event before its answer."""
+        read = ", ".join(
+            f"{kwh(one.mwh)}{' exported' if one.is_export else ''}" for one in event.readings[:20]
+        )
+        more = len(event.readings) - 20
+        read += f" and {more:,} more" if more > 0 else ""
+        times = (when(moment(at), self.calendar) for at in (event.at, event.received))
+        return [f"{event.number} {escape(event.kind)}", *times, read or UNKNOWN]
+
+    @staticmethod
+    def answer(
+        event: Event, again: Mapping[int, int], voids: Mapping[int, tuple[str, str]]
+    ) -> tuple[str, str]:
+        """A row's attributes, and how an event was answered and what became of it."""
+        times = again.get(event.number, 0)
+        said = "accepted" + (f", and {times:,} times again" if times else "")
+        if event.number not in voids:
+            return "", said
+        who, why = voids[event.number]
+        reason = f": {escape(why)}" if why else ""
+        return MARK, f"{said}; voided by {escape(who or 'an operator')}{reason}"
+
+    def lines(self, numbers: Sequence[int]) -> Iterator[str]:
+        """The lines of the script that have the session, as far as the page has room for them."""
+        texts, size = list[str](), 0
+        for line in self.known.script.read(numbers):
+            text = escape(line.decode("utf-8", "replace").rstrip("\r\n"))
+            if size + len(text) > MOST_CHARACTERS:
+                break
+            texts.append(text)
+            size += len(text)
+        if not texts:
+            return
+        left = len(numbers) - len(texts)
+        more = f" The script has {left:,} more." if left else ""
+        yield f"<details>\n<summary>Its lines</summary>\n<p>As the script has them.{more}</p>\n"
+        yield '<pre class="across">' + "\n".join(texts) + "</pre>\n</details>\n"
+
+
+def refused_cells(row: Refused, calendar: Calendar) -> list[str]:
+    """The cells of a message that was refused."""
+    one, times = row.refusal, f", {row.times:,} times" if row.times > 1 else ""
+    try:
+        at = when(datetime.fromisoformat(row.first), calendar)
+    except ValueError:
+        at = escape(row.first) or UNKNOWN
+    said = f"refused: {escape(one.cause)}{times}: {escape(one.what)}; {escape(one.advice)}"
+    return [escape(one.number) or UNKNOWN, UNKNOWN, at, UNKNOWN, said]
+
+
+def deeds_of(deeds: Sequence[Deed]) -> str:
+    """The table of operators' lines about a session."""
+    if not deeds:
+        return "<p>Nobody voided, restored or erased an event of this session.</p>\n"
+    rows: list[Row] = [
+        (
+            "" if deed.is_accepted else MARK,
+            [
+                kept(escape(deed.time)) if deed.time else UNKNOWN,
+                escape(deed.who) or UNKNOWN,
+                f"{escape(deed.words[0])} {escape(deed.words[3])}",
+                escape(deed.why) or UNKNOWN,
+                escape(deed.answer),
+            ],
+        )
+        for deed in deeds[-MOST_ROWS:]
+    ]
+    return "".join(table("Operators' lines, in their order", DEEDS, rows, cards=True))
+
+
+def figures(session: Session, calendar: Calendar) -> Iterator[str]:
+    """The figures of a session, and what is doubtful in its data."""
+    flow, times, lost = session.flow, session.times, session.lost()
+    cells = [("Up", f"{kwh(flow.up)} kWh"), ("Down", f"{kwh(flow.down)} kWh")]
+    if flow.export_up or flow.export_down:
+        cells.append(("Export up", f"{kwh(flow.export_up)} kWh"))
+        cells.append(("Export down", f"{kwh(flow.export_down)} kWh"))
+    cells.append(("EVSE", str(session.evse) if session.evse else "not named"))
+    if lost:
+        cells.append(("Missing numbers", ranges(lost[:20]) + (" and more" if lost[20:] else "")))
+    if times:
+        cells.append(("Start", when(times.start, calendar)))
+        cells.append(("End", when(times.end, calendar)))
+        cells.append(("Duration", duration(times.seconds) or UNKNOWN))
+        for name, read in (("Register", times.imported), ("Export register", times.exported)):
+            if read:
+                cells.append((name, f"{kwh(read.first)} to {kwh(read.last)} kWh"))
+        cells.append(("Stopped", escape(times.reason) or UNKNOWN))
+    net = f"<dt>Net</dt><dd>{kwh(flow.net)} kWh</dd>"
+    yield f'<dl class="figures"><div class="lead">{net}</div>'
+    yield "".join(f"<div><dt>{name}</dt><dd>{cell}</dd></div>" for name, cell in cells)
+    yield "</dl>\n"
+    found = voided_text(session) + "".join(map(finding_text, session.findings))
+    if found:
+        meanings = dict.fromkeys(one.kind.meaning for one in session.findings)
+        yield f"<p>{found.removeprefix('<br>')}</p>\n" + "".join(
+            f'<p class="soft">{escape(said)}</p>\n' for said in meanings
+        )

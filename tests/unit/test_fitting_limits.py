@@ -1,0 +1,69 @@
+"""Limits of stations where none are asked for."""
+
+from pathlib import Path
+
+import pytest
+
+from ocpp_board.fitting_limits import fitting, readings_of, said, sent_in
+from ocpp_board.limits import MOST_READINGS
+from ocpp_board.near_limits import Counts
+from tests.unit.test_ledger import feed_of
+
+CHANGES = 2**63
+
+
+def counts(readings: int, transactions: int = 0) -> Counts:
+    names = {f"t{number}" for number in range(transactions)}
+    return Counts((), [], names, readings, readings)
+
+
+@pytest.mark.parametrize(
+    ("stations", "room"), [(1, 65_536), (16, 65_536), (17, 61_680), (60, 17_476), (64, 16_384)]
+)
+def test_stations_that_sent_nothing_share_all_room(stations: int, room: int) -> None:
+    names = [f"A{number}" for number in range(stations)]
+    found = readings_of(names, {})
+    assert set(found.values()) == {room} and sum(found.values()) <= MOST_READINGS
+    limits = fitting(names, {})
+    assert set(limits.values()) == {(max(1_024, room // 16), room, room, CHANGES)}
+    assert said(limits).startswith(f"each station has room for {max(1_024, room // 16):,} transact")
+
+
+def test_a_busy_station_has_room_for_what_it_sends() -> None:
+    names = [f"A{number}" for number in range(64)]
+    found = fitting(names, {"A3": counts(20_000, 1_500), "A4": counts(10)})
+    assert found["A3"] == (4_096, 65_536, 65_536, CHANGES)
+    assert {found[name][2] for name in names if name != "A3"} == {15_603}
+    assert sum(one[2] for one in found.values()) <= MOST_READINGS
+    assert "15,603 to 65,536 readings" in said(found)
+    # Where all need more than there is, each has its share.
+    found = fitting(names, {name: counts(30_000) for name in names})
+    assert {one[2] for one in found.values()} == {16_384}
+
+
+def test_live_declares_and_reports_them(
+    stub: str, tmp_path: Path, capsys: pytest.CaptureFixture[str]
+) -> None:
+    feed, ledger, _ = feed_of(stub, tmp_path)
+    script = tmp_path / "state/script"
+    assert (
+        "\nlimits 4096 65536 65536 9223372036854775808\nstation north A\n#\n" in script.read_text()
+    )
+    assert "each station has room for 4,096 transactions, 65,536 events, 65,536 readings" in (
+        capsys.readouterr().err
+    )
+    feed.kept.lock.close()
+    ledger.close()
+    feed, ledger, _ = feed_of(stub, tmp_path, "--limits", "1", "2", "3", "4")
+    assert "\nlimits 1 2 3 4\nstation north A\n#\n" in script.read_text()
+    feed.kept.lock.close()
+    ledger.close()
+
+
+def test_what_a_script_has_is_counted(tmp_path: Path) -> None:
+    script = tmp_path / "script"
+    assert sent_in(script) == {}
+    event = 'msg A [2,"1","TransactionEvent",{"transactionInfo":{"transactionId":"T1"},"value":1}]'
+    script.write_text(f"# x\nstation n A\n{event}\n{event}\nmsg A [2]\n")
+    (found,) = sent_in(script).values()
+    assert (found.events, found.readings, found.transactions) == (2, 2, {"t1"})

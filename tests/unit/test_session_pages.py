@@ -1,0 +1,107 @@
+"""The pages of sessions: what came, how it was answered, and who voided what and why."""
+
+import json
+import os
+from pathlib import Path
+
+from ocpp_board import tables
+from ocpp_board.answered import Answered
+from ocpp_board.boards import Part, Session
+from ocpp_board.calendars import Calendar
+from ocpp_board.energies import Flow
+from ocpp_board.ledger import Ledger
+from ocpp_board.operators import Deed
+from ocpp_board.refusals import Refusal, Refusals
+from ocpp_board.script_lines import ScriptLines
+from ocpp_board.session_pages import Known, SessionPages, href_of, path_of
+from ocpp_board.statuses import Status
+from ocpp_board.told import Told
+from ocpp_board.troubles import FIRST, messages, sound
+
+
+def test_addresses_are_those_of_the_files() -> None:
+    assert path_of("/x/north", "CS-01", "a/b") == Path("/x/north.sessions/CS-01.a%2Fb.html")
+    assert href_of("/x/north", "CS-01", "a/b") == "north.sessions/CS-01.a%252Fb.html"
+
+
+def test_a_script_gives_its_page(reference: str, tmp_path: Path) -> None:
+    comment = Deed("", "jo", "meter <exchanged>", "2026-03-01T12:00:00Z").comment().decode()
+    lines = list(messages("A", sound("T1", FIRST)))
+    script = "station north A\n" + "\n".join([*lines, lines[-1]])
+    script += f"\n{comment}void A T1 1\nvoid A T1 77\nboard north\n"
+    (tmp_path / "script").write_text(script)
+    ledger = Ledger(reference, [], lambda _refusal: None)
+    for line in script.splitlines(keepends=True):
+        ledger.send(line.encode())
+    ledger.flush()
+    (tmp_path / "text").write_bytes(ledger.ask(b"board north"))
+    ledger.close()
+    out = str(tmp_path / "x")
+    words = ["--script", str(tmp_path / "script"), "--program", reference, "--out", out]
+    assert tables.main([*words, str(tmp_path / "text")], "tables") == Status.DONE
+    assert 'href="x.sessions/A.t1.html">t1</a>' in (tmp_path / "x.html").read_text()
+    page = (tmp_path / "x.sessions/A.t1.html").read_text()
+    assert "<h1>Session T1</h1>" in page and 'href="../x.html"' in page
+    # Its events, their times, registers and answers; who voided what and why; and the lines.
+    assert page.index("0 Started") < page.index("1 Updated") < page.index("3 Ended")
+    assert "2026-03-01 08:10:02" in page and "accepted, and 1 times again" in page
+    assert "accepted; voided by jo: meter &lt;exchanged&gt;" in page
+    assert "refused NoSuchEvent" in page and "void 77" in page
+    assert page.count("msg A [2,") == 4 and "<exchanged>" not in page
+
+
+def test_a_page_is_written_again_where_it_changes(tmp_path: Path) -> None:
+    told, refusals, script = Told(), Refusals(), ScriptLines()
+    script.path = tmp_path / "script"
+    lines = [line.encode() + b"\n" for line in messages("A", sound("T1", FIRST))]
+    for line in lines:
+        script.passed(line)
+    script.path.write_bytes(b"".join(lines))
+    for place, one in enumerate(sound("T1", FIRST)):
+        text = json.dumps([2, "1", "TransactionEvent", one.payload])
+        told.take(Answered(2 * place + 2, "north", "A", one.received, text, '[3,"1",{}]'))
+    known = Known(told, refusals, script)
+    session = Session("t1", 1, 4, 0, 3, True, 0, Flow(750_000), state="complete")
+    path = path_of(str(tmp_path / "x"), "A", "t1")
+
+    def write() -> int:
+        part = Part("A", False, 900, sessions=[session])
+        told.mark("north", part)
+        pages = SessionPages(str(tmp_path / "x"), Calendar(), known, later=True)
+        pages.board(1, "north", 1)
+        pages.part(part)
+        pages.end()
+        return pages.write()
+
+    assert not path.exists() and write() == 1 and write() == 0
+    assert path.read_text().count("msg A [2,") == 4
+    refusals.add(Refusal("2026-03-01T09:00:00Z", "A", "T1", "9", "Moment", "do", "north", "is <b>"))
+    assert write() == 1 and "refused: Moment: is &lt;b&gt;; do" in path.read_text()
+    told.operators.add(Deed("void A T1 3", "jo", "why", "", "accepted 5"))
+    session.complete, session.last, session.events = False, 2, 3
+    assert write() == 1 and "Voided by jo: no end." in path.read_text()
+    # Where the script is no file that can be read again, the page has no lines.
+    os.unlink(script.path)
+    told.operators.add(Deed("restore A T1 3", "jo", "why", "", "accepted 6"))
+    assert write() == 1 and "Its lines" not in path.read_text()
+
+
+def test_lines_that_a_script_has_beside_what_was_sent_are_counted(
+    reference: str, tmp_path: Path
+) -> None:
+    ledger = Ledger(reference, [], lambda _refusal: None)
+    ledger.script.path = tmp_path / "script"
+    own = b"# operator {}\nvoid A T1 1\n"
+    for lines in (b"station north A\n", own, b"msg A x\n"):
+        with open(ledger.script.path, "ab") as file:
+            file.write(lines)
+        if lines is own:
+            ledger.passed(lines)
+        else:
+            ledger.send(lines)
+    assert list(ledger.script.read([1, 3, 4, 5])) == [
+        b"station north A\n",
+        b"void A T1 1\n",
+        b"msg A x\n",
+    ]
+    ledger.close()
