@@ -712,6 +712,9 @@ class Demo(Trial):
         self.check(
             (odd["session_id"], odd["location_id"]) == ("'=t-1", "'=1+1"), "no cell is a formula"
         )
+        query = "/sites/north/sessions.csv?month=2026-03&tokens="
+        ended = {how: self.get(query + how).status for how in ("hash", "all")}
+        self.check(ended == {"hash": 200, "all": 400}, f"{when}: tokens are written as {ended}")
 
     async def description(self) -> None:
         """The description has each endpoint, and each answer has what it says."""

@@ -4,21 +4,30 @@
 
 It starts PostgreSQL 15 in a temporary folder and a worker, and closes days of a site of which each station has a
 trouble of its own: one that leaves, one that changes its site, one whose archived transaction comes again, in conflict
-and voided, one at its limit of transactions, and one with numbers of 5,000 digits and a time that Python can't read.
+and voided, one at its limit of transactions, and one with numbers of 5,000 digits and a time that Python can't read. A
+month for billing has the tokens, remote starts and signed values of a session of the log and of an archived one.
 The status is 1 where something is not as it must be.
 """
 
 import argparse
 import asyncio
+import base64
+import csv
+import hashlib
+import json
 import signal
 import sys
+from datetime import datetime, timedelta
+from pathlib import Path
 from typing import Any
+from xml.etree import ElementTree
 
 import asyncpg
 
+from ocpp_board.troubles import FIRST, messages, signed_differs
 from tests.fleet.client import Client
 from tests.fleet.closings import ClosingTrial, line, local, session
-from tests.fleet.fleet import ended
+from tests.fleet.fleet import ended, tool
 from tests.fleet.trials import parsed, parser_of, tried
 
 ENERGY = "select coalesce(sum(up_kwh - down_kwh), 0) from energy where site = $1"
@@ -27,6 +36,41 @@ SETTLED = "select coalesce(sum(up - down), 0)::bigint from settled_period where 
 BOOKED = "select coalesce(sum(up - down), 0)::bigint from own_archived_period where site = $1"
 SUMMED = "select coalesce(sum(up - down), 0)::bigint from own_archived_sum where site = $1"
 IN_LOG = "select count(*) from own_log where line like 'msg ' || $1 || ' %' || $2 || '%'"
+
+
+# Sessions that are billed, by how many days after the first they begin, and how their token is written.
+SENT = {"T-Closed": 0, "T-Live": 9}
+TOKENS = {
+    "none": "",
+    "plain": "Ab12",
+    "hash": hashlib.sha256(b"ab12").hexdigest(),
+}
+
+
+def signed(name: str, at: datetime) -> list[str]:
+    """A session whose four events have signed values; the last one's is a kWh more than its plain one."""
+    events = signed_differs(name, at)
+    events[0].payload["transactionInfo"]["remoteStartId"] = 77
+    events[1].payload["idToken"] = {"idToken": "Ab12", "type": "ISO14443"}
+    return [text for text in messages("B1", events) if text.startswith("msg ")]
+
+
+def signed_kwh(text: str) -> str:
+    """What a signed value in base64 reads."""
+    return reading_of(base64.b64decode(text).decode())
+
+
+def reading_of(data: str) -> str:
+    """What signed data of the Open Charge Metering Format reads."""
+    return str(json.loads(data.split("|")[1])["RD"][0]["RV"])
+
+
+def values_in(path: Path) -> list[tuple[str, str]]:
+    """What each signed value of a file reads, with its public key, as a verifier takes them."""
+    return [
+        (reading_of(one.findtext("signedData", "")), one.findtext("publicKey", ""))
+        for one in ElementTree.parse(path).getroot().iter("value")
+    ]
 
 
 class Demo(ClosingTrial):
@@ -40,6 +84,7 @@ class Demo(ClosingTrial):
         (0, "long", "N2"),
         (4, "first", "S1"),
         (4, "first", "S2"),
+        (5, "billed", "B1"),
     )
 
     async def refused(self, query: str, *values: object) -> str:
@@ -377,8 +422,45 @@ class Demo(ClosingTrial):
         left = [await self.owner.fetchval(IN_LOG, "N1", name) for name in ("Digits", "Odd")]
         self.check(left == [0, 4], f"the lines of these that stay in the log: {left}")
 
+    async def billed(self) -> None:
+        """What a bill needs beside the energy, of a session that is archived and of one in the log."""
+        sent = {name: signed(name, FIRST + timedelta(days=day)) for name, day in SENT.items()}
+        for lines in sent.values():
+            await self.came(*lines)
+        await self.close_site("before a month is billed", "2026-03-02", "1 trans", site="billed")
+        await self.came("void B1 T-Live 3")
+        for tokens in ("none", "hash", "plain"):
+            rows = await self.month(tokens)
+            for name, last in (("T-Closed", "2.75"), ("T-Live", "1.5")):
+                wanted = (name, TOKENS[tokens], "ISO14443" * (tokens != "none"), "77", "1.0", last)
+                row = rows.get(name.lower(), ())
+                self.check(row == wanted, f"billing with --tokens {tokens}: {row}")
+        files = {path.name: values_in(path) for path in (self.fleet.folder / "signed").iterdir()}
+        wanted_files = {
+            "B1.T-Closed.xml": [("1.0", "00"), ("2.75", "00")],
+            "B1.T-Live.xml": [("1.0", "00"), ("1.5", "00")],
+        }
+        self.check(files == wanted_files, f"the files of signed values: {files}")
+
+    async def month(self, tokens: str) -> dict[str, tuple[str, ...]]:
+        """What a month for billing has of each session, but for its energy."""
+        words = ["--db", self.fleet.dsn("ledger_operator"), "--program", self.fleet.program]
+        words += ["--site", "billed", "--month", "2026-03", "--tokens", tokens]
+        words += ["--signed", str(self.fleet.folder / "signed")]
+        status, text = await ended(self.fleet.start(*tool("billing"), *words, stdout=-1))
+        self.check(status == 0, f"billing ends with status {status}")
+        keys = ("sent_id", "id_token", "id_token_type", "remote_start_id")
+        return {
+            row["session_id"]: (
+                *(row[key] for key in keys),
+                *(signed_kwh(row[f"{end}_signed_value"]) for end in ("first", "last")),
+            )
+            for row in csv.DictReader(text.splitlines())
+        }
+
     async def run(self) -> None:
         await self.open()
+        await self.billed()
         await self.leaving()
         await self.changed_site()
         await self.archives_stay()

@@ -19,6 +19,7 @@ from starlette.requests import Request
 from starlette.responses import JSONResponse, Response
 from starlette.routing import BaseRoute, Route
 
+from ocpp_board.bills import TOKENS
 from ocpp_board.energies import FLOW, MWH_OF_A_KWH, flow_of
 from ocpp_board.fleet import api_queries, billing
 from ocpp_board.fleet.api_schema import OPENAPI, SCHEMAS
@@ -494,12 +495,17 @@ async def month(asked: Asked) -> Response:
     parameters:
       - {$ref: '#/components/parameters/site'}
       - {name: month, in: query, required: true, schema: {type: string}, description: Such as 2026-03}
+      - name: tokens
+        in: query
+        schema: {type: string, enum: [none, hash, plain], default: none}
+        description: How the idToken of a session is written
     responses:
       200: {description: A row a session, content: {text/csv: {schema: {type: string}}}}
       404: {$ref: '#/components/responses/NotFound'}
     """
     desk, name = asked.desk, asked.path("site")
-    data = await billing.table(desk.cells, desk.program, asked.operator, name, asked.word("month"))
+    words = (asked.word("month"), asked.word("tokens") or TOKENS[0])
+    data = await billing.table(desk.cells, desk.program, asked.operator, name, *words)
     return Response(data, media_type="text/csv")
 
 

@@ -4,6 +4,8 @@
 
 `--db` is given once for each cell. A session is of the month in which it began, in the site's zone; where its start did
 not come, by its earliest event. Sessions of the log are replayed for their times; archived ones have theirs as rows.
+With `--signed FOLDER` each session with signed values has a file FOLDER/STATION.ID.xml for the transparency software of
+S.A.F.E.: its first and its last signed value with the public key.
 
     start_date_time, end_date_time   UTC; empty where the start or the end did not come
     session_id, location_id, station, evse_uid (the EVSE's number; empty where none was named)
@@ -12,6 +14,11 @@ not come, by its earliest event. Sessions of the log are replayed for their time
     complete, missing                yes or no; how many messages are missing
     settled                          provisional: its energy may change until a closing settles it, or something came
                                      since; settled; corrected: a later closing found another figure
+    sent_id                          its id as the station sent it first
+    id_token, id_token_type          of the first event with a token, as --tokens says
+    remote_start_id                  of the first event with one
+    first_signed_value, first_public_key, last_signed_value, last_public_key
+                                     in base64, as OCPP has them
 """
 
 import argparse
@@ -19,11 +26,13 @@ import csv
 import io
 import re
 import sys
-from collections.abc import Sequence
+from collections.abc import AsyncIterator, Sequence
 from datetime import date, datetime, time, timezone
 from http import HTTPStatus
+from pathlib import Path
 from typing import Any, NamedTuple
 
+from ocpp_board.bills import TOKENS, Details, cells_of, with_key, write_signed
 from ocpp_board.boards import Numbers
 from ocpp_board.energies import Flow, flow_of, kwh_of
 from ocpp_board.escapes import csv_cell
@@ -42,17 +51,22 @@ from ocpp_board.fleet.states import CORRECTED, PROVISIONAL, SETTLED
 from ocpp_board.limits import MOMENT, is_name
 from ocpp_board.session_times import times_of
 from ocpp_board.statuses import Status
-from ocpp_board.words import add_program, parser_of
+from ocpp_board.transactions import Event
+from ocpp_board.words import add_program, add_tokens, parser_of
 
 NAME = "ocpp-board billing"
 MONTH = re.compile(r"(20[0-9]{2})-(0[1-9]|1[0-2])")
 HEADS = (
     *("start_date_time", "end_date_time", "session_id", "location_id", "station", "evse_uid"),
     *("total_energy", "exported_energy", "total_time", "complete", "missing", "settled"),
+    *("sent_id", "id_token", "id_token_type", "remote_start_id"),
+    *("first_signed_value", "first_public_key", "last_signed_value", "last_public_key"),
 )
 # Lines that are replayed at once. For pages one table at once, and one that waits; seconds for one.
 LINES, PATIENCE = 5_000, 80
 ROOM = Room(1, 1)
+# MiB of a table that a page holds at most: signed values are as long as stations make them.
+MOST_MIB = 64
 SITES = """
 select p.shard, p.site, p.zone, p.period, p.reading_order from own_site p join own_shard h using (shard)
 where site = $1 and h.moving_to is null order by shard
@@ -64,7 +78,7 @@ where shard = $1 and place > $2 and split_part(line, ' ', 2) = any($3) order by 
 """
 # Rows that an earlier version wrote have no times: these are in their lines.
 ARCHIVED = """
-select a.*, case when a.begun is null then l.lines end as lines
+select a.*, l.lines
 from own_archived_transaction a join own_closing c using (shard, site, closing)
 left join own_archived_lines l using (shard, station, transaction)
 where a.shard = $1 and a.site = $2 and (coalesce(a.started, a.begun) >= $3 and coalesce(a.started, a.begun) < $4
@@ -97,9 +111,12 @@ class Row(NamedTuple):
     end: datetime | None
     begun: datetime | None
     state: str
+    # Its id as it was sent first, and what a bill needs beside it.
+    sent: str = ""
+    details: tuple[Details, ...] = ()
 
-    def cells(self, site: str) -> list[str]:
-        """The cells of its row."""
+    def cells(self, site: str, tokens: str = TOKENS[0]) -> list[str]:
+        """The cells of its row. `tokens`: how drivers' tokens are written."""
         hours = ""
         if self.start and self.end:
             hours = f"{(self.end - self.start).total_seconds() / 3600:.4f}"
@@ -116,6 +133,7 @@ class Row(NamedTuple):
             "yes" if self.complete else "no",
             f"{self.missing}",
             self.state,
+            *map(csv_cell, cells_of(self.sent, self.details, tokens)),
         ]
 
 
@@ -127,6 +145,16 @@ def utc(at: datetime | None) -> str:
 def signed(mwh: int) -> str:
     """An energy in kWh, exactly."""
     return f"{'-' if mwh < 0 else ''}{kwh_of(abs(mwh))}"
+
+
+def ends_of(events: Sequence[Event]) -> tuple[Details, ...]:
+    """What a session's events have for a bill: of several signed values the first and the last."""
+    some = [event.details for event in events]
+    token = next((one for one in some if one.token), Details())
+    remote = next((one.remote_start for one in some if one.remote_start), "")
+    signed = with_key([value for one in some for value in one.signed])
+    ends = (signed[0], signed[-1]) if len(signed) > 1 else tuple(signed)
+    return (Details(token.token, token.kind, remote, ends),)
 
 
 def month_of(text: str) -> tuple[int, int]:
@@ -156,17 +184,20 @@ class ShardSessions:
         # Archived sessions that something came for.
         self.late = set[Transaction]()
 
-    async def rows(self, year: int, number: int) -> list[Row]:
+    async def rows(self, year: int, number: int) -> AsyncIterator[Row]:
         """Those of a month. What is archived and what is in the log is of one moment."""
         month = month_in(self.zone, year, number)
+        first = month.begin.astimezone(self.zone).date()
+        values = (self.shard, self.site, month.begin, month.end, first)
         async with self.session.transaction(isolation="repeatable_read", readonly=True):
-            first = month.begin.astimezone(self.zone).date()
-            archived = await self.session.fetch(
-                ARCHIVED, self.shard, self.site, month.begin, month.end, first
-            )
-            live = await self.live()
-        rows = [*live, *(self.archived(row) for row in archived)]
-        return [row for row in rows if month.has(row.start or row.begun)]
+            for row in await self.live():
+                if month.has(row.start or row.begun):
+                    yield row
+            # Some at once: the lines of a month may have many signed values.
+            async for one in self.session.cursor(ARCHIVED, *values):
+                row = self.archived(one)
+                if month.has(row.start or row.begun):
+                    yield row
 
     async def live(self) -> list[Row]:
         """Those of the log."""
@@ -181,7 +212,10 @@ class ShardSessions:
             board = figures((await replay.board(self.site)).decode())
         finally:
             replay.kill()
-        return [self.row(one, numbers, events) for one, numbers, events in found.sessions(board)]
+        return [
+            self.row(one, numbers, events, found.messages.of(self.site, *one).sent)
+            for one, numbers, events in found.sessions(board)
+        ]
 
     async def replay(self, replay: Replay, plan: Plan, found: Findings) -> None:
         """Replays the log's lines, but for those that came for archived sessions."""
@@ -195,53 +229,79 @@ class ShardSessions:
             for row, answer in zip(own, await replay.answers(len(own))):
                 found.take(row["line"], answer.decode())
 
-    def row(self, one: Transaction, numbers: Numbers, events: list[Any]) -> Row:
+    def row(self, one: Transaction, numbers: Numbers, events: list[Event], sent: str) -> Row:
         """The row of a session of the log."""
         times = times_of(events)
         return Row(
             *(*one, numbers["evse"], flow_of(numbers), bool(numbers["complete"])),
             *(numbers["missing"], times.start, times.end, times.begun, PROVISIONAL),
+            *(sent, ends_of(events)),
         )
 
     def archived(self, row: Any) -> Row:
         """The row of an archived session."""
         one = (row["station"], row["transaction"])
         state = CORRECTED if row["corrections"] else SETTLED
+        events, sent = self.counted(one, unpacked(row["lines"]) if row["lines"] else [])
         begun, start, end = row["begun"], row["started"], row["ended"]
-        if row["lines"] is not None:
-            begun, start, end = self.times_in(one, unpacked(row["lines"]))
+        if begun is None:
+            begun, start, end = (times := times_of(events)).begun, times.start, times.end
         return Row(
             *(*one, row["evse"], flow_of(row), row["complete"], row["missing"]),
             *(start, end, begun, PROVISIONAL if one in self.late else state),
+            *(sent, ends_of(events)),
         )
 
-    def times_in(self, one: Transaction, lines: list[str]) -> tuple[datetime | None, ...]:
-        """When a session began, started and ended, by all its events."""
-        found = Findings(self.site, self.reckoning)
-        found.archived(lines)
-        events = found.messages.of(self.site, *one).events
-        times = times_of([events[number] for number in sorted(events)])
-        return times.begun, times.start, times.end
+    def counted(self, one: Transaction, lines: list[str]) -> tuple[list[Event], str]:
+        """The events of an archived session that count, by their numbers, and its id as it was sent first. Each of its
+        lines changed something."""
+        found, voided = Findings(self.site, self.reckoning), set[int]()
+        for text in lines:
+            command, _, rest = text.split(" ", 2)
+            if command == "msg":
+                found.archived([text])
+                continue
+            number = int(rest.split(" ")[1])
+            if command == "void":
+                voided.add(number)
+            else:
+                voided.discard(number)
+            if command == "erase":
+                found.messages.of(self.site, *one).events.pop(number, None)
+        whole = found.messages.of(self.site, *one)
+        return [whole.events[at] for at in sorted(whole.events.keys() - voided)], whole.sent
 
 
-async def written(words: argparse.Namespace) -> str:
-    """The table. Raises Fault where there is no such site."""
+async def sessions_of(words: argparse.Namespace) -> list[Row]:
+    """The month's sessions, by when they began. Raises Fault where there is no such site."""
     known, rows, is_there = known_lines(words.program), list[Row](), False
     for dsn in words.db:
         session = await connect(dsn, application_name=NAME)
         for site in await session.fetch(SITES, words.site):
             is_there = True
             one = ShardSessions(session, words.program, known, site)
-            rows += await one.rows(*words.month)
+            rows += [row async for row in one.rows(*words.month)]
         await session.close()
     if not is_there:
         raise Fault(f"no site {words.site}")
+    first = datetime.min.replace(tzinfo=timezone.utc)
+    rows.sort(key=lambda row: (row.start or row.begun or first, row.station, row.transaction))
+    return rows
+
+
+async def written(words: argparse.Namespace) -> str:
+    """The table; with a folder for them the files of signed values, too. Raises Fault and OSError."""
     text = io.StringIO()
     table_ = csv.writer(text, lineterminator="\n")
     table_.writerow(HEADS)
-    first = datetime.min.replace(tzinfo=timezone.utc)
-    rows.sort(key=lambda row: (row.start or row.begun or first, row.station, row.transaction))
-    table_.writerows(row.cells(words.site) for row in rows)
+    for row in await sessions_of(words):
+        table_.writerow(row.cells(words.site, words.tokens))
+        if words.signed:
+            write_signed(words.signed, row.station, row.sent, row.details)
+        if words.most_mib and text.tell() > words.most_mib << 20:
+            raise Fault(
+                f"the table has more than {words.most_mib} MiB: ocpp-board billing writes it"
+            )
     return text.getvalue()
 
 
@@ -251,15 +311,20 @@ async def run(words: argparse.Namespace) -> None:
     sys.stdout.flush()
 
 
-async def table(cells: Cells, program: str, operator: Operator, site: str, month: str) -> bytes:
+async def table(
+    cells: Cells, program: str, operator: Operator, site: str, month: str, tokens: str = TOKENS[0]
+) -> bytes:
     """The table, made by a process of its own. Raises Wrong where there is no such site that the operator sees."""
     try:
         month_of(month)
     except ValueError as fault:
         raise Wrong(HTTPStatus.BAD_REQUEST, str(fault)) from None
+    if tokens not in TOKENS:
+        raise Wrong(HTTPStatus.BAD_REQUEST, f"tokens are {', '.join(TOKENS)}, and not {tokens!r}")
     await cells.site(operator, site)
     words = [word for cell in cells.cells for word in ("--db", cell.dsn)]
     words += ["--program", program, "--site", site, "--month", month]
+    words += ["--tokens", tokens, "--most-mib", f"{MOST_MIB}"]
     async with ROOM:
         try:
             made = await parts.completed(["ocpp_board", "billing", *words], PATIENCE)
@@ -293,5 +358,12 @@ def main(argv: Sequence[str], prog: str) -> int:
     add_program(parser)
     parser.add_argument("--site", required=True, type=site_word, help="which site")
     parser.add_argument("--month", required=True, type=month_word, help="such as 2026-03")
+    add_tokens(parser)
+    parser.add_argument(
+        "--signed", type=Path, metavar="FOLDER", help="write the files of signed values there"
+    )
+    parser.add_argument(
+        "--most-mib", type=int, metavar="N", help="end with a fault if the table is larger"
+    )
     words = parts.parsed(parser, argv)
     return parts.done(lambda: run(words))
