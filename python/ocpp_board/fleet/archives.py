@@ -8,7 +8,7 @@ next, so however often something comes, it costs the same.
 import asyncio
 import zlib
 from collections import OrderedDict
-from collections.abc import Awaitable, Callable, Iterable, Mapping
+from collections.abc import Awaitable, Callable, Iterable, Iterator, Mapping, Sequence
 from typing import Any, NamedTuple
 
 from ocpp_board.fleet.lines import (
@@ -19,7 +19,7 @@ from ocpp_board.fleet.lines import (
     transaction_of,
 )
 from ocpp_board.fleet.plans import Plan, Reckoning
-from ocpp_board.fleet.replays import Replay
+from ocpp_board.fleet.replays import CHUNK, Replay
 from ocpp_board.limits import GREATEST_LIMITS
 
 # Of these transactions those that are archived, with the site at which that was, and with their lines, or with the
@@ -54,15 +54,29 @@ Fetch = Callable[..., Awaitable[Any]]
 
 def packed(lines: Iterable[str]) -> bytes:
     """Lines as own_archived_lines has them."""
-    return zlib.compress("\n".join(lines).encode())
+    packer, parts, front = zlib.compressobj(), list[bytes](), ""
+    for line in lines:
+        parts.append(packer.compress((front + line).encode()))
+        front = "\n"
+    return b"".join([*parts, packer.flush()])
+
+
+def each_unpacked(data: bytes) -> Iterator[str]:
+    """The lines that were packed, one by one: together they may be large."""
+    opener, rest = zlib.decompressobj(), b""
+    while data:
+        *lines, rest = (rest + opener.decompress(data, CHUNK)).split(b"\n")
+        data = opener.unconsumed_tail
+        yield from (line.decode() for line in lines)
+    yield from (rest + opener.flush()).decode().split("\n")
 
 
 def unpacked(data: bytes) -> list[str]:
     """The lines that were packed."""
-    return zlib.decompress(data).decode().split("\n")
+    return list(each_unpacked(data))
 
 
-def widened(row: Mapping[str, Any], lines: list[str]) -> dict[str, Any]:
+def widened(row: Mapping[str, Any], lines: Sequence[str]) -> dict[str, Any]:
     """A station's row with limits that take these lines of its, whatever they were."""
     names = set[Transaction | None]()
     for line in lines:

@@ -34,23 +34,24 @@ from zoneinfo import ZoneInfo
 
 from ocpp_board.energies import Flow, flow_of
 from ocpp_board.fleet import closing_queries, compact, findings, parts
-from ocpp_board.fleet.archives import ARCHIVED, packed, unpacked, widened
+from ocpp_board.fleet.archives import ARCHIVED, each_unpacked, packed, widened
 from ocpp_board.fleet.begun_anew import begun_anew, reserve
+from ocpp_board.fleet.closing_lines import SAID, Line, Sorted
 from ocpp_board.fleet.database import Fault, said
-from ocpp_board.fleet.figures import Figures, Flows, added, figures, periods
+from ocpp_board.fleet.figures import Figures, Flows, added, by_transaction, figures, periods
 from ocpp_board.fleet.findings import Findings
 from ocpp_board.fleet.lines import (
     COMMANDS,
     Transaction,
     Unreadable,
     is_before,
-    is_for_room,
     is_repeat,
     station_of,
     transaction_of,
 )
 from ocpp_board.fleet.plans import Plan, Reckoning, known_lines
 from ocpp_board.fleet.replays import Replay
+from ocpp_board.fleet.spooled import Spool, Stored, Texts
 from ocpp_board.fleet.states import SESSIONS
 from ocpp_board.limits import LONGEST_SCRIPT
 from ocpp_board.session_times import SessionTimes
@@ -63,21 +64,6 @@ NAME = "ocpp-board close-day"
 LARGE = LONGEST_SCRIPT // 16
 # A station, and when its period begins.
 Period = tuple[str, datetime]
-
-
-class Line(NamedTuple):
-    """A line of the log, and what the replay made of it."""
-
-    row: Any
-    text: str
-    transaction: Transaction | None
-    answer: bytes
-    is_change: bool
-
-    def is_refused(self) -> bool:
-        """Whether it was refused for good."""
-        is_taken = self.is_change or is_repeat(self.answer, False)
-        return not is_taken and not is_for_room(self.answer)
 
 
 class Share(NamedTuple):
@@ -104,49 +90,6 @@ class Booking(NamedTuple):
     settled: list[tuple[Any, ...]]
 
 
-class Sorted(NamedTuple):
-    """The log's lines by what becomes of them, and the figures of parts of it."""
-
-    # Lines of transactions of the log, and those that came for archived ones, whose lines are known.
-    live: list[Line]
-    late: list[Line]
-    known: dict[Transaction, list[str]]
-    # Transactions that leave the log; figures of it whole and of the rest, of what was archived and of that with what
-    # came for it.
-    gone: set[Transaction]
-    whole: Figures
-    rest: Figures
-    was: Figures
-    now: Figures
-
-    def leaving(self) -> dict[Transaction, list[str]]:
-        """The lines of each transaction that this closing archives, or archives again with what came for it."""
-        lines = {one: list(known) for one, known in self.known.items()}
-        for line in self.live + self.late:
-            if line.is_change and (line.transaction in self.gone or line.transaction in self.known):
-                assert line.transaction
-                lines.setdefault(line.transaction, []).append(line.text)
-        return lines
-
-    def refused(self) -> list[Line]:
-        """What was refused for good."""
-        return [line for line in self.live + self.late if line.is_refused()]
-
-    def waiting(self) -> list[Line]:
-        """What was refused for want of room, each text once: it stays in the log, and is taken once there is room."""
-        lines = dict[str, Line]()
-        for line in self.live + self.late:
-            if is_for_room(line.answer):
-                lines.setdefault(line.text, line)
-        return list(lines.values())
-
-    def removed(self) -> list[Any]:
-        """The rows that leave the log."""
-        staying = {line.row["place"] for line in self.waiting()}
-        lines = [line for line in self.live if line.transaction in self.gone or not line.is_change]
-        return [line.row for line in lines + self.late if line.row["place"] not in staying]
-
-
 class Closing:
     """The closing of one shard's stations of the site."""
 
@@ -159,6 +102,7 @@ class Closing:
         )
         self.zone, self.reckoning = zone_of(site), Reckoning.of(site)
         self.stations: list[dict[str, Any]] = []
+        self.spool = Spool()
         # Transactions that were named to be archived, and are; and where those were archived that something came for.
         self.had = set[Transaction]()
         self.homes: dict[Transaction, str] = {}
@@ -182,37 +126,44 @@ class Closing:
         rows = await self.fetch(closing_queries.HAD, *named)
         self.had = {(row["station"], row["transaction"]) for row in rows}
 
-    async def read(self) -> tuple[int, int, list[Any]]:
+    async def read(self) -> tuple[int, int, list[Stored]]:
         """The shard's plan, the last place of its log, and the lines of the site's stations."""
         plan = (await self.fetch("select plan from own_shard where shard = $1"))[0]["plan"]
-        names, rows = set(self.names()), await self.fetch(compact.READ)
-        place = rows[-1]["place"] if rows else 0
-        return plan, place, [row for row in rows if station_of(row["line"]) in names]
+        last = (await self.fetch(closing_queries.LAST))[0]["last"]
+        names, place, lines = set(self.names()), 0, list[Stored]()
+        while rows := await self.fetch(closing_queries.PART, place, last):
+            place = rows[-1]["place"]
+            for row in rows:
+                if station_of(text := row["line"]) in names:
+                    lines.append(self.spool.keep(text, transaction_of(text), row))
+        return plan, last, lines
 
-    def plan(self, lines: list[str], reckoning: Reckoning | None = None) -> Plan:
+    def plan(self, lines: list[Stored], reckoning: Reckoning | None = None) -> Plan:
         """The plan of the site's stations, with limits that take these lines whatever they were."""
-        own: dict[str, list[str]] = {}
+        own: dict[str, list[Stored]] = {}
         for line in lines:
-            own.setdefault(station_of(line), []).append(line)
-        rows = [widened(row, own.get(row["station"], [])) for row in self.stations]
+            own.setdefault(line.station, []).append(line)
+        rows = [widened(row, Texts(own.get(row["station"], []))) for row in self.stations]
         return Plan(rows, {self.site: reckoning or self.reckoning}, self.words.known)
 
-    async def replayed(self, lines: list[str], reckoning: Reckoning | None = None) -> Figures:
+    async def replayed(self, lines: list[Stored], reckoning: Reckoning | None = None) -> Figures:
         """The figures of the site's stations after these lines."""
         if not lines:
             return {}
-        made = await compact.replayed(self.words.program, self.plan(lines, reckoning), lines)
+        plan = self.plan(lines, reckoning)
+        made = await compact.replayed(self.words.program, plan, Texts(lines))
         return figures(made.boards[0].decode()) if made.boards else {}
 
-    async def sorted_out(self, rows: list[Any], front: list[str]) -> list[Line]:
+    async def sorted_out(self, rows: list[Stored], front: list[Stored]) -> list[Line]:
         """What these lines do behind those in front, which all have to change something."""
-        lines = front + [row["line"] for row in rows]
+        lines = front + rows
         plan = self.plan(lines if front else [])
-        answers = (await compact.replayed(self.words.program, plan, lines)).answers
+        answers = (await compact.replayed(self.words.program, plan, Texts(lines))).answers
         if not all(is_change for _, is_change in answers[: len(front)]):
             raise Fault(f"site {self.site}: what was archived is not taken again")
+        # Of what was taken the answer says no more than that.
         return [
-            Line(row, row["line"], transaction_of(row["line"]), answer, is_change)
+            Line(row, SAID if answer.startswith(b"[3,") else answer, is_change)
             for row, (answer, is_change) in zip(rows, answers[len(front) :])
         ]
 
@@ -222,14 +173,14 @@ class Closing:
         open_ones, unread = set[Transaction | None](), set[str]()
         for line in changes:
             try:
-                is_over = is_before(line.text, begin)
+                is_over = is_before(line.stored.text, begin)
             except Unreadable as fault:
                 self.tell_unread(line, fault)
                 is_over = False
             if not is_over:
                 open_ones.add(line.transaction)
             if line.transaction is None:
-                unread.add(station_of(line.text))
+                unread.add(line.stored.station)
         complete = {
             (station, name)
             for (station, kind, name), numbers in whole.items()
@@ -256,10 +207,10 @@ class Closing:
 
     def tell_unread(self, line: Line, fault: Unreadable) -> None:
         """Names a line that can't be read, and what stays in the log for that."""
-        station, name = line.transaction or (station_of(line.text), "each transaction")
+        station, name = line.transaction or (line.stored.station, "each transaction")
         log.warning(
             "shard %d: line %d of the log can't be read: %s; %s of %s stays in it",
-            *(self.shard, line.row["place"], fault, name, station),
+            *(self.shard, line.stored.place, fault, name, station),
         )
 
     async def make_small(self) -> None:
@@ -291,22 +242,25 @@ class Closing:
         if await self.fetch(closing_queries.MAY_BE_UNPACKED):
             await self.session.execute(closing_queries.ARE_PACKED, self.shard)
 
-    async def archived(self, rows: list[Any]) -> dict[Transaction, list[str]]:
+    async def archived(self, rows: list[Stored]) -> dict[Transaction, list[Stored]]:
         """The archived transactions that these rows are of, with their lines. Raises Fault where these are missing."""
-        ones = {one for row in rows if (one := transaction_of(row["line"]))}
+        ones = {row.transaction for row in rows if row.transaction}
+        names = ([one[part] for one in ones] for part in (0, 1))
         found = {}
-        for row in await self.fetch(ARCHIVED, *([one[part] for one in ones] for part in (0, 1))):
-            if row["lines"] is None:
-                raise Fault(
-                    f"{self.words.archive / row['archive']} is not there, and lines came for {row['transaction']} of "
-                    f"{row['station']}, which it has"
-                )
-            found[row["station"], row["transaction"]] = unpacked(row["lines"])
-            self.homes[row["station"], row["transaction"]] = row["site"]
+        async with self.session.transaction():
+            async for row in self.session.cursor(ARCHIVED, self.shard, *names):
+                one = (row["station"], row["transaction"])
+                if row["lines"] is None:
+                    raise Fault(
+                        f"{self.words.archive / row['archive']} is not there, and lines came for {one[1]} of "
+                        f"{one[0]}, which it has"
+                    )
+                found[one] = [self.spool.keep(text, one) for text in each_unpacked(row["lines"])]
+                self.homes[one] = row["site"]
         return found
 
     async def archive(
-        self, closing: int, leaving: Mapping[Transaction, list[str]]
+        self, closing: int, leaving: Mapping[Transaction, list[Stored]]
     ) -> tuple[str | None, Figures]:
         """Writes an archive, where something leaves, and gives its name and its figures as they are read again from the
         disk."""
@@ -318,7 +272,7 @@ class Closing:
         fresh = self.words.archive / f"{front}.part"
         with open(fresh, "wb") as file:
             file.write(self.plan(lines).lines)
-            file.writelines(f"{line}\n".encode() for line in lines)
+            file.writelines(f"{text}\n".encode() for text in Texts(lines))
             file.flush()
             os.fsync(file.fileno())
         path = self.named_anew(front, fresh)
@@ -356,18 +310,20 @@ class Closing:
         finally:
             replay.kill()
 
-    async def sorted_all(self, rows: list[Any], day: date) -> Sorted:
+    async def sorted_all(self, rows: list[Stored], day: date) -> Sorted:
         """What becomes of the log's lines: what came for archived transactions, and what the others do without that."""
         known = await self.archived(rows)
-        own = [(row, transaction_of(row["line"]) in known) for row in rows]
+        own = [(row, row.transaction in known) for row in rows]
         live = await self.sorted_out([row for row, is_late in own if not is_late], [])
         changes = [line for line in live if line.is_change]
-        whole = await self.replayed([line.text for line in changes])
+        whole = await self.replayed([line.stored for line in changes])
         gone = self.finished(changes, whole, day)
-        rest = await self.replayed([line.text for line in changes if line.transaction not in gone])
+        rest = await self.replayed(
+            [line.stored for line in changes if line.transaction not in gone]
+        )
         old = [line for lines in known.values() for line in lines]
         late = await self.sorted_out([row for row, is_late in own if is_late], old)
-        again = old + [line.text for line in late if line.is_change]
+        again = old + [line.stored for line in late if line.is_change]
         was, now = (await self.replayed(old), await self.replayed(again)) if late else ({}, {})
         return Sorted(live, late, known, gone, whole, rest, was, now)
 
@@ -378,7 +334,7 @@ class Closing:
         if not others:
             return {self.site: Share(in_file, log_lines.was, log_lines.now)}
         lines = [line for line in log_lines.live if line.is_change]
-        gone = [line.text for line in lines if line.transaction in log_lines.gone]
+        gone = [line.stored for line in lines if line.transaction in log_lines.gone]
         was, now = await self.came_for(self.site, log_lines)
         own = Share(added([await self.replayed(gone), now]), was, now)
         shares = {self.site: own}
@@ -393,7 +349,7 @@ class Closing:
         was = [line for one in ones for line in log_lines.known[one]]
         late = [line for line in log_lines.late if line.is_change and line.transaction in ones]
         reckoning = await self.reckoned(site)
-        now = was + [line.text for line in late]
+        now = was + [line.stored for line in late]
         return await self.replayed(was, reckoning), await self.replayed(now, reckoning)
 
     async def reckoned(self, site: str) -> Reckoning:
@@ -426,8 +382,8 @@ class Closing:
         flows = self.lasting(flows)
         opened = await self.opened()
         settled, removed = await self.unsettled(day, flows, opened), log_lines.removed()
-        rows = [row for site in settled.values() for row in site]
-        if not (rows or removed) and before and before[-1]["day"] == day:
+        booked = [row for site in settled.values() for row in site]
+        if not (booked or removed) and before and before[-1]["day"] == day:
             return (
                 f"{self.site}, shard {self.shard}: {day} is closed already, and nothing came since"
             )
@@ -436,9 +392,9 @@ class Closing:
             for booking in bookings:
                 await self.book(booking, place, name, plan + 1)
             await self.note_open(day, flows.keys() | opened, periods(log_lines.rest))
-            found = await self.write_findings(log_lines)
+            times = await self.write_findings(log_lines, in_file)
             heads = {booking.head[1]: booking.head for booking in bookings}
-            await self.write_transactions(heads, in_file, leaving, found)
+            await self.write_transactions(heads, in_file, leaving, times)
             await self.take_out(plan, removed)
         # Behind the commit: to be told, others would wait for it. Its worker looks by itself, too.
         await self.session.execute("select tell('plan', $1)", str(self.shard))
@@ -502,8 +458,8 @@ class Closing:
         self,
         heads: Mapping[str, tuple[int, str, int]],
         in_file: Figures,
-        leaving: dict[Transaction, list[str]],
-        found: Findings,
+        leaving: dict[Transaction, list[Stored]],
+        times: Mapping[Transaction, SessionTimes],
     ) -> None:
         """Writes the archived transactions: their figures, their times, and their lines."""
         names = ([one[part] for one in leaving] for part in (0, 1))
@@ -512,7 +468,7 @@ class Closing:
             for row in await self.fetch(closing_queries.FORGET, *names)
         }
         own = {one: heads[self.homes.get(one, self.site)] for one in leaving}
-        rows = transactions(in_file, had, found.times(in_file))
+        rows = transactions(in_file, had, times)
         if self.aged:
             # A session that left the cell does not come back.
             rows = [row for row in rows if row[:2] in had or (row[14] or self.aged) >= self.aged]
@@ -521,29 +477,35 @@ class Closing:
         )
         await self.session.executemany(
             closing_queries.PACKED,
-            [(*own[one], *one, packed(lines)) for one, lines in leaving.items()],
+            ((*own[one], *one, packed(Texts(lines))) for one, lines in leaving.items()),
         )
 
-    async def write_findings(self, log_lines: Sorted) -> Findings:
-        """Writes what is doubtful in the sessions of the log, and in those that come to be archived again."""
-        found = Findings(self.site, self.reckoning)
-        for lines in log_lines.known.values():
-            found.archived(lines)
-        for line in log_lines.live + log_lines.late:
-            found.take(line.text, line.answer.decode(), line.row)
+    async def write_findings(
+        self, log_lines: Sorted, in_file: Figures
+    ) -> dict[Transaction, SessionTimes]:
+        """Writes what is doubtful in the sessions of the log, and in those that come to be archived again. Gives when
+        the archived ones began and ended."""
+        rows, times = list[tuple[Any, ...]](), dict[Transaction, SessionTimes]()
+        seen = by_transaction(log_lines.whole) | by_transaction(log_lines.now)
+        filed = by_transaction(in_file)
+        for one, lines in log_lines.named().items():
+            # One at a time, since each event takes half a kilobyte.
+            found = Findings(self.site, self.reckoning)
+            for line in lines:
+                heard = line.stored.at if line.stored.gateway else None
+                found.take(line.stored.text, line.answer.decode(), heard)
+            rows += found.rows(seen.get(one, {}))
+            times |= found.times(filed.get(one, {}))
         known = ([one[part] for one in log_lines.known] for part in (0, 1))
         await self.session.execute(findings.GONE, self.shard, self.names(), *known, findings.FAR)
-        rows = [*found.rows(log_lines.whole), *found.rows(log_lines.now)]
         await self.session.executemany(findings.WRITE, [(self.shard, *row) for row in rows])
-        return found
+        return times
 
-    async def take_out(self, plan: int, removed: list[Any]) -> None:
+    async def take_out(self, plan: int, removed: list[int]) -> None:
         """Takes rows out of the log. Raises Fault where that or the plan was changed meanwhile."""
         done = [
             await self.session.execute(closing_queries.REPLAN, self.shard, plan),
-            await self.session.execute(
-                closing_queries.REMOVE, self.shard, [row["place"] for row in removed]
-            ),
+            await self.session.execute(closing_queries.REMOVE, self.shard, removed),
         ]
         if done != ["UPDATE 1", f"DELETE {len(removed)}"]:
             raise Fault(
@@ -741,7 +703,11 @@ async def closed(words: argparse.Namespace, session: Any, done: set[int]) -> Non
         if words.day and words.day >= today:
             raise Fault(f"{words.day} is not over in {site['zone']}")
         if site["shard"] not in done:
-            told = await Closing(words, session, site).run(words.day or today - timedelta(days=1))
+            closing = Closing(words, session, site)
+            try:
+                told = await closing.run(words.day or today - timedelta(days=1))
+            finally:
+                closing.spool.close()
             done.add(site["shard"])
             print(told, flush=True)
 

@@ -1,6 +1,11 @@
 """The statements of a closing (close_day.py)."""
 
 BYTES = "select bytes from numbering where shard = $1"
+# The log part by part, each of so many lines, up to a place.
+LAST = "select coalesce(max(place), 0) as last from own_log where shard = $1"
+PART = """
+select place, at, gateway, line from own_log where shard = $1 and place > $2 and place <= $3 order by place limit 200
+"""
 REMOVE = "delete from own_log where shard = $1 and place = any($2::bigint[])"
 # Its worker begins a replay anew from what is left; the plan that lines were replayed under is still that.
 REPLAN = "update own_shard set plan = plan + 1 where shard = $1 and plan = $2 and moving_to is null"

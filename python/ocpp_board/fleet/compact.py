@@ -48,7 +48,7 @@ REMOVE = "select remove_repeats($1, $2, $3)"
 PIECE, BLOCK_BYTES, IN_MEMORY = LONGEST_SCRIPT * 15 // 16, 1 << 20, 16 << 20
 
 
-def pieces(lines: list[str], most: int) -> Iterator[tuple[int, int]]:
+def pieces(lines: Sequence[str], most: int) -> Iterator[tuple[int, int]]:
     """The fronts and ends of parts of these lines that have so many bytes at most, or one line."""
     front = size = 0
     for place, line in enumerate(lines):
@@ -151,12 +151,12 @@ class Replaying:
             self.piece.replay.kill()
 
 
-async def replayed(program: str, plan: Plan, lines: list[str]) -> Replayed:
+async def replayed(program: str, plan: Plan, lines: Sequence[str]) -> Replayed:
     """Replays a log of any length. Raises as Replaying does."""
     replaying, found = Replaying(program, plan), list[tuple[bytes, bool]]()
     try:
         for front, end in pieces(lines, min(PIECE // 4, BLOCK_BYTES)):
-            found += await replaying.answered(lines[front:end])
+            found += await replaying.answered(list(lines[front:end]))
         return Replayed(found, await replaying.boards())
     finally:
         replaying.close()

@@ -7,6 +7,7 @@ from typing import Any
 
 from ocpp_board.boards import TOTAL, Numbers, numbers_of
 from ocpp_board.energies import FLOW, Flow, flow_of
+from ocpp_board.fleet.lines import Transaction
 from ocpp_board.fleet.plans import Reckoning
 
 # A station's line: its station, its kind (total, evse, period, tx or gap), and which one of that kind.
@@ -67,6 +68,16 @@ def periods(part: Figures) -> Flows:
         for (station, kind, start), numbers in part.items()
         if kind == "period"
     }
+
+
+def by_transaction(part: Figures) -> dict[Transaction, Figures]:
+    """The figures of each transaction, with its gaps."""
+    found: dict[Transaction, Figures] = {}
+    for (station, kind, name), numbers in part.items():
+        if kind in ("tx", "gap"):
+            one = found.setdefault((station, name.split(" ")[0]), {})
+            one[station, kind, name] = numbers
+    return found
 
 
 def blocks(text: str) -> dict[str, str]:

@@ -2,6 +2,7 @@
 
 from collections.abc import Iterable, Iterator
 from contextlib import suppress
+from datetime import datetime
 from typing import Any
 
 from ocpp_board.answered import Answered
@@ -40,11 +41,10 @@ class Findings:
         self.by_sequence = REMEDY if reckoning.order == DEFAULT_ORDER else None
         self.messages = Transactions()
 
-    def take(self, line: str, answer: str, row: Any = None) -> None:
-        """Takes a line with its answer. `row`: of the log, which tells when a gateway heard it."""
+    def take(self, line: str, answer: str, received: datetime | None = None) -> None:
+        """Takes a line with its answer. `received`: when a gateway heard it."""
         if line.startswith("msg "):
             _, station, message = line.split(" ", 2)
-            received = row["at"] if row and row["gateway"] else None
             # What Python can't read tells nothing, and holds up no closing.
             with suppress(*ODD):
                 self.messages.take(Answered(0, self.site, station, received, message, answer))
