@@ -20,6 +20,7 @@ import random
 import ssl
 import sys
 import time
+from pathlib import Path
 from typing import TextIO
 from urllib.parse import urlsplit
 
@@ -226,6 +227,9 @@ async def run(words: argparse.Namespace) -> int:
             if job.done():
                 job.result()
         load.report()
+        if words.waits:
+            lines = (f"{end:.3f} {wait:.3f}\n" for end, wait in zip(load.moments, load.waits))
+            Path(words.waits).write_text("".join(lines))
     return 1 if load.left or load.odd or not load.waits else 0
 
 
@@ -255,6 +259,10 @@ def main() -> int:
     parser.add_argument("--ca", help="connect by TLS, and trust this certificate")
     parser.add_argument(
         "--together", type=int, default=0, metavar="N", help="connect N at a time before any sends"
+    )
+    parser.add_argument(
+        "--waits",
+        help="the file of waits: when each ended (monotonic seconds), and how long it was",
     )
     parser.add_argument("--record", required=True, help="the file of what was answered")
     words = parser.parse_args()

@@ -1,7 +1,7 @@
 """A fleet of its own for some minutes: stations send, parts are killed at random, events voided, days closed.
 
     tests/one fleet.soak ocpp_board                                              two minutes
-    tests/one fleet.soak ocpp_board --seconds 3600 --stations 1000 --rate 200 --each-close 300
+    tests/one fleet.soak ocpp_board --seconds 3600 --stations 1000 --rate 200 --each-close 300 --strangers
 
 Each 6 seconds a worker, a gateway or a replay is killed with -9; each second an answered event is voided, and one is
 sent again over another gateway; each 20 seconds the next day of each site is closed, and one `ocpp-board close-day` in
@@ -10,8 +10,10 @@ them; a gateway is stopped, a worker is stopped until others fence it, and a tra
 written stays open, each for a twentieth of the run and at most a minute. The clocks of two workers are three days fast
 and 400 slow. Stations' clocks run fast, so that days pass. At the end the day is closed once more, and boards with
 archives have to be those of a replay from scratch of all that was answered and voided, and what is settled that
-replay's periods. It tells the memory of each part at the quarters of the run. The status is 1 where something is not as
-it must be.
+replay's periods. It prints the memory of each part at the quarters of the run, and waits of all messages and of those
+that no kill and no stop touched: which neither waited nor came while a part was away or within 2 seconds behind, or 10
+behind a kill of the database. With --strangers stations have passwords, and strangers.py plays beside them. The status
+is 1 where something is not as it must be.
 """
 
 import argparse
@@ -19,10 +21,12 @@ import asyncio
 import json
 import os
 import random
+import secrets
 import signal
 import subprocess
 import sys
 import time
+from bisect import bisect_left
 from datetime import date, timedelta
 from pathlib import Path
 from typing import Any
@@ -30,8 +34,12 @@ from typing import Any
 import asyncpg
 
 from ocpp_board.fleet.database import LOST, Unreachable
+from ocpp_board.fleet.passwords import SALT, hashed
 from tests.fleet.client import Client
-from tests.fleet.fleet import BACKEND, CLOCK, CRASHES, UNTOLD, children, ended, free_port
+from tests.fleet.fleet import BACKEND, CLOCK, CRASHES, UNTOLD, children, ended, free_port, part
+from tests.fleet.measure import PASSWORD
+from tests.fleet.page_client import start_page
+from tests.fleet.strangers import ODD
 from tests.fleet.trials import Trial, parsed, parser_of, tried
 
 FIRST = date(2026, 3, 1)
@@ -46,6 +54,10 @@ select ({UNTOLD}) + (select count(*) from own_shard s left join own_board b usin
                      where b.plan is distinct from s.plan)
 """
 TRIES = 3
+# Seconds for which stations wait behind what was away: a part, and the database.
+BEHIND_KILL, BEHIND_CRASH = 2.0, 10.0
+# Seconds of the 99th wait of messages that nothing touched.
+MOST_WAIT = 1.0
 # Bytes of the record from which events to void are chosen.
 RECENT = 1 << 17
 
@@ -72,6 +84,35 @@ def recent(record: Path) -> list[str]:
         return file.read().decode("utf-8", "replace").split("\n")[1:-1]
 
 
+def percentile(waits: list[float], share: float) -> float:
+    """The wait that such a share of all is below."""
+    return sorted(waits)[min(len(waits) - 1, int(share * len(waits)))]
+
+
+def waits_told(waits: list[float]) -> str:
+    """Waits as they are printed."""
+    if not waits:
+        return "there are none"
+    parts = (f"{1000 * percentile(waits, one):.0f}" for one in (0.5, 0.99, 0.999, 1))
+    return f"{' / '.join(parts)} ms (median, 99th, 99.9th, longest of {len(waits)})"
+
+
+def joined(times: list[tuple[float, float]]) -> list[tuple[float, float]]:
+    """Times in their order, those that touch one another as one."""
+    found = list[tuple[float, float]]()
+    for first, last in sorted(times):
+        if found and first <= found[-1][1]:
+            first, last = found[-1][0], max(last, found.pop()[1])
+        found.append((first, last))
+    return found
+
+
+def is_within(begin: float, end: float, times: list[tuple[float, float]]) -> bool:
+    """Whether a time touches one of these, which are in their order and apart."""
+    at = bisect_left(times, (end, 0.0))
+    return at > 0 and times[at - 1][1] > begin
+
+
 class Soak(Trial):
     def __init__(self, words: argparse.Namespace) -> None:
         super().__init__(words)
@@ -90,6 +131,10 @@ class Soak(Trial):
         # Set once stations have sent all: what closes days ends then, and a closing that is under way is waited for.
         self.is_over = asyncio.Event()
         self.sizes: list[dict[str, float]] = []
+        # When something was away by a kill or a stop, and the time behind it.
+        self.harmed: list[tuple[float, float]] = []
+        self.login, self.page = "", ""
+        self.homes: dict[str, int] = {}
         self.workers: list[subprocess.Popen[bytes]] = []
         self.gateways: list[subprocess.Popen[bytes]] = []
 
@@ -97,15 +142,38 @@ class Soak(Trial):
         await self.one_cell()
         limits = (256, self.words.events + 64, self.words.events + 64)
         await self.fleet.add(self.owner, self.words.stations, EACH, 0, limits)
+        if self.words.strangers:
+            await self.open_to_strangers()
         self.ports = [free_port() for _ in range(3)]
         self.workers = [self.start_worker(place) for place in range(3)]
         self.gateways = [(await asyncio.to_thread(self.start_gateway, port)) for port in self.ports]
+
+    async def open_to_strangers(self) -> None:
+        """Stations that do harm, one in each of the first shards, passwords of all, and the page."""
+        for shard, station in enumerate(ODD):
+            query = "select add_station($1, $2, $3)"
+            place = shard % -(-self.words.stations // EACH)
+            await self.owner.execute(query, place, f"site-{place}", station)
+            self.homes[station] = place
+        salt = secrets.token_bytes(SALT)
+        # One hash for all: it costs a gateway as much.
+        await self.owner.execute(
+            "insert into station_password (station, hash, salt, set_at) select station, $1, $2, now() from own_station",
+            *(hashed(PASSWORD.encode(), salt), salt),
+        )
+        self.login = PASSWORD
+        _, self.page = await asyncio.to_thread(start_page, self.fleet)
 
     def start_worker(self, place: int) -> subprocess.Popen[bytes]:
         return self.fleet.worker("--hang", 3, code=CLOCK.format(CLOCKS[place]))
 
     def start_gateway(self, port: int) -> subprocess.Popen[bytes]:
-        return self.fleet.gateway(port=port)[0]
+        options = () if self.login else ("--open",)
+        return self.fleet.gateway(port=port, options=options)[0]
+
+    def is_away(self, began: float, behind: float) -> None:
+        """Something was away since then, and stations wait for it a while longer."""
+        self.harmed.append((began, time.monotonic() + behind))
 
     # What goes on while stations send ---------------------------------------------------------------------------------
 
@@ -127,6 +195,7 @@ class Soak(Trial):
             place = self.chance.randrange(3)
             if self.stopped == ("worker" if what == "replay" else what, place):
                 continue
+            began = time.monotonic()
             if what == "worker":
                 self.workers[place].kill()
                 self.workers[place] = self.start_worker(place)
@@ -141,6 +210,7 @@ class Soak(Trial):
             elif replays := children(self.workers[place].pid):
                 os.kill(self.chance.choice(replays), signal.SIGKILL)
             self.kills[what] += 1
+            self.is_away(began, BEHIND_KILL)
 
     async def void(self) -> None:
         """Voids an event that was answered, each at most once."""
@@ -181,7 +251,8 @@ class Soak(Trial):
             _, station, text = self.chance.choice(lines).split(" ", 2)
             try:
                 url = f"ws://127.0.0.1:{self.chance.choice(self.ports)}/ocpp"
-                link = await Client.open(url, station)
+                login = f"{station}:{self.login}" if self.login else ""
+                link = await Client.open(url, station, login)
                 heard = await link.said(10)
                 if heard == "101":
                     link.send(text.encode())
@@ -208,7 +279,7 @@ class Soak(Trial):
 
     async def crash_once(self, is_all: bool) -> None:
         """Kills the database with all its processes, or one that serves a worker or a gateway."""
-        self.is_down, self.crashes = True, self.crashes + 1
+        self.is_down, self.crashes, began = True, self.crashes + 1, time.monotonic()
         if is_all:
             self.fleet.databases[0].kill()
             await asyncio.to_thread(self.fleet.databases[0].start)
@@ -221,6 +292,7 @@ class Soak(Trial):
             while not owner.is_closed():
                 await asyncio.sleep(0.05)
         await self.done("select 1")
+        self.is_away(began, BEHIND_CRASH)
         self.is_down = False
 
     async def stop(self, what: str, seconds: float) -> None:
@@ -235,11 +307,12 @@ class Soak(Trial):
             await session.close()
             return
         self.stopped, processes = (what, 0), self.gateways if what == "gateway" else self.workers
-        process = processes[0]
+        process, began = processes[0], time.monotonic()
         process.send_signal(signal.SIGSTOP)
         await asyncio.sleep(seconds)
         process.send_signal(signal.SIGCONT)
         self.stopped = ("", 0)
+        self.is_away(began, BEHIND_KILL)
 
     async def close_all(self, may_kill: bool) -> None:
         """Closes the day of each site. A closing that was not killed has to be done, whatever was killed meanwhile."""
@@ -303,7 +376,10 @@ class Soak(Trial):
                 16,
             ),
             *("--step", self.words.step, "--seconds", self.words.seconds * 2),
+            *("--waits", self.fleet.folder / "waits"),
+            *(("--password", self.login) if self.login else ()),
         )
+        strangers = self.strangers() if self.login else None
         jobs = [
             asyncio.create_task(job)
             for job in (self.kill(), self.void(), self.repeat(), self.crash(), self.weigh())
@@ -320,10 +396,15 @@ class Soak(Trial):
             job.cancel()
         await asyncio.gather(*jobs, return_exceptions=True)
         await closing
+        if strangers:
+            strangers.send_signal(signal.SIGTERM)
+            found, told = await ended(strangers)
+            self.check(found == 0, f"strangers:\n{told}")
         self.none_ended()
         for process in (*self.gateways, *self.workers):
             process.send_signal(signal.SIGCONT)
         self.check(status == 0, text)
+        self.tell_waits()
         self.check(
             self.crashes == len(CRASHES) and len(self.stops) == len(STOPS),
             f"{self.crashes} kills of the database, and stops: {', '.join(self.stops)}",
@@ -336,11 +417,32 @@ class Soak(Trial):
         stops = ", ".join(f"{what} {seconds:.0f}" for what, seconds in self.stops.items())
         print(f"seconds for which was stopped, or open: {stops}")
         await self.done("select 1")
-        for part in self.sizes[0] if self.sizes else ():
-            print(
-                f"memory of {part} in MB: {', '.join(f'{size[part]:.0f}' for size in self.sizes)}"
-            )
+        for name in self.sizes[0] if self.sizes else ():
+            sizes = ", ".join(f"{size[name]:.0f}" for size in self.sizes)
+            print(f"memory of {name} in MB: {sizes}")
         await self.compare()
+
+    def strangers(self) -> subprocess.Popen[bytes]:
+        """Strangers, and stations that do harm."""
+        self.fleet.records.append(self.fleet.folder / "odd.script")
+        reader = self.fleet.dsn("ledger_reader")
+        return self.fleet.start(
+            *(*part("strangers"), "--record", self.fleet.records[-1], "--page", self.page),
+            *("--reader", reader, "--password", self.login, "--guessed", "CS-00001"),
+            *("--seconds", self.words.seconds * 2),
+            *(f"ws://127.0.0.1:{port}/ocpp" for port in self.ports),
+            stdout=subprocess.PIPE,
+        )
+
+    def tell_waits(self) -> None:
+        """Prints how long messages waited: all, and those that no kill and no stop touched."""
+        with open(self.fleet.folder / "waits", encoding="utf-8") as file:
+            ends = [(float(end), float(wait)) for end, wait in map(str.split, file)]
+        print(f"waits of all messages: {waits_told([wait for _, wait in ends])}")
+        harmed = joined(self.harmed)
+        untouched = [wait for end, wait in ends if not is_within(end - wait, end, harmed)]
+        text = f"waits of messages that no kill and no stop touched: {waits_told(untouched)}"
+        self.check(len(untouched) > 1000 and percentile(untouched, 0.99) <= MOST_WAIT, text)
 
     async def shown(self) -> None:
         """Waits until all lines are answered and boards are of the plan, for a minute at most."""
@@ -348,11 +450,16 @@ class Soak(Trial):
         while await self.done(BEHIND) and time.monotonic() < end:
             await asyncio.sleep(0.5)
 
+    def home(self, station: str) -> int:
+        """The shard of a station."""
+        found = self.homes.get(station)
+        return int(station[3:]) // EACH if found is None else found
+
     async def compare(self) -> None:
         """Compares all at the end, where boards may be behind once more."""
         lines: dict[int, list[str]] = {}
         for line in [*self.fleet.sent(), *self.voids]:
-            lines.setdefault(int(line.split(" ", 2)[1][3:]) // EACH, []).append(line)
+            lines.setdefault(self.home(line.split(" ", 2)[1]), []).append(line)
         for _ in range(TRIES):
             await self.close_all(False)
             await self.shown()
@@ -399,6 +506,7 @@ def main() -> int:
     parser.add_argument(
         "--seed", type=int, default=1, help="of what is chosen at random (default: 1)"
     )
+    parser.add_argument("--strangers", action="store_true", help="with strangers.py beside them")
     words = parsed(parser)
     # One message in six is sent twice.
     words.events = max(8, int(words.seconds * words.rate / words.stations / 1.2))
