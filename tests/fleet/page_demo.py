@@ -216,7 +216,7 @@ class Demo(Trial):
 
     def told(self) -> str:
         """How the figures of a page are told."""
-        return str(self.browser.find_element(By.ID, "told").text)
+        return str(self.browser.find_element(By.ID, "about").text)
 
     def figure(self, path: str, name: str) -> str:
         """A figure at the top of a site's page."""

@@ -55,7 +55,7 @@ from ocpp_board.fleet.page_render import (  # noqa: E402
 )
 from ocpp_board.fleet.page_views import FILE, reading_text  # noqa: E402
 from ocpp_board.fleet.page_words import Words, meaning_of, reason_of  # noqa: E402
-from ocpp_board.fleet.passwords import FREE, SALT, address_told, hashed  # noqa: E402
+from ocpp_board.fleet.passwords import FREE, SALT, address_by, hashed  # noqa: E402
 from ocpp_board.fleet.set_operator import days_of, operator_of, roles_of, sites_of  # noqa: E402
 from ocpp_board.fleet.site_pages import fragment_of, session_path  # noqa: E402
 from ocpp_board.fleet.states import (  # noqa: E402
@@ -207,9 +207,9 @@ def test_words_of_the_command() -> None:
 
 def test_the_address_is_what_our_proxy_tells_last() -> None:
     told = ["198.51.100.7, 192.0.2.9"]
-    assert address_told("127.0.0.1", told, ["127.0.0.1"]) == "192.0.2.9"
-    assert address_told("127.0.0.1", told, []) == "127.0.0.1"
-    assert address_told("203.0.113.5", told, ["127.0.0.1"]) == "203.0.113.5"
+    assert address_by("127.0.0.1", told, ["127.0.0.1"]) == "192.0.2.9"
+    assert address_by("127.0.0.1", told, []) == "127.0.0.1"
+    assert address_by("203.0.113.5", told, ["127.0.0.1"]) == "203.0.113.5"
 
 
 # Forms ----------------------------------------------------------------------------------------------------------------

@@ -32,10 +32,10 @@ from ocpp_board.fleet.states import energy_state, settled_of, state_of, station_
 from ocpp_board.limits import TRANSACTION
 from ocpp_board.session_times import Registers
 
-# Rows of a page, where nothing is told and at most; stations that one id is looked for at.
+# Rows of a page, unless asked for and at most; stations that one id is looked for at.
 ROWS, MOST_ROWS, MOST_STATIONS = 200, 1000, 10
 FIRST, LAST = (datetime(year, 1, 1, tzinfo=timezone.utc) for year in (2000, 2100))
-# For how long periods are asked for, where only the end is told, and at most.
+# For how long periods are asked for, where only the end is given, and at most.
 DAY, SPAN, LONGEST = timedelta(days=1), timedelta(days=31), timedelta(days=366)
 
 Json = dict[str, Any]
@@ -86,7 +86,7 @@ class Paging(NamedTuple):
         return cls(int(text), key)
 
     def page(self, name: str, rows: Sequence[Json], key: Callable[[Json], Sequence[str]]) -> Json:
-        """The page of these rows, of which one more than asked for tells that there are others."""
+        """The page of these rows, of which one more than asked for shows that there are others."""
         some = rows[: self.rows]
         more = cursor_of(key(some[-1])) if len(rows) > self.rows else None
         return {name: some, "next": more}
@@ -98,7 +98,7 @@ def cursor_of(key: Sequence[str]) -> str:
 
 
 def key_of(cursor: str, length: int) -> list[str]:
-    """The key that a word stands for. Raises Wrong."""
+    """The key that a word has. Raises Wrong."""
     try:
         data = base64.urlsafe_b64decode(cursor + "=" * (-len(cursor) % 4))
         key = json.loads(data)
@@ -137,7 +137,7 @@ def flow_json(numbers: Mapping[str, Any], front: str = "") -> Json:
     }
 
 
-def told(at: datetime | None, zone: str) -> str | None:
+def local_time(at: datetime | None, zone: str) -> str | None:
     """A moment with the offset of a zone."""
     return at.astimezone(zone_of(zone)).isoformat() if at else None
 
@@ -156,13 +156,13 @@ def site_json(site: Site) -> Json:
         "states": site.states(),
         "corrections": site.corrections,
         "settled_to": site.settled_to and site.settled_to.isoformat(),
-        "at": told(site.at, site.zone),
-        "board_at": told(site.board_at, site.zone),
+        "at": local_time(site.at, site.zone),
+        "board_at": local_time(site.board_at, site.zone),
     }
 
 
 def figures_json(row: Mapping[str, Any]) -> Json:
-    """A row's energies, how they are told, and what was settled of them."""
+    """A row's energies, their state, and what was settled of them."""
     settled = settled_of(row)
     state = energy_state(row, settled, row["corrections"])
     more = (
@@ -174,7 +174,7 @@ def figures_json(row: Mapping[str, Any]) -> Json:
 
 
 def answer(body: Json, faults: Sequence[str] = ()) -> Response:
-    """A page; `faults` of cells that do not answer are told beside it."""
+    """A page, with the faults of cells that do not answer."""
     return JSONResponse({**body, "faults": list(faults)} if faults else body)
 
 
@@ -225,7 +225,7 @@ async def board(asked: Asked) -> Response:
             **{key: row[key] for key in counts},
             **figures_json(row),
             "states": station_states(row),
-            "at": told(row["at"], zone),
+            "at": local_time(row["at"], zone),
             "place": row["place"],
         }
         for row in found
@@ -244,11 +244,11 @@ async def periods(asked: Asked) -> Response:
       - name: from
         in: query
         schema: {type: string}
-        description: A day of the site's zone or a time with its offset; 31 days before `to` where it is not told
+        description: A day of the site's zone or a time with its offset; 31 days before `to` where it is not given
       - name: to
         in: query
         schema: {type: string}
-        description: A day, which is included, or a time, which is not; now where it is not told; 366 days at most
+        description: A day, which is included, or a time, which is not; now where it is not given; 366 days at most
       - {$ref: '#/components/parameters/limit'}
       - {$ref: '#/components/parameters/cursor'}
     responses:
@@ -275,11 +275,11 @@ async def periods(asked: Asked) -> Response:
         {
             "site": name,
             "station": row["station"],
-            "starts": told(row["starts"], zone),
+            "starts": local_time(row["starts"], zone),
             "seconds": rows[0][1]["period"],
             "day": row["starts"].astimezone(zone_of(zone)).date().isoformat(),
             **figures_json(row),
-            "at": told(row["at"], zone),
+            "at": local_time(row["at"], zone),
         }
         for row in found
     ]
@@ -356,9 +356,9 @@ def transaction_json(one: Any, station: Any, is_late: bool) -> Json:
         "corrections": one["corrections"],
         "closing": one["closing"],
         "day": one["day"] and one["day"].isoformat(),
-        "started": told(one["started"], zone),
-        "ended": told(one["ended"], zone),
-        "at": told(one["at"], zone),
+        "started": local_time(one["started"], zone),
+        "ended": local_time(one["ended"], zone),
+        "at": local_time(one["at"], zone),
     }
 
 
@@ -415,8 +415,8 @@ def history_json(one: History) -> Json:
         "closing": one.closing and one.closing["closing"],
         "day": one.closing and one.closing["day"].isoformat(),
         "archive": one.closing and one.closing["archive"],
-        "started": told(times.start, one.zone),
-        "ended": told(times.end, one.zone),
+        "started": local_time(times.start, one.zone),
+        "ended": local_time(times.end, one.zone),
         "register": register_json(times.imported),
         "export_register": register_json(times.exported),
         "stopped_reason": times.reason or None,
@@ -445,7 +445,7 @@ def entry_json(entry: Entry, zone: str) -> Json:
     who = entry.who
     return {
         "place": entry.place,
-        "at": told(entry.at, zone),
+        "at": local_time(entry.at, zone),
         "source": "archive" if entry.is_from_archive else "log",
         "line": entry.line,
         "answer": entry.answer,
@@ -456,7 +456,7 @@ def entry_json(entry: Entry, zone: str) -> Json:
 def deed_json(row: Any, zone: str) -> Json:
     """What an operator did."""
     keys = ("command", "number", "operator", "login", "address", "reason", "answer")
-    return {"at": told(row["at"], zone), **{key: row[key] for key in keys}}
+    return {"at": local_time(row["at"], zone), **{key: row[key] for key in keys}}
 
 
 @view(SEES)
@@ -480,7 +480,7 @@ async def refusals(asked: Asked) -> Response:
     zone = rows[0][1]["zone"]
     lines = [
         {key: row[key] for key in (*keys, "advice", "times", "place")}
-        | {key: told(row[key], zone) for key in ("first", "last")}
+        | {key: local_time(row[key], zone) for key in ("first", "last")}
         for row in found
     ]
     page = paging.page("refusals", lines, lambda row: [row[key] for key in keys])

@@ -59,7 +59,7 @@ from has h full join settled s using (shard, station, starts)
 where (starts, station collate "C") > ($5::timestamptz, $6::text)
 order by starts, station collate "C" limit $7
 """
-# How the energy of a site's stations on a day is told: whether that of each period is settled, and corrections.
+# The state of the energy of a site's stations on a day: whether that of each period is settled, and corrections.
 DAY = f"""
 select station, bool_and(settled_rows > 0 and (up, down, export_up, export_down)
     = (settled_up, settled_down, settled_export_up, settled_export_down)) as is_settled,

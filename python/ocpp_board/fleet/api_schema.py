@@ -46,12 +46,12 @@ def page(name: str, row: str, **more: Any) -> dict[str, Any]:
 COUNTS: dict[str, Any] = dict.fromkeys(
     ("events", "voided", "transactions", "complete", "missing"), INTEGER
 )
-TOLD = {"state": STATE, "corrections": INTEGER}
-# How each figure of a row is told; `state` is how its energies are.
+STATED = {"state": STATE, "corrections": INTEGER}
+# The state of each figure of a row; `state` is that of its energies.
 STATES_OF = {
     "states": {
         **thing(**dict.fromkeys((*EVENTS, *SESSIONS, *ENERGIES), STATE)),
-        "description": "How each figure is told, by its name. Numbers of sessions are settled where all sessions of "
+        "description": "The state of each figure, by its name. Numbers of sessions are settled where all sessions of "
         "the row are archived; events and voided are those of the log, so they are provisional",
     }
 }
@@ -63,7 +63,7 @@ SITE: dict[str, Any] = {
     "stations": INTEGER,
     **COUNTS,
     **flows(),
-    **TOLD,
+    **STATED,
     **STATES_OF,
     "settled_to": DAY,
     "at": MOMENT,
@@ -76,7 +76,7 @@ TRANSACTION: dict[str, Any] = {
     "complete": YES,
     "missing": INTEGER,
     **flows(),
-    **TOLD,
+    **STATED,
     "closing": nullable(INTEGER),
     "day": DAY,
     "started": MOMENT,
@@ -94,7 +94,7 @@ SCHEMA = {
         retired=DAY,
         **COUNTS,
         **flows(),
-        **TOLD,
+        **STATED,
         **STATES_OF,
         **flows("settled_"),
         at=MOMENT,
@@ -108,7 +108,7 @@ SCHEMA = {
         seconds=INTEGER,
         day=DAY,
         **flows(),
-        **TOLD,
+        **STATED,
         **flows("settled_"),
         at=MOMENT,
     ),

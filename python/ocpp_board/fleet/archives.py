@@ -1,7 +1,7 @@
 """Transactions that closings took out of the log: their lines, and what the ledger says of what comes for them later.
 
 Their lines are rows of own_archived_lines, packed. What comes for them does not reach the shard's replay: it is
-answered by a replay of their own lines alone, and counts from the next closing on. That replay stays for what comes
+answered by a replay of only their own lines, and counts from the next closing on. That replay stays for what comes
 next, so however often something comes, it costs the same.
 """
 
@@ -46,7 +46,7 @@ LINES = (
 KEPT, BEGUN = 32, 2
 # Lines that a replay has room for behind those that it began with, and readings of a line.
 ROOM, READINGS = 1_000, 4
-# What an operator is told of a line that the ledger will take.
+# The answer to an operator's line that the ledger will take.
 LATER = b"accepted at the next closing"
 
 Fetch = Callable[..., Awaitable[Any]]
@@ -153,8 +153,8 @@ class Kept:
         answers = await self.replay.answers(2 * len(lines))
         found = []
         for answer, total in zip(answers[::2], answers[1::2]):
-            told = LATER if answer.startswith(b"accepted ") else answer
-            found.append(Said(told, total != self.total))
+            text = LATER if answer.startswith(b"accepted ") else answer
+            found.append(Said(text, total != self.total))
             self.total = total
         return found
 

@@ -48,7 +48,7 @@ def program(name: str) -> str:
 
 
 def run(*words: str | Path) -> None:
-    """Runs a program. Raises Fault with what it told last where it fails."""
+    """Runs a program. Raises Fault with what it logged last where it fails."""
     made = subprocess.run(
         [str(word) for word in words], stdin=subprocess.DEVNULL, capture_output=True, check=False
     )

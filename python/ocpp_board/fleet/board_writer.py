@@ -1,7 +1,7 @@
 """Writes boards as text and as rows, by a session of its own, in transactions that are small.
 
 A board's text comes first, and then its stations, some at a time: each station's rows are of one place of the log. What
-is written is what differs from what was written before, told apart outside the event loop. A board of an earlier place
+is written is what differs from what was written before, found outside the event loop. A board of an earlier place
 never takes the place of a later one, whoever writes it.
 """
 

@@ -1,6 +1,6 @@
 """The databases of the cells that pages and the API show: queries with an end to waiting, and operators' lines.
 
-A cell that does not answer is told, and the others are shown. All that is asked here is for sites that the operator
+A cell that does not answer is named, and the others are shown. All that is asked here is for sites that the operator
 sees; a site of others is as one that is not there. What is shown may come from a standby; what changes something, or
 has to be of this moment, is asked of the host that takes writes.
 """
@@ -181,7 +181,7 @@ class Cell:
         # Sessions that are free, with the host that takes writes and with a standby.
         self.free: dict[bool, list[Any]] = {False: [], True: []}
         self.room = Room(CONNECTIONS, MOST_WAITING)
-        # The session that is told answers, by whose tokens they are known; whoever no longer waits is gone from here.
+        # The session that hears answers, by whose tokens they are known; whoever no longer waits is gone from here.
         self.listening: Any = None
         self.operating = asyncio.Lock()
         self.waiting: WeakValueDictionary[int, asyncio.Future[str]] = WeakValueDictionary()
@@ -229,14 +229,14 @@ class Cell:
             return rows
 
     def answered(self, _session: Any, _pid: int, _channel: str, payload: str) -> None:
-        """A worker told answers."""
+        """Answers of a worker came."""
         for token, answer in answers_in(payload):
             wait = self.waiting.get(token)
             if wait and not wait.done():
                 wait.set_result(answer)
 
     async def listens(self) -> None:
-        """Begins the session that is told answers, where there is none."""
+        """Begins the session that hears answers, where there is none."""
         if self.listening is None or self.listening.is_closed():
             self.listening = await connect(self.dsn, application_name=self.name)
             await self.listening.add_listener(self.name, self.answered)
@@ -256,7 +256,7 @@ class Cell:
                 self.listening.terminate()
                 return (
                     f"not known: the database ended before it answered ({said(fault)}). The session's history "
-                    "tells whether the line is in the log; the same line once more changes nothing that it changed"
+                    "shows whether the line is in the log; the same line once more changes nothing that it changed"
                 )
         number = rows[0]["operate"]
         if number is None:
@@ -288,7 +288,7 @@ class Late(NamedTuple):
 
 
 class Found(NamedTuple):
-    """Each cell's rows, and what is told of those that do not answer."""
+    """Each cell's rows, and the faults of those that do not answer."""
 
     rows: list[tuple[Cell, list[Any]]]
     faults: list[str]
@@ -328,7 +328,7 @@ class Cells:
     async def sites(
         self, operator: Operator, name: str | None = None
     ) -> tuple[list["Site"], list[str]]:
-        """The operator's sites by their names, or the one of a name, and what is told of cells that do not answer."""
+        """The operator's sites by their names, or the one of a name, and the faults of cells that do not answer."""
         wanted = operator.wanted() if name is None else [name] * operator.sees(name)
         found = await self.ask_all(SITES, wanted)
         sites: dict[str, Site] = {}
@@ -461,12 +461,12 @@ class Site:
         )
 
     def state(self) -> str:
-        """How its energies are told."""
+        """The state of its energies."""
         settled = self.settled if any(self.days) else None
         return energy_state(self.numbers, settled, self.corrections)
 
     def states(self) -> dict[str, str]:
-        """How each of its figures is told."""
+        """The state of each of its figures."""
         archived = self.archived if any(self.days) else None
         return states_of(self.numbers | self.corrected, self.state(), archived)
 

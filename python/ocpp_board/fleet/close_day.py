@@ -11,16 +11,16 @@ Transactions that are complete, and of which every moment lies before the day, l
 script, which any `replay` reads. What was refused leaves the log, too, and has its row in `refusal`; what was refused
 for want of room stays there, and is taken once there is some. A transaction that never becomes complete keeps its
 room: `--incomplete CS-1 TX-9` archives it as it is, and archived_transaction has it as not complete. A line that comes
-later for an archived transaction is told here, and replayed behind its archived ones; the file of this closing has it
-whole again. What is corrected is booked at the site where it was settled, also where the station was given to another
-one since. Repeats are removed, as `ocpp-board compact` does, which comes first where a log is large. Before anything
-is taken from the log, the file and the lines that are left are replayed, and their figures together have to be those
-of the log.
+later for an archived transaction is reported here, and replayed behind its archived ones; the file of this closing has
+it whole again. What is corrected is booked at the site where it was settled, also where the station was given to
+another one since. Repeats are removed, as `ocpp-board compact` does, which comes first where a log is large. Before
+anything is taken from the log, the file and the lines that are left are replayed, and their figures together have to be
+those of the log.
 
 It may end at any time: call it again. Where its session with the database is lost it begins anew by itself, up to five
-times and for two minutes without any, and it waits as long for another program that has the shard. A line that the
-ledger took and that can't be read here, such as one with a time of a second 60, is told with its number, and its
-transaction stays in the log.
+times and for two minutes without any, and it waits as long for another program that has the shard. It reports a line
+that the ledger took and that can't be read here, such as one with a time of a second 60, with its number, and leaves
+its transaction in the log.
 """
 
 import argparse
@@ -175,7 +175,7 @@ class Closing:
             try:
                 is_over = is_before(line.stored.text, begin)
             except Unreadable as fault:
-                self.tell_unread(line, fault)
+                self.report_unread(line, fault)
                 is_over = False
             if not is_over:
                 open_ones.add(line.transaction)
@@ -205,7 +205,7 @@ class Closing:
             )
         return named - self.had
 
-    def tell_unread(self, line: Line, fault: Unreadable) -> None:
+    def report_unread(self, line: Line, fault: Unreadable) -> None:
         """Names a line that can't be read, and what stays in the log for that."""
         station, name = line.transaction or (line.stored.station, "each transaction")
         log.warning(
@@ -216,10 +216,10 @@ class Closing:
     async def make_small(self) -> None:
         """Compacts a large log first: what is left of it is read at once."""
         if (await self.fetch(closing_queries.BYTES))[0]["bytes"] > LARGE:
-            told = await compact.compacted(
+            text = await compact.compacted(
                 self.words.program, self.words.known, self.session, self.shard
             )
-            log.info("%s", told)
+            log.info("%s", text)
 
     async def pack(self) -> None:
         """Packs the lines of what an earlier version archived, where the archives are there."""
@@ -367,8 +367,8 @@ class Closing:
         before = await self.fetch(closing_queries.BEFORE, self.site)
         if before and (had := Reckoning.of(before[-1])) != self.reckoning:
             raise Fault(
-                f"site {self.site} was closed by {had.told()}, and its plan has {self.reckoning.told()}: give its "
-                "stations to a site of another name"
+                f"site {self.site} was closed by {had.described()}, and its plan has {self.reckoning.described()}: "
+                "give its stations to a site of another name"
             )
         day = max([day, *(row["day"] for row in before)])
         log_lines = await self.sorted_all(rows, day)
@@ -396,10 +396,10 @@ class Closing:
             heads = {booking.head[1]: booking.head for booking in bookings}
             await self.write_transactions(heads, in_file, leaving, times)
             await self.take_out(plan, removed)
-        # Behind the commit: to be told, others would wait for it. Its worker looks by itself, too.
+        # Behind the commit: a notification within it would make others wait. Its worker looks by itself, too.
         await self.session.execute("select tell('plan', $1)", str(self.shard))
-        self.tell_late(log_lines.late)
-        return self.told(day, log_lines, settled, [row["day"] for row in before], name)
+        self.print_late(log_lines.late)
+        return self.summary(day, log_lines, settled, [row["day"] for row in before], name)
 
     async def bookings(
         self,
@@ -512,7 +512,7 @@ class Closing:
                 f"shard {self.shard}: its plan or its log was changed meanwhile; nothing was taken from it"
             )
 
-    def told(
+    def summary(
         self,
         day: date,
         log_lines: Sorted,
@@ -591,8 +591,8 @@ class Closing:
         await self.session.execute(closing_queries.OPENED, self.shard, *columns(still))
         await self.session.execute(closing_queries.OVER, self.shard, *columns(touched - still))
 
-    def tell_late(self, late: list[Line]) -> None:
-        """Tells of each archived transaction which lines came late for it."""
+    def print_late(self, late: list[Line]) -> None:
+        """Prints of each archived transaction which lines came late for it."""
         for station, name in sorted({line.transaction for line in late if line.transaction}):
             lines = [line for line in late if line.transaction == (station, name)]
             taken = sum(line.is_change for line in lines)
@@ -705,11 +705,11 @@ async def closed(words: argparse.Namespace, session: Any, done: set[int]) -> Non
         if site["shard"] not in done:
             closing = Closing(words, session, site)
             try:
-                told = await closing.run(words.day or today - timedelta(days=1))
+                text = await closing.run(words.day or today - timedelta(days=1))
             finally:
                 closing.spool.close()
             done.add(site["shard"])
-            print(told, flush=True)
+            print(text, flush=True)
 
 
 def day_of(text: str) -> date:

@@ -3,7 +3,7 @@
     PGPASSWORD=.. ocpp-board close-requested --db postgresql://ledger_closer@a:5432,b:5432/ledger --archives FOLDER
 
 Each request is a row of own_closing_request, with who asked for it, from where and why. It is done by `ocpp-board
-close-day`, by the same role, and what came of it stands in the row. A request whose closing was ended in
+close-day`, by the same role, and writes what came of it into the row. A request whose closing was ended in
 the middle is done again after two hours. The archives of a site lie in the folder of its name in FOLDER, as those of
 ocpp-board-close-day@SITE do. A timer calls it each minute. Exit status: 0; 1 where a closing failed.
 """
@@ -36,12 +36,12 @@ returning request, site, day, operator
 DONE = """
 update own_closing_request set ended_at = now(), status = $2, told = $3 where request = $1
 """
-# Characters of what a closing tells that are kept.
-TOLD = 2_000
+# Characters of what a closing prints that are kept.
+KEPT = 2_000
 
 
 async def closed(words: argparse.Namespace, row: Any) -> tuple[int, str]:
-    """Closes a day, and gives the status with what was told."""
+    """Closes a day, and gives the status with what it printed."""
     folder = words.archives / row["site"]
     if folder.parent != words.archives or folder.name in ("", ".", ".."):
         return Status.MISTAKEN, f"no folder can have the name {row['site']!r}"
@@ -52,7 +52,7 @@ async def closed(words: argparse.Namespace, row: Any) -> tuple[int, str]:
         made = await parts.completed(command, PATIENCE, errors=subprocess.STDOUT)
     except TimeoutError:
         return Status.TOLD, f"it took more than {PATIENCE} seconds, and was ended"
-    return made.returncode, made.stdout.decode("utf-8", "replace").strip()[-TOLD:]
+    return made.returncode, made.stdout.decode("utf-8", "replace").strip()[-KEPT:]
 
 
 async def asked(words: argparse.Namespace, query: str, *values: Any) -> Any:
@@ -70,11 +70,11 @@ async def run(words: argparse.Namespace) -> int:
         raise Fault(f"{words.archives}: no folder for archives")
     failed = 0
     while row := await asked(words, TAKE):
-        status, told = await closed(words, row)
-        await asked(words, DONE, row["request"], status, told)
+        status, text = await closed(words, row)
+        await asked(words, DONE, row["request"], status, text)
         what = f"request {row['request']} of {row['operator']}: {row['site']} up to {row['day']}"
         if status:
-            log.error("%s: status %d: %s", what, status, told.splitlines()[-1:])
+            log.error("%s: status %d: %s", what, status, text.splitlines()[-1:])
             failed += 1
         else:
             print(f"{what}: done", flush=True)

@@ -9,7 +9,7 @@ select place, at, gateway, line from own_log where shard = $1 and place > $2 and
 REMOVE = "delete from own_log where shard = $1 and place = any($2::bigint[])"
 # Its worker begins a replay anew from what is left; the plan that lines were replayed under is still that.
 REPLAN = "update own_shard set plan = plan + 1 where shard = $1 and plan = $2 and moving_to is null"
-# The same where lines came to be known: it tells the worker.
+# The same where lines came to be known: it wakes the worker.
 ANEW = "with one as (update own_shard set plan = plan + 1 where shard = $1) select tell('plan', $1::text)"
 BEFORE = "select day, period, reading_order from own_closing where shard = $1 and site = $2 order by closing"
 # At which site each of these periods was settled first.
@@ -29,7 +29,7 @@ HAD = """
 select station, transaction from own_archived_transaction
 where shard = $1 and (station, transaction) in (select * from unnest($2::text[], $3::text[]))
 """
-# What an earlier version archived, whose lines are in its files alone.
+# What an earlier version archived, whose lines are only in its files.
 UNPACKED = """
 select t.station, t.transaction, t.site, t.closing, c.archive
 from own_archived_transaction t join own_closing c using (shard, site, closing)

@@ -35,7 +35,7 @@ from ocpp_board.words import add_program, parser_of
 log = logging.getLogger(__name__)
 
 NAME = "ocpp-board compact"
-# Lines come behind these alone, whatever is open elsewhere.
+# Lines only come behind these, whatever is open elsewhere.
 READ = "select place, at, gateway, line from own_log where shard = $1 order by place"
 # The same part by part, each of so many lines.
 PART = "select place, line from own_log where shard = $1 and place > $2 order by place limit 200"
@@ -237,7 +237,7 @@ async def compacted(program: str, known: frozenset[str], session: Any, shard: in
     whole, left = (Whole(program, plan, session, shard) for _ in range(2))
     await whole.run()
     await left.run(whole.gone)
-    # A transaction for which repeats alone came is as it was archived.
+    # A transaction for which only repeats came is as it was archived.
     totals = left.late.totals
     is_same = all(totals.get(one, total) == total for one, total in whole.late.totals.items())
     if whole.boards != left.boards or not is_same:
@@ -251,7 +251,7 @@ async def compacted(program: str, known: frozenset[str], session: Any, shard: in
 
 
 async def run(words: argparse.Namespace) -> int:
-    """Compacts the shard, or all of the cell, one after the other: one that can't be is told, and costs no other."""
+    """Compacts the shard, or all of the cell, one after the other: one that can't be is logged, and costs no other."""
     if not words.all:
         await compact(words, words.shard)
         return 0

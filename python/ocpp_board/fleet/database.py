@@ -52,7 +52,7 @@ LET_IN = set[str]()
 ADMISSION = 5.0
 # Bytes of a notification, which PostgreSQL ends at 7,999.
 PAYLOAD = 7_900
-# A wake tells nothing that inboxes do not, so it waits for no disk.
+# A wake says nothing that inboxes do not have, so it waits for no disk.
 WAKE = "select set_config('synchronous_commit', 'off', true), tell('wake_kept', $1)"
 # Ends the sessions that a program of this name left behind: they may hold locks still, and wait for a standby.
 FORMER = """
@@ -62,7 +62,7 @@ where application_name = $1 and datname = current_database() and usename = curre
 
 
 class Fault(Exception):
-    """What whoever called the program is told, in one sentence."""
+    """The fault as the program reports it, in one sentence."""
 
 
 class WrongVersion(Fault):
@@ -230,8 +230,8 @@ async def session_of(dsn: str, wants_standby: bool, settings: dict[str, str]) ->
 
 
 def new_token(waiting: Container[int]) -> int:
-    """A token that nobody can guess, by which an answer is told, other than those of what waits. Who may notify and
-    does not know it can tell no answer."""
+    """A token that nobody can guess, which an answer carries, other than those of what waits. Who may notify and
+    does not know it can forge no answer."""
     while (token := 1 + secrets.randbits(62)) in waiting:
         pass
     return token
@@ -275,7 +275,7 @@ async def within(seconds: float, session: Any, call: str, *values: Any) -> Any:
 
 
 async def listen(session: Any, channel: str, heard: Callable[..., None]) -> None:
-    """Has a session hear what is told on a channel of the tools, whose name who only reads does not know."""
+    """Has a session hear the notifications of a channel of the tools, whose name who only reads does not know."""
     name = await within(ADMISSION, session, "fetchval", "select channel_of($1)", channel)
     await session.add_listener(name, heard)
 

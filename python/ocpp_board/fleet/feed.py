@@ -10,16 +10,16 @@ be killed at any time: nothing is missing, and what is appended twice is harmles
 that. A file that is followed may be rotated: it is taken to its end, and then the new one of its name from its
 start.
 
-What is no TransactionEvent of OCPP 2.0.1 is counted and left; of what can't be read the first of each kind is told.
+What is no TransactionEvent of OCPP 2.0.1 is counted and left; of what can't be read the first of each kind is logged.
 Events of stations that no plan has are kept as rows of `stray`, and appended once one has them.
 
 Where a message is an object in place of a frame (CitrineOS by RabbitMQ, MaEVe by MQTT, as far as known) the frame
 is made of its parts as they are written there. A frame's station is the message's header `stationId`, or else what
 the routing key ends with behind its last point; by MQTT what the topic ends with behind its last slash.
 
-Standard error tells once a minute, and at the end, what became of the messages. The status is 0, 1 where some of a
+Once a minute and at the end it logs to standard error what became of the messages. The status is 0, 1 where some of a
 file that is not followed could not be taken, and 2 where the words, a password or a file is wrong. A database or a
-broker that goes away is told once, and tried again and again.
+broker that goes away is logged once, and tried again and again.
 """
 
 import argparse
@@ -73,7 +73,7 @@ async def run(words: argparse.Namespace) -> int:
         if time.monotonic() > reported + REPORT:
             counts.report()
             reported = time.monotonic()
-    counts.told = ()
+    counts.logged = ()
     counts.report()
     return 1 if counts.wrong and words.source == "file" and not words.follow else 0
 

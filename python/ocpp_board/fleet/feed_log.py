@@ -52,12 +52,12 @@ class Batch(NamedTuple):
 
 
 class Counts:
-    """What became of messages. The first of each kind that can't be read is told."""
+    """What became of messages. The first of each kind that can't be read is logged."""
 
     def __init__(self) -> None:
         self.taken = self.left = self.strays = 0
         self.wrong: dict[str, int] = {}
-        self.told: tuple[Any, ...] = ()
+        self.logged: tuple[Any, ...] = ()
 
     def tell(self, where: str, why: Refused) -> None:
         """A message can't be read."""
@@ -66,13 +66,13 @@ class Counts:
             log.warning("%s: %s; left, and others like it are counted", where, why)
 
     def report(self) -> None:
-        """Tells what became of messages, where that changed."""
+        """Logs what became of messages, where that changed."""
         now = (self.taken, self.left, self.strays, sum(self.wrong.values()))
-        if now != self.told:
+        if now != self.logged:
             kinds = "".join(f", {number:,} {kind}" for kind, number in self.wrong.items())
             text = f"{self.taken:,} events appended, {self.strays:,} of them of stations in no plan"
             log.info("%s; left: %s other messages%s", text, f"{self.left:,}", kinds)
-        self.told = now
+        self.logged = now
 
 
 class Cell:
@@ -85,7 +85,7 @@ class Cell:
         self.moving: set[str] = set()
         # Whether the plan changed since it was read, and how often it was read.
         self.is_stale, self.loads = True, 0
-        self.last_told = ""
+        self.last_logged = ""
 
     async def ready(self) -> None:
         """A session, and the stations as the plan has them now."""
@@ -114,15 +114,15 @@ class Cell:
             try:
                 await self.ready()
                 done = await job()
-                if self.last_told:
+                if self.last_logged:
                     log.info("%s: connected", self.dsn)
-                self.last_told = ""
+                self.last_logged = ""
                 return done
             except (*LOST, Unreachable, asyncpg.PostgresError) as fault:
                 text = f"{self.dsn}: {said(fault)}; tried again and again, nothing is acknowledged"
-                if text != self.last_told:
+                if text != self.last_logged:
                     log.error("%s", text)
-                self.last_told, self.is_stale = text, True
+                self.last_logged, self.is_stale = text, True
                 if self.session:
                     self.session.terminate()
                 self.session = None

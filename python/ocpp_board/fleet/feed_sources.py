@@ -23,7 +23,7 @@ from ocpp_board.messages import Refused
 log = logging.getLogger(__name__)
 
 FED = "select place, front from fed where source = $1"
-# A batch has so many lines and bytes at most; a broker hands out so many before it is told of one.
+# A batch has so many lines and bytes at most; a broker hands out so many before one is acknowledged.
 BATCH, BATCH_BYTES, AHEAD = 1000, 4_000_000, 1000
 # Seconds until an empty queue is looked for.
 LOOK = 30
@@ -44,7 +44,7 @@ class Source:
         raise NotImplementedError
 
     def tell_once(self, text: str) -> None:
-        """Tells of the source, but not the same twice in a row."""
+        """Logs something of the source, but not the same twice in a row."""
         if text != self.last_told:
             log.warning("%s", text)
         self.last_told = text

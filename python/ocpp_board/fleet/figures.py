@@ -107,7 +107,7 @@ class Rows:
 
 
 def columns(words: str, names: Sequence[str]) -> list[int]:
-    """The numbers of words such as `events=3`, which stand in the order of these names; the last may be left out."""
+    """The numbers of words such as `events=3`, in the order of these names; the last may be left out."""
     numbers = list(map(int, VALUE.findall(words)))
     return numbers + [0] * (len(names) - len(numbers))
 

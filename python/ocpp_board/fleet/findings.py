@@ -34,7 +34,7 @@ FAR = Kind.CLOCK_FAR.label
 
 
 class Findings:
-    """The messages of a site's stations with their answers, and what they tell of each session."""
+    """The messages of a site's stations with their answers, and what they say of each session."""
 
     def __init__(self, site: str, reckoning: Reckoning) -> None:
         self.site = site
@@ -45,7 +45,7 @@ class Findings:
         """Takes a line with its answer. `received`: when a gateway heard it."""
         if line.startswith("msg "):
             _, station, message = line.split(" ", 2)
-            # What Python can't read tells nothing, and holds up no closing.
+            # What Python can't read says nothing, and holds up no closing.
             with suppress(*ODD):
                 self.messages.take(Answered(0, self.site, station, received, message, answer))
 
@@ -77,5 +77,5 @@ class Findings:
         for (station, tx), numbers, events in self.sessions(figures):
             whole = self.messages.of(self.site, station, tx)
             for one in findings_of(whole, events, bool(numbers["complete"]), self.by_sequence):
-                told = (one.kind.label, one.times, one.first, one.detail, one.kind.meaning)
-                yield (self.site, station, tx, *told)
+                columns = (one.kind.label, one.times, one.first, one.detail, one.kind.meaning)
+                yield (self.site, station, tx, *columns)

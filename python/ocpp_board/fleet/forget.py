@@ -250,7 +250,7 @@ def write(path: Path, data: bytes) -> None:
 
 
 async def run(words: argparse.Namespace) -> int:
-    """Forgets in each shard of the cell; one that can't be is told, and costs no other."""
+    """Forgets in each shard of the cell; one that can't be is logged, and costs no other."""
     words.known = known_lines(words.program)
     if not words.archive.is_dir():
         raise Fault(f"{words.archive}: no folder for archives")

@@ -3,8 +3,8 @@
     PGPASSWORD=.. ocpp-board gateway --db postgresql://ledger_gateway@a:5432,b:5432/ledger --port 9100
 
 `--db` is given once for each cell. What came while the last batch was appended is the next batch: one insert, which
-waits for no disk. An event's answer is the worker's, who tells it once the event's line is in the log on disk; what has
-no answer the gateway appends again where its session with the database ends. What surely is no event is answered by
+waits for no disk. The worker answers an event once the event's line is in the log on disk; what has no
+answer the gateway appends again where its session with the database ends. What surely is no event is answered by
 a `replay` of the gateway's own and not kept. It keeps nothing: stations send again what has no answer.
 
 A station is let in by HTTP Basic, with its name and the password that `ocpp-board password` set; with --open each one
@@ -52,7 +52,7 @@ from ocpp_board.messages import HEAD, one_line, parsed
 from ocpp_board.words import add_program, parser_of
 
 log = logging.getLogger(__name__)
-# What `websockets` logs of a connection is not told.
+# What `websockets` logs of a connection is not logged here.
 SILENT = logging.getLogger("ocpp_board.fleet.gateway.websockets")
 SILENT.setLevel(logging.CRITICAL)
 
@@ -81,12 +81,12 @@ LONGEST_ID = 36
 BATCH, BATCH_BYTES, GATHERED = 1000, 4_000_000, 0.015
 # Seconds: for the database to answer, for a handshake from its connection on, and without a byte from a
 # station, twice its heartbeat interval; between looks for stations that the plan did not have, for answers that no
-# notification told, which come one after the other where there are some, and for all else while nothing is told.
+# notification brought, which come one after the other where there are some, and for all else while nothing notifies.
 ANSWER, HANDSHAKE, SILENCE, LOOKS = 10, 10, 600, 0.05
 POLLS, FAST_POLLS, CATCHING_UP = 1.0, 0.1, 5.0
 # Shards of which a change of the plan was heard that are read by their numbers; of more all are read.
 REPLANNED = 1_000
-# What one who is not let in is told, whatever of it was wrong.
+# The answer to one who is not let in, whatever of it was wrong.
 ASKED = "a station's name and its password are asked for\n"
 # What of a station is read: frames of any kind and bytes a second, and for how many seconds at once.
 FRAMES, BYTES, BURST = 20, 65_536, 60
@@ -109,15 +109,15 @@ firsts as (
     select shard, min(id) as first, count(*) as rows, row_number() over () / 250 as part
     from added group by shard),
 woken as (
-    select tell('wake', string_agg(shard || ':' || first, ' ')) as told, sum(rows) as rows
+    select tell('wake', string_agg(shard || ':' || first, ' ')) as sent, sum(rows) as rows
     from firsts group by part)
-select coalesce(sum(rows), 0)::int as rows, count(told) from woken
+select coalesce(sum(rows), 0)::int as rows, count(sent) from woken
 """
-# Answers that no notification could tell. Those of gateways that are gone go, too.
+# Answers that no notification could carry. Those of gateways that are gone go, too.
 UNTOLD = """
 delete from untold where gateway = $1 or at < now() - interval '1 minute' returning gateway, payload
 """
-# Whether nothing is told (`tell` of the schema).
+# Whether nothing notifies (`tell` of the schema).
 IS_FULL = "select pg_notification_queue_usage() >= 0.9"
 STATIONS = """
 select t.shard, t.station from own_station t join own_shard s using (shard)
@@ -139,7 +139,7 @@ select tell('let_in', string_agg(station, ' ')) from written
 RETIRED = "select station from own_station where station = any($1) and retired is not null"
 HASHES = "select station, hash from station_password where station = any($1)"
 SERVED = "select station, gateway, number from served where station = any($1)"
-# Also of a station whose shard moves: it is told to come again, and not that its password is wrong.
+# Also of a station whose shard moves: it is asked to come again, and its password is not wrong.
 PASSWORDS = """
 select p.station, hash, salt, cost, seen_at from station_password p join own_station t using (station)
 where p.station = any($1) and t.retired is null order by p.station, set_at desc
@@ -211,20 +211,20 @@ class Cell:
         # Stations that came and were not in the plan when it was read.
         self.sought: dict[str, asyncio.Future[list[Any]]] = {}
         # Stations that were let in, for gateways to hear of it, each with the number of its connection; and those of
-        # which another one may have told that.
+        # which another one may have said that.
         self.let_in: dict[str, int] = {}
         self.heard = set[str]()
         self.has_let_in, self.has_heard = asyncio.Event(), asyncio.Event()
-        # Stations whose passwords changed, as somebody told, or that may be retired.
+        # Stations whose passwords changed, as somebody notified, or that may be retired.
         self.changed = set[str]()
         self.has_changed = asyncio.Event()
-        # Shards whose plan changed, as somebody told.
+        # Shards whose plan changed, as somebody notified.
         self.replanned = set[int]()
         self.has_plan = asyncio.Event()
         self.second: Any = None
         self.is_up = False
         self.asking = asyncio.Lock()
-        self.last_told = ""
+        self.last_logged = ""
 
     async def run(self) -> None:
         """Keeps sessions with the database: one appends, one reads the plan, one looks for strangers, one listens. The
@@ -260,7 +260,7 @@ class Cell:
                     for job in jobs:
                         job.cancel()
             except (*LOST, Unreachable, asyncpg.PostgresError) as fault:
-                self.tell_once(f"{self.dsn}: {said(fault)}; tried again and again")
+                self.log_once(f"{self.dsn}: {said(fault)}; tried again and again")
             finally:
                 self.is_up = False
                 for session in sessions:
@@ -270,11 +270,11 @@ class Cell:
                 self.sought.clear()
             await asyncio.sleep(0.2)
 
-    def tell_once(self, text: str) -> None:
-        """Tells of the cell, but not the same twice in a row."""
-        if text != self.last_told:
+    def log_once(self, text: str) -> None:
+        """Logs something of the cell, but not the same twice in a row."""
+        if text != self.last_logged:
             log.warning("%s", text)
-        self.last_told = text
+        self.last_logged = text
 
     async def open(self, second: Any, listener: Any) -> None:
         """Listens, reads the plan, and appends again what still waits: of what was appended the outcome is unknown."""
@@ -285,9 +285,9 @@ class Cell:
         await listen(listener, "let_in", lambda *words: self.heard_let_in(words[3].split(" ")))
         self.has_let_in.set()
         await self.catch_up()
-        if self.last_told:
-            self.tell_once(f"{self.dsn}: connected")
-        self.is_up, self.last_told = True, ""
+        if self.last_logged:
+            self.log_once(f"{self.dsn}: connected")
+        self.is_up, self.last_logged = True, ""
         self.queue = deque(
             token for token, wait in self.gateway.waiting.items() if self.is_home(wait.link.name)
         )
@@ -318,13 +318,13 @@ class Cell:
         self.gateway.move_in(self, found, None if shards is None else set(shards))
 
     def heard_plan(self, payload: str) -> None:
-        """The plan of a shard changed, as anybody may tell, and as often as they like."""
+        """The plan of a shard changed, as anybody may say, and as often as they like."""
         if is_number(payload) and len(payload) < 10 and len(self.replanned) <= REPLANNED:
             self.replanned.add(int(payload))
             self.has_plan.set()
 
     async def replan(self) -> None:
-        """Reads the plans of shards that changed, of all that were told since the last time at once."""
+        """Reads the plans of shards that changed, of all since the last time at once."""
         while True:
             await self.has_plan.wait()
             self.has_plan.clear()
@@ -335,7 +335,7 @@ class Cell:
             await asyncio.sleep(LOOKS)
 
     def heard_password(self, station: str) -> None:
-        """A station's passwords changed, as anybody may tell."""
+        """A station's passwords changed, as anybody may say."""
         self.gateway.door.forget(station)
         if station in self.gateway.served:
             self.changed.add(station)
@@ -365,7 +365,7 @@ class Cell:
                 self.gateway.end(name, "its password was changed")
 
     async def poll(self) -> None:
-        """Takes answers that no notification told, and, while the queue of these is full, all else."""
+        """Takes answers that no notification brought, and, while the queue of these is full, all else."""
         due = 0.0
         while True:
             rows = await self.ask("fetch", UNTOLD, self.gateway.channel)
@@ -419,13 +419,13 @@ class Cell:
             await asyncio.sleep(LOOKS)
 
     async def tell_let_in(self) -> None:
-        """Writes which stations were let in here, and tells all gateways of it."""
+        """Writes which stations were let in here, and notifies all gateways."""
         while True:
             await self.has_let_in.wait()
             self.has_let_in.clear()
             while self.let_in:
                 some = list(self.let_in.items())[:LET_IN]
-                # One that is gone is not told: its station may be elsewhere by now.
+                # One that is gone is left out: its station may be elsewhere by now.
                 there = [one for one in some if self.gateway.is_served(*one)]
                 if there:
                     values = (self.gateway.name, *map(list, zip(*there)))
@@ -438,7 +438,7 @@ class Cell:
             await asyncio.sleep(LOOKS)
 
     def heard_let_in(self, stations: Iterable[str]) -> None:
-        """Somebody tells that these stations were let in by a gateway. Anybody may tell that, so it is looked up."""
+        """Somebody says that a gateway let these stations in. Anybody may say that, so it is looked up."""
         self.heard.update(name for name in stations if name in self.gateway.served)
         self.has_heard.set()
 
@@ -588,7 +588,7 @@ class StationLink(Link):
             )
 
     async def judge(self, event: Request, given: Given) -> None:
-        """Lets a station in whose password is right; one that the plan does not have is told what a wrong one is."""
+        """Lets a station in whose password is right; one that the plan does not have gets the answer to a wrong one."""
         name = self.name
         peer = str((self.transport.get_extra_info("peername") or ("",))[0])
         address = passwords.address_of(peer, event.headers, self.gateway.words.proxy)
@@ -728,7 +728,7 @@ class Gateway:
     def __init__(self, words: argparse.Namespace) -> None:
         self.words = words
         self.name = f"gateway_{secrets.token_hex(6)}"
-        # On which it is told answers. Its name is known to all who see sessions.
+        # On which answers come. The name of the gateway is known to all who see sessions.
         self.channel = f"gateway_{secrets.token_hex(16)}"
         self.cells = [Cell(self, dsn) for dsn in words.db]
         self.own = OwnReplay(words.program)
@@ -754,7 +754,7 @@ class Gateway:
         task.add_done_callback(self.ended)
 
     def ended(self, task: "asyncio.Task[None]") -> None:
-        """A job ended; its fault is of one station alone, and is told."""
+        """A job ended; its fault is of one station only, and is logged."""
         self.jobs.discard(task)
         if not task.cancelled() and (fault := task.exception()):
             log.error("a station was not let in: %s", said(fault))
@@ -841,7 +841,7 @@ class Gateway:
         return len(lists) == len(self.cells), [known for one in lists for known in one]
 
     def answered(self, _session: Any, _pid: int, _channel: str, payload: str) -> None:
-        """A worker told answers."""
+        """Answers of a worker came."""
         for token, answer in answers_in(payload):
             if wait := self.waiting.pop(token, None):
                 wait.link.accepted(wait.digest, answer.encode())
@@ -912,7 +912,7 @@ def main(argv: Sequence[str], prog: str) -> int:
         metavar="ADDRESS",
         action="append",
         default=[],
-        help="a proxy before it, which tells the address of a station in X-Forwarded-For",
+        help="a proxy before it, which names the address of a station in X-Forwarded-For",
     )
     station_tls.add_options(parser)
     metrics.add_option(parser)
@@ -924,7 +924,9 @@ def main(argv: Sequence[str], prog: str) -> int:
     words = parts.parsed(parser, argv)
 
     async def run() -> None:
-        known_lines(words.program)  # A program that is not there is told before anything begins.
+        known_lines(
+            words.program
+        )  # That a program is not there is reported before anything begins.
         station_tls.header_or_fault(words)
         await Gateway(words).run()
 

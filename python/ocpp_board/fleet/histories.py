@@ -220,12 +220,12 @@ async def history_of(
     before = unpacked(closing["lines"]) if closing else []
     if closing:
         plan = plan_of(row, known, before + [one["line"] for one in own])
-        told = await replayed(program, plan, row["site"], before + [one["line"] for one in own])
-        answers = later(told.answers, len(before))
+        made = await replayed(program, plan, row["site"], before + [one["line"] for one in own])
+        answers = later(made.answers, len(before))
     else:
         live = without_archived(rows, {one["transaction"] for one in found})
-        told = await replayed(program, plan_of(row, known), row["site"], [r["line"] for r in live])
-        by_place = {one["place"]: text for one, text in zip(live, told.answers)}
+        made = await replayed(program, plan_of(row, known), row["site"], [r["line"] for r in live])
+        by_place = {one["place"]: text for one, text in zip(live, made.answers)}
         answers = [by_place.get(one["place"], "") for one in own]
     who = await whose(cell, shard, own)
     entries = [Entry(line, text, None, None, None) for line, text in zip(before, answers)]
@@ -235,13 +235,13 @@ async def history_of(
 
 
 def plan_of(row: Any, known: frozenset[str], lines: list[str] | None = None) -> Plan:
-    """The plan of a station alone; with room for these lines, whatever its limits are."""
+    """The plan of one station; with room for these lines, whatever its limits are."""
     wide = dict(row) if lines is None else widened(row, lines)
     return Plan([wide], {row["site"]: Reckoning.of(row)}, known)
 
 
 def later(answers: list[str], front: int) -> list[str]:
-    """Answers as they were told: what an operator asked for behind the archived lines is done at the next closing."""
+    """Answers as they were given: what an operator asked for behind the archived lines is done at the next closing."""
     return answers[:front] + [
         LATER.decode() if one.startswith("accepted ") else one for one in answers[front:]
     ]
@@ -268,12 +268,12 @@ async def whole(
     station, site = row["station"], row["site"]
     lines = [entry.line for entry in entries]
     plan = plan_of(row, known, lines)
-    told = await replayed(program, plan, site, lines)
-    found = figures(told.board)
+    made = await replayed(program, plan, site, lines)
+    found = figures(made.board)
     numbers = found.get((station, "tx", tx), {})
     gaps = [gap_of(key[2]) for key in found if key[0] == station and key[1] == "gap"]
     board = "".join(
-        line + "\n" for line in told.board.split("\n") if line.startswith(("tx ", "gap "))
+        line + "\n" for line in made.board.split("\n") if line.startswith(("tx ", "gap "))
     )
     messages = Transactions()
     for entry in entries:

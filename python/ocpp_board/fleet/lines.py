@@ -40,7 +40,7 @@ def transaction_of(text: str) -> Transaction | None:
 
 
 def may_name(text: str) -> set[Transaction] | None:
-    """The transactions that a line may speak of, told without reading it; None where it has to be read."""
+    """The transactions that a line may speak of, found without reading it; None where it has to be read."""
     if "\\" in text:
         return None
     if not text.startswith("msg "):

@@ -1,7 +1,7 @@
 """What an operator watches: figures of a part in Prometheus' text form at /metrics, and whether it is well at /health.
 
-A part counts by adding to plain numbers; what Prometheus is told is made of them when it asks. `--metrics PORT` listens
-on 127.0.0.1, in a thread of its own, so that it also tells where the part's event loop stands still.
+A part counts by adding to plain numbers; what Prometheus gets is made of them when it asks. `--metrics PORT` listens
+on 127.0.0.1, in a thread of its own, so that it also reports an event loop that hangs.
 """
 
 import argparse
@@ -28,7 +28,7 @@ if TYPE_CHECKING:
 
 log = logging.getLogger(__name__)
 
-# What there is to be told, by the name without its front. What counts up ends with `_total`.
+# The figures, by the name without its front. What counts up ends with `_total`.
 FRONT = "ocpp_board_"
 HELP = {
     "info": "The part, and its version.",
@@ -43,13 +43,13 @@ HELP = {
     "gateway_let_in_total": "Connections of stations that were let in.",
     "gateway_wrong_passwords_total": "Tries with a wrong password or an unknown name.",
     "gateway_slowed": "Tries that wait because of earlier wrong ones.",
-    "gateway_unknown_answers_total": "Answers by tokens that nobody waits for: told twice, or forged.",
+    "gateway_unknown_answers_total": "Answers by tokens that nobody waits for: sent twice, or forged.",
     "gateway_cell_up": "Whether the gateway has its sessions with a cell's database.",
     "gateway_open": "Whether each station of the plan is let in without a password.",
     "worker_connected": "Whether the worker has its sessions with the database.",
-    "worker_beat_age_seconds": "Seconds since the worker told last that it lives.",
+    "worker_beat_age_seconds": "Seconds since the worker noted last that it lives.",
     "worker_shards": "Shards that the worker holds.",
-    "worker_answers_total": "Answers that the worker told gateways.",
+    "worker_answers_total": "Answers that the worker sent to gateways.",
     "worker_fenced_total": "Other workers whose sessions this one ended because they did not beat.",
     "worker_sessions_lost_total": "How often the worker lost its sessions, and began anew.",
     "worker_replays_ended_total": "Replays that ended or hung, and were begun anew.",
@@ -78,7 +78,7 @@ HELP = {
     "feed_strays_total": "Events of stations in no plan that it kept.",
     "feed_unread_total": "Messages that it could not read, by kind.",
     "feed_last_append_age_seconds": "Seconds since it appended last, or since it began.",
-    "feed_cell_up": "Whether the feed's session with a cell's database stands.",
+    "feed_cell_up": "Whether the feed has its session with a cell's database.",
     "page_requests_total": "Requests that the page answered, by status.",
     "page_wrong_passwords_total": "Tries to log in with a wrong password or an unknown name.",
     "page_locked": "Operators that are locked now, after wrong passwords.",
@@ -102,7 +102,7 @@ LATELY = 900
 
 
 class Family(NamedTuple):
-    """What is told under one name: values by their labels."""
+    """A figure: its values by their labels."""
 
     name: str
     values: list[tuple[dict[str, str], float]]
@@ -131,7 +131,7 @@ class Health(NamedTuple):
 
 
 class Watch:
-    """What a part tells who watches it."""
+    """The figures of a part, for who watches it."""
 
     def __init__(
         self,
@@ -144,13 +144,13 @@ class Watch:
         self.job: asyncio.Task[None] | None = None
 
     async def run(self) -> None:
-        """Tells again and again that the event loop runs."""
+        """Notes again and again that the event loop runs."""
         while True:
             self.ran = time.monotonic()
             await asyncio.sleep(1)
 
-    def told(self) -> Iterator[Family]:
-        """All that is told now."""
+    def families(self) -> Iterator[Family]:
+        """All figures as they are now."""
         yield family("info", 1, part=self.part, version=version())
         yield family("loop_age_seconds", time.monotonic() - self.ran)
         yield from self.figures()
@@ -158,7 +158,7 @@ class Watch:
     def answer(self, path: str) -> tuple[int, str, bytes]:
         """The status, the type and the text that a request for a path is answered."""
         if path == "/metrics":
-            return 200, TEXT, written(self.told())
+            return 200, TEXT, written(self.families())
         if path == "/health":
             is_well, said = self.health()
             age = time.monotonic() - self.ran
@@ -205,12 +205,12 @@ def client_or_fault() -> Any:
 
 
 def add_option(parser: argparse.ArgumentParser) -> None:
-    """The option that says where figures are told."""
+    """The option that says where figures are served."""
     parser.add_argument(
         "--metrics",
         metavar="PORT",
         type=place_of,
-        help="tell figures at /metrics and health at /health, on this port of 127.0.0.1, or ADDRESS:PORT",
+        help="serve figures at /metrics and health at /health, on this port of 127.0.0.1, or ADDRESS:PORT",
     )
 
 
@@ -223,7 +223,7 @@ def place_of(text: str) -> tuple[str, int]:
 
 
 def serve(place: tuple[str, int] | None, watch: Watch) -> None:
-    """Tells the figures there from now on, where a place is told. Raises Fault where that can't be."""
+    """Serves the figures there from now on, where a place is given. Raises Fault where that can't be."""
     if place is None:
         return
     client_or_fault()
@@ -231,12 +231,12 @@ def serve(place: tuple[str, int] | None, watch: Watch) -> None:
     from wsgiref.simple_server import WSGIRequestHandler, WSGIServer
 
     class Handler(WSGIRequestHandler):
-        """Tells nothing of requests, and waits for none that does not come."""
+        """Logs no requests, and waits for none that does not come."""
 
         timeout = REQUEST
 
         def log_message(self, *_words: object) -> None:
-            """Tells nothing."""
+            """Logs nothing."""
 
     class Server(ThreadingMixIn, WSGIServer):
         """A thread for each request."""
@@ -288,7 +288,7 @@ class Replaced:
 
 
 def gateway_watch(gateway: "Gateway") -> Watch:
-    """What a gateway tells."""
+    """The figures of a gateway."""
 
     def figures() -> Iterator[Family]:
         now, door = time.monotonic(), gateway.door
@@ -335,7 +335,7 @@ class WorkerSeen:
         self.refusals: list[dict[str, Any]] = []
 
     def watch(self) -> Watch:
-        """What a worker tells."""
+        """The figures of a worker."""
         return Watch("worker", self.figures, self.health)
 
     def waits_since(self, began: float) -> None:
@@ -370,7 +370,7 @@ class WorkerSeen:
             await asyncio.sleep(LOOKS)
 
     def health(self) -> Health:
-        """A worker is well where it has its sessions, and told lately that it lives."""
+        """A worker is well where it has its sessions, and noted lately that it lives."""
         session, age = self.session, time.monotonic() - self.beat
         shards = len(session.shards) if session else 0
         is_well = session is not None and age < self.hang
@@ -379,7 +379,7 @@ class WorkerSeen:
         )
 
     def figures(self) -> Iterator[Family]:
-        """What a worker tells, by what it holds and what it saw last."""
+        """The figures of a worker, by what it holds and what it saw last."""
         now, session = time.monotonic(), self.session
         shards = list(session.shards.values()) if session else []
         yield family("worker_connected", session is not None)
@@ -458,7 +458,7 @@ def near_limits(shards: "Iterable[Shard]") -> Family:
 
 
 def feed_watch(ledger: "Log", counts: "Counts") -> Watch:
-    """What a feed tells."""
+    """The figures of a feed."""
 
     def up() -> dict[str, bool]:
         return {cell_of(one.dsn): one.session is not None for one in ledger.cells}
@@ -482,13 +482,13 @@ class PageSeen:
         self.cells: dict[str, bool] = {}
 
     def watch(self) -> Watch:
-        """What a page tells: Watch.answer for its routes, or `serve` for a port of its own."""
+        """The figures of a page: Watch.answer for its routes, or `serve` for a port of its own."""
         return Watch(
             "page", self.figures, lambda: Health(any(self.cells.values()), {"cells": self.cells})
         )
 
     def figures(self) -> Iterator[Family]:
-        """What a page tells."""
+        """The figures of a page."""
         yield family_by("page_requests_total", "status", dict(self.requests))
         yield family("page_wrong_passwords_total", self.wrong_passwords)
         yield family("page_locked", self.locked)

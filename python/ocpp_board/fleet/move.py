@@ -40,7 +40,7 @@ CUT = "select from own_shard where shard = $1 for update"
 FENCE = "update numbering set taken = taken + 1 where shard = $1"
 # A shard that arrives moves to the cell where it is: so nobody takes it, and no view has its rows.
 BEGIN = "insert into own_shard (shard, moving_to) select $1, cell from own_cell"
-# Its plan goes on: boards and closings of earlier ones are told by it.
+# Its plan goes on: it shows which boards and closings are of earlier ones.
 ARRIVE = "update own_shard set plan = $2, moving_to = null where shard = $1"
 LANDED = """
 select count(*) from own_shard where shard = $1 and moving_to is distinct from (select cell from own_cell)

@@ -129,8 +129,8 @@ class SignIns:
         return secret
 
     async def judged(self, name: str, password: str, network: str) -> tuple[bool, str]:
-        """Whether a password is right, and what is told of one that is not. A name that is none is not told: it may be
-        a password."""
+        """Whether a password is right, and what is logged of one that is not. A name that is none is not logged: it may
+        be a password."""
         row, hash_, salt = None, None, bytes(SALT)
         if NAME.fullmatch(name) and len(password) <= LONGEST:
             row = (await self.ask(TRY, name, network))[0]
@@ -184,8 +184,8 @@ def form_token(secret: str, words: Sequence[str]) -> str:
 
 def form_number(secret: str, token: str, words: Sequence[str]) -> str:
     """The number of a form that the page made for this session and these words. Raises FormFault."""
-    number, _, told = token.rpartition("-")
-    if not hmac.compare_digest(told.encode(), signature(secret, number, words).encode()):
+    number, _, signed = token.rpartition("-")
+    if not hmac.compare_digest(signed.encode(), signature(secret, number, words).encode()):
         raise FormFault("this form was not made by this page for these words; nothing was done")
     if int(number.split("-")[0]) < time.time():
         raise FormFault("this form is older than ten minutes; nothing was done")

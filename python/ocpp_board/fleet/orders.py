@@ -8,7 +8,7 @@ hold a shard only the later one moves lines, and it begins behind what the earli
 
 import asyncpg
 
-# Where lines come in: the tables, each with the channel on which its first new lines are told.
+# Where lines come in: the tables, each with the channel that carries its first new lines.
 INBOXES = {"wake": "inbox", "wake_kept": "inbox_kept"}
 # Lines and bytes of a shard that are moved or read at once.
 MOST_ROWS, MOST_BYTES = 1000, 1_000_000
@@ -80,7 +80,7 @@ CONTESTED = (
     asyncpg.UniqueViolationError,
     asyncpg.DeadlockDetectedError,
 )
-# The first lines that lie in inboxes. A wake of `inbox` is told with its lines, so there no line is older than the one
+# The first lines that lie in inboxes. A wake of `inbox` comes with its lines, so there no line is older than the one
 # that was next at the look before the last.
 LOOK = """
 select w.shard, (select min(id) from inbox where shard = w.shard and id >= w.oldest) as wake,
@@ -95,8 +95,8 @@ TELL = "select count(pg_notify(channel, payload)) from unnest($1::text[], $2::te
 KEEP_UNTOLD = "insert into untold (gateway, payload) select * from unnest($1::text[], $2::text[])"
 # What pg_notify refuses: a channel or a payload that can't be.
 UNTOLD = (asyncpg.DataError, asyncpg.ProgramLimitExceededError)
-# Up to where answers were told. It needs no disk: what they speak of is on it, and whoever comes after reads the log
-# again, and tells at most some answers twice. A row is not written for each answer, since a snapshot that stays open
+# Up to where answers were given. It needs no disk: what they speak of is on it, and whoever comes after reads the log
+# again, and gives at most some answers twice. A row is not written for each answer, since a snapshot that stays open
 # keeps all its versions.
 PROGRESS = """
 update numbering n set told = w.told, bytes = w.bytes

@@ -75,14 +75,14 @@ class OwnReplay:
         try:
             self.write(text)
         except (ReplayEnded, OSError):
-            pass  # `run` is told so too, begins anew, and asks again.
+            pass  # `run` hears it too, begins anew, and asks again.
 
     def write(self, text: str) -> None:
         """Hands a text to the replay, where that runs."""
         if self.replay is None:
             return
         now, clock = int(time.time()), ""
-        # A clock that is wrong by decades is not told: the replay answers with the moment that it has.
+        # A clock that is wrong by decades is not handed on: the replay answers with the moment that it has.
         if now != self.second and MOMENTS[0] <= now < MOMENTS[1]:
             clock = time.strftime(f"now {MOMENT}\n", time.gmtime(now))
         self.second = now

@@ -2,7 +2,7 @@
 
     PGPASSWORD=.. ocpp-board page --db postgresql://ledger_operator@a:5432,b:5432/ledger --port 9180
 
-`--db` is given once for each cell; one that does not answer is told on the page, and the others are shown. The first
+`--db` is given once for each cell; the page names one that does not answer, and shows the others. The first
 one has the operators, whom `ocpp-board operator` makes. TLS is nginx's, before it; `--proxy` names its address, so
 that where people come from is known. Without TLS, as in a laboratory, `--http` lets browsers keep sessions. With
 `--from-standby` what is shown comes from a standby, and costs the host that takes writes nothing.
@@ -98,7 +98,7 @@ async def serve(words: argparse.Namespace) -> None:
 
 def run(words: argparse.Namespace) -> None:
     """Listens until a signal comes."""
-    # What strangers send that is no HTTP is not told.
+    # What strangers send that is no HTTP is not logged.
     logging.getLogger("uvicorn.error").setLevel(logging.ERROR)
     parts.use_uvloop()
     asyncio.run(serve(words))
@@ -116,7 +116,7 @@ def main(argv: Sequence[str], prog: str) -> int:
         action="append",
         default=[],
         metavar="ADDRESS",
-        help="a proxy before it, which tells the address of a browser in X-Forwarded-For",
+        help="a proxy before it, which names the address of a browser in X-Forwarded-For",
     )
     parser.add_argument(
         "--http", action="store_true", help="browsers keep sessions without TLS, in a laboratory"

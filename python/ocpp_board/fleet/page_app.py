@@ -1,7 +1,7 @@
 """The frame of the page and the API: who asks, what a form says, how a fault is answered, and the headers of all.
 
 A view is a coroutine of what was asked for, `Asked`, which has the operator; `view` makes it an endpoint that asks who
-it is first. An operator is asked to sign in, and a program without a token is told so.
+it is first. An operator is asked to sign in, and a program without a token gets 401.
 """
 
 import asyncio
@@ -36,7 +36,7 @@ from ocpp_board.fleet.operators import (
     form_token,
 )
 from ocpp_board.fleet.page_render import drawn, environment, rendered
-from ocpp_board.fleet.passwords import address_told
+from ocpp_board.fleet.passwords import address_by
 
 log = logging.getLogger(__name__)
 
@@ -90,7 +90,7 @@ class Desk:
     def address(self, request: Request) -> str:
         """Where a request comes from."""
         peer = request.client.host if request.client else "unknown"
-        return address_told(peer, request.headers.getlist("x-forwarded-for"), self.proxies)
+        return address_by(peer, request.headers.getlist("x-forwarded-for"), self.proxies)
 
     def page(
         self,

@@ -47,7 +47,7 @@ def form(asked: Asked, words: Words, fault: str = "", status: int = 200) -> Resp
 
 @view(VOIDS)
 async def operate(asked: Asked) -> Response:
-    """Shows the form, filled in as far as a link tells."""
+    """Shows the form, filled in as far as a link says."""
     return form(asked, Words.of(dict(asked.request.query_params)))
 
 
@@ -69,7 +69,7 @@ async def question(asked: Asked) -> Response:
         words=words,
         site=row["site"],
         meaning=COMMANDS[words.command],
-        told=session_said(found),
+        about=session_said(found),
         hidden=[*words._asdict().items(), ("token", asked.token("operate", *words))],
     )
 

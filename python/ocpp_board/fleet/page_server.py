@@ -14,7 +14,7 @@ import h11
 from uvicorn import Config, Server
 from uvicorn.protocols.http.h11_impl import H11Protocol
 
-from ocpp_board.fleet.passwords import address_told, network_of
+from ocpp_board.fleet.passwords import address_by, network_of
 
 # Seconds for a request with its body, for a connection, and for what is open at the end; connections at once, of all
 # and of one address.
@@ -27,7 +27,7 @@ class Patient(H11Protocol):  # type: ignore[misc]
     # Connections whose request is not whole yet, the oldest first, and all of each address.
     unfinished: "dict[Patient, None]" = {}
     by_address: "dict[str, dict[Patient, None]]" = {}
-    # Who tells where connections come from.
+    # Who names the addresses of connections.
     proxies: Sequence[str] = ()
     address = ""
     timers: tuple[asyncio.TimerHandle, ...] = ()
@@ -57,14 +57,14 @@ class Patient(H11Protocol):  # type: ignore[misc]
             next((one for one in own if one in Patient.unfinished), self).give_up()
 
     def handle_events(self) -> None:
-        """Something came: a head tells where it is from, where a proxy hands it on."""
+        """Something came: a head names its address, where a proxy hands it on."""
         super().handle_events()
         if self.cycle is None or self not in Patient.unfinished:
             return
         if not self.address:
             heads = self.cycle.scope["headers"]
-            told = [value.decode("latin-1") for name, value in heads if name == b"x-forwarded-for"]
-            self.count(address_told(self.peer(), told, Patient.proxies))
+            named = [value.decode("latin-1") for name, value in heads if name == b"x-forwarded-for"]
+            self.count(address_by(self.peer(), named, Patient.proxies))
         if self.conn.their_state is not h11.SEND_BODY:
             Patient.unfinished.pop(self, None)
             self.timers[0].cancel()
@@ -91,7 +91,7 @@ class Patient(H11Protocol):  # type: ignore[misc]
 
 
 class PageServer(Server):  # type: ignore[misc]
-    """A server that tells where it listens."""
+    """A server that prints where it listens."""
 
     def __init__(
         self, app: Any, listener: socket.socket, said: str, proxies: Sequence[str]
@@ -113,7 +113,7 @@ class PageServer(Server):  # type: ignore[misc]
         self.listener, self.said = listener, said
 
     async def startup(self, sockets: list[socket.socket] | None = None) -> None:
-        """Begins to listen, and tells it."""
+        """Begins to listen, and prints where."""
         await super().startup(sockets=sockets)
         print(f"listening {self.said}:{self.listener.getsockname()[1]}", flush=True)
 

@@ -183,9 +183,9 @@ async def site_file(asked: Asked) -> Response:
         return csv_response(pages.files[file], f"{name}.{file.removeprefix('board.')}")
     fragment = fragment_of(pages.files[file].decode())
     if day:
-        told = await day_told(rows, name, day)
+        about = await day_about(rows, name, day)
     else:
-        told = site_told((await cells.sites(asked.operator, name))[0][0])
+        about = site_about((await cells.sites(asked.operator, name))[0][0])
     refused = await cells.ask_all(REFUSED_COUNT, name)
     times = sum(int(row["times"]) for _, row in refused.pairs() if row["moving_to"] is None)
     title = fragment.title if fragment.is_one else f"Site {name}: {fragment.title}"
@@ -196,7 +196,7 @@ async def site_file(asked: Asked) -> Response:
         whole=fragment.whole,
         is_one=fragment.is_one,
         body=Markup(fragment.body),
-        told=told,
+        about=about,
         archived=f"{pages.archived:,}" if pages.archived else "",
         days=DAYS,
         refused=refused_said(times),
@@ -207,8 +207,8 @@ async def site_file(asked: Asked) -> Response:
     )
 
 
-def site_told(site: Site) -> str:
-    """How the figures of a site are told."""
+def site_about(site: Site) -> str:
+    """The states of the figures of a site, in a sentence."""
     energy, to = site.state(), f"settled to {site.settled_to}" if site.settled_to else ""
     if energy != SETTLED or not to:
         to = f"{energy}, and {to}" if to else energy
@@ -218,8 +218,8 @@ def site_told(site: Site) -> str:
     )
 
 
-async def day_told(rows: list[tuple[Cell, Any]], name: str, day: date) -> str:
-    """How the energy of a site's day is told."""
+async def day_about(rows: list[tuple[Cell, Any]], name: str, day: date) -> str:
+    """The state of the energy of a site's day, in a sentence."""
     zone = zone_of(rows[0][1]["zone"])
     begin, end = (datetime.combine(one, time(), zone) for one in (day, day + timedelta(days=1)))
     values = (name, begin, end, begin, "", MOST_PERIODS)
@@ -342,7 +342,7 @@ async def lacking(asked: Asked) -> Response:
 
 
 def reading_text(entry: Entry) -> str:
-    """What an event tells, in a cell."""
+    """What an event says, in a cell."""
     message = entry.message
     if message is None:
         return entry.line.split(" ", 1)[0] + " " + entry.line.rpartition(" ")[2]
@@ -365,10 +365,10 @@ def entry_line(entry: Entry, zone: str) -> Line:
     at = moment(moment_of(seconds_of(text)), zone, text)
     where = "archive" if entry.is_from_archive else f"place {entry.place:,} of the log"
     who = entry.who
-    told = f"{who.operator}, {who.address}: {who.reason}" if who else ""
+    why = f"{who.operator}, {who.address}: {who.reason}" if who else ""
     is_bad = entry.answer.startswith(("[4,", "fault ", "refused "))
     heard = moment(entry.at, zone, UNKNOWN)
-    return Line([reading_text(entry), at, heard, entry.answer, where, told], is_bad)
+    return Line([reading_text(entry), at, heard, entry.answer, where, why], is_bad)
 
 
 def deed_line(row: Any, zone: str, is_of_one: bool) -> Line:
@@ -399,8 +399,8 @@ def session_figures(history: History) -> list[tuple[str, str, bool]]:
     is_complete = bool(numbers["complete"])
     cells.append(("Complete", "yes" if is_complete else "no", not is_complete))
     gaps = [str(a) if a == b else f"{a} to {b}" for a, b in history.gaps]
-    told = f"{numbers['missing']:,}" + (f": {gap_words(', '.join(gaps))}" if gaps else "")
-    cells.append(("Missing numbers", told, numbers["missing"] > 0))
+    text = f"{numbers['missing']:,}" + (f": {gap_words(', '.join(gaps))}" if gaps else "")
+    cells.append(("Missing numbers", text, numbers["missing"] > 0))
     cells.append(("EVSE", str(numbers["evse"] or "not named"), False))
     for name, at in (("Start", times.start), ("End", times.end)):
         cells.append((name, moment(at, history.zone, UNKNOWN), False))
@@ -416,11 +416,11 @@ def session_figures(history: History) -> list[tuple[str, str, bool]]:
 
 @view(SEES)
 async def find(asked: Asked) -> Response:
-    """Leads to a session that is told by a form."""
+    """Leads to a session that a form names."""
     station, transaction = asked.word("station"), asked.word("transaction")
     if not is_name(station) or not TRANSACTION.fullmatch(transaction):
         raise Wrong(
-            HTTPStatus.BAD_REQUEST, "a session is told by its station and its transaction id"
+            HTTPStatus.BAD_REQUEST, "a session is named by its station and its transaction id"
         )
     return RedirectResponse(session_path(station, transaction.lower()), HTTPStatus.SEE_OTHER)
 
@@ -530,12 +530,12 @@ def change_line(row: Any) -> Line:
         pairs = [(key, f"{plain(before.get(key))} to {plain(after[key])}") for key in keys]
     else:
         pairs = [(key, plain(one)) for key, one in (after or before).items() if one]
-    told = Markup(", ").join(Markup("{}: {}").format(key, kept(one)) for key, one in pairs)
+    text = Markup(", ").join(Markup("{}: {}").format(key, kept(one)) for key, one in pairs)
     own = row["station"] or row["site"] or (after or before).get("name") or row["in_shard"]
     what = lines_of(f"{row['command'].lower()} {row['part'].removeprefix('own_')}", kept(str(own)))
     who = f"{row['operator']} as {row['login']}" if row["operator"] else row["login"]
     return Line(
-        [moment(row["at"]), who, row["address"] or UNKNOWN, what, told, row["reason"] or UNKNOWN]
+        [moment(row["at"]), who, row["address"] or UNKNOWN, what, text, row["reason"] or UNKNOWN]
     )
 
 

@@ -32,7 +32,7 @@ def meaning_of(answer: str) -> str:
 
 
 def reason_of(text: str) -> str:
-    """A reason without blanks around it and line ends within it. Raises Wrong where it tells nothing."""
+    """A reason without blanks around it and line ends within it. Raises Wrong where it says nothing."""
     reason = " ".join(text.split())
     if not SHORTEST <= len(reason) <= LONGEST or not reason.isprintable():
         raise Wrong(

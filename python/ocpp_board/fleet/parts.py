@@ -1,4 +1,4 @@
-"""What the programs of the fleet have in common: their words, what they tell, and how they end."""
+"""What the programs of the fleet have in common: their words, what they log, and how they end."""
 
 import argparse
 import asyncio
@@ -44,7 +44,7 @@ def add_reason(parser: argparse.ArgumentParser) -> None:
         "--reason",
         type=reason_of,
         required=True,
-        help="why, in 3 to 500 characters: it stands beside the change",
+        help="why, in 3 to 500 characters: it is kept with the change",
     )
 
 
@@ -57,7 +57,7 @@ def reason_of(text: str) -> str:
 
 
 async def say_why(session: Any, reason: str) -> None:
-    """Has what a session changes of the plan told with this reason, and with who runs the program."""
+    """Has what a session changes of the plan noted with this reason, and with who runs the program."""
     try:
         who = os.environ.get("SUDO_USER") or getpass.getuser()
     except (KeyError, OSError):
@@ -80,7 +80,7 @@ def add_place(parser: argparse.ArgumentParser, port: int) -> None:
 
 
 def parsed(parser: argparse.ArgumentParser, argv: Sequence[str]) -> argparse.Namespace:
-    """The words. All that is told has the program's name in front. Secrets that systemd hands on come into the
+    """The words. All that is logged has the program's name in front. Secrets that systemd hands on come into the
     environment, where a person puts them."""
     take_credentials()
     return words.parsed(parser, argv, logging.DEBUG)
@@ -97,7 +97,7 @@ def take_credentials() -> None:
 
 def password_read(fault_of: Callable[[str], str]) -> str:
     """The password from standard input; a terminal does not show it. Raises Fault where there is none, or where it may
-    not be one, as `fault_of` tells."""
+    not be one, as `fault_of` says."""
     try:
         text = getpass.getpass() if sys.stdin.isatty() else sys.stdin.readline(LONGEST_READ)
     except (EOFError, UnicodeDecodeError):
@@ -116,7 +116,7 @@ async def completed(
     **variables: str,
 ) -> "subprocess.CompletedProcess[bytes]":
     """Runs a module of this package with its words on these bytes of standard input, in this environment with these
-    variables, and gives what it wrote and told.
+    variables, and gives what it wrote to both outputs.
 
     It is not checked how it ends. Raises TimeoutError where it takes more than so many seconds, and ends it.
     """
@@ -129,17 +129,17 @@ async def completed(
         env=environment() | variables,
     )
     try:
-        written, told = await asyncio.wait_for(process.communicate(data), seconds)
+        written, logged = await asyncio.wait_for(process.communicate(data), seconds)
     finally:
         if process.returncode is None:
             process.kill()
             await process.wait()
-    return subprocess.CompletedProcess(words, process.returncode or 0, written, told)
+    return subprocess.CompletedProcess(words, process.returncode or 0, written, logged)
 
 
-def last_of(told: bytes) -> str:
-    """The last line of what a process told; nothing where it told nothing."""
-    return " ".join(told.decode("utf-8", "replace").strip().splitlines()[-1:])
+def last_of(logged: bytes) -> str:
+    """The last line of what a process logged; nothing where it logged nothing."""
+    return " ".join(logged.decode("utf-8", "replace").strip().splitlines()[-1:])
 
 
 def use_uvloop() -> None:
@@ -152,7 +152,7 @@ def use_uvloop() -> None:
 
 
 def ended(work: Callable[[], int | None]) -> int:
-    """Does a program's work and gives its exit status; a fault is told in one line."""
+    """Does a program's work and gives its exit status; a fault is reported in one line."""
     try:
         password_or_fault()
         return work() or Status.DONE

@@ -33,8 +33,8 @@ THREADS = 4
 FREE, PAUSE, SLOWEST = 10, 2.0, 10.0
 # Whose failures are known, and how many tries of one address may wait.
 FAILED, SLOWED = 20_000, 100
-# While someone is slowed down one failure of so many is told.
-TOLD = 100
+# While someone is slowed down one failure of so many is logged.
+LOGGED = 100
 
 
 class Cost(NamedTuple):
@@ -59,7 +59,7 @@ def hashed(password: bytes, salt: bytes, cost: Cost = STATION) -> bytes:
 
 
 def fault_of(password: str, shortest: int = SHORTEST, longest: int = LONGEST) -> str:
-    """Why a password of so many characters can't be set, a station's if not told; nothing where it can."""
+    """Why a password of so many characters can't be set, a station's if not named; nothing where it can."""
     if not shortest <= len(password) <= longest:
         return (
             f"a password has {shortest} to {longest} characters, and this one has {len(password)}"
@@ -126,12 +126,12 @@ def matching(password: bytes, known: Sequence[Stored]) -> Stored | None:
 
 def address_of(peer: str, headers: Headers, proxies: Sequence[str]) -> str:
     """Where a station's connection comes from."""
-    return address_told(peer, headers.get_all("X-Forwarded-For"), proxies)
+    return address_by(peer, headers.get_all("X-Forwarded-For"), proxies)
 
 
-def address_told(peer: str, told: Sequence[str], proxies: Sequence[str]) -> str:
-    """Where a connection comes from: what a proxy of ours tells last, where it comes from one."""
-    return told[-1].rpartition(",")[2].strip() if told and peer in proxies else peer
+def address_by(peer: str, named: Sequence[str], proxies: Sequence[str]) -> str:
+    """Where a connection comes from: what a proxy of ours names last, where it comes from one."""
+    return named[-1].rpartition(",")[2].strip() if named and peer in proxies else peer
 
 
 def network_of(address: str) -> str:
@@ -309,17 +309,17 @@ class Passwords:
         return Verdict.RIGHT
 
     async def fail(self, station: str, network: str, pair: str, has_password: bool) -> None:
-        """Counts a failure and tells it, but not each one of many; behind many it takes its time."""
+        """Counts a failure and logs it, but not each one of many; behind many it takes its time."""
         keys = (pair, f"address {network}")
         now = time.monotonic()
         self.wrong += 1
         counts = [self.tries.fail(key, now) for key in keys]
         what = "a wrong password" if has_password else "no password of this name"
-        told = (f"station {station}", keys[1], what)
+        words = (f"station {station}", keys[1], what)
         if max(counts) < FREE:
-            log.warning("%s, %s: %s", *told)
-        elif counts[1] == FREE or counts[1] % TOLD == 0:
-            log.warning("%s, %s: %s; %s had %d, and is slowed down", *told, keys[1], counts[1])
+            log.warning("%s, %s: %s", *words)
+        elif counts[1] == FREE or counts[1] % LOGGED == 0:
+            log.warning("%s, %s: %s; %s had %d, and is slowed down", *words, keys[1], counts[1])
         wait = max(self.tries.wait(key, now) for key in keys)
         if wait > 0:
             self.slowed += 1

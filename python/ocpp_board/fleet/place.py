@@ -128,8 +128,8 @@ async def run(words: argparse.Namespace) -> None:
 
 def propose(words: argparse.Namespace, loads: Sequence[Load]) -> None:
     """Writes the commands of moves."""
-    told = moves(len(words.db), loads)
-    for one in told:
+    proposed = moves(len(words.db), loads)
+    for one in proposed:
         source, target = (
             words.db[cell].replace("ledger_provisioner@", "ledger_mover@")
             for cell in (one.source, one.target)
@@ -138,7 +138,7 @@ def propose(words: argparse.Namespace, loads: Sequence[Load]) -> None:
             f"ocpp-board move --from {source} --to {target} --shard {one.shard} "
             f"--reason 'load: {one.lines} lines a day'"
         )
-    if not told:
+    if not proposed:
         print("# no move brings the cells nearer to the same load")
 
 

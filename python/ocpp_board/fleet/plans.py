@@ -9,7 +9,7 @@ from ocpp_board.fleet.database import Fault, without_secrets
 
 # What a site has that has no line `period` or `order`.
 DEFAULT_PERIOD, DEFAULT_ORDER = 900, "sequence"
-# What the columns and lines of a site mean, for who is told that a program has no such line.
+# What the columns and lines of a site mean, for the fault that a program has no such line.
 MEANINGS = {"period": "settlement periods", "order": "orders of readings"}
 
 
@@ -29,8 +29,8 @@ class Reckoning(NamedTuple):
         order = "" if self.order == DEFAULT_ORDER else f" order={self.order}"
         return f"period={self.period}{order}"
 
-    def told(self) -> str:
-        """As people are told."""
+    def described(self) -> str:
+        """As messages have it."""
         return f"periods of {self.period} seconds and readings by {self.order}"
 
     def lines(self) -> dict[str, object]:
@@ -76,7 +76,7 @@ def declarations(
         for name, one in reckoning.lines().items():
             if name not in known:
                 raise Fault(
-                    f"the program knows no {MEANINGS[name]}, and site {site} has {reckoning.told()}"
+                    f"the program knows no {MEANINGS[name]}, and site {site} has {reckoning.described()}"
                 )
             lines.append(f"{name} {site} {one}")
     return "".join(line + "\n" for line in lines).encode()

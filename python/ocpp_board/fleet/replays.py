@@ -41,7 +41,7 @@ class Replay:
             start_new_session=True,
             env=without_secrets(replay_environment()),
         )
-        # That its input broke is told by its output, which ends. A task that waits for the end of the input would be
+        # Its output ends where its input broke. A task that waits for the end of the input would be
         # cancelled with the program, and what it waits for with it, which asyncio takes for a fault.
         assert process.stdin
         process.stdin._protocol._get_close_waiter(  # type: ignore[attr-defined]

@@ -4,7 +4,7 @@
 --
 -- Needs PostgreSQL 15, a superuser, and a database that is empty or has the schema of an earlier version, which it
 -- brings to this one in one transaction: all tools are stopped before it, and those of this version started behind it.
--- What stands here up to "Versions" is version 1, and stays as it is; each later version is a file of schema/, which is
+-- All up to "Versions" is version 1, and stays as it is; each later version is a file of schema/, which is
 -- applied once. With `-v to=1` it goes no further than version 1.
 -- The passwords of the roles come from the environment:
 -- GATEWAY_PASSWORD, FEED_PASSWORD, WORKER_PASSWORD, READER_PASSWORD, OPERATOR_PASSWORD, PROVISIONER_PASSWORD,
@@ -12,7 +12,7 @@
 -- set gets none, or keeps its own.
 --
 -- shard, site, station, log and board are tables over all cells; what lies in this one is own_shard, own_site, own_station,
--- own_log and own_board, and `see_cell` adds another one's. Gateways and workers use the own ones alone, so that a cell
+-- own_log and own_board, and `see_cell` adds another one's. Gateways and workers only use the own ones, so that a cell
 -- which is down is none of their business.
 \set ON_ERROR_STOP on
 \if :{?cell}
@@ -93,7 +93,7 @@ create table if not exists numbering (
     shard integer primary key references own_shard on delete cascade,
     taken bigint not null default 0,       -- how often a worker took it
     freed bigint not null default 0,       -- the last place that a line left, which no other line gets
-    told bigint not null default 0,        -- up to which place answers were told
+    told bigint not null default 0,        -- up to which place answers were given
     bytes bigint not null default 0        -- of its log; a script has 1 GiB at most
 ) with (fillfactor = 50);
 
@@ -165,7 +165,7 @@ create table if not exists own_station partition of station (
 alter table station add column if not exists retired date;     -- since when it takes no part; it stays, with its energy
 create index if not exists own_station_shard_place_idx on own_station (shard, place);
 
--- Each change of a shard's plan is told, and what the program would refuse is refused here.
+-- Each change of a shard's plan notifies, and what the program would refuse is refused here.
 create or replace function plan_changed() returns trigger language plpgsql as $$
 declare
     shards integer[] := case tg_op when 'INSERT' then array[new.shard] when 'DELETE' then array[old.shard]
@@ -199,7 +199,7 @@ create or replace trigger plan_changed after update of period, reading_order on 
     for each row execute function plan_changed();
 
 -- What a station sent belongs to its shard and its name. So one that sent something is retired, and neither removed nor
--- given another name or shard; it goes with its shard alone, which has moved to another cell.
+-- given another name or shard; it only goes with its shard, which has moved to another cell.
 create or replace function keep_station() returns trigger language plpgsql as $$
 begin
     if (tg_op = 'UPDATE' and (new.shard, new.station) = (old.shard, old.station))
@@ -335,8 +335,8 @@ revoke execute on function saw_password(text, bytea) from public;
 
 -- What came and has no place yet. The worker that holds a shard moves its lines from here into the log, and answers them
 -- once they are on disk there. So what is lost here was never answered: a gateway appends it again. Lines that nobody
--- appends again, those of operators and feeds, are in inbox_kept, which is on disk. The first line of each batch is told
--- on the channel `wake` or `wake_kept`.
+-- appends again, those of operators and feeds, are in inbox_kept, which is on disk. The channel `wake` or
+-- `wake_kept` carries the first line of each batch.
 do $$
 begin
     if to_regclass('place_in_log') is not null then
@@ -348,7 +348,7 @@ create unlogged table if not exists inbox (
     shard integer not null,
     id bigint not null default nextval('place_in_inbox'),
     at timestamptz not null default now(),
-    gateway text,                          -- the channel on which the line's answer is told, with the token
+    gateway text,                          -- the channel that carries the line's answer, with the token
     token bigint,
     line text not null,
     primary key (shard, id),
@@ -429,8 +429,8 @@ create or replace trigger free_places after delete on own_log referencing old ta
     for each statement execute function free_places();
 
 -- An operator's line, which comes behind all that was answered: operate('void', 'CS-00441', 'TX-2', 3). It gives the number
--- of the line in inbox_kept; its place in the log comes within moments. Whoever listens on a channel is told its answer
--- there, with the token.
+-- of the line in inbox_kept; its place in the log comes within moments. The channel carries its answer, with the
+-- token.
 create or replace function operate(command text, station_name text, transaction_id text, sequence_number bigint,
         channel text default null, channel_token bigint default null) returns bigint language plpgsql as $$
 declare
@@ -939,7 +939,7 @@ revoke execute on function remove_repeats(integer, bigint, bigint[]) from public
 
 -- Roles --------------------------------------------------------------------------------------------------------------
 
--- A gateway sees the plan and the hashes of passwords, tells which one it saw, and inserts `msg` lines; it reads, changes
+-- A gateway sees the plan and the hashes of passwords, notes which one it saw, and inserts `msg` lines; it reads, changes
 -- and removes nothing else.
 grant select on own_cell, own_shard, own_site, own_station to ledger_gateway, ledger_feed, ledger_worker, ledger_reader;
 grant select on station_password to ledger_gateway;
@@ -995,7 +995,7 @@ grant execute on function remove_repeats(integer, bigint, bigint[]) to ledger_wo
 grant select, insert, update, delete on own_board, own_board_station, own_board_period, own_board_transaction,
     own_board_gap, own_refusal, worker to ledger_worker;
 
--- Who reads does not see by which tokens answers are told: with these it could tell others.
+-- Who reads does not see the tokens of answers: with these it could forge others.
 revoke select on log, own_log from ledger_reader;
 grant select (cell, shard, at, line, place) on log, own_log to ledger_reader;
 grant select on shard, site, station, station_twice, board, own_board,

@@ -2,18 +2,18 @@
 
     PGPASSWORD=.. ocpp-board operator --db postgresql://ledger_administrator@a:5432,b:5432/ledger set jo \\
         --roles sees,voids --sites north,south --reason 'new in the team' < FILE
-    .. set jo --roles sees ..          other roles; what is not told stays
+    .. set jo --roles sees ..          other roles; what is not named stays
     .. set jo --password .. < FILE     another password, which ends the sessions
     .. disable jo ..                   ends sessions and tokens; `enable` lets jo in again
     .. token jo --label billing --roles sees --days 365 ..
     .. revoke 7 ..                     a token by its number
     .. list
 
-Each change has a --reason, which stands beside it.
+Each change has a --reason, which is kept with it.
 
 The database is that of the cell that the page is given first. A new operator's password, 12 to 200 characters, is
-read from standard input: one line. With --no-password there is none, for a program that has tokens alone. Roles:
-`sees` looks at pages and the API, `voids` voids, restores and erases, `closes` asks for closings. Sites: those told,
+read from standard input: one line. With --no-password there is none, for a program that only has tokens. Roles:
+`sees` looks at pages and the API, `voids` voids, restores and erases, `closes` asks for closings. Sites: those named,
 or `--all-sites`. A token is written once, to standard output; it may no more than its operator.
 """
 
@@ -39,7 +39,7 @@ from ocpp_board.limits import is_name
 from ocpp_board.words import parser_of
 
 PROGRAM = "ocpp-board operator"
-# Days for which a token is good at most, and where nothing is told.
+# Days for which a token is good: at most, and unless named.
 MOST_DAYS, DAYS = 1100, 365
 LIST = """
 select name, roles, sites, disabled_at, (select count(*) from operator_session s where s.operator = name) as sessions,
@@ -116,15 +116,15 @@ async def make_token(session: Any, words: argparse.Namespace) -> None:
 async def show(session: Any) -> None:
     """Writes the operators and the tokens."""
     for row in await session.fetch(LIST):
-        told = [row["name"], ",".join(row["roles"]), sites_said(row["sites"])]
-        told += [f"sessions={row['sessions']}"]
-        told += ["disabled"] if row["disabled_at"] else []
-        told += [f"locked from {row['locked']}"] if row["locked"] else []
-        print("  ".join(told))
+        columns = [row["name"], ",".join(row["roles"]), sites_said(row["sites"])]
+        columns += [f"sessions={row['sessions']}"]
+        columns += ["disabled"] if row["disabled_at"] else []
+        columns += [f"locked from {row['locked']}"] if row["locked"] else []
+        print("  ".join(columns))
     for row in await session.fetch(TOKENS):
         state = "revoked" if row["revoked_at"] else f"until {row['ends']:%Y-%m-%d %H:%M} UTC"
-        told = [f"token {row['token']}", row["operator"], ",".join(row["roles"])]
-        print("  ".join([*told, sites_said(row["sites"]), state, row["label"]]))
+        columns = [f"token {row['token']}", row["operator"], ",".join(row["roles"])]
+        print("  ".join([*columns, sites_said(row["sites"]), state, row["label"]]))
 
 
 def sites_said(sites: list[str] | None) -> str:
@@ -170,7 +170,7 @@ def main(argv: Sequence[str], prog: str) -> int:
     setting.add_argument("operator", type=operator_of)
     add_rights(setting, False)
     setting.add_argument("--all-sites", action="store_true", help="all sites, also later ones")
-    for name, text in (("password", "reads a new password"), ("no-password", "has tokens alone")):
+    for name, text in (("password", "reads a new password"), ("no-password", "has only tokens")):
         setting.add_argument(f"--{name}", action="store_true", help=text)
     for name, text in (("disable", "lets one in no longer"), ("enable", "lets one in again")):
         switch = jobs.add_parser(name, help=text)
@@ -190,5 +190,5 @@ def main(argv: Sequence[str], prog: str) -> int:
     jobs.add_parser("list", help="shows operators and tokens")
     words = parts.parsed(parser, argv)
     if words.job == "set" and words.sites and words.all_sites:
-        parser.error("--sites and --all-sites are not both told")
+        parser.error("--sites and --all-sites exclude one another")
     return parts.done(lambda: run(words))

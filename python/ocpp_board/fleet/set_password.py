@@ -5,7 +5,7 @@
 
 It reads the password, 16 to 40 characters, from standard input: one line. The plan keeps a salted hash of it. What the
 station came with last stays good until it comes with the new one; with --at-once it ends now, for a password that
-others may know. Connections that stand go on.
+others may know. Open connections go on.
 """
 
 import argparse

@@ -2,10 +2,10 @@
 
     python3 -m ocpp_board.fleet.site_pages FOLDER < JSON
 
-writes into FOLDER what `ocpp-board tables` writes, for the frame that the fleet's page puts around it: the title of a
-page stands in its first line, its end in the second, in the third whether it is of one board, and below what stands
-between. The JSON has the text of the site's boards, its zone, up to when they are, the findings of its sessions, and
-how the figures of its stations are told.
+writes into FOLDER what `ocpp-board tables` writes, for the frame that the fleet's page puts around it: the first
+line of a page is its title, the second its end, the third whether it is of one board, and what is between follows. The
+JSON has the text of the site's boards, its zone, up to when they are, the findings of its sessions, and
+the states of the figures of its stations.
 """
 
 import json
@@ -56,12 +56,12 @@ def session_path(station: str, tx: str) -> str:
 
 @dataclass(frozen=True)
 class Fragments(Layout):
-    """Pages that get their frame later. `told`: how the figures of stations are told."""
+    """Pages that get their frame later. `states`: those of the figures of stations."""
 
-    told: dict[str, str] = field(default_factory=dict)
+    states: dict[str, str] = field(default_factory=dict)
 
     def head(self, title: str, said: str, links: str, is_one: bool, whole: str = "") -> str:
-        """What `fragment_of` reads, and what stands above."""
+        """What `fragment_of` reads, and what is above."""
         return f"{title}\n{whole}\n{'one' if is_one else ''}\n{said}{links}"
 
     def foot(self) -> str:
@@ -69,12 +69,12 @@ class Fragments(Layout):
         return ""
 
     def station_heads(self) -> Heads:
-        """The column that says how a station's figures are told."""
+        """The column with the states of a station's figures."""
         return [" Figures are"]
 
     def station_cells(self, station: str) -> list[str]:
         """How those of a station are."""
-        return [escape(self.told.get(station, UNKNOWN))]
+        return [escape(self.states.get(station, UNKNOWN))]
 
     def session(self, station: str, tx: str) -> str:
         """A link to the session's history."""
@@ -104,7 +104,7 @@ def write(folder: Path, given: dict[str, Any]) -> None:
     calendar = Calendar(ZoneInfo(given["zone"]))
     until = given["until"] and datetime.fromisoformat(given["until"])
     out, now = str(folder / NAME), datetime.now(timezone.utc)
-    layout = Fragments(out, calendar, now, until=until, told=given["told"])
+    layout = Fragments(out, calendar, now, until=until, states=given["states"])
     days, index = DayPages(layout), Index(layout)
     with ExitStack() as files:
         text = files.enter_context(TemporaryFile())

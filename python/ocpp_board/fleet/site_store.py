@@ -25,7 +25,7 @@ MARKS = ("shard", "period", "reading_order", "zone", "place", "at", "closing")
 
 
 class SitePages(NamedTuple):
-    """A site's files, made of the boards that the mark tells, and how many sessions are in archives."""
+    """A site's files, made of the boards that the mark names, and how many sessions are in archives."""
 
     mark: Any
     archived: int
@@ -85,7 +85,7 @@ class SiteStore:
             for cell, row in rows
             for one in await cell.ask(FINDINGS, row["shard"], name)
         ]
-        told = {
+        states = {
             one["station"]: figures_said(station_states(one))
             for cell, row in rows
             for one in await cell.ask(STATIONS, name, [row["shard"]], "", MOST_STATIONS)
@@ -95,7 +95,7 @@ class SiteStore:
             "zone": zone_of(rows[0][1]["zone"]).key,
             "until": until and until.isoformat(),
             "findings": findings,
-            "told": told,
+            "states": states,
         }
         with tempfile.TemporaryDirectory(prefix="ocpp-page.") as folder:
             await run_maker(folder, json.dumps(given).encode())

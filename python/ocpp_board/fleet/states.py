@@ -1,4 +1,4 @@
-"""How figures are told: provisional, settled, or corrected since."""
+"""The states of figures: provisional, settled, or corrected since."""
 
 from collections.abc import Mapping
 from typing import Any
@@ -8,14 +8,14 @@ from ocpp_board.energies import FLOW
 
 PROVISIONAL, SETTLED, CORRECTED = "provisional", "settled", "corrected"
 # The numbers of a total line that tell of sessions, which closings settle by archiving these; and those of events,
-# which are of the log alone, so that each closing changes them.
+# which are only of the log, so that each closing changes them.
 SESSIONS, EVENTS = ("transactions", "complete", "missing"), ("events", "voided")
 # Energies, with what is reckoned of them.
 ENERGIES = (*FLOW, "net")
 
 
 def state_of(is_settled: bool, corrections: int) -> str:
-    """How a figure is told: it may still change until it is settled, and where something came since; one that a later
+    """The state of a figure: it may still change until it is settled, and where something came since; one that a later
     closing found to be another one is corrected."""
     if not is_settled:
         return PROVISIONAL
@@ -23,13 +23,13 @@ def state_of(is_settled: bool, corrections: int) -> str:
 
 
 def energy_state(now: Mapping[str, Any], settled: Numbers | None, corrections: int) -> str:
-    """How energies are told. `settled`: what closings settled of them; None where none did."""
+    """The state of energies. `settled`: what closings settled of them; None where none did."""
     is_settled = settled is not None and all(now[name] == settled[name] for name in FLOW)
     return state_of(is_settled, corrections)
 
 
 def states_of(row: Mapping[str, Any], energy: str, archived: Numbers | None) -> dict[str, str]:
-    """How each figure of a row is told, by its name. `energy`: how its energies are; `archived`: the numbers of the
+    """The state of each figure of a row, by its name. `energy`: that of its energies; `archived`: the numbers of the
     sessions that closings archived, None where none did. Where the log has sessions, none of their numbers is settled.
     """
     is_settled = archived is not None and all(row[name] == archived[name] for name in SESSIONS)
@@ -43,19 +43,19 @@ def settled_of(row: Mapping[str, Any]) -> Numbers | None:
 
 
 def station_states(row: Mapping[str, Any]) -> dict[str, str]:
-    """How each figure of a station is told. `row`: as api_queries.STATIONS gives it."""
+    """The state of each figure of a station. `row`: as api_queries.STATIONS gives it."""
     archived = {name: row[f"archived_{name}"] for name in SESSIONS} if row["is_archived"] else None
     return states_of(row, energy_state(row, settled_of(row), row["corrections"]), archived)
 
 
 def figures_said(states: Mapping[str, str]) -> str:
-    """How a station's figures are told, in a cell of a page."""
+    """The states of a station's figures, in a cell of a page."""
     energy, sessions = states["net"], sessions_said(states)
     return energy if energy == sessions else f"energy {energy}, sessions {sessions}"
 
 
 def sessions_said(states: Mapping[str, str]) -> str:
-    """How the numbers of sessions are told, in a cell of a page."""
+    """The states of the numbers of sessions, in a cell of a page."""
     found = [name for name in SESSIONS if states[name] == CORRECTED]
     if len(found) in (0, len(SESSIONS)):
         return states["transactions"]

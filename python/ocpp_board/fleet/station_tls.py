@@ -23,9 +23,9 @@ log = logging.getLogger(__name__)
 
 # Characters of the secret that a proxy and a gateway share.
 SHORTEST = 16
-# A part of a subject, which ends with a comma or a plus that no backslash stands before.
+# A part of a subject, which ends with a comma or a plus without a backslash before it.
 PART = re.compile(r"(?:[^\\,+]|\\.)+")
-# Of TLS 1.2: those with a key of their own for each connection, and the two with RSA alone that OCPP 2.0.1 lets a
+# Of TLS 1.2: those with a key of their own for each connection, and the two with only RSA that OCPP 2.0.1 lets a
 # station have and nothing else.
 SUITES = "ECDHE+AESGCM:ECDHE+CHACHA20:AES128-GCM-SHA256:AES256-GCM-SHA384"
 
@@ -63,7 +63,7 @@ def is_asked(words: argparse.Namespace) -> bool:
 
 
 def header_or_fault(words: argparse.Namespace) -> None:
-    """Raises Fault where a header is told and not who may set it."""
+    """Raises Fault where a header is named and not who may set it."""
     if not words.client_header:
         return
     if not words.proxy:
@@ -83,9 +83,9 @@ def name_of(words: argparse.Namespace, transport: asyncio.Transport, headers: He
     if values:
         # A request lives as long as its connection.
         del headers[words.client_header]
-    secret, _, told = values[0].partition(" ") if len(values) == 1 else ("", "", "")
+    secret, _, rest = values[0].partition(" ") if len(values) == 1 else ("", "", "")
     is_ours = hmac.compare_digest(secret.encode(), os.environ["PROXY_SECRET"].encode())
-    verdict, _, subject = told.partition(" ")
+    verdict, _, subject = rest.partition(" ")
     if peer not in words.proxy or not is_ours or verdict != "SUCCESS":
         return ""
     names = [value for key, value in pairs_of(subject) if key.upper() in ("CN", "2.5.4.3")]
@@ -105,7 +105,7 @@ def pairs_of(subject: str) -> list[tuple[str, str]]:
 
 
 def unescaped(found: "re.Match[bytes]") -> bytes:
-    """What an escape stands for."""
+    """What an escape means."""
     return bytes([int(found[1], 16)]) if len(found[1]) == 2 else found[1]
 
 

@@ -1,7 +1,7 @@
 """Lines of a shard's log that changed nothing, and how many bytes of them the log keeps.
 
 What was refused has its row in `refusal`, and a repeat for an archived transaction was answered. So no board, no answer
-and no closing needs their lines, and the log keeps some of each station alone: no station can fill it with them.
+and no closing needs their lines, and the log keeps only some of each station: no station can fill it with them.
 """
 
 from collections import Counter

@@ -13,7 +13,7 @@ from ocpp_board.messages import JSON, Refused
 MEMBER = "idToken"
 # In a text that is no JSON there is no member to take out; all of it goes. It is as little JSON as what it was.
 NO_JSON = "?"
-# What stands for a value, of the same kind, since a value of another kind is refused.
+# What replaces a value, of the same kind, since a value of another kind is refused.
 BLANKS: tuple[tuple[type, str], ...] = ((dict, "{}"), (list, "[]"), (str, '""'), (bool, "false"))
 
 
@@ -39,7 +39,7 @@ def is_named(value: Any, token: str | None) -> bool:
 
 
 def blank_of(value: Any) -> str:
-    """What stands in the place of a value."""
+    """What replaces a value."""
     for kind, text in BLANKS:
         if isinstance(value, kind):
             return text

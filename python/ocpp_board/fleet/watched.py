@@ -55,11 +55,11 @@ class Watched:
         shard: int,
         rows: Mapping[str, Mapping[str, Any]],
         standing: Iterable[int],
-        told: set[str],
+        reported: set[str],
     ) -> None:
-        """`rows`: the stations of the plan; `standing`: the places of the log that the rows of refusals have; `told`:
-        what was told of limits since the worker began."""
-        self.shard, self.told = shard, told
+        """`rows`: the stations of the plan; `standing`: the places of the log that the rows of refusals have;
+        `reported`: what was reported of limits since the worker began."""
+        self.shard, self.reported = shard, reported
         self.standing = set(standing)
         self.count = len(self.standing)
         limits = {name: tuple(row[part] for part in DEFAULT_LIMITS) for name, row in rows.items()}
@@ -77,7 +77,7 @@ class Watched:
             return
         if answer.startswith("[3,"):
             for said in self.sent.taken(station, message):
-                self.tell(said)
+                self.report(said)
         if place in self.standing:
             self.taken.append(place)
 
@@ -90,10 +90,10 @@ class Watched:
             row = (place, answered.station, *map(text_of, (*texts, refusal.advice)))
             self.refused.append(row)  # type: ignore[arg-type]
 
-    def tell(self, said: str) -> None:
-        """Tells that a station comes near to its limits, once."""
-        if said not in self.told:
-            self.told.add(said)
+    def report(self, said: str) -> None:
+        """Reports that a station comes near to its limits, once."""
+        if said not in self.reported:
+            self.reported.add(said)
             log.warning("shard %d: %s; %s", self.shard, said, REMEDY)
 
     async def write(self, ask: Ask) -> None:

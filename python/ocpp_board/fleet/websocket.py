@@ -112,7 +112,7 @@ class Link(asyncio.Protocol):
         head, size = extent(begun)
         while not 0 < size <= len(begun):
             if size > LONGEST or len(begun) > 1 and not begun[1] & MASKED:
-                # Too long, or not masked: `websockets` tells the other end, and gets all that comes.
+                # Too long, or not masked: `websockets` closes it, and gets all that comes.
                 self.cuts_frames = False
                 self.unread.appendleft(bytes(begun))
                 return True
@@ -203,7 +203,7 @@ class Link(asyncio.Protocol):
                 self.cut_later()
 
     def end(self) -> None:
-        """Sends no more. TLS has no end of one direction alone."""
+        """Sends no more. TLS has no end of only one direction."""
         if self.transport.can_write_eof():
             self.transport.write_eof()
         else:

@@ -4,12 +4,12 @@
 
 Any number of workers share the shards of a cell. Each beat a worker looks who lives; where that or the plan changed
 it takes or gives back shards until the shares are even, and it ends the sessions of a worker whose beat is too old.
-A shard that it takes is replayed from the start of its log; answers that were told before are kept silent. From then
-on it gives each line that comes its place in the log, and tells its answer once that is on disk. It looks only at
+A shard that it takes is replayed from the start of its log; it gives no answer a second time. From then
+on it gives each line that comes its place in the log, and answers once that is on disk. It looks only at
 shards that were woken: by a gateway that appended, by a change of the plan, or by itself where it has not read all.
 Boards of shards that changed are written again and again.
 
-A worker keeps nothing. It may be killed at any time, and whatever it is told twice it answers twice.
+A worker keeps nothing. It may be killed at any time, and it answers twice what comes twice.
 """
 
 import argparse
@@ -125,7 +125,7 @@ class Shard:
         self, row: Any, replay: Replay, sites: list[str], late: Late, watched: Watched
     ) -> None:
         self.number, self.plan, self.taken = row["shard"], row["plan"], row["taken"]
-        # Places of the log: its last one, up to where the replay has it, and up to where answers were told and noted.
+        # Places of the log: its last one, up to where the replay has it, and up to where answers were given and noted.
         self.last, self.read = row["last"], 0
         self.told = self.noted = row["told"]
         # Which line of its inbox is the oldest that may have come unseen, and which was the next at the last look.
@@ -150,11 +150,11 @@ class Session:
 
     def __init__(self, words: argparse.Namespace, databases: Sequence[Any]) -> None:
         self.words, self.databases = words, databases
-        # The server's process of the session that holds the shards, which a session that was ended no longer tells.
+        # The server's process of the session that holds the shards, which a session that was ended no longer says.
         self.pid = databases[0].get_server_pid()
         self.patience = max(ANSWER, words.hang)
         self.seen: metrics.WorkerSeen = words.seen
-        # One holds the shards, moves their lines and tells answers; its commits may wait for a standby. So beats have
+        # One holds the shards, moves their lines and answers; its commits may wait for a standby. So beats have
         # another one, and boards, which are many rows, a third. A fourth listens, and is slow while many notifications
         # come.
         self.holder, self.beats, self.boards = (Asked(one, self.patience) for one in databases[:3])
@@ -163,7 +163,7 @@ class Session:
         # When lines were read last.
         self.read_at = 0.0
         self.living = 0
-        # Whether the queue of notifications has so much in it that what is told there comes late.
+        # Whether the queue of notifications has so much in it that what goes there comes late.
         self.is_queue_slow = False
         self.shards: dict[int, Shard] = {}
         # Shards whose lock is held and that are not open yet.
@@ -223,7 +223,7 @@ class Session:
 
     async def committed(self, query: str, *values: Any) -> Any:
         """The same, with a commit that is waited for as long as it waits for a standby: another session would wait
-        behind it, and one more each time. That it waits is told from its first second on."""
+        behind it, and one more each time. It is reported from the first second on that it waits."""
         async with self.holder.using:
             job = asyncio.ensure_future(self.holder.database.fetch(query, *values))
             began = last = time.monotonic()
@@ -238,11 +238,11 @@ class Session:
             return job.result()
 
     async def read_state(self, numbers: list[int]) -> dict[int, Any]:
-        """How shards stand, once they are taken."""
+        """The state of shards, once they are taken."""
         return {row["shard"]: row for row in await self.ask(STATE, numbers)}
 
     def wake(self, channel: str, _session: Any, _pid: int, _name: str, payload: str) -> None:
-        """Lines of shards came, as is told on a channel."""
+        """Lines of shards came, as a notification says."""
         self.wake_all(channel, woken_by(payload))
 
     def wake_all(self, channel: str, firsts: Mapping[int, int]) -> None:
@@ -256,14 +256,14 @@ class Session:
     # Shares of the shards ---------------------------------------------------------------------------------------------
 
     async def beat_once(self) -> None:
-        """Tells that this worker lives, and looks how many do."""
+        """Notes that this worker lives, and looks how many do."""
         rows = await self.beats.ask(BEAT, self.words.name, len(self.shards), self.pid)
         self.living, self.seen.beat = rows[0]["living"], time.monotonic()
         self.seen.queue = rows[0]["queue"]
         self.is_queue_slow = self.seen.queue > SLOW_QUEUE
 
     async def beat(self) -> None:
-        """Tells again and again that this worker lives, and ends those that hang. Where it just began, or its own beats
+        """Notes again and again that this worker lives, and ends those that hang. Where it just began, or its own beats
         came late, the machine or the database may be slow for all: it ends nobody for as long as it would have waited.
         """
         last = late = time.monotonic()
@@ -366,7 +366,7 @@ class Session:
             late = Late(number, plan.rows, bool(await self.ask(HAS_ARCHIVED, number)))
             self.late.forget(number)
             standing = [row["place"] for row in await self.ask(STANDING, number)]
-            watched = Watched(number, plan.rows, standing, self.words.told)
+            watched = Watched(number, plan.rows, standing, self.words.reported)
         except Fault as fault:
             log.error("shard %d: %s; it is left alone until its plan changes", number, fault)
             self.refused[number] = state["plan"] if state else -1
@@ -406,7 +406,7 @@ class Session:
         return [shard for shard in ready if shard.is_loaded][: AT_ONCE - OPENING] + opening
 
     async def read(self) -> None:
-        """Gives lines of woken shards their places, has them answered, and tells the answers, round by round."""
+        """Gives lines of woken shards their places, has them answered, and sends the answers, round by round."""
         clock = asyncio.get_running_loop().time
         while True:
             await self.waking.wait()
@@ -533,16 +533,16 @@ class Session:
         self.weigh(shard, len(row["text"].encode()) + 1)
         front = row["silent"]
         parts = zip(row["gateways"][front:], row["tokens"][front:], said[front:])
-        told = [
+        answered = [
             (gateway, f"{token} {answer}")
             for gateway, token, answer in parts
             if gateway and token is not None
         ]
-        return shard, told
+        return shard, answered
 
     def weigh(self, shard: Shard, size: int) -> None:
-        """Counts so many bytes of the shard's log. It is told where that is half full, and compacted where nearly.
-        A replay that was handed nearly as much as it reads begins anew."""
+        """Counts so many bytes of the shard's log. It reports a log that is half full, and compacts one that nearly is
+        full. A replay that was handed nearly as much as it reads begins anew."""
         had, shard.bytes = shard.bytes, shard.bytes + size
         read, shard.handed = shard.handed, shard.handed + size
         half, most = LONGEST_SCRIPT // 2, LONGEST_SCRIPT * 9 // 10
@@ -563,8 +563,8 @@ class Session:
         made = await asyncio.to_thread(run_tool, "compact", words, b"")
         if made.returncode:
             self.seen.counts["compactions_failed"] += 1
-            told = parts.last_of(made.stderr) or "it ended"
-            log.error("shard %d: not compacted: %s", number, told)
+            why = parts.last_of(made.stderr) or "it ended"
+            log.error("shard %d: not compacted: %s", number, why)
         else:
             log.info("shard %d: compacted", number)
 
@@ -579,8 +579,8 @@ class Session:
                 shard.replay.write("\n".join([*live, ""]).encode())
                 answers = await shard.replay.answers(len(live))
         if late:
-            told, own = await self.late_answers(shard, row, texts, late), iter(answers)
-            answers = [told.get(n, b"") if n in late else next(own) for n in range(len(texts))]
+            own, later = iter(answers), await self.late_answers(shard, row, texts, late)
+            answers = [later.get(n, b"") if n in late else next(own) for n in range(len(texts))]
         for number, answer in enumerate(answers):
             if number not in late:
                 shard.surplus.take(row["places"][number], texts[number], answer, False)
@@ -589,8 +589,8 @@ class Session:
     async def late_answers(
         self, shard: Shard, row: Any, texts: list[str], late: Mapping[int, Transaction]
     ) -> dict[int, bytes]:
-        """The answers to lines for archived transactions, but for those in front that were told before. What of them
-        changed nothing may leave the log."""
+        """The answers to lines for archived transactions, but for those in front that were answered before. What of
+        them changed nothing may leave the log."""
         found, places = dict[int, bytes](), row["places"]
         numbers = {place: number for number, place in enumerate(places)}
         for number in [number for number in late if number < row["silent"]]:
@@ -612,7 +612,7 @@ class Session:
         return not rows or rows[0]["plan"] != shard.plan
 
     async def tell(self, answered: list[Answers]) -> None:
-        """Tells answers to the gateways that wait for them."""
+        """Sends answers to the gateways that wait for them."""
         places = [shard.read for shard, _ in answered]
         channels, payloads = payloads_of([answer for _, answers in answered for answer in answers])
         if channels and self.is_queue_slow:
@@ -628,20 +628,20 @@ class Session:
                 self.loaded(shard)
 
     async def notify(self, channels: list[str], payloads: list[str]) -> None:
-        """Tells these payloads; one that can't be told costs no other."""
+        """Sends these payloads; one that can't be sent costs no other."""
         try:
             await self.ask(TELL, channels, payloads)
         except asyncpg.ProgramLimitExceededError:
             await self.keep_untold(channels, payloads)
         except UNTOLD as fault:
             if len(channels) == 1:
-                log.warning("answers can't be told on the channel %r: %s", channels[0], fault)
+                log.warning("answers can't be sent on the channel %r: %s", channels[0], fault)
                 return
             for channel, payload in zip(channels, payloads):
                 await self.notify([channel], [payload])
 
     async def keep_untold(self, channels: list[str], payloads: list[str]) -> None:
-        """Leaves payloads where gateways look for them. Whoever else listens is told, if the queue has room."""
+        """Leaves payloads where gateways look for them. Whoever else listens gets them, if the queue has room."""
         await self.ask(KEEP_UNTOLD, channels, payloads)
         for channel, payload in zip(channels, payloads):
             if not channel.startswith("gateway_"):
@@ -649,7 +649,7 @@ class Session:
                     await self.ask(TELL, [channel], [payload])
 
     async def note(self) -> None:
-        """Notes again and again up to which places answers were told, and what was refused."""
+        """Notes again and again up to which places answers were given, and what was refused."""
         while True:
             await asyncio.sleep(NOTING)
             for shard in list(self.shards.values()):
@@ -703,7 +703,7 @@ class Session:
 
 
 def payloads_of(answers: list[tuple[str, str]]) -> tuple[list[str], list[str]]:
-    """The notifications that tell these answers, as their channels and their payloads."""
+    """The notifications that carry these answers, as their channels and their payloads."""
     channels, payloads, texts = list[str](), list[str](), dict[str, list[str]]()
     for gateway, text in answers:
         texts.setdefault(gateway, []).append(text)
@@ -742,7 +742,7 @@ async def opened(words: argparse.Namespace) -> list[Any]:
 
 
 async def tell_doors(database: Any) -> None:
-    """Tells which other databases of the server this role may enter: it holds their sessions there."""
+    """Reports which other databases of the server this role may enter: others may hold sessions there."""
     names = await within(ANSWER, database, "fetchval", DOORS)
     if names:
         log.warning("this role may enter other databases, too: %s; %s", names, SHUT)
@@ -795,8 +795,8 @@ def run(words: argparse.Namespace) -> int:
     """Works until a signal comes."""
     words.name = f"worker_{secrets.token_hex(4)}"
     words.known = known_lines(words.program)
-    # What was told once of stations near their limits.
-    words.told = set[str]()
+    # What was reported once of stations near their limits.
+    words.reported = set[str]()
     words.seen = metrics.WorkerSeen(words.hang)
     parts.use_uvloop()
     try:

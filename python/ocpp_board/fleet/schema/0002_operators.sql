@@ -16,8 +16,8 @@ end $$;
 
 -- Who may come in -----------------------------------------------------------------------------------------------------
 
--- An operator sees, voids and closes what lies in the sites; all sites where none are told. One without a hash has tokens
--- alone.
+-- An operator sees, voids and closes what lies in the sites; all sites where none are named. One without a hash only has
+-- tokens.
 create table if not exists operator (
     name text primary key,
     roles text[] not null,
@@ -65,13 +65,13 @@ create table if not exists api_token (
     constraint "a token's roles are sees, voids and closes" check (roles <@ array['sees', 'voids', 'closes'] and cardinality(roles) > 0)
 );
 
--- The sites that both have; all where none are told.
+-- The sites that both have; all where none are named.
 create or replace function sites_of_both(one text[], other text[]) returns text[] language sql immutable as $$
     select case when one is null then other when other is null then one
         else array(select unnest(one) intersect select unnest(other)) end;
 $$;
 
--- Makes an operator, or changes what is told. A new password ends the sessions.
+-- Makes an operator, or changes what is given. A new password ends the sessions.
 create or replace function set_operator(operator_name text, new_roles text[], new_sites text[], all_sites boolean,
         new_hash bytea, new_salt bytea) returns void language plpgsql security definer set search_path = public, pg_temp as $$
 begin
@@ -195,7 +195,7 @@ end $$;
 
 -- Who did what --------------------------------------------------------------------------------------------------------
 
--- What may be told as a reason.
+-- What may be a reason.
 create or replace function check_reason(reason text) returns void language plpgsql as $$
 begin
     if reason is null or length(btrim(reason)) not between 3 and 500 or reason ~ '[[:cntrl:]]' then
@@ -204,7 +204,7 @@ begin
 end $$;
 
 -- Each void, restoration and erasure: who asked for it, from where, when and why. It lies beside the log, whose line has the
--- same token. `answer`: what the ledger answered, where the page was told.
+-- same token. `answer`: what the ledger answered, where the page heard it.
 create table if not exists own_deed (
     shard integer not null references own_shard on delete cascade,
     token bigint not null,
@@ -228,8 +228,8 @@ create index if not exists own_deed_transaction_idx on own_deed (station, transa
 create index if not exists own_deed_at_idx on own_deed (at);
 
 -- An operator's line, which comes behind all that was answered: operate('void', 'CS-00441', 'TX-2', 3, 'why'). It gives the
--- number of the line in inbox_kept; its place in the log comes within moments. Whoever listens on a channel is told its
--- answer there, with the token. What a form asked for before is not done again: then there is no number.
+-- number of the line in inbox_kept; its place in the log comes within moments. The channel
+-- carries its answer, with the token. What a form asked for before is not done again: then there is no number.
 drop function if exists operate(text, text, text, bigint, text, bigint);
 create or replace function operate(command text, station_name text, transaction_id text, sequence_number bigint,
         reason text, operator_name text default session_user,
@@ -275,7 +275,7 @@ begin
     perform pg_notify('wake_kept', place.shard || ':' || number);
     return number;
 end $$;
--- The page was told what the ledger answered.
+-- The page heard what the ledger answered.
 create or replace function answer_deed(deed_token bigint, told text) returns void
     language sql security definer set search_path = public, pg_temp as $$
     update own_deed set answer = left(told, 200) where token = deed_token and answer is null;
@@ -288,7 +288,7 @@ create or replace function places_of_deeds(shard_number integer, places bigint[]
     where l.shard = shard_number and l.place = any (places) and l.line !~ '^msg ';
 $$;
 
--- Each change of the plan, and of who may come in: by which role, and where a session told them, by which operator, from where
+-- Each change of the plan, and of who may come in: by which role, and where a session named them, by which operator, from where
 -- and why, such as: set ledger.operator = 'jo'; set ledger.reason = 'new meter';
 create table if not exists own_plan_change (
     change bigint generated always as identity primary key,
@@ -333,7 +333,7 @@ begin
         end if;
     end loop;
 end $$;
--- The plan's number rises with each change and closing, and tells nothing. A token that is used is none.
+-- The plan's number rises with each change and closing, and says nothing. A token that is used is none.
 create or replace trigger note_change after insert or delete on own_shard for each row execute function note_change();
 create or replace trigger note_update after update of moving_to on own_shard
     for each row when (old.moving_to is distinct from new.moving_to) execute function note_change();
@@ -381,7 +381,7 @@ begin
     return number;
 end $$;
 
--- What pages tell ------------------------------------------------------------------------------------------------------
+-- What pages show ------------------------------------------------------------------------------------------------------
 
 -- A session's closing keeps what a bill needs; `corrections`: how often a later closing found another figure.
 alter table archived_transaction add column if not exists evse smallint;
@@ -459,7 +459,7 @@ revoke execute on function set_operator(text, text[], text[], boolean, bytea, by
     begin_session(text, bytea, text), use_session(bytea, boolean), end_session(bytea), use_token(bytea),
     locked_operators(), operate(text, text, text, bigint, text, text, text, text, bigint, text), answer_deed(bigint, text),
     places_of_deeds(integer, bigint[]), request_closing(text, date, text, text, text, text), waits_since() from public;
--- The page looks at sessions and tokens by these alone: it sees no hash of a password but that of who comes in.
+-- The page looks at sessions and tokens only by these: it sees no hash of a password but that of who comes in.
 grant execute on function try_operator(text), begin_session(text, bytea, text), use_session(bytea, boolean),
     end_session(bytea), use_token(bytea), locked_operators(), answer_deed(bigint, text),
     places_of_deeds(integer, bigint[]), operate(text, text, text, bigint, text, text, text, text, bigint, text),
@@ -468,7 +468,7 @@ grant execute on function try_operator(text), begin_session(text, bytea, text), 
 revoke insert (shard, gateway, token, line), select (shard, id) on inbox_kept from ledger_operator;
 revoke usage on sequence place_in_inbox from ledger_operator;
 drop policy if exists commands on inbox_kept;
--- Who reads sees what was done, without the tokens by which answers are told.
+-- Who reads sees what was done, without the tokens of answers.
 grant select (shard, form, at, operator, login, address, reason, command, site, station, transaction, number, answer)
     on own_deed to ledger_reader;
 grant select on own_plan_change, own_closing_request, own_settled to ledger_reader;

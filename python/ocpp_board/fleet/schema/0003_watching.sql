@@ -115,7 +115,7 @@ grant execute on function remove_repeats(integer, bigint, bigint[]) to ledger_co
 -- Who serves a station -----------------------------------------------------------------------------------------------
 
 -- The gateway that let a station in last, and the number of its connection there. A notification says where to look, and
--- anybody may send one; what counts is the row, which gateways alone write. A crash empties it, which ends no connection.
+-- anybody may send one; what counts is the row, which only gateways write. A crash empties it, which ends no connection.
 create unlogged table served (
     station text primary key,
     gateway text not null,

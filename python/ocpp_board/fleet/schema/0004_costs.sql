@@ -1,4 +1,4 @@
--- Version 4: what a message costs. Boards' rows come as arrays, a beat looks at workers' sessions alone, and the check of an
+-- Version 4: what a message costs. Boards' rows come as arrays, a beat only looks at workers' sessions, and the check of an
 -- inbox's lines has no pattern.
 
 -- The same rule of lines that an inbox has, in a fifth less of an insert's time.
@@ -18,7 +18,7 @@ create or replace function living_workers() returns bigint language sql as $$
     select count(*) from worker w cross join pg_stat_get_activity(w.pid) a where a.backend_start = w.began;
 $$;
 
--- Rows as a worker tells them: figures of stations with the place that they follow, periods, sessions and gaps.
+-- Rows as a worker writes them: figures of stations with the place that they follow, periods, sessions and gaps.
 create type station_row as (station text, base bigint, events bigint, voided bigint, transactions bigint, complete bigint,
     missing bigint, up bigint, down bigint, export_up bigint, export_down bigint);
 create type period_row as (station text, starts timestamptz, up bigint, down bigint, export_up bigint, export_down bigint);

@@ -59,7 +59,7 @@ end $$;
 revoke execute on function add_archived() from public;
 create trigger add_archived after insert on own_archived_total referencing new table as fresh
     for each statement execute function add_archived();
--- What earlier closings archived. Which number they corrected they did not tell, so each may have been.
+-- What earlier closings archived. Which number they corrected they did not write, so each may have been.
 insert into own_archived_total
     select shard, site, closing, station, coalesce(t.transactions, 0), coalesce(t.complete, 0), coalesce(t.missing, 0),
         coalesce(p.up, 0), coalesce(p.down, 0), coalesce(p.export_up, 0), coalesce(p.export_down, 0),

@@ -35,7 +35,7 @@ grant execute on function remove_repeats(integer, bigint, bigint[]) to ledger_cl
 
 -- Closings -------------------------------------------------------------------------------------------------------------
 
--- The periods of a station in which what was settled is not what archives alone have: a closing looks at these, at those of
+-- The periods of a station in which what was settled is not what only archives have: a closing looks at these, at those of
 -- the log, and at those of what it archives, and so at no others however many years there are.
 create table own_open_period (
     shard integer not null references own_shard on delete cascade,
@@ -69,7 +69,7 @@ create or replace view moved_shard as
 
 -- Roles ----------------------------------------------------------------------------------------------------------------
 
--- The tools' roles enter this database alone: whoever is let into another one of the server holds its sessions there.
+-- The tools' roles only enter this database: whoever is let into another one of the server holds its sessions there.
 do $$
 declare
     name text;
@@ -81,7 +81,7 @@ end $$;
 
 -- Notifications --------------------------------------------------------------------------------------------------------
 
--- Answers that no notification could tell, since the queue of these has no room, or so much in it that they would come late:
+-- Answers that no notification could carry, since the queue of these has no room, or so much in it that they would come late:
 -- anybody who is let in may fill it. Gateways look here each second.
 create unlogged table untold (
     gateway text not null,

@@ -1,8 +1,8 @@
--- Version 7: what is told never fails, corrections are booked where a period was settled, and history is partitioned by time.
+-- Version 7: notifications never fail, corrections are booked where a period was settled, and history is partitioned by time.
 
 -- Notifications --------------------------------------------------------------------------------------------------------
 
--- A commit fails whose notification finds no room in the queue. So nothing is told while the queue is nearly full: who
+-- A commit fails whose notification finds no room in the queue. So nothing notifies while the queue is nearly full: who
 -- listens looks by itself then.
 create or replace function tell(channel text, payload text) returns void language plpgsql security definer
     set search_path = public, pg_temp as $$
