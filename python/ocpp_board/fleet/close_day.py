@@ -3,24 +3,22 @@
     PGPASSWORD=.. ocpp-board close-day --db postgresql://ledger_closer@a/ledger --site north --archive FOLDER
 
 Days are those of the site's zone (`zone` of own_site). All periods up to the end of the day become rows of
-closed_period. Where a later closing finds that a period which was settled before is another one, by a late event or
-an operator's void, it adds a row with the difference; settled_period has the sums. So a day may be closed again at
-any time, and a day that was left out is settled with the next one.
+closed_period. If a late event or an operator's void changes a settled period, a later closing adds a row with the
+difference, and settled_period has the sums. So a day may be closed again at any time, and a day that was left out is
+settled with the next one.
 
-Transactions that are complete, and of which every moment lies before the day, leave the log for a file in FOLDER: a
-script, which any `replay` reads. What was refused leaves the log, too, and has its row in `refusal`; what was refused
-for want of room stays there, and is taken once there is some. A transaction that never becomes complete keeps its
-room: `--incomplete CS-1 TX-9` archives it as it is, and archived_transaction has it as not complete. A line that comes
-later for an archived transaction is reported here, and replayed behind its archived ones; the file of this closing has
-it whole again. What is corrected is booked at the site where it was settled, also where the station was given to
-another one since. Repeats are removed, as `ocpp-board compact` does, which comes first where a log is large. Before
-anything is taken from the log, the file and the lines that are left are replayed, and their figures together have to be
-those of the log.
+Transactions that are complete, with every moment before the day, leave the log for a file in FOLDER: a script, which
+any `replay` reads. Refused messages leave the log, too, and have rows in `refusal`; those that found no room stay, and
+are taken once there is some. A transaction that never becomes complete keeps its room: `--incomplete CS-1 TX-9`
+archives it as it is, and archived_transaction has it as not complete. If a line comes later for an archived
+transaction, the next closing reports it, replays it behind the archived lines, and writes the transaction whole into
+its own file. It books a correction at the site where the period was settled, even if the station has another site now.
+It removes repeats, as `ocpp-board compact` does, and compacts a large log first. Before it takes anything from the log
+it replays the file and the lines that are left: together they have to have the figures of the log.
 
-It may end at any time: call it again. Where its session with the database is lost it begins anew by itself, up to five
-times and for two minutes without any, and it waits as long for another program that has the shard. It reports a line
-that the ledger took and that can't be read here, such as one with a time of a second 60, with its number, and leaves
-its transaction in the log.
+It may end at any time: call it again. If it loses its session with the database it begins anew, up to five times, and
+tries for two minutes to get one. It waits as long for another program that has the shard. It reports a line that the
+ledger took and Python can't read, such as one with second 60, and leaves its transaction in the log.
 """
 
 import argparse

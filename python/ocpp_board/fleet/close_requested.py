@@ -2,10 +2,10 @@
 
     PGPASSWORD=.. ocpp-board close-requested --db postgresql://ledger_closer@a:5432,b:5432/ledger --archives FOLDER
 
-Each request is a row of own_closing_request, with who asked for it, from where and why. It is done by `ocpp-board
-close-day`, by the same role, and writes what came of it into the row. A request whose closing was ended in
-the middle is done again after two hours. The archives of a site lie in the folder of its name in FOLDER, as those of
-ocpp-board-close-day@SITE do. A timer calls it each minute. Exit status: 0; 1 where a closing failed.
+A request is a row of own_closing_request, with who asked for it, from where and why. `ocpp-board close-day` does it, by
+the same role, and what came of it is written into the row. A closing that was ended in the middle is done again after
+two hours. The archives of a site are in the folder of its name in FOLDER, as those of ocpp-board-close-day@SITE are. A
+timer calls it each minute. Exit status: 0; 1 if a closing failed.
 """
 
 import argparse

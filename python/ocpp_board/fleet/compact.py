@@ -4,11 +4,11 @@ that has many.
     PGPASSWORD=.. ocpp-board compact --db postgresql://ledger_compactor@a/ledger --program ocpp_board --shard 7
     PGPASSWORD=.. ocpp-board compact --db postgresql://ledger_compactor@a/ledger --program ocpp_board --all
 
-The log is replayed under the plan's limits, and after each message the station's total is asked for. A message that
-was taken and left the total as it was is a repeat, since each accepted change counts in it. Of what was refused 1 MiB
-of a station stays, and 4 MiB of what waits for room. What came for archived transactions is replayed behind their own
-lines. Before anything is removed the lines that are left are replayed, and their boards must be the same. A log is
-read in parts, and one of more than a replay reads is replayed in parts.
+It replays the log under the plan's limits, and asks for the station's total after each message. A message that was
+taken and left the total as it was is a repeat, since each accepted change counts in the total. Of refused messages
+1 MiB of a station stays, and 4 MiB of those that wait for room. It replays what came for archived transactions behind
+their own lines. Before it removes anything it replays the lines that are left, and their boards have to be the same. It
+reads a log in parts, and replays one in parts that is longer than a replay reads.
 """
 
 import argparse

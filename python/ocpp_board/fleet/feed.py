@@ -1,25 +1,24 @@
-"""Appends the TransactionEvents of a CSMS that is there already to the log: from a file, from RabbitMQ or by MQTT.
+"""Appends the TransactionEvents of a CSMS to the log: from a file, from RabbitMQ or by MQTT.
 
     PGPASSWORD=.. ocpp-board feed --db postgresql://ledger_feed@a:5432,b:5432/ledger file csms.log --form ocpp --follow
     SOURCE_PASSWORD=.. PGPASSWORD=.. ocpp-board feed --db .. rabbitmq amqp://USER@HOST:5672/ --queue ledger
     SOURCE_PASSWORD=.. PGPASSWORD=.. ocpp-board feed --db .. mqtt mqtt://USER@HOST --topic 'cs/in/ocpp2.0.1/+' --name f1
 
-`--db` is given once for each cell. What came while the last batch went to disk is the next batch; a message is
-acknowledged to its broker once it is committed, and how far a file was taken is committed with its lines. So it may
-be killed at any time: nothing is missing, and what is appended twice is harmless. Nobody is answered: the CSMS does
-that. A file that is followed may be rotated: it is taken to its end, and then the new one of its name from its
-start.
+Give `--db` once for each cell. What comes while one batch goes to disk is the next batch. The feed acknowledges a
+message to its broker once it is committed, and commits how far it read a file with the file's lines. So you may kill
+it at any time: nothing is missing, and what is appended twice is harmless. It answers nobody: the CSMS does that. With
+--follow it reads a rotated file to its end, and then the new file of its name from the start.
 
-What is no TransactionEvent of OCPP 2.0.1 is counted and left; of what can't be read the first of each kind is logged.
-Events of stations that no plan has are kept as rows of `stray`, and appended once one has them.
+It counts what is no TransactionEvent of OCPP 2.0.1, and leaves it. Of messages that it can't read it logs the first of
+each kind. Events of stations that no plan has are rows of `stray`, and are appended once a plan has the station.
 
-Where a message is an object in place of a frame (CitrineOS by RabbitMQ, MaEVe by MQTT, as far as known) the frame
-is made of its parts as they are written there. A frame's station is the message's header `stationId`, or else what
-the routing key ends with behind its last point; by MQTT what the topic ends with behind its last slash.
+If a message is an object and not a frame (CitrineOS by RabbitMQ, MaEVe by MQTT, as far as known), the feed makes the
+frame of its parts as they are written there. The station is the message's header `stationId`, or else what follows the
+last point of the routing key; by MQTT it is what follows the last slash of the topic.
 
-Once a minute and at the end it logs to standard error what became of the messages. The status is 0, 1 where some of a
-file that is not followed could not be taken, and 2 where the words, a password or a file is wrong. A database or a
-broker that goes away is logged once, and tried again and again.
+Once a minute and at the end it logs to standard error what became of the messages. The status is 0, 1 if some of a file
+that is not followed could not be taken, and 2 if the words, a password or a file is wrong. It logs once that a database
+or a broker goes away, and tries again and again.
 """
 
 import argparse

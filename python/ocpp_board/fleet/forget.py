@@ -6,14 +6,14 @@ of history out of its tables.
 
     PGPASSWORD=.. ocpp-board forget --db postgresql://ledger_keeper@a/ledger --archive FOLDER --years 10
 
---after takes all tokens out of what came so many days ago or was archived then, and is for a timer; --token one of
-them out of all, at once, whatever its letters. Of a message all else stays as it was written. The ledger looks into no
-token, so before anything is changed a replay of what was and one of what will be have to give the same answers and the
-same boards. A station that sends the original once more is answered as before; that repeat has the token again, until
-the next compaction, closing or run of --after.
+--after takes all tokens out of messages that came or were archived so many days ago, and is for a timer. --token takes
+one token out of all messages at once, in any case of its letters. All else of a message stays as it was written. The
+ledger looks into no token; so before anything is changed, replays of the old and of the new messages have to give the
+same answers and the same boards. A station that sends the original once more is answered as before; that repeat has
+the token again, until the next compaction, closing or run of --after.
 
---years keeps so many whole years of periods and sessions beside the present one: what lies before them is written into
-FOLDER, as CSV that is packed by gzip, and leaves the tables and their sums. Archives stay as they are.
+--years keeps so many whole years of periods and sessions beside the present one. It writes what is older into FOLDER,
+as CSV packed by gzip, and removes it from the tables and their sums. Archives stay as they are.
 
 It may end at any time: call it again. Backups have tokens until they are removed.
 """

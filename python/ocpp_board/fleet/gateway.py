@@ -2,13 +2,14 @@
 
     PGPASSWORD=.. ocpp-board gateway --db postgresql://ledger_gateway@a:5432,b:5432/ledger --port 9100
 
-`--db` is given once for each cell. What came while the last batch was appended is the next batch: one insert, which
-waits for no disk. The worker answers an event once the event's line is in the log on disk; what has no
-answer the gateway appends again where its session with the database ends. What surely is no event is answered by
-a `replay` of the gateway's own and not kept. It keeps nothing: stations send again what has no answer.
+Give `--db` once for each cell. The gateway appends events in batches: what comes while one batch is appended is the
+next one. A batch is one insert, which waits for no disk. A worker answers an event once the event's line is in the log
+on disk. If the gateway loses its session with the database, it appends again what has no answer. A `replay` of its own
+answers messages that surely are no events, and these are not kept. The gateway itself keeps nothing: stations send
+again what has no answer.
 
-A station is let in by HTTP Basic, with its name and the password that `ocpp-board password` set; with --open each one
-of the plan is, and with --client-ca or --client-header who has a certificate of its name.
+A station comes by HTTP Basic, with its name and the password that `ocpp-board password` set. With --client-ca or
+--client-header it comes with a certificate of its name. With --open each station of the plan is let in.
 """
 
 import argparse

@@ -3,11 +3,11 @@
     PGPASSWORD=.. ocpp-board move --shard 7 --from postgresql://ledger_mover@a/ledger \\
         --to postgresql://ledger_mover@c/ledger --reason 'a is full'
 
-Most of its log is copied while it grows, each line with its place, and what closings settled and archived, which nobody
-changes meanwhile. Then the shard takes no lines: what its stations send waits in the gateways; its worker gives it
-back; the rest of the log, lines of operators and feeds that have no place yet, and the plan are copied, and the shard
-is there. Gateways, which hear of it from both cells, append what
-waited, and a worker of the other cell answers, too, what was not answered yet.
+It first copies most of the log while that grows, each line with its place, and what closings settled and archived,
+which nobody changes meanwhile. Then the shard takes no lines: what its stations send waits in the gateways, and its
+worker gives it back. Now it copies the rest of the log, the lines of operators and feeds that have no place yet, and
+the plan, and the shard is in the other cell. Gateways hear of it from both cells, and append what waited. A worker of
+the other cell also answers what was not answered yet.
 
 It may end at any time: call it again, and it goes on.
 """

@@ -2,14 +2,14 @@
 
     PGPASSWORD=.. ocpp-board worker --db postgresql://ledger_worker@a:5432,b:5432/ledger --program ocpp_board
 
-Any number of workers share the shards of a cell. Each beat a worker looks who lives; where that or the plan changed
-it takes or gives back shards until the shares are even, and it ends the sessions of a worker whose beat is too old.
-A shard that it takes is replayed from the start of its log; it gives no answer a second time. From then
-on it gives each line that comes its place in the log, and answers once that is on disk. It looks only at
-shards that were woken: by a gateway that appended, by a change of the plan, or by itself where it has not read all.
-Boards of shards that changed are written again and again.
+Any number of workers share the shards of a cell. With each beat a worker looks which others live. If that or the plan
+changed, it takes shards or gives some back until the shares are even, and it ends the sessions of a worker whose beat
+is too old. It replays a shard that it takes from the start of the log, and gives no answer a second time. From then on
+it gives each line that comes its place in the log, and answers it once it is on disk. It looks only at shards that were
+woken: by a gateway that appended, by a change of the plan, or by itself if it has not read all. It writes the boards of
+shards that changed again and again.
 
-A worker keeps nothing. It may be killed at any time, and it answers twice what comes twice.
+A worker keeps nothing. You may kill it at any time, and it answers twice what comes twice.
 """
 
 import argparse
