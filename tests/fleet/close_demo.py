@@ -23,10 +23,10 @@ from tests.fleet.closings import ZONE, ClosingTrial, line, local, session
 from tests.fleet.fleet import PATIENCE, ended
 from tests.fleet.trials import parsed, parser_of, tried
 
-# Ends the session of a closing, once it has begun to read.
+# Ends the session of a closing, once it has begun to read. One that is just ending is there for a while.
 END = """
-select count(pg_terminate_backend(pid)) from pg_stat_activity
-where application_name = 'ocpp-board close-day' and query ~ 'own_'
+select pid || ' ' || backend_start from pg_stat_activity
+where application_name = 'ocpp-board close-day' and query ~ 'own_' and pg_terminate_backend(pid)
 """
 LOST = "the session with the database was lost: "
 
@@ -180,11 +180,12 @@ class Demo(ClosingTrial):
         await self.same("and is begun anew", "2026-11-06")
         await self.came("void A Lost 1")
         process = self.fleet.start(*command, stdout=-1, stderr=subprocess.STDOUT)
-        count = 0
+        sessions = set[str]()
         while process.poll() is None:
-            count += await self.owner.fetchval(END)
+            sessions.add(await self.owner.fetchval(END) or "")
             await asyncio.sleep(0.01)
         status, said = await ended(process)
+        count = len(sessions - {""})
         self.check(
             count == 5 and status == 2 and LOST in said.splitlines()[-1] and "__" not in said,
             f"a closing each of whose {count} sessions is ended: {said}",

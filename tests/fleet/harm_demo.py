@@ -27,13 +27,16 @@ from zoneinfo import available_timezones
 import asyncpg
 
 from ocpp_board.fleet.database import connect
+from ocpp_board.fleet.gateway import BURST, BYTES
 from tests.fleet.client import Client
-from tests.fleet.fleet import BIN, FILL, Database, children, ended, tool
+from tests.fleet.fleet import BIN, FILL, PATIENCE, Database, children, ended, tool
 from tests.fleet.trials import Trial, event, parsed, parser_of, tried
 
 STATIONS = 40
 # Seconds that a database, a replay or a handshake has.
 LIMIT = 10
+# Bytes of a long event, and how many come: for the last ones the station waits.
+LONG, LONG_ONES = 262_000, 18
 # A station that never comes has lines here, for which nobody waits.
 APPEND = """
 insert into inbox_kept (shard, gateway, token, line) values (0, $1, $2, 'void CS-00000 TX-9 1')
@@ -90,30 +93,35 @@ class Demo(Trial):
             self.owner.terminate()
         self.owner = await connect(self.fleet.dsn("owner", self.fleet.databases[0].port))
 
-    async def until(self, seconds: float, is_so: Callable[[], Any]) -> bool:
-        """Whether something comes to be so in this time."""
-        end = time.monotonic() + seconds
+    async def until(self, is_so: Callable[[], Any]) -> bool:
+        """Whether something comes to be so."""
+        end = time.monotonic() + PATIENCE
         while not await is_so():
             if time.monotonic() > end:
                 return False
             await asyncio.sleep(0.05)
         return True
 
-    async def answered(self, text: str, seconds: float = 5, station: str = "CS-00001") -> None:
-        """Whether a station's event is answered in this time."""
+    async def answered(self, text: str, station: str = "CS-00001") -> float:
+        """Whether a station's event is answered, and after how many seconds."""
         self.number += 1
         message = event(f"T-{self.number}", 0, "Started", "2026-03-01T10:00:00Z", 1000)
         began, heard = time.monotonic(), "nothing"
         try:
             link = await Client.open(self.url, station)
-            if (heard := await link.said(seconds)) == "101":
+            if (heard := await link.said(PATIENCE)) == "101":
                 link.send(message.encode())
-                heard = await link.said(seconds)
+                heard = await link.said(PATIENCE)
             link.transport.abort()
         except (OSError, asyncio.TimeoutError):
             pass
         took = time.monotonic() - began
         self.check(heard.startswith("[3,"), f"{text}: an event is answered {heard} in {took:.1f} s")
+        return took
+
+    async def slack(self) -> float:
+        """Seconds by which a wait may be longer, since the machine has other work: ten times what an event takes."""
+        return 10 * max([await self.answered("by the way") for _ in range(5)])
 
     # What is tried ----------------------------------------------------------------------------------------------------
 
@@ -148,7 +156,7 @@ class Demo(Trial):
         async def are_told() -> bool:
             return len(self.answers) == 3
 
-        are_all = await self.until(5, are_told)
+        are_all = await self.until(are_told)
         await asyncio.sleep(1)
         after = await self.sessions()
         self.check(
@@ -179,7 +187,7 @@ class Demo(Trial):
         await asyncio.sleep(4.5)
         for process in self.workers:
             process.send_signal(signal.SIGCONT)
-            await asyncio.sleep(1.5)
+            await asyncio.sleep(0.5)
         await asyncio.sleep(3)
         after = await self.sessions()
         log = (self.fleet.folder / "parts.log").read_text()
@@ -193,7 +201,7 @@ class Demo(Trial):
         async def is_ended() -> bool:
             return len(await self.sessions()) == len(before) // 2
 
-        self.check(await self.until(10, is_ended), "and one that alone is stopped is ended")
+        self.check(await self.until(is_ended), "and one that alone is stopped is ended")
         self.workers[0].send_signal(signal.SIGCONT)
         await self.answered("and once it is woken")
 
@@ -207,14 +215,14 @@ class Demo(Trial):
         await self.owned()
         left = [process.poll() for process in (self.process, *self.workers)]
         self.check(left == [None] * 3, f"while the other host is away they go on: {left}")
-        await self.answered("once it is back", 20)
+        await self.answered("once it is back")
 
     def begun(self, login: str) -> str:
         """How a gateway begins, or why it does not."""
         command = [*tool("gateway"), "--db", login, "--program", self.fleet.program, "--port", "0"]
         process = subprocess.Popen(command, stdout=subprocess.PIPE, stderr=subprocess.PIPE)
         try:
-            _, text = process.communicate(timeout=20)
+            _, text = process.communicate(timeout=PATIENCE)
         except subprocess.TimeoutExpired:
             process.kill()
             return process.communicate()[0].decode().strip()
@@ -272,7 +280,7 @@ class Demo(Trial):
         worker = self.fleet.worker("--boards", 0.5, dsn=login)
         login = self.fleet.dsn("ledger_gateway", self.other.port, database="dumped")
         gateway, self.url = await asyncio.to_thread(self.fleet.gateway, login)
-        await self.answered("by the dump", 20, "CS-00007")
+        await self.answered("by the dump", "CS-00007")
         await copy.execute(
             f"select operate('void', 'CS-00007', 'T-{self.number - 1}', 0, 'a test')"
         )
@@ -283,7 +291,7 @@ class Demo(Trial):
             return row is not None and tuple(row) == (1, 1)
 
         self.check(
-            await self.until(10, is_voided),
+            await self.until(is_voided),
             "an event of the dump is voided, and a later one counts",
         )
         places = await copy.fetch("select shard, count(*) - max(place) from own_log group by shard")
@@ -315,39 +323,37 @@ class Demo(Trial):
 
     async def looked_for(self) -> None:
         """Strangers for whose names the database takes 4 seconds: they wait, and nobody else does."""
+        most = 1.5 + await self.slack()
         await (await Client.open(self.url, "NOBODY")).said()
         pid = await self.owner.fetchval(LOOKING)
         os.kill(pid, signal.SIGSTOP)
         try:
             links = [await Client.open(self.url, f"NOBODY-{number}") for number in range(30)]
-            waits = []
-            for _ in range(6):
-                began = time.monotonic()
-                await self.answered("while 30 strangers are looked for")
-                waits.append(time.monotonic() - began)
+            waits = [await self.answered("while 30 strangers are looked for") for _ in range(6)]
         finally:
             os.kill(pid, signal.SIGCONT)
-        self.check(max(waits) < 1.5, f"the longest wait for these is {max(waits):.2f} s")
-        heard_all = [await link.said() for link in links]
+        self.check(
+            max(waits) < most, f"the longest wait for these is {max(waits):.2f} s of {most:.2f}"
+        )
+        heard_all = [await link.said(PATIENCE) for link in links]
         self.check(
             all(heard.startswith("404 ") for heard in heard_all), f"strangers: {heard_all[0]}"
         )
 
     async def handshakes(self) -> None:
         """A handshake of which a byte comes each second."""
+        most = LIMIT + 4 + await self.slack()
         host, port = self.url.removeprefix("ws://").removesuffix("/ocpp").split(":")
         reader, writer = await asyncio.open_connection(host, int(port))
         began = time.monotonic()
         try:
-            for byte in b"GET /ocpp/CS-00001 HTTP/1.1":
-                writer.write(bytes([byte]))
+            while not reader.at_eof() and time.monotonic() < began + PATIENCE:
+                writer.write(b"G")
                 await asyncio.sleep(1)
-                if reader.at_eof() or time.monotonic() > began + LIMIT + 5:
-                    break
         except OSError:
             pass
         took = time.monotonic() - began
-        self.check(took < LIMIT + 4, f"a slow handshake is cut after {took:.0f} s")
+        self.check(took < most, f"a slow handshake is cut after {took:.0f} s of {most:.0f}")
         writer.close()
 
     async def replay(self) -> None:
@@ -359,7 +365,7 @@ class Demo(Trial):
         began = time.monotonic()
         link.send(b'[2,"1","Heartbeat",{}]')
         try:
-            heard = await link.said(LIMIT + 8)
+            heard = await link.said(PATIENCE)
         except asyncio.TimeoutError:
             heard = "nothing"
             os.kill(own[0], signal.SIGCONT)
@@ -381,7 +387,7 @@ class Demo(Trial):
         for number in (1, 2):
             link.send(f'[2,"{number}","Heartbeat",{{}}]'.encode())
             try:
-                heard.append(await link.said(5))
+                heard.append(await link.said(PATIENCE))
             except asyncio.TimeoutError:
                 heard.append("nothing")
         self.check(
@@ -403,7 +409,7 @@ class Demo(Trial):
             all(new > old for new, old in zip(after, before)),
             f"a station that changes its shard tells both: plans {before}, then {after}",
         )
-        await self.answered("in its new shard", 20, "NEW")
+        await self.answered("in its new shard", "NEW")
         names = {
             row["name"] for row in await self.owner.fetch("select name from pg_timezone_names")
         }
@@ -478,7 +484,7 @@ class Demo(Trial):
         )
         await self.set("synchronous_standby_names", "")
         # The worker that came meanwhile takes its shards once its own commits go through, at its next sweep at latest.
-        await self.answered("once it is no longer waited for", 40)
+        await self.answered("once it is no longer waited for")
 
     async def set(self, name: str, value: str) -> None:
         """Changes a setting of the server, whose commits do not wait for that."""
@@ -497,7 +503,7 @@ class Demo(Trial):
         self.workers = [self.fleet.worker("--boards", 0.5)]
         login = self.fleet.dsn("ledger_gateway", database.port)
         self.process, self.url = await asyncio.to_thread(self.fleet.gateway, login)
-        await self.answered("with synchronous_commit off in the server's file", 20)
+        await self.answered("with synchronous_commit off in the server's file")
         await self.load(4)
         database.kill()
         database.start()
@@ -513,7 +519,7 @@ class Demo(Trial):
         heard = set()
         for _ in range(50):
             link.send(text.encode())
-            heard.add(await link.said())
+            heard.add(await link.said(PATIENCE))
         lines = await self.owner.fetchval(COUNT, "CS-00005")
         self.check(
             heard == {'[3,"Again-0",{}]'} and lines == 1,
@@ -521,17 +527,20 @@ class Demo(Trial):
         )
         link = await Client.open(self.url, "CS-00006")
         await link.said()
-        began, sent = time.monotonic(), 0
-        while time.monotonic() < began + 10:
-            long = event(f"Long-{sent}", 0, "Started", "2026-03-01T10:00:00Z", 1000)
-            filler = 262_000 - len(long)
-            link.send(long.replace('"seqNo"', f'"x":"{filler * "x"}","seqNo"').encode())
-            try:
-                await link.said(2)
-            except asyncio.TimeoutError:
-                break
-            sent += 1
-        self.check(10 < sent < 25, f"long events one after the other: {sent} in 10 s")
+        began = time.monotonic()
+        for number in range(LONG_ONES):
+            text = event(f"Long-{number}", 0, "Started", "2026-03-01T10:00:00Z", 1000)
+            filler = LONG - len(text)
+            text = text.replace('"seqNo"', f'"x":"{filler * "x"}","seqNo"')
+            link.send(text.encode())
+            await link.said(PATIENCE)
+        took = time.monotonic() - began
+        # Each byte above those that are read at once waits.
+        least = (LONG_ONES - 1) * LONG / BYTES - BURST
+        self.check(
+            took >= least, f"{LONG_ONES} long events take {took:.0f} s, {least:.0f} at least"
+        )
+        link.send(text.encode())
         await self.answered("beside these")
         link.transport.abort()
 
@@ -560,8 +569,8 @@ class Demo(Trial):
         async def is_noted() -> bool:
             return bool(await self.owner.fetchval(noted))
 
-        self.check(await self.until(20, is_shown), "a board of a log with repeats")
-        self.check(await self.until(5, is_noted), "and the worker noted how far it told answers")
+        self.check(await self.until(is_shown), "a board of a log with repeats")
+        self.check(await self.until(is_noted), "and the worker noted how far it answered")
         before = await self.owner.fetchval(board)
         size = sum(len(text) + 1 for text in texts)
         words = (
@@ -588,7 +597,7 @@ class Demo(Trial):
         async def is_compacted() -> bool:
             return bool(await self.owner.fetchval(COUNT, "FULL") == 200)
 
-        self.check(await self.until(20, is_compacted), "a log that is nearly full is compacted")
+        self.check(await self.until(is_compacted), "a log that is nearly full is compacted")
         told = (self.fleet.folder / "parts.log").read_text().count("shard 900: its log has")
         self.check(told == 2, f"and that is told where it is half full and at nine tenths: {told}")
         self.check(await self.owner.fetchval(board) == before, "its board is as before")
@@ -616,7 +625,7 @@ class Demo(Trial):
         async def is_written() -> bool:
             return bool(await self.owner.fetchval(query))
 
-        self.check(await self.until(20, is_written), "its board is written again")
+        self.check(await self.until(is_written), "its board is written again")
 
     async def big_log(self) -> None:
         """A log of more than 1 GiB, of one event that came again and again."""
