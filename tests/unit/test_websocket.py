@@ -91,10 +91,13 @@ WRONG = [
 
 
 def heard(sent: list[bytes], cuts_frames: bool, seed: int) -> tuple[Any, ...]:
-    """What comes of frames that come in parts, cut anywhere."""
+    """What comes of frames that come in parts, cut anywhere; with the seed 0 each frame comes whole."""
 
     async def run() -> tuple[Any, ...]:
         end, chance, data = End(cuts_frames), random.Random(seed), b"".join(sent)
+        for frame in [] if seed else sent:
+            end.data_received(frame)
+            data = b""
         while data:
             size = chance.choice((1, 2, 7, 100, 5_000, 300_000))
             end.data_received(data[:size])
@@ -109,7 +112,7 @@ def heard(sent: list[bytes], cuts_frames: bool, seed: int) -> tuple[Any, ...]:
 
 @pytest.mark.parametrize("sent", [RIGHT, *WRONG])
 def test_frames_are_read_as_websockets_reads_them(sent: list[bytes]) -> None:
-    for seed in range(5):
+    for seed in range(6):
         assert heard(sent, True, seed) == heard(sent, False, seed)
 
 

@@ -3,6 +3,7 @@
 import asyncio
 import os
 import secrets
+import struct
 from collections.abc import Callable, Container, Iterator, Mapping
 from pathlib import Path
 from typing import Any
@@ -52,6 +53,8 @@ LET_IN = set[str]()
 ADMISSION = 5.0
 # Bytes of a notification, which PostgreSQL ends at 7,999.
 PAYLOAD = 7_900
+# Tokens that are drawn from the system at once.
+DRAWN = 64
 # A wake says nothing that inboxes do not have, so it waits for no disk.
 WAKE = "select set_config('synchronous_commit', 'off', true), tell('wake_kept', $1)"
 # Ends the sessions that a program of this name left behind: they may hold locks still, and wait for a standby.
@@ -229,10 +232,20 @@ async def session_of(dsn: str, wants_standby: bool, settings: dict[str, str]) ->
     return session
 
 
+def tokens() -> Iterator[int]:
+    """Tokens that nobody can guess. Many at once are drawn from the system."""
+    while True:
+        for (number,) in struct.iter_unpack("<Q", secrets.token_bytes(8 * DRAWN)):
+            yield 1 + (number >> 2)
+
+
+TOKENS = tokens()
+
+
 def new_token(waiting: Container[int]) -> int:
     """A token that nobody can guess, which an answer carries, other than those of what waits. Who may notify and
     does not know it can forge no answer."""
-    while (token := 1 + secrets.randbits(62)) in waiting:
+    while (token := next(TOKENS)) in waiting:
         pass
     return token
 

@@ -475,10 +475,12 @@ class Cell:
         tokens, shards, lines, size = list[int](), list[int](), list[str](), 0
         while self.queue and len(tokens) < BATCH and size < BATCH_BYTES:
             token = self.queue.popleft()
-            wait = self.gateway.waiting.get(token)
-            if wait and self.is_home(wait.link.name):
+            if not (wait := self.gateway.waiting.get(token)):
+                continue
+            home = self.gateway.homes.get(wait.link.name)
+            if home and home[0] is self:
                 tokens.append(token)
-                shards.append(self.gateway.homes[wait.link.name][1])
+                shards.append(home[1])
                 lines.append(wait.line())
                 size += len(wait.text)
         if not tokens:
@@ -544,8 +546,7 @@ class StationLink(Link):
             self.head.clear()
 
     def is_held(self) -> bool:
-        is_full = self.unanswered >= UNANSWERED
-        return self.is_slow or self.is_paced or is_full
+        return self.is_slow or self.is_paced or self.unanswered >= UNANSWERED
 
     def handshake(self, event: Request | Response) -> None:
         assert isinstance(event, Request)
@@ -684,10 +685,8 @@ class StationLink(Link):
         self.is_paced = False
         self.resume()
 
-    def read(self) -> None:
-        super().read()
-        if self.is_held() and not self.is_lost:
-            self.transport.pause_reading()
+    def hold(self) -> None:
+        self.transport.pause_reading()
 
     def resume(self) -> None:
         """Reads again, where nothing speaks against it."""

@@ -30,6 +30,8 @@ WHOLE_TEXT, MASKED, LENGTH = 0x81, 0x80, 0x7F
 TWO_BYTES, EIGHT_BYTES = 126, 127
 # Bytes of a frame with its head.
 LONGEST = MOST + 14
+# The heads of short texts that are not masked.
+SHORT_HEADS = [bytes((WHOLE_TEXT, size)) for size in range(TWO_BYTES)]
 
 
 def extent(data: bytes | bytearray) -> tuple[int, int]:
@@ -74,11 +76,16 @@ class Link(asyncio.Protocol):
         """Whether something speaks against reading more."""
         return False
 
+    def hold(self) -> None:
+        """Something speaks against reading more."""
+
     def count(self, size: int) -> None:
         """A frame of any kind came, with so many bytes."""
 
     def data_received(self, data: bytes) -> None:
         """Bytes came."""
+        if self.read_whole(data):
+            return
         if len(data) <= PART or self.cuts_frames:
             self.unread.append(data)
         else:
@@ -93,7 +100,22 @@ class Link(asyncio.Protocol):
         while not (self.is_lost or self.is_held()) and self.step():
             pass
         self.is_reading = False
-        self.flush()
+        if self.is_held() and not self.is_lost:
+            self.hold()
+
+    def read_whole(self, data: bytes) -> bool:
+        """Reads a frame, where these bytes are one and nothing else waits. Whether they were."""
+        if self.unread or self.begun or self.is_reading or not self.cuts_frames:
+            return False
+        head, size = extent(data)
+        if size != len(data) or self.is_lost or self.is_held():
+            return False
+        self.is_reading = True
+        self.take_frame(data, head)
+        self.is_reading = False
+        if self.is_held() and not self.is_lost:
+            self.hold()
+        return True
 
     def step(self) -> bool:
         """Reads the next frame, or a part of what came. Whether there was something to read."""
@@ -103,7 +125,9 @@ class Link(asyncio.Protocol):
                 return True
             return False
         begun = self.begun
-        if not begun and self.unread:
+        if not (begun or self.unread):
+            return False
+        if not begun:
             # Mostly one frame comes, and it is whole.
             head, size = extent(self.unread[0])
             if size == len(self.unread[0]):
@@ -136,10 +160,11 @@ class Link(asyncio.Protocol):
             self.hand_on(frame)
 
     def hand_on(self, data: bytes) -> None:
-        """Has `websockets` read something."""
+        """Has `websockets` read something, and sends what it answers."""
         self.connection.receive_data(data)
         for event in self.connection.events_received():
             self.take(event)
+        self.flush()
 
     def take(self, event: Request | Response | Frame) -> None:
         """Takes what was read."""
@@ -168,14 +193,13 @@ class Link(asyncio.Protocol):
         """Sends a text, where the connection is open."""
         if self.connection.state is not State.OPEN:
             return
-        if self.cuts_frames and len(data) < 1 << 16 and not self.is_lost:
-            size = len(data)
-            head = (
-                (WHOLE_TEXT, size)
-                if size < TWO_BYTES
-                else (WHOLE_TEXT, TWO_BYTES, *size.to_bytes(2, "big"))
-            )
-            self.transport.write(bytes(head) + data)
+        size = len(data)
+        if self.cuts_frames and size < 1 << 16 and not self.is_lost:
+            if size < TWO_BYTES:
+                head = SHORT_HEADS[size]
+            else:
+                head = bytes((WHOLE_TEXT, TWO_BYTES, *size.to_bytes(2, "big")))
+            self.transport.write(head + data)
         else:
             self.connection.send_text(data)
             self.flush()
