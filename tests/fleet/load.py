@@ -14,7 +14,6 @@ is taken, or where not all were answered in time.
 
 import argparse
 import asyncio
-import json
 import logging
 import random
 import ssl
@@ -24,17 +23,27 @@ from pathlib import Path
 from typing import TextIO
 from urllib.parse import urlsplit
 
+from websockets.connection import State
 from websockets.http11 import Request, Response
 
 from ocpp_board import telling
 from ocpp_board.fleet.parts import use_uvloop
-from ocpp_board.fleet.websocket import ClientLink
+from ocpp_board.fleet.websocket import MASKED, TWO_BYTES, WHOLE_TEXT, ClientLink
 from tests.fleet.trials import messages
 
 log = logging.getLogger(__name__)
 
 # Seconds until a station that got no answer connects anew, and after which one whose connection ended does so.
 PATIENCE, PAUSE = 40.0, 0.1
+# The head of a text of a station that is masked by zeros, so that it is sent as it is.
+ZEROS = b"\0\0\0\0"
+
+
+def frame_of(data: bytes) -> bytes:
+    """A text as a frame of a station."""
+    size = len(data)
+    length = bytes((size,)) if size < TWO_BYTES else bytes((TWO_BYTES, *size.to_bytes(2, "big")))
+    return bytes((WHOLE_TEXT, MASKED | length[0])) + length[1:] + ZEROS + data
 
 
 class Load:
@@ -109,6 +118,8 @@ class Station:
         words = load.words
         self.load, self.name, self.turn = load, f"CS-{number:05}", number
         self.rest, self.wanted = messages(number, words.events, words.step, words.near), ""
+        # Since when a message waits for its answer on this connection; 0 where none does.
+        self.sent = 0.0
         self.pause = words.stations / words.rate if words.rate else 0.0
         # When the message that waits for its answer was first sent, and when the next one is due.
         self.first = self.due = 0.0
@@ -140,6 +151,7 @@ class Station:
                 await ended
             except (OSError, asyncio.TimeoutError):
                 pass
+            self.sent = 0.0
             if self.next:
                 self.next.cancel()
             if self.rest:
@@ -164,15 +176,17 @@ class Station:
     def send(self) -> None:
         assert self.link
         self.load.again += self.first > 0
-        self.first = self.first or time.monotonic()
+        self.sent = time.monotonic()
+        self.first = self.first or self.sent
         self.due = self.due or self.first
-        self.wanted = f'[3,"{json.loads(self.rest[0])[1]}",{{}}]'
+        # Its id has no escapes.
+        _, own, _ = self.rest[0].split('"', 2)
+        self.wanted = f'[3,"{own}",{{}}]'
         self.link.send(self.rest[0].encode())
-        self.next = asyncio.get_running_loop().call_later(PATIENCE, self.link.transport.abort)
 
     def answered(self, answer: str) -> None:
-        assert self.link and self.next
-        self.next.cancel()
+        assert self.link
+        self.sent = 0.0
         self.load.answered(self, answer)
         self.first = 0.0
         self.due += self.pause
@@ -187,16 +201,33 @@ class Station:
 
 
 class StationEnd(ClientLink):
+    """A station's connection. It writes texts by itself, and reads short ones that come whole, since `websockets` takes
+    more time for these than a gateway."""
+
     def __init__(self, station: Station, url: str, ended: "asyncio.Future[None]") -> None:
         super().__init__(url)
         self.station, self.ended = station, ended
+        self.is_in = False
+
+    def data_received(self, data: bytes) -> None:
+        size = len(data) - 2
+        if self.is_in and 0 <= size < TWO_BYTES and data[0] == WHOLE_TEXT and data[1] == size:
+            self.text(data[2:])
+        else:
+            # What comes behind a part of a frame is for `websockets`, too.
+            self.is_in = False
+            super().data_received(data)
+
+    def send(self, data: bytes) -> None:
+        if self.connection.state is State.OPEN and not self.is_lost:
+            self.transport.write(frame_of(data))
 
     def handshake(self, event: Request | Response) -> None:
         if self.client.handshake_exc:
             log.error("%s: %s", self.station.name, self.client.handshake_exc)
             self.transport.abort()
         else:
-            self.station.link = self
+            self.station.link, self.is_in = self, True
             if self.station.load.words.together and not self.station.load.all_here.is_set():
                 self.station.load.places.release()
                 self.station.load.here()
@@ -213,12 +244,24 @@ class StationEnd(ClientLink):
             self.ended.set_result(None)
 
 
+async def cut_off(stations: list[Station]) -> None:
+    """Ends connections on which no answer comes."""
+    while True:
+        await asyncio.sleep(1)
+        late = time.monotonic() - PATIENCE
+        for station in stations:
+            if station.link and 0 < station.sent < late:
+                station.sent = 0.0
+                station.link.transport.abort()
+
+
 async def run(words: argparse.Namespace) -> int:
     with open(words.record, "w", encoding="utf-8") as record:
         load = Load(words, record)
         stations = [Station(load, words.first + number) for number in range(words.stations)]
         load.began = time.monotonic()
         jobs = [asyncio.create_task(station.play()) for station in stations]
+        jobs.append(asyncio.create_task(cut_off(stations)))
         try:
             await asyncio.wait_for(load.done.wait(), words.seconds)
         except asyncio.TimeoutError:

@@ -14,6 +14,7 @@ from websockets.server import ServerConnection  # noqa: E402
 from websockets.connection import State  # noqa: E402
 
 from ocpp_board.fleet.websocket import MOST, Link  # noqa: E402
+from tests.fleet.load import frame_of  # noqa: E402
 
 
 OP_BINARY, OP_CLOSE, OP_CONT = frames.OP_BINARY, frames.OP_CLOSE, frames.OP_CONT
@@ -114,6 +115,12 @@ def heard(sent: list[bytes], cuts_frames: bool, seed: int) -> tuple[Any, ...]:
 def test_frames_are_read_as_websockets_reads_them(sent: list[bytes]) -> None:
     for seed in range(6):
         assert heard(sent, True, seed) == heard(sent, False, seed)
+
+
+@pytest.mark.parametrize("size", [0, 1, 125, 126, 300, 65_535])
+def test_frames_of_the_load_are_those_of_a_station(size: int) -> None:
+    data = bytes(number % 251 for number in range(size))
+    assert heard([frame_of(data)], True, 0)[0] == heard([frame_of(data)], False, 3)[0] == [data]
 
 
 def test_texts_that_are_right_are_heard() -> None:
