@@ -428,7 +428,7 @@ class Soak(Trial):
         reader = self.fleet.dsn("ledger_reader")
         return self.fleet.start(
             *(*part("strangers"), "--record", self.fleet.records[-1], "--page", self.page),
-            *("--reader", reader, "--password", self.login, "--guessed", "CS-00001"),
+            *("--reader", reader, "--password", self.login),
             *("--seconds", self.words.seconds * 2),
             *(f"ws://127.0.0.1:{port}/ocpp" for port in self.ports),
             stdout=subprocess.PIPE,

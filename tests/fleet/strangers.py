@@ -32,9 +32,9 @@ from ocpp_board.fleet.parts import use_uvloop
 from tests.fleet.client import Client, handshake
 from tests.fleet.trials import event
 
-# The stations that do harm, by what they do.
-CONFLICTS, TURNS, FRAMES = "ODD-CONFLICTS", "ODD-TURNS", "ODD-FRAMES"
-ODD = (CONFLICTS, TURNS, FRAMES)
+# The stations that do harm, by what they do, and the one whose password is guessed.
+CONFLICTS, TURNS, FRAMES, GUESSED = "ODD-CONFLICTS", "ODD-TURNS", "ODD-FRAMES", "ODD-GUESSED"
+ODD = (CONFLICTS, TURNS, FRAMES, GUESSED)
 WRONG = "wrong-0123-4567-89ab"
 # Bytes of a conflicting event, events by turns a second, and bytes a second of what is sent without end.
 SIZE, BY_TURNS, RATE = 32_000, 20, 1_000_000
@@ -194,14 +194,14 @@ class Strangers:
 
     async def unjudged(self) -> None:
         """A stranger sends pongs behind a wrong password."""
-        await self.sends(handshake(self.words.guessed, WRONG), masked(OP_PONG))
+        await self.sends(handshake(GUESSED, WRONG), masked(OP_PONG))
 
     async def guesses(self) -> None:
         """A stranger guesses a station's password from one address."""
         address = self.address()
         for _ in range(50):
-            login = f"{self.words.guessed}:{WRONG}"
-            link = await Client.open(self.url(), self.words.guessed, login, address)
+            login = f"{GUESSED}:{WRONG}"
+            link = await Client.open(self.url(), GUESSED, login, address)
             try:
                 if (heard := await link.said(30)).startswith("101"):
                     self.odd.append(f"a wrong password: {heard}")
@@ -213,7 +213,7 @@ class Strangers:
         """The station that is guessed comes with its password."""
         await asyncio.sleep(LOOK)
         began = time.monotonic()
-        link = await self.opened(self.words.guessed)
+        link = await self.opened(GUESSED)
         self.let_in.append(time.monotonic() - began)
         link.transport.abort()
 
@@ -222,7 +222,7 @@ class Strangers:
         await asyncio.sleep(MINUTE)
 
         async def stranger(number: int) -> None:
-            name = self.words.guessed if number % 2 else f"NOBODY-{number}"
+            name = GUESSED if number % 2 else f"NOBODY-{number}"
             host, port = self.url().removeprefix("ws://").removesuffix("/ocpp").split(":")
             with suppress(OSError):
                 reader, writer = await asyncio.open_connection(
@@ -334,7 +334,6 @@ def main() -> int:
     parser.add_argument("--page", required=True, help="the address of the page")
     parser.add_argument("--reader", required=True, help="the database, as ledger_reader")
     parser.add_argument("--password", required=True, help="the password of stations")
-    parser.add_argument("--guessed", required=True, help="whose password is guessed")
     parser.add_argument("--seconds", type=float, required=True, help="for how long")
     words = parser.parse_args()
     use_uvloop()
