@@ -25,8 +25,8 @@ from tests.fleet.trials import parsed, parser_of, tried
 
 # Ends the session of a closing, once it has begun to read. One that is just ending is there for a while.
 END = """
-select pid || ' ' || backend_start from pg_stat_activity
-where application_name = 'ocpp-board close-day' and query ~ 'own_' and pg_terminate_backend(pid)
+select pid, backend_start, pg_terminate_backend(pid) from pg_stat_activity
+where application_name = 'ocpp-board close-day' and query ~ 'own_'
 """
 LOST = "the session with the database was lost: "
 
@@ -180,12 +180,13 @@ class Demo(ClosingTrial):
         await self.same("and is begun anew", "2026-11-06")
         await self.came("void A Lost 1")
         process = self.fleet.start(*command, stdout=-1, stderr=subprocess.STDOUT)
-        sessions = set[str]()
+        sessions = set[tuple[int, datetime]]()
         while process.poll() is None:
-            sessions.add(await self.owner.fetchval(END) or "")
+            rows = await self.owner.fetch(END)
+            sessions |= {(row["pid"], row["backend_start"]) for row in rows}
             await asyncio.sleep(0.01)
         status, said = await ended(process)
-        count = len(sessions - {""})
+        count = len(sessions)
         self.check(
             count == 5 and status == 2 and LOST in said.splitlines()[-1] and "__" not in said,
             f"a closing each of whose {count} sessions is ended: {said}",
