@@ -331,7 +331,7 @@ class Demo(Trial):
                     os.chown(one, self.fleet.user["user"], self.fleet.user["group"])
         for unit, wanted in (
             ("close-day@", "site-0, shard 0: settled up to"),
-            ("compact", "repeats removed, boards as before"),
+            ("compact", "refused ones removed, boards as before"),
             ("forget", "answers and boards as before"),
             ("backup", "read again"),
         ):
