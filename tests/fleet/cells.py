@@ -321,9 +321,10 @@ class Cells(Trial):
         for cell, (status, text) in enumerate(texts):
             self.check(status == 0, f"cell {cell + 1}: {text}")
         for cell in (0, 2):
+            wait, most = longest(texts[cell][1])
             self.check(
-                longest(texts[cell][1]) < 1.0,
-                f"cell {cell + 1}: no wait of a second, while cell 2 had none",
+                wait < most,
+                f"cell {cell + 1}: no wait of {most:.1f} s, while cell 2 had no primary: {wait:.1f}",
             )
         await self.same([0, 1, 2])
         self.cells[1][0].start()
@@ -333,9 +334,10 @@ class Cells(Trial):
     async def down(self) -> None:
         texts = await self.faulty("down")
         for cell, (status, text) in zip((0, 2), texts):
+            wait, most = longest(text)
             self.check(
-                status == 0 and longest(text) < 1.0,
-                f"cell {cell + 1}, while all of cell 2 is down: {text}",
+                status == 0 and wait < most,
+                f"cell {cell + 1}, while all of cell 2 is down, no wait of {most:.1f} s: {text}",
             )
         await self.same([0, 2])
         for node in self.cells[1]:
@@ -418,9 +420,11 @@ class Cells(Trial):
         super().close()
 
 
-def longest(text: str) -> float:
-    found = re.search(r"/ (\d+) ms", text)
-    return int(found[1]) / 1000 if found else 1e9
+def longest(text: str) -> tuple[float, float]:
+    """The longest wait, and how long it may be: a second, and more where the machine has so much to do that waits are
+    long in the middle, too."""
+    found = re.search(r"longest (\d+) / \d+ / (\d+) ms", text)
+    return (int(found[2]) / 1000, 1 + int(found[1]) / 50) if found else (1e9, 0)
 
 
 def main() -> int:

@@ -15,13 +15,16 @@ import json
 import os
 import signal
 import sys
+import time
 from pathlib import Path
+from urllib.parse import urlencode
 
 from tests.fleet import chromium
 from tests.fleet.dashboard import Panel, fill, greatest, page, panels_of
 from tests.fleet.page_client import Client
 from tests.fleet.trials import event, parsed, parser_of, skipped, tried
-from tests.fleet.watching import FOLDER, PROMETHEUS, WatchedTrial
+from tests.fleet.fleet import PATIENCE
+from tests.fleet.watching import FOLDER, PROMETHEUS, WatchedTrial, asked
 
 # Pixels of a desk's screen.
 WIDE = 1600
@@ -41,6 +44,12 @@ FAULTS = {
     "table": 4,
     "no-standby": 9,
     "worker": 4,
+}
+# What shows a fault that lasts as long as it is not healed.
+SHOWN_BY = {
+    "no-standby": "max(ocpp_board_cell_standby_waiters)",
+    "hang": "max(ocpp_board_gateway_oldest_wait_seconds)",
+    "table": "max(ocpp_board_shard_oldest_line_age_seconds)",
 }
 # The panels each of whose expressions has to have been more than 0 then.
 SEEN = (
@@ -95,12 +104,24 @@ class Demo(WatchedTrial):
             print(f"fault: {name}", flush=True)
             await self.fail(name)
             await asyncio.sleep(seconds)
+            if name in SHOWN_BY:
+                await self.until_shown(SHOWN_BY[name])
             # What these leave is looked at.
             if name not in ("strays", "limit"):
                 await self.healed(name)
         await asyncio.sleep(8)
         self.parts["feed"].send_signal(signal.SIGSTOP)
         await asyncio.sleep(2)
+
+    async def until_shown(self, expression: str) -> None:
+        """Waits until Prometheus has more than 0 for an expression: on a busy machine a fault may be seen late."""
+        path = f"/api/v1/query?{urlencode({'query': f'{expression} > 0'})}"
+        end = time.monotonic() + PATIENCE
+        while time.monotonic() < end:
+            status, text = await asyncio.to_thread(asked, self.ports["prometheus"], path)
+            if status == 200 and json.loads(text)["data"]["result"]:
+                return
+            await asyncio.sleep(0.5)
 
     def fed(self) -> list[str]:
         """Lines of a CSMS's log."""
