@@ -128,7 +128,7 @@ class Closing:
         """The shard's plan, the last place of its log, and the lines of the site's stations."""
         plan = (await self.fetch("select plan from own_shard where shard = $1"))[0]["plan"]
         last = (await self.fetch(closing_queries.LAST))[0]["last"]
-        names, place, lines = set(self.names()), 0, list[Stored]()
+        names, place, lines = set(self.names()), closing_queries.FRONT, list[Stored]()
         while rows := await self.fetch(closing_queries.PART, place, last):
             place = rows[-1]["place"]
             for row in rows:

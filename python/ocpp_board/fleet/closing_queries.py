@@ -1,7 +1,8 @@
 """The statements of a closing (close_day.py)."""
 
 BYTES = "select bytes from numbering where shard = $1"
-# The log part by part, each of so many lines, up to a place.
+# The log part by part, each of so many lines, from before the first place up to one.
+FRONT = -(1 << 63)
 LAST = "select coalesce(max(place), 0) as last from own_log where shard = $1"
 PART = """
 select place, at, gateway, line from own_log where shard = $1 and place > $2 and place <= $3 order by place limit 200
