@@ -18,7 +18,7 @@ import time
 import asyncpg
 
 from ocpp_board.fleet.plans import Plan
-from tests.fleet.fleet import FILL, ended
+from tests.fleet.fleet import FILL, PATIENCE, ended
 from tests.fleet.trials import Trial, messages, parsed, parser_of, tried
 
 # Stations of a shard that is full, and of each that sends.
@@ -117,20 +117,27 @@ class Waits(Trial):
         self.check(await self.loaded(shard, lines), f"boards: {len(lines)} lines of a full shard")
         waiting, tooks = await self.sent_meanwhile("boards", self.words.seconds), list[float]()
         session, rows = await self.fleet.owner(), 0
-        while not waiting.done():
+
+        def is_over() -> bool:
+            # On a busy machine boards are written whole once the stations have sent all.
+            return waiting.done() and (bool(tooks) or time.monotonic() > began + 3 * PATIENCE)
+
+        began = time.monotonic()
+        while not is_over():
             began = time.monotonic()
             await session.execute("update own_shard set plan = plan + 1 where shard = $1", shard)
             await session.execute("delete from own_board_period where shard = $1", shard)
             await session.execute("select tell('plan', $1)", str(shard))
-            while await session.fetchval(WRITTEN, shard) < FULL and not waiting.done():
+            while await session.fetchval(WRITTEN, shard) < FULL and not is_over():
                 await asyncio.sleep(0.2)
-            tooks.append(time.monotonic() - began)
+            if await session.fetchval(WRITTEN, shard) >= FULL:
+                tooks.append(time.monotonic() - began)
             rows = max(rows, await session.fetchval(ROWS, shard))
         await session.close()
         await waiting
-        told = ", ".join(f"{took:.0f}" for took in tooks[:-1])
+        told = ", ".join(f"{took:.0f}" for took in tooks)
         self.check(
-            len(tooks) > 1,
+            tooks,
             f"boards: {rows} rows of periods and sessions, written whole in {told} s",
         )
 

@@ -5,6 +5,7 @@ import asyncio
 import time
 from datetime import datetime, timezone
 from pathlib import Path
+from typing import Any
 
 import pytest
 
@@ -175,6 +176,44 @@ def test_a_commit_that_waits_for_a_standby_is_told_at_once_and_waited_for(
 
     monkeypatch.setattr(worker, "WAITING", 0.01)
     asyncio.run(committed())
+
+
+class Held:
+    """A session with the database of a worker that has more shards than its share. While it gives one back the next
+    one's replay ends, so that it is opened anew."""
+
+    def __init__(self) -> None:
+        self.session: Session | None = None
+        self.released: list[int] = []
+
+    def get_server_pid(self) -> int:
+        return 7
+
+    async def fetch(self, query: str, *values: int) -> list[object]:
+        if "release_shard" in query:
+            self.released += values
+            assert self.session
+            self.session.shards.pop(2, None)
+            return []
+        return [{"shard": number, "plan": 1} for number in range(6)]
+
+
+def test_a_shard_that_is_opened_anew_is_given_back_another_time() -> None:
+    async def shared() -> None:
+        words = argparse.Namespace(
+            program="none", hang=1.0, name="worker_1", seen=metrics.WorkerSeen(1.0)
+        )
+        held = Held()
+        session = held.session = Session(words, [held, held, held])
+        row = {"plan": 1, "taken": 1, "last": 0, "told": 0}
+        for number in range(4):
+            replay = argparse.Namespace(kill=lambda: None)
+            values: Any = (replay, ["north"], Late(number, {}, False), None)
+            session.shards[number] = worker.Shard({"shard": number, **row}, *values)
+        assert not await session.share(6)
+        assert held.released == [1, 3] and list(session.shards) == [0]
+
+    asyncio.run(shared())
 
 
 def test_payloads_of_wakes_fit() -> None:

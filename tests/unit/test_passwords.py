@@ -252,7 +252,8 @@ def test_strangers_at_one_address_stop_no_other_name_or_address(
             asyncio.create_task(judge(name, "10.0.0.1", WRONG))
             for name in ("A", *(f"X-{number}" for number in range(60)))
         ]
-        await asyncio.sleep(0.2)
+        while not door.slowed:
+            await asyncio.sleep(0.01)
         for name, address in (("A", "10.0.0.2"), ("B", "10.0.0.1")):
             began = time.monotonic()
             assert await judge(name, address, RIGHT) is Verdict.RIGHT

@@ -336,8 +336,9 @@ class Session:
         return len(taken) == most
 
     async def give_back(self, number: int) -> None:
-        """Leaves a shard to whoever takes it."""
-        shard = self.shards.pop(number)
+        """Leaves a shard to whoever takes it. One that is just opened anew is left another time."""
+        if not (shard := self.shards.pop(number, None)):
+            return
         async with shard.busy:
             shard.replay.kill()
         await self.ask("select release_shard($1)", number)
