@@ -337,7 +337,7 @@ def test_a_program_is_found_where_a_checkout_built_it(
 
 
 def test_a_program_that_is_not_there_is_named_with_how_to_build_it() -> None:
-    with pytest.raises(FileNotFoundError, match="cd crates/ocpp_replay && rt run .* './nowhere'"):
+    with pytest.raises(FileNotFoundError, match="cd crates/ocpp_board && rt run .* './nowhere'"):
         Replay("./nowhere")
 
 
