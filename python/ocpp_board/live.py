@@ -54,7 +54,7 @@ from ocpp_board.refusals import Refusals
 from ocpp_board.script_plan import add_plan, check_plan
 from ocpp_board.sources import is_gzip
 from ocpp_board.statuses import Mistaken, Status, ended
-from ocpp_board.told import Told
+from ocpp_board.session_facts import SessionFacts
 from ocpp_board.words import add_power, add_program, add_tokens, parsed, parser_of, zone
 
 log = logging.getLogger(__name__)
@@ -106,7 +106,7 @@ class ScriptFeed:
     def end(self) -> None:
         """Nothing more is wanted."""
 
-    def tell(self) -> None:
+    def report(self) -> None:
         """The ledger reports what came of the lines."""
 
 
@@ -115,21 +115,21 @@ class Run:
 
     def __init__(self, words: argparse.Namespace) -> None:
         """Raises OSError, and Mistaken where a file of the words is wrong or another run keeps its script there."""
-        self.words, told = words, Told(words.most_kw)
+        self.words, facts = words, SessionFacts(words.most_kw)
         self.refusals = Refusals(str(words.log or words.script))
-        takers: list[Callable[[Answered], None]] = [self.refusals.take, told.take]
+        takers: list[Callable[[Answered], None]] = [self.refusals.take, facts.take]
         self.ledger = Ledger(words.program, takers, self.refusals.add)
-        told.operators = self.ledger.operators
+        facts.operators = self.ledger.operators
         of_script = self.ledger.script, self.ledger.mended
-        self.pages = Pages(words, self.refusals, told, *of_script)
+        self.pages = Pages(words, self.refusals, facts, *of_script)
         self.source: ScriptFeed | LogFeed = (
             LogFeed(words, self.ledger) if words.log else ScriptFeed(words.script, self.ledger)
         )
-        near = NearLimits(self.ledger.messages.limits, tell_limit)
+        near = NearLimits(self.ledger.messages.limits, report_limit)
         takers.append(near.take)
         if isinstance(self.source, LogFeed):
-            self.source.known = told
-            self.source.archived = [self.refusals.take, told.take]
+            self.source.known = facts
+            self.source.archived = [self.refusals.take, facts.take]
             self.source.closed.append(near.sent.counts.clear)
             self.pages.archive = self.source.archive
         self.faults: list[str] = []
@@ -205,7 +205,7 @@ class Run:
             return
         counts, size = self.ledger.counts, self.source.size()
         share = f", {min(100, 100 * counts['bytes'] / size):.0f} %" if size else ""
-        progress.tell(
+        progress.show(
             f"{counts['lines']:,} lines, {counts['bytes'] / 1e6:,.1f} MB{share}, {counts['refused']:,} "
             f"messages refused, {counts['faults']:,} faults"
         )
@@ -226,16 +226,16 @@ class Run:
         if sys.stderr.isatty():
             progress.clear()
         self.refusals.end()
-        self.source.tell()
+        self.source.report()
         log.info(
             "lines of the script: {lines}, messages accepted: {accepted}, refused: {refused}, of other actions: "
             "{left}, faults: {faults}; pages written: {pages}".format(
                 pages=self.pages.count, **self.ledger.counts
             )
         )
-        return self.told(status)
+        return self.report(status)
 
-    def told(self, status: int) -> int:
+    def report(self, status: int) -> int:
         """Reports what went wrong, with the replay's exit status, and returns the tool's."""
         for fault in self.faults:
             log.error("%s", fault)
@@ -252,7 +252,7 @@ class Run:
         return Status.TOLD if status or not has_board else Status.DONE
 
 
-def tell_limit(_answered: Answered, said: str, remedy: str) -> None:
+def report_limit(_answered: Answered, said: str, remedy: str) -> None:
     """Reports that a station comes near to its limits."""
     log.warning("%s; %s", said, remedy)
 

@@ -26,7 +26,7 @@ from ocpp_board.operators import Deed, deed_of, is_change
 from ocpp_board.refusals import MOST_UNTAKEN, comment_of
 from ocpp_board.script_plan import ScriptPlan
 from ocpp_board.statuses import Mistaken
-from ocpp_board.told import Told
+from ocpp_board.session_facts import SessionFacts
 
 log = logging.getLogger(__name__)
 
@@ -61,7 +61,7 @@ class LogFeed:
         self.last: Entry | None = None
         # How often each kind of mistake came, and what was reported once.
         self.untaken: Counter[str] = Counter()
-        self.told: set[str] = set()
+        self.reported: set[str] = set()
         self.is_ending, self.is_caught_up = threading.Event(), threading.Event()
         # Set when the script that was kept is handed on.
         self.is_loaded = threading.Event()
@@ -77,7 +77,7 @@ class LogFeed:
         )
         self.boundary = ""
         # What is known of sessions, who takes the messages of closed ones, and what is done where some were closed.
-        self.known = Told()
+        self.known = SessionFacts()
         self.archived, self.closed = list[Callable[[Answered], None]](), list[Callable[[], None]]()
 
     def takers(self) -> Takers:
@@ -143,7 +143,7 @@ class LogFeed:
             self.tell_once(f"no line of {self.words.log} is of the form {self.reader.form_name()}")
 
     def tell_cut(self, what: str) -> None:
-        """Tells that the log was cut short, and which line was the last before."""
+        """Reports that the log was cut short, and which line was the last before."""
         last = self.last
         if last is None:
             log.warning("%s", what)
@@ -158,8 +158,8 @@ class LogFeed:
 
     def tell_once(self, text: str) -> None:
         """Reports this, if it was not reported yet."""
-        if text not in self.told:
-            self.told.add(text)
+        if text not in self.reported:
+            self.reported.add(text)
             log.warning("%s", text)
 
     def take(self, lines: list[bytes | None], place: Place) -> None:
@@ -257,9 +257,9 @@ class LogFeed:
         self.last = self.reader.entry or self.last
         if taken.note:
             # Of each kind the first.
-            if taken.note.kind not in self.told:
+            if taken.note.kind not in self.reported:
                 log.warning("%s: %s", self.words.log, taken.note)
-            self.told.add(taken.note.kind)
+            self.reported.add(taken.note.kind)
         return self.after_now(taken)
 
     def refused(self, why: Refused) -> bytes:
@@ -316,6 +316,6 @@ class LogFeed:
         """Nothing more is wanted."""
         self.is_ending.set()
 
-    def tell(self) -> None:
+    def report(self) -> None:
         """What became of the log's lines."""
-        self.reader.tell()
+        self.reader.report()

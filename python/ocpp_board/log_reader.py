@@ -157,7 +157,7 @@ class LogReader:
         """The name of the log's form."""
         return "--regex" if self.words.regex else str(self.words.form)
 
-    def tell(self) -> None:
+    def report(self) -> None:
         """What became of the lines."""
         log.info(
             "lines: {lines}; messages of stations: {messages}, answers left out: {answers}, calls to stations left "

@@ -15,7 +15,7 @@ from ocpp_board.changed_days import digests
 from ocpp_board.live import arguments, keep_pages
 from ocpp_board.live_pages import Pages
 from ocpp_board.refusals import Refusal, Refusals
-from ocpp_board.told import Told
+from ocpp_board.session_facts import SessionFacts
 from ocpp_board.troubles import FIRST, KINDS
 
 TOTAL = (
@@ -79,7 +79,7 @@ def test_pages_are_written_for_the_days_that_changed(tmp_path: Path) -> None:
         out=tmp_path, tz=None, every=10, oldest=None, log_json=False, prog="live"
     )
     refusals = Refusals()
-    pages = Pages(words, refusals, Told())
+    pages = Pages(words, refusals, SessionFacts())
     pages.write("north", board(9, 1, 1))
     first = made(tmp_path)
     days = [f"north.2026-03-0{day}.html" for day in (1, 2, 3)]
@@ -113,7 +113,7 @@ def test_days_of_several_pages_stand_until_they_change(
     words = argparse.Namespace(
         out=tmp_path, tz=None, every=10, oldest=None, log_json=False, prog="live"
     )
-    pages = Pages(words, Refusals(), Told())
+    pages = Pages(words, Refusals(), SessionFacts())
     pages.write("north", board(9, 1))
     first = made(tmp_path)
     held = [os.open(tmp_path / name, os.O_RDONLY) for name in first]
@@ -132,7 +132,7 @@ def test_pages_have_times_and_findings(tmp_path: Path) -> None:
     words = argparse.Namespace(
         out=tmp_path, tz=None, every=10, oldest=None, log_json=False, prog="live"
     )
-    told, refusals = Told(), Refusals()
+    told, refusals = SessionFacts(), Refusals()
     refusals.add(Refusal("", "A", "T", "0", "Moment", "", "north", "is none"))
     session = KINDS["clock-far"]("T1", FIRST)
     for sent in session:
@@ -165,7 +165,7 @@ def test_one_page_leads_to_those_of_several_sites(tmp_path: Path) -> None:
     words = argparse.Namespace(
         out=tmp_path, tz=None, every=10, oldest=None, log_json=False, prog="live"
     )
-    pages = Pages(words, Refusals(), Told())
+    pages = Pages(words, Refusals(), SessionFacts())
     pages.write("south", board(9).replace(b"board north", b"board south"))
     assert not (tmp_path / "index.html").exists()
     pages.write("north", board(9, 1))
@@ -185,7 +185,7 @@ def test_what_is_no_board_writes_nothing(tmp_path: Path) -> None:
     words = argparse.Namespace(
         out=tmp_path, tz=None, every=10, oldest=None, log_json=False, prog="live"
     )
-    Pages(words, Refusals(), Told()).write("north", b"fault UnknownSite\n")
+    Pages(words, Refusals(), SessionFacts()).write("north", b"fault UnknownSite\n")
     assert made(tmp_path) == {}
 
 
