@@ -2,18 +2,18 @@
 
     ocpp-board explain SCRIPT
 
-reports each fault and each refusal with the number of its line, the line, the cause in words and the remedy. For
-a message that was refused it also says which member broke which check. What the program answers decides: the
-tool looks for the causes in the line afterwards.
+reports each fault and each refusal with the file, the number of its line, the line, the cause in words and the
+remedy. For a message that was refused it also says which member broke which check. What the program answers
+decides: the tool looks for the causes in the line afterwards.
 
-    line 7: msg CS_01 [2,"1","Heartbeat",{}]
+    day.script line 7: msg CS_01 [2,"1","Heartbeat",{}]
       fault UnknownStation: no station CS_01 is declared
       remedy: the nearest declared name is CS-01
 
-Where a board's periods are wrong since stations list readings again it names the line that mends it, a line
+If a board's periods are wrong since stations list readings again, it names the line that mends it, a line
 `order <site> moment`; this is a hint and no mistake, and so is what it reports of a station near its limits.
 
-Between the script's lines that may write nothing it puts lines of its own, which are faults and change nothing,
+Behind lines that may write nothing it puts lines of its own into the script, which are faults and change nothing,
 to distinguish the answers. It reports the first mistakes of a kind, and counts the others.
 """
 
@@ -115,7 +115,9 @@ class Plan:
 class Run:
     """A replay that runs over a script, and what is wrong with it."""
 
-    def __init__(self, program: str, script: IO[bytes]) -> None:
+    def __init__(self, program: str, script: IO[bytes], name: str = "") -> None:
+        """`name`: that of the script, where it is a file."""
+        self.name, self.where = (f"{name}: ", f"{name} line") if name else ("", "line")
         self.replay, self.plan = ScriptReplay(program, script), Plan()
         self.messages = Messages()
         self.near = NearLimits(self.messages.limits, self.report_limit)
@@ -199,19 +201,19 @@ class Run:
         if self.counts[kind] <= MOST_REPORTED:
             self.progress.end()
             print(
-                f"line {line.number}: {shown(line.line.decode('utf-8', 'replace'), SHOWN)[1:-1]}\n"
+                f"{self.where} {line.number}: {shown(line.line.decode('utf-8', 'replace'), SHOWN)[1:-1]}\n"
                 f"  {kind}: {cause}\n  remedy: {remedy}"
             )
 
     def report_limit(self, answered: Answered, said: str, remedy: str) -> None:
         """Reports that a station comes near to its limits, which is no mistake yet."""
         self.progress.end()
-        print(f"line {answered.number}: {said}\n  remedy: {remedy}")
+        print(f"{self.where} {answered.number}: {said}\n  remedy: {remedy}")
 
     def report_hint(self, line: Line, said: str, remedy: str) -> None:
         """Reports what a line's board shows, which is no mistake of the script."""
         self.progress.end()
-        print(f"line {line.number}: {said}\n  remedy: {remedy}")
+        print(f"{self.where} {line.number}: {said}\n  remedy: {remedy}")
 
     def run(self) -> int:
         """Reports all that is wrong, and returns the exit status. Raises OSError."""
@@ -228,10 +230,10 @@ class Run:
         status, said = self.replay.ended()
         for kind, count in self.counts.items():
             if count > MOST_REPORTED:
-                print(f"and {count - MOST_REPORTED:,} more lines: {kind}")
+                print(f"{self.name}and {count - MOST_REPORTED:,} more lines: {kind}")
         if status:
-            print(f"the replay ended with status {status}: {said}")
-        print(f"lines: {self.replay.lines:,}, reported: {sum(self.counts.values()):,}")
+            print(f"{self.name}the replay ended with status {status}: {said}")
+        print(f"{self.name}lines: {self.replay.lines:,}, reported: {sum(self.counts.values()):,}")
         return Status.TOLD if self.counts or status else Status.DONE
 
 
@@ -251,12 +253,13 @@ def arguments(argv: Sequence[str], prog: str) -> argparse.Namespace:
 
 def explain(words: argparse.Namespace) -> int:
     """Reports what is wrong with the script that the words name, and gives the exit status."""
+    name = "" if words.script == "-" else words.script
     with opened(words.script) as script:
         if is_gzip(script):
-            print("line 1: the script is compressed by gzip")
+            print(f"{name} line 1: the script is compressed by gzip".lstrip())
             print("  remedy: gunzip -c SCRIPT | ocpp-board explain")
             return Status.TOLD
-        return Run(words.program, script).run()
+        return Run(words.program, script, name).run()
 
 
 def main(argv: Sequence[str], prog: str) -> int:
