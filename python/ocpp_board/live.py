@@ -67,6 +67,8 @@ LONGEST_LINE = 262_500
 # Seconds: from one look at what runs to the next, between showings of the progress, for the ledgers to be opened
 # where the script is at its end, and for what is under way to end.
 LOOK, SHOWN, OPENED, LAST = 0.1, 0.5, 30, 5
+# Seconds from one writing to the next while what a log had at the start is read, which each writing slows down.
+READING = 60
 
 
 class ScriptFeed:
@@ -168,7 +170,7 @@ class Run:
 
     def wait(self) -> None:
         """Writes the pages every so many seconds until all is at its end. Raises Ended."""
-        due, shown = time.monotonic() + self.words.every, time.monotonic() + SHOWN
+        due, shown = time.monotonic() + self.pause(), time.monotonic() + SHOWN
         is_first = True
         while not self.has_ended() and self.ledger.replay.process.poll() is None:
             self.ends[0 if not self.ends[0].is_set() else 1].wait(LOOK)
@@ -177,10 +179,16 @@ class Run:
                 is_first &= not self.source.is_caught_up.is_set()
                 if fault := self.write():
                     log.error("%s; tried again in %g s", fault, self.words.every)
-                due = time.monotonic() + self.words.every
+                due = time.monotonic() + self.pause()
             if time.monotonic() >= shown:
                 self.progress()
                 shown = time.monotonic() + SHOWN
+
+    def pause(self) -> float:
+        """Seconds to the next writing of the pages, which come at once when what a log had at the start is read."""
+        every: float = self.words.every
+        is_reading = self.words.log and not self.source.is_caught_up.is_set()
+        return max(every, READING) if is_reading else every
 
     def write(self, is_last: bool = False) -> str | None:
         """Writes the pages, and gives what went wrong. The ledger goes on, and they are tried again. Those of sessions
@@ -313,7 +321,8 @@ def arguments(argv: Sequence[str], prog: str) -> argparse.Namespace:
         metavar="SECONDS",
         type=seconds,
         default=10.0,
-        help="how long to wait from one writing to the next (default: 10)",
+        help="how long to wait from one writing to the next (default: 10; a minute or more until what the log had at "
+        "the start is read)",
     )
     parser.add_argument(
         "--oldest",

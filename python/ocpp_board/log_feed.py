@@ -122,11 +122,11 @@ class LogFeed:
         """The log, which is waited for where it is not there yet. Raises OSError."""
         while not self.is_ending.is_set():
             try:
-                followed = Followed(self.words.log, self.place, self.tell_cut)
+                followed = Followed(self.words.log, self.place, self.report_cut)
             except FileNotFoundError as fault:
                 if self.words.once:
                     raise
-                self.tell_once(f"{fault}; waited for")
+                self.report_once(f"{fault}; waited for")
                 self.catch_up()
                 self.is_ending.wait(AGAIN)
                 continue
@@ -140,9 +140,9 @@ class LogFeed:
         """All that was there is handed on."""
         self.is_caught_up.set()
         if not self.reader.has_form():
-            self.tell_once(f"no line of {self.words.log} is of the form {self.reader.form_name()}")
+            self.report_once(f"no line of {self.words.log} is of the form {self.reader.form_name()}")
 
-    def tell_cut(self, what: str) -> None:
+    def report_cut(self, what: str) -> None:
         """Reports that the log was cut short, and which line was the last before."""
         last = self.last
         if last is None:
@@ -156,7 +156,7 @@ class LogFeed:
             at,
         )
 
-    def tell_once(self, text: str) -> None:
+    def report_once(self, text: str) -> None:
         """Reports this, if it was not reported yet."""
         if text not in self.reported:
             self.reported.add(text)

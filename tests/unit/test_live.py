@@ -3,8 +3,11 @@
 import argparse
 import json
 import os
+import threading
 from datetime import date, timezone
 from pathlib import Path
+from types import SimpleNamespace
+from typing import cast
 from zoneinfo import ZoneInfo
 
 import pytest
@@ -12,7 +15,7 @@ import pytest
 from ocpp_board.answered import Answered
 from ocpp_board.calendars import Calendar
 from ocpp_board.changed_days import digests
-from ocpp_board.live import arguments, keep_pages
+from ocpp_board.live import READING, Run, arguments, keep_pages
 from ocpp_board.live_pages import Pages
 from ocpp_board.refusals import Refusal, Refusals
 from ocpp_board.session_facts import SessionFacts
@@ -41,6 +44,20 @@ def changed(before: bytes, after: bytes) -> list[int]:
     calendar = Calendar(timezone.utc)
     old, new = digests(before, calendar), digests(after, calendar)
     return [day.day for day in new if old.get(day) != new[day]]
+
+
+def test_pages_wait_for_what_a_log_had_at_the_start() -> None:
+    caught_up = threading.Event()
+    words = SimpleNamespace(every=10.0, log=Path("csms.log"))
+    run = cast(Run, SimpleNamespace(words=words, source=SimpleNamespace(is_caught_up=caught_up)))
+    assert Run.pause(run) == READING
+    caught_up.set()
+    assert Run.pause(run) == 10.0
+    caught_up.clear()
+    words.every = 300.0
+    assert Run.pause(run) == 300.0
+    words.every, words.log = 10.0, None
+    assert Run.pause(run) == 10.0
 
 
 def test_a_day_changes_with_its_periods_alone() -> None:
