@@ -1,7 +1,6 @@
 """Feeds a ledger with the script that is kept of a log, and then with the log as it grows."""
 
 import argparse
-import io
 import logging
 import re
 import threading
@@ -140,7 +139,9 @@ class LogFeed:
         """All that was there is handed on."""
         self.is_caught_up.set()
         if not self.reader.has_form():
-            self.report_once(f"no line of {self.words.log} is of the form {self.reader.form_name()}")
+            self.report_once(
+                f"no line of {self.words.log} is of the form {self.reader.form_name()}"
+            )
 
     def report_cut(self, what: str) -> None:
         """Reports that the log was cut short, and which line was the last before."""
@@ -281,8 +282,8 @@ class LogFeed:
 
     def put(self, lines: bytes) -> None:
         """Adds lines to the script, and hands them on."""
-        for line in io.BytesIO(lines):
-            self.ledger.send(line, partial(self.kept.append, line))
+        if lines:
+            self.ledger.send(lines, partial(self.kept.append, lines))
 
     def ask(self, line: bytes) -> bytes:
         """The answer to an operator's line; what it changed is on disk by then. Raises Ended, and Mistaken where the
