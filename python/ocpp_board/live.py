@@ -25,10 +25,9 @@ have behind ` # `, and in SITE.operator.csv:
     total CS-01
     total events=16 voided=1 transactions=1 complete=0 missing=1 up=4800000 down=0 export_up=0 export_down=0
 
-No board is asked for, and no operator's line is handed on, before the script's first line that needs the
-ledgers (a message, a command or a question), since no station can be declared after it. The program ends by a
-signal, with the pages written once more; with a script also when that and the operator's lines are at their ends, with
---once when it took what the log has.
+The tool asks for no board, and hands on no operator's line, before the script's first line that needs the ledgers (a
+message, a command or a question), since no station can be declared after it. A signal ends it; so does the end of a
+script and of the operator's lines, and with --once the end of the log. It writes the pages once more then.
 """
 
 import argparse

@@ -7,8 +7,8 @@ OCPP-J text in a JSON string:
 
 --form and --regex read the shapes of other logs. The script declares all stations first, in the order in which
 the log names them. Each message becomes a `msg` line with the same bytes; a line feed in it becomes a blank.
-Replies to a BootNotification or a Heartbeat have the moment, so before these a `now` line gives the line's time
-where that has changed; where the time can't be read the message goes without it. Answers ([3,..] and [4,..]),
+Replies to a BootNotification or a Heartbeat have the moment, so a `now` line before these gives the line's time
+if that has changed; if the time can't be read, the message goes without it. Answers ([3,..] and [4,..]),
 messages of the CSMS and of OCPP 1.6, lines of others and blanks are left out and counted. What can't be taken is
 reported on standard error with its line number and becomes a comment of the script; the rest goes on. A mistake of
 many lines is reported at the first, and counted at the end.
