@@ -99,8 +99,8 @@ session did not come then, or do not count. The CSV file has what the period get
 """
 
 SESSIONS = """<p>A session is complete if its first event is its start, its last one its end, no number between them \
-is missing, and no other event is a start or an end. Voided events don't count. A red triangle marks a session that is \
-not complete, or an event that is missing or voided.</p>
+is missing, and no other event is a start or an end. Voided events don't count. A red triangle marks what is \
+missing, not complete or voided.</p>
 """
 
 # What colours and stripes mean.
