@@ -103,7 +103,7 @@ with_program() {
     gives 0 explain/near.told "$board" explain --program "$program" explain/near.script
     gives 1 explain/orders.told "$board" explain --program "$program" explain/orders.script
     gzip -c "$days/day.script" > "$made/day.script.gz"
-    gives 1 explain/gzip.told "$board" explain --program "$program" "$made/day.script.gz"
+    gives 1 explain/gzip.told bash -c 'cd "$2" && "$board" explain --program "$1" day.script.gz' _ "$program" "$made"
     tells 2 "No such file or directory" "$board" explain --program "$program" nowhere.script
     tells 2 "No such file or directory" "$board" explain --program ./nowhere "$days/day.script"
     tells 2 "No space left on device" bash -c '"$board" explain --program "$1" explain/mistakes.script > /dev/full' _ "$program"

@@ -1,7 +1,7 @@
 """Prints the definitions of each crate's specs, each with the sentence above it.
 
     tests/one definitions             all of them, crate by crate
-    tests/one definitions --check     tells which names of docs/theorem.md stand nowhere in crates/
+    tests/one definitions --check     reports names of docs/theorem.md that crates/ lacks
 
 A definition's sentence is the comment above it in its file of specs/. Files that only the proofs of one crate need
 are left out; INNER names them. The status of --check is 1 where a name of the page is none of the code's.
@@ -16,7 +16,7 @@ from pathlib import Path
 TOP = Path(__file__).resolve().parent.parent
 PAGE = TOP / "docs" / "theorem.md"
 
-# Files of specs/ whose words stand in no clause of a public call and in no other definition of such a clause.
+# Files of specs/ with words that no clause of a public call has, and no other definition of such a clause.
 INNER = {
     "script_lines": {"Reading", "ScriptLines"},
     "script_ledgers": {"Answering", "Writing", "Received"},
@@ -91,7 +91,7 @@ def words_of_code() -> set[str]:
 
 
 def stale() -> list[str]:
-    """The names in the code of the page that stand nowhere in the crates, nor in the tests."""
+    """The names in the code of the page that neither the crates nor the tests have."""
     known = words_of_code()
     for path in (TOP / "tests").rglob("*.py"):
         known.update(re.findall(r"\w+", path.read_text()))
@@ -105,7 +105,7 @@ def main() -> int:
         description=__doc__, formatter_class=argparse.RawDescriptionHelpFormatter
     )
     parser.add_argument(
-        "--check", action="store_true", help="tell which names of docs/theorem.md are none"
+        "--check", action="store_true", help="report names of docs/theorem.md that are none"
     )
     words = parser.parse_args()
     if not words.check:
@@ -113,8 +113,8 @@ def main() -> int:
         return 0
     names = stale()
     for name in names:
-        print(f"docs/theorem.md names {name}, which stands nowhere in crates/")
-    print(f"names of docs/theorem.md that stand nowhere: {len(names)}")
+        print(f"docs/theorem.md names {name}, which crates/ lacks")
+    print(f"names of docs/theorem.md that are nowhere: {len(names)}")
     return 1 if names else 0
 
 

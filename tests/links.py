@@ -45,7 +45,7 @@ def anchors(text: str) -> set[str]:
 
 
 def targets(text: str) -> Iterator[str]:
-    """What a page links to, but for what stands in code."""
+    """What a page links to, but for what is in code."""
     bare = FENCE.sub("", text)
     yield from LINK.findall(CODE.sub("``", bare))
     yield from REFERENCE.findall(bare)
@@ -68,7 +68,7 @@ def dead(page: Path) -> Iterator[str]:
 
 
 def main() -> int:
-    """Tells dead links, and gives the exit status."""
+    """Reports dead links, and gives the exit status."""
     count = 0
     for page in pages():
         for why in dead(page):

@@ -138,13 +138,13 @@ class Check:
         """What each page has once."""
         html = self.named("html")
         if not html or not html[0].get("lang"):
-            yield "the page tells no language"
+            yield "the page names no language"
         if not any(one.whole_text() for one in self.named("title")):
             yield "the page has no title"
         if not any(one.get("name") == "viewport" for one in self.named("meta")):
             yield "the page has no viewport for phones"
         for name in sorted({one for one in self.ids if self.ids.count(one) > 1}):
-            yield f"the id {name!r} stands twice"
+            yield f"the id {name!r} is there twice"
 
     def headings(self) -> Iterator[str]:
         """One heading of the first level, and no level left out."""
@@ -213,8 +213,8 @@ class Check:
             yield f"{said(table)} has a row without a head"
 
     def contrasts(self, is_dark: bool) -> Iterator[str]:
-        """Letters and shapes that can't be told from what is behind them."""
-        colors, told = Colors(self.rules, self.root, is_dark), set[str]()
+        """Letters and shapes that don't differ from what is behind them."""
+        colors, found = Colors(self.rules, self.root, is_dark), set[str]()
         where = "in dark" if is_dark else "in light"
         for element in self.elements:
             # A title of a shape is shown by the browser, in colours of its own.
@@ -225,8 +225,8 @@ class Check:
                     element if least == LETTERS else element.parent or element
                 )
                 if (ratio := contrast(color, behind)) < least:
-                    told.add(f"{what} {where} has a contrast of {ratio:.1f} to 1, and not {least}")
-        yield from sorted(told)
+                    found.add(f"{what} {where} has a contrast of {ratio:.1f} to 1, and not {least}")
+        yield from sorted(found)
 
     @staticmethod
     def seen(element: Element, colors: Colors) -> Iterator[tuple[str, Color, float]]:
@@ -256,7 +256,7 @@ def ids_of(path: Path) -> set[str]:
 
 
 def main() -> int:
-    """Tells what was found of the pages that the words name, and gives the exit status."""
+    """Reports what was found of the pages that the words name, and gives the exit status."""
     count, paths = 0, [Path(name) for name in sys.argv[1:]]
     for path in paths:
         for what in Check(path).found():

@@ -5,7 +5,7 @@ from collections.abc import Iterator
 from html.parser import HTMLParser
 from typing import NamedTuple
 
-# Elements without an end tag, and which open elements an element ends that HTML lets stand without one.
+# Elements without an end tag, and which open elements an element ends that HTML lets be without one.
 VOID = {"area", "base", "br", "col", "hr", "img", "input", "link", "meta", "source", "wbr"}
 ENDS = {
     "td": {"td", "th"},
@@ -86,7 +86,7 @@ class Tree(HTMLParser):
 
 
 class Rule(NamedTuple):
-    """What a selector sets. `pseudo`: before or after, where it is of what stands before or after an element."""
+    """What a selector sets. `pseudo`: before or after, where it is of what is before or after an element."""
 
     selector: str
     pseudo: str
@@ -96,7 +96,7 @@ class Rule(NamedTuple):
 
 
 def blocks_of(style: str) -> Iterator[tuple[str, str]]:
-    """The heads of a style and what stands in their braces."""
+    """The heads of a style and what is in their braces."""
     depth, start, head = 0, 0, ""
     for at, character in enumerate(style):
         if character == "{":
@@ -159,7 +159,7 @@ def fits(element: Element, selector: str) -> bool:
         return False
     if not front:
         return True
-    # A blank is told by None, and a > by itself.
+    # A blank is None, and a > by itself.
     before, combinator = "".join(one or " " for one in front[:-1]), front[-1]
     around = list(element.ancestors())[: 1 if combinator == ">" else None]
     return any(fits(one, before) for one in around if one.tag)

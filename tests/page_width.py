@@ -26,12 +26,12 @@ NOT_TRIED = 77
 DAY = re.compile(r"\d{4}-\d\d-\d\d")
 # Seconds that a page may take.
 PATIENCE = 120
-# A window is never as narrow as a phone: the page stands in a frame, and what is found is told to the window.
+# A window is never as narrow as a phone: the page is in a frame, and the window gets what is found.
 WINDOW = """<!DOCTYPE html><title></title><script>const all = [];
 onmessage = one => {{ all.push(JSON.parse(one.data)); document.title = JSON.stringify(all) }}</script>
 {frames}"""
 FRAME = '<iframe src="page.html" style="border:0" width="{width}" height="2000"></iframe>'
-# Put at the end of a page, it tells what it finds.
+# Put at the end of a page, it reports what it finds.
 FINDER = r"""<style>::-webkit-scrollbar{width:15px;height:15px}</style><script>
 const inner = e => e.closest('.scroll, .across, .unseen, .one .site, thead');
 const said = e => `<${e.tagName.toLowerCase()} ${e.className}> ${e.textContent.trim().slice(0, 30)}`;
@@ -94,7 +94,7 @@ def found(chromium: str, page: Path, folder: Path) -> Iterator[str]:
 
 
 def main() -> int:
-    """Tells what was found of the pages that the words name, and gives the exit status."""
+    """Reports what was found of the pages that the words name, and gives the exit status."""
     chromium, count = shutil.which("chromium"), 0
     if chromium is None:
         print("not tried, since there is no chromium")

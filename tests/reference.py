@@ -54,7 +54,7 @@ def readings_of(payload: dict[str, Any]) -> Iterator[Reading]:
 
 
 def event_of(payload: dict[str, Any]) -> Event:
-    """The event that a payload tells."""
+    """The event that a payload has."""
     evse = (payload.get("evse") or {}).get("id")
     at = datetime.fromisoformat(payload["timestamp"])
     return Event(payload["eventType"], at, evse, tuple(readings_of(payload)))

@@ -6,7 +6,7 @@ const HELP = `A charging station that loses its connection in the middle of a tr
     station.js [--transaction ID] [--start TIME] URL STATION
     station.js --start 2026-03-01T10:00:00Z ws://127.0.0.1:9000/ocpp CS-01
 
-It connects to URL/STATION with the subprotocol ocpp2.0.1, boots, and charges for 70 minutes, told in
+It connects to URL/STATION with the subprotocol ocpp2.0.1, boots, and charges for 70 minutes, with
 TransactionEvents ten minutes apart. After the fourth the network fails before the reply is there, and
 the next two are queued. On a new connection the one without a reply is sent again, then the queued ones
 with \`offline\` set, and the rest as it comes. Every reply is printed as it was received.
@@ -93,8 +93,8 @@ function readWords() {
     session: { transaction: values.transaction ?? randomUUID(), start } };
 }
 
-function end(status, told) {
-  console.error(`station.js: ${told}`);
+function end(status, text) {
+  console.error(`station.js: ${text}`);
   process.exit(status);
 }
 

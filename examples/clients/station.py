@@ -3,7 +3,7 @@
 
     station.py ws://127.0.0.1:9000/ocpp CS-01
 
-It connects to URL/STATION with the subprotocol ocpp2.0.1, boots, and charges for 70 minutes, told in
+It connects to URL/STATION with the subprotocol ocpp2.0.1, boots, and charges for 70 minutes, with
 TransactionEvents ten minutes apart. After the fourth the network fails before the reply is there, and
 the next two are queued. On a new connection the one without a reply is sent again, then the queued ones
 with `offline` set, and the rest as it comes. Every reply is printed as it was received.

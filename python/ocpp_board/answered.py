@@ -155,8 +155,8 @@ class ScriptReplay(Replay):
         if self.fault:
             raise self.fault
         assert self.process.stderr
-        told = self.process.stderr.read().decode("utf-8", "replace").strip()
-        return self.process.wait(), told
+        said = self.process.stderr.read().decode("utf-8", "replace").strip()
+        return self.process.wait(), said
 
 
 class Answered(NamedTuple):
@@ -238,6 +238,6 @@ def answered(
             yield message
         elif other:
             other(line, text)
-    status, told = replay.ended()
+    status, said = replay.ended()
     if status:
-        raise Mistaken(f"the replay ended with status {status}: {told}")
+        raise Mistaken(f"the replay ended with status {status}: {said}")

@@ -285,8 +285,8 @@ class Archive:
             file.seek(at)
             self.correct(closed, before, file.readline(), at, found)
         self.write_corrections()
-        told = found.get(at, b"")
-        return told if isinstance(told, bytes) else b""
+        answer = found.get(at, b"")
+        return answer if isinstance(answer, bytes) else b""
 
     def add(self, label: str, lines: bytes) -> None:
         """Adds a line of a closed session with its comments, which `settle` has answered. Raises OSError."""
@@ -327,20 +327,20 @@ class Archive:
         found: dict[int, Answered | bytes],
     ) -> None:
         """Lists a line, which is at this place, where it changed its session."""
-        key, told = session_of(line), found.get(at, b"")
+        key, answered_with = session_of(line), found.get(at, b"")
         if key is None:
             return
-        if isinstance(told, Answered):
-            named = named_in(told.message)
+        if isinstance(answered_with, Answered):
+            named = named_in(answered_with.message)
             number, what = named.number, "message"
-            answer = "accepted" if told.is_accepted else told.answer
-            moment = told.received or moment_of(named.time.encode())
+            answer = "accepted" if answered_with.is_accepted else answered_with.answer
+            moment = answered_with.received or moment_of(named.time.encode())
             received = moment.astimezone(timezone.utc).strftime(MOMENT) if moment else named.time
-            self.takers[0](told._replace(number=self.numbers[closed.label][at]))
+            self.takers[0](answered_with._replace(number=self.numbers[closed.label][at]))
         else:
             words = line.decode("utf-8", "replace").split()
             what, number, received = words[0], words[-1], ""
-            answer = told.decode("ascii", "replace").strip()
+            answer = answered_with.decode("ascii", "replace").strip()
         site = next((one for one, board in closed.boards.items() if has(board, key)), "")
         old, new = (lines_of(boards, site, key) for boards in (before, closed.boards))
         if old != new:

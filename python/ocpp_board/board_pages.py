@@ -123,7 +123,7 @@ class Layout:
     calendar: Calendar
     # When the pages are written.
     written: datetime
-    # Seconds after which a browser draws the pages anew, where these follow a server.
+    # Seconds after which a browser loads the pages again, where these follow a server.
     refresh: int | None = None
     # Up to when the data is, where that is known, and how many seconds before the writing that may be.
     until: datetime | None = None
@@ -136,7 +136,7 @@ class Layout:
     standing: frozenset[date] | None = None
     # The addresses of the pages of sessions, by station and transaction, where there are some.
     address: Callable[[str, str], str] | None = None
-    # By day, what is on its page beside the board; a page with another mark is written anew.
+    # By day, what is on its page beside the board; a page with another mark is written again.
     marks: dict[date, int] = field(default_factory=dict)
 
     def index(self, number: int = 1) -> str:
@@ -191,14 +191,14 @@ class Layout:
         return self.stamped(f"Page written {written}, and again when something on it changes.")
 
     def stamped(self, said: str) -> str:
-        """What the page says of times, with the zone, and how often a browser draws the page anew."""
+        """What the page says of times, with the zone, and how often a browser loads the page again."""
         if self.refresh:
             pause = "second" if self.refresh == 1 else f"{self.refresh:,} seconds"
-            said += f" A browser draws it anew every {pause}."
+            said += f" A browser loads it again every {pause}."
         return f'<p class="stamp">{said} {self.calendar.said()}.</p>\n'
 
     def moment(self, at: datetime) -> str:
-        """A moment in the zone, to the second where pages are drawn anew."""
+        """A moment in the zone, to the second where pages are loaded again."""
         return moment(self.calendar.local(at), self.refresh is not None)
 
     def old(self) -> str:
@@ -411,8 +411,8 @@ class DayPages:
         site = "".join(text_of(one) for one in parts if one.part.is_site)
 
         def front(paths: list[str]) -> str:
-            told = order_said(board.site) + site
-            return told + stations_of_day(day, stations, paths, has_export)
+            above = order_said(board.site) + site
+            return above + stations_of_day(day, stations, paths, has_export)
 
         series.put_board(board, front, [text_of(one) for one in stations])
 
@@ -436,11 +436,11 @@ class DayPages:
         above, below = (
             f'<nav aria-label="Days, {where}">{links}</nav>\n' for where in ("above", "below")
         )
-        told = self.layout.day_stamp(self.until) + said
+        stamp = self.layout.day_stamp(self.until) + said
         for number, page in enumerate(series.pages, 1):
             begin = self.layout.head(
                 f"{self.names.title()},",
-                told,
+                stamp,
                 above + series.links(number, "above"),
                 self.names.is_one,
                 f"{weekday(day)} {day}{page_of(number)}",
@@ -490,8 +490,8 @@ def stations_of_day(day: date, stations: list[DayPart], paths: list[str], has_ex
     heads: Heads = ["Station", net, *others, NET_BAR]
     text = "".join(table(f"Stations on {kept(str(day))}, kWh", heads, rows))
     scale = " and ".join({one.scale.said() for one in stations})
-    told = f"The pictures of all stations have one scale on all days, to {scale}; the site's has its own."
-    return f'<p class="soft">{told}</p>\n{across(f"Stations on {day}", text)}' if stations else ""
+    scales = f"The pictures of all stations have one scale on all days, to {scale}; the site's has its own."
+    return f'<p class="soft">{scales}</p>\n{across(f"Stations on {day}", text)}' if stations else ""
 
 
 @dataclass

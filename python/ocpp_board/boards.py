@@ -322,7 +322,7 @@ class Reader:
         """Reads the text to its end. What can't be read is reported and counted as `unread`."""
         number = 0
         for number, line in lines(text):
-            self.progress.tell(number, len(line) + 1)
+            self.progress.report(number, len(line) + 1)
             self.take(number, line)
         self.break_off(number, "the text ends")
         if not self.counts["boards"]:
@@ -402,12 +402,12 @@ class Reader:
         self.counts["faults"] += line.startswith("fault ")
 
     def unread(self, number: int, line: str) -> None:
-        """Tells a line that can't be read. What follows it is left out up to the next station or the end."""
+        """Reports a line that can't be read. What follows it is left out up to the next station or the end."""
         self.complain(number, f"not read: {ascii(line[:80])}")
         self.before = None
 
     def complain(self, number: int, text: str) -> None:
-        """Tells what is wrong at this line, and that the part is not whole."""
+        """Reports what is wrong at this line, and that the part is not whole."""
         self.counts["unread"] += 1
         if self.counts["unread"] <= MOST_COMPLAINTS:
             self.progress.end()
@@ -415,7 +415,7 @@ class Reader:
         if self.part is not None:
             self.part.whole = False
 
-    def tell(self) -> None:
+    def report(self) -> None:
         """What was read."""
         log.info(
             "boards: {boards}, stations: {stations}, periods: {periods}, transactions: {transactions}; lines "

@@ -54,6 +54,7 @@ def sum_of(flows: Iterable[Flow]) -> Flow:
     return Flow(*map(sum, zip(*flows)))
 
 
+@lru_cache(KEPT_TEXTS)
 def kwh_of(mwh: int) -> str:
     """An energy of so many mWh in kWh, exactly, for a machine. It is not negative."""
     whole, part = divmod(mwh, MWH_OF_A_KWH)

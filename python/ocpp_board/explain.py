@@ -2,19 +2,19 @@
 
     ocpp-board explain SCRIPT
 
-reports each fault and each refusal with the number of its line, the line, the cause in words and the remedy. For
-a message that was refused it also says which member broke which check. What the program answers decides: the
-tool looks for the causes in the line afterwards.
+reports each fault and each refusal with the file, the number of its line, the line, the cause in words and the
+remedy. For a message that was refused it also says which member broke which check. What the program answers
+decides: the tool looks for the causes in the line afterwards.
 
-    line 7: msg CS_01 [2,"1","Heartbeat",{}]
+    day.script line 7: msg CS_01 [2,"1","Heartbeat",{}]
       fault UnknownStation: no station CS_01 is declared
       remedy: the nearest declared name is CS-01
 
-Where a board's periods are wrong since stations list readings again it names the line that mends it, a line
+If a board's periods are wrong since stations list readings again, it names the line that mends it, a line
 `order <site> moment`; this is a hint and no mistake, and so is what it reports of a station near its limits.
 
-Between the script's lines that may write nothing it puts lines of its own, which are faults and change nothing,
-to tell the answers apart. It reports the first mistakes of a kind, and counts the others.
+Behind lines that may write nothing it puts lines of its own into the script, which are faults and change nothing,
+to distinguish the answers. It reports the first mistakes of a kind, and counts the others.
 """
 
 import argparse
@@ -45,7 +45,7 @@ ENDING = """\
 Half a kilobyte of memory is kept of each event. Exit status: 0 if there is nothing to report; 1 if something was
 reported; 2 if the words are wrong, the program is not there, or a file can't be read or written."""
 # Mistakes of a kind that are reported one by one, and characters of a line that are shown.
-MOST_TOLD = 10
+MOST_REPORTED = 10
 SHOWN = 200
 
 
@@ -73,12 +73,12 @@ class Plan:
         """Why a declaration is past the plan's limits."""
         if words[0] == "limits":
             limits = zip(GREATEST_LIMITS.items(), words[1:])
-            told = [
+            wrong = [
                 f"the number of {what} is {text}, and not 1 to {most}"
                 for (what, most), text in limits
                 if not 1 <= int(text) <= most
             ]
-            return "; ".join(told), "numbers in range"
+            return "; ".join(wrong), "numbers in range"
         if words[0] == "period":
             return f"{words[2]} seconds are no settlement period", "300, 900, 1800 or 3600"
         if len(self.stations) >= MOST_STATIONS:
@@ -115,13 +115,15 @@ class Plan:
 class Run:
     """A replay that runs over a script, and what is wrong with it."""
 
-    def __init__(self, program: str, script: IO[bytes]) -> None:
+    def __init__(self, program: str, script: IO[bytes], name: str = "") -> None:
+        """`name`: that of the script, where it is a file."""
+        self.name, self.where = (f"{name}: ", f"{name} line") if name else ("", "line")
         self.replay, self.plan = ScriptReplay(program, script), Plan()
         self.messages = Messages()
-        self.near = NearLimits(self.messages.limits, self.tell_limit)
-        self.repeats = RepeatHints(self.tell_hint)
+        self.near = NearLimits(self.messages.limits, self.report_limit)
+        self.repeats = RepeatHints(self.report_hint)
         self.progress = Progress(script)
-        self.told: dict[str, int] = {}
+        self.counts: dict[str, int] = {}
 
     def explain(self, line: Line, text: str) -> None:
         """Reports what is wrong with a line, if something is."""
@@ -138,12 +140,12 @@ class Run:
             )
         elif text.startswith("[4,"):
             self.plan.take(line.number, words)
-            told = re.search(r',"([A-Za-z]+)",\{\}\]$', text)
-            cause, remedy = message_fault(words[2], told[1] if told else "")
+            named = re.search(r',"([A-Za-z]+)",\{\}\]$', text)
+            cause, remedy = message_fault(words[2], named[1] if named else "")
         else:
             self.plan.take(line.number, words)
             return
-        self.tell(line, text, cause, remedy)
+        self.report(line, text, cause, remedy)
 
     def line_fault(self, name: str, line: Line, words: list[str]) -> Said:
         """Why a line is a fault of this name."""
@@ -187,7 +189,7 @@ class Run:
             )
         return cause, self.plan.near("station", words[1], self.plan.stations)
 
-    def tell(self, line: Line, text: str, cause: str, remedy: str) -> None:
+    def report(self, line: Line, text: str, cause: str, remedy: str) -> None:
         """Reports a mistake; of a kind the first ones."""
         kind = (
             re.sub(r'^\[4,"(?:[^"\\]|\\.)*",', "", text)
@@ -195,28 +197,28 @@ class Run:
             .replace('"', "")
             .replace(",", " ")
         )
-        self.told[kind] = self.told.get(kind, 0) + 1
-        if self.told[kind] <= MOST_TOLD:
+        self.counts[kind] = self.counts.get(kind, 0) + 1
+        if self.counts[kind] <= MOST_REPORTED:
             self.progress.end()
             print(
-                f"line {line.number}: {shown(line.line.decode('utf-8', 'replace'), SHOWN)[1:-1]}\n"
+                f"{self.where} {line.number}: {shown(line.line.decode('utf-8', 'replace'), SHOWN)[1:-1]}\n"
                 f"  {kind}: {cause}\n  remedy: {remedy}"
             )
 
-    def tell_limit(self, answered: Answered, said: str, remedy: str) -> None:
+    def report_limit(self, answered: Answered, said: str, remedy: str) -> None:
         """Reports that a station comes near to its limits, which is no mistake yet."""
         self.progress.end()
-        print(f"line {answered.number}: {said}\n  remedy: {remedy}")
+        print(f"{self.where} {answered.number}: {said}\n  remedy: {remedy}")
 
-    def tell_hint(self, line: Line, said: str, remedy: str) -> None:
+    def report_hint(self, line: Line, said: str, remedy: str) -> None:
         """Reports what a line's board shows, which is no mistake of the script."""
         self.progress.end()
-        print(f"line {line.number}: {said}\n  remedy: {remedy}")
+        print(f"{self.where} {line.number}: {said}\n  remedy: {remedy}")
 
     def run(self) -> int:
         """Reports all that is wrong, and returns the exit status. Raises OSError."""
         for line, text in self.replay.texts():
-            self.progress.tell(line.number, len(line.line) + 1)
+            self.progress.report(line.number, len(line.line) + 1)
             if message := self.messages.take(line, text):
                 self.near.take(message)
                 self.repeats.messages.take(message)
@@ -225,14 +227,14 @@ class Run:
             self.repeats.look(line, text)
             self.explain(line, text.partition(b"\n")[0].decode("utf-8", "replace"))
         self.progress.end()
-        status, told = self.replay.ended()
-        for kind, count in self.told.items():
-            if count > MOST_TOLD:
-                print(f"and {count - MOST_TOLD:,} more lines: {kind}")
+        status, said = self.replay.ended()
+        for kind, count in self.counts.items():
+            if count > MOST_REPORTED:
+                print(f"{self.name}and {count - MOST_REPORTED:,} more lines: {kind}")
         if status:
-            print(f"the replay ended with status {status}: {told}")
-        print(f"lines: {self.replay.lines:,}, reported: {sum(self.told.values()):,}")
-        return Status.TOLD if self.told or status else Status.DONE
+            print(f"{self.name}the replay ended with status {status}: {said}")
+        print(f"{self.name}lines: {self.replay.lines:,}, reported: {sum(self.counts.values()):,}")
+        return Status.TOLD if self.counts or status else Status.DONE
 
 
 def arguments(argv: Sequence[str], prog: str) -> argparse.Namespace:
@@ -250,13 +252,14 @@ def arguments(argv: Sequence[str], prog: str) -> argparse.Namespace:
 
 
 def explain(words: argparse.Namespace) -> int:
-    """Tells what is wrong with the script that the words name, and gives the exit status."""
+    """Reports what is wrong with the script that the words name, and gives the exit status."""
+    name = "" if words.script == "-" else words.script
     with opened(words.script) as script:
         if is_gzip(script):
-            print("line 1: the script is compressed by gzip")
+            print(f"{name} line 1: the script is compressed by gzip".lstrip())
             print("  remedy: gunzip -c SCRIPT | ocpp-board explain")
             return Status.TOLD
-        return Run(words.program, script).run()
+        return Run(words.program, script, name).run()
 
 
 def main(argv: Sequence[str], prog: str) -> int:

@@ -43,7 +43,7 @@ class KeptScript:
         self.mend()
         self.declare(head)
         self.file: IO[bytes] = open(self.path, "ab")
-        self.size, self.is_told = self.file.tell(), False
+        self.size, self.is_reported = self.file.tell(), False
 
     def put(self, path: Path, data: bytes) -> None:
         """Writes a file, which is there whole or not at all."""
@@ -92,20 +92,20 @@ class KeptScript:
     def place(self) -> Place | None:
         """How far the log was read; None where nothing was."""
         try:
-            told = json.loads(self.read.read_bytes())
-            return Place(int(told["place"]), str(told["front"]))
+            kept = json.loads(self.read.read_bytes())
+            return Place(int(kept["place"]), str(kept["front"]))
         except FileNotFoundError:
             return None
         except (ValueError, KeyError, TypeError):
-            raise Mistaken(f"{self.read} is not whole; without it the log is read anew") from None
+            raise Mistaken(f"{self.read} is not whole; without it the log is read again") from None
 
     def append(self, lines: bytes) -> None:
         """Adds lines. Raises OSError, and Mistaken where there is no room for them."""
         self.check_room(len(lines))
         self.file.write(lines)
         self.size += len(lines)
-        if not self.is_told and 10 * self.size > 9 * LONGEST_SCRIPT:
-            self.is_told = True
+        if not self.is_reported and 10 * self.size > 9 * LONGEST_SCRIPT:
+            self.is_reported = True
             log.warning(
                 "%s has %s of at most %s bytes: soon begin with another folder, or take the fleet",
                 self.path,
@@ -118,7 +118,7 @@ class KeptScript:
         self.file.close()
         self.put(self.path, lines)
         self.file = open(self.path, "ab")
-        self.size, self.is_told = self.file.tell(), False
+        self.size, self.is_reported = self.file.tell(), False
 
     def check_room(self, count: int) -> None:
         """Raises Mistaken where there is no room for so many bytes more."""

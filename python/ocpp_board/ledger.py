@@ -4,8 +4,9 @@ import queue
 import threading
 from collections import deque
 from collections.abc import Callable, Iterable
+from io import BytesIO
 
-from ocpp_board.answered import OPERATOR, Answered, Line, Messages, Replay
+from ocpp_board.answered import OPERATOR, RECEIVED, Answered, Line, Messages, Replay
 from ocpp_board.limits import LONGEST_LINE
 from ocpp_board.mending import COMMENT as MENDED, MendedMessages
 from ocpp_board.operators import Deed, Operators, deed_of, is_change
@@ -54,27 +55,30 @@ class Ledger:
         """The sites of the stations that are declared, in their order."""
         return list(dict.fromkeys(self.messages.sites.values()))
 
-    def send(self, line: bytes, before: Callable[[], None] | None = None) -> None:
-        """Hands on a line of the script, which reaches the replay by the next flush. Raises Ended.
+    def send(self, lines: bytes, before: Callable[[], None] | None = None) -> None:
+        """Hands on lines of the script, which reach the replay by the next flush. Raises Ended.
 
-        `before` is done right before the line is sent, and no other line is sent between.
+        `before` is done right before the first is sent, and no other line is sent between.
         """
         with self.sending:
             if before:
                 before()
-            self.counts["lines"] += 1
-            self.counts["bytes"] += len(line)
-            number = self.script.passed(line)
-            sent = self.replay.sendable(number, line)
-            if line.startswith(b"#"):
-                self.comment(line, number)
-                return
-            if not self.is_needed:
-                self.is_needed = line.split(b" ", 1)[0] in OPENING
-            self.write(sent if sent.endswith(b"\n") else sent + b"\n")
+            self.counts["bytes"] += len(lines)
+            for line in BytesIO(lines):
+                self.counts["lines"] += 1
+                number = self.script.passed(line)
+                sent = self.replay.sendable(number, line)
+                if line.startswith(b"#"):
+                    self.comment(line, number)
+                    continue
+                if not self.is_needed:
+                    self.is_needed = line.split(b" ", 1)[0] in OPENING
+                self.write(sent if sent.endswith(b"\n") else sent + b"\n")
 
     def comment(self, line: bytes, number: int) -> None:
         """A comment, which would only take room of what the replay may read. One that is too long is none."""
+        if line.startswith(RECEIVED) and len(line) <= LONGEST_LINE:
+            return
         if line.startswith(OPERATOR):
             with self.taking:
                 self.operators.comment(line)

@@ -102,11 +102,11 @@ def words_fault(words: list[str]) -> Said | None:
     if kind == "order":
         return name_fault("site's name", rest[0]) or order_fault(rest[1])
     if kind == "limits":
-        told = (
+        faults = (
             number_fault(f"number of {what}", text, GREATEST)
             for what, text in zip(GREATEST_LIMITS, rest)
         )
-        return next(filter(None, told), None)
+        return next(filter(None, faults), None)
     if kind == "now":
         # Nothing else can be wrong with such a line, whatever Python takes for a time.
         return (

@@ -25,10 +25,9 @@ have behind ` # `, and in SITE.operator.csv:
     total CS-01
     total events=16 voided=1 transactions=1 complete=0 missing=1 up=4800000 down=0 export_up=0 export_down=0
 
-No board is asked for, and no operator's line is handed on, before the script's first line that needs the
-ledgers (a message, a command or a question), since no station can be declared after it. The program ends by a
-signal, with the pages written once more; with a script also when that and the operator's lines are at their ends, with
---once when it took what the log has.
+The tool asks for no board, and hands on no operator's line, before the script's first line that needs the ledgers (a
+message, a command or a question), since no station can be declared after it. A signal ends it; so does the end of a
+script and of the operator's lines, and with --once the end of the log. It writes the pages once more then.
 """
 
 import argparse
@@ -54,7 +53,7 @@ from ocpp_board.refusals import Refusals
 from ocpp_board.script_plan import add_plan, check_plan
 from ocpp_board.sources import is_gzip
 from ocpp_board.statuses import Mistaken, Status, ended
-from ocpp_board.told import Told
+from ocpp_board.session_facts import SessionFacts
 from ocpp_board.words import add_power, add_program, add_tokens, parsed, parser_of, zone
 
 log = logging.getLogger(__name__)
@@ -67,6 +66,8 @@ LONGEST_LINE = 262_500
 # Seconds: from one look at what runs to the next, between showings of the progress, for the ledgers to be opened
 # where the script is at its end, and for what is under way to end.
 LOOK, SHOWN, OPENED, LAST = 0.1, 0.5, 30, 5
+# Seconds from one writing to the next while what a log had at the start is read, which each writing slows down.
+READING = 60
 
 
 class ScriptFeed:
@@ -106,7 +107,7 @@ class ScriptFeed:
     def end(self) -> None:
         """Nothing more is wanted."""
 
-    def tell(self) -> None:
+    def report(self) -> None:
         """The ledger reports what came of the lines."""
 
 
@@ -115,21 +116,21 @@ class Run:
 
     def __init__(self, words: argparse.Namespace) -> None:
         """Raises OSError, and Mistaken where a file of the words is wrong or another run keeps its script there."""
-        self.words, told = words, Told(words.most_kw)
+        self.words, facts = words, SessionFacts(words.most_kw)
         self.refusals = Refusals(str(words.log or words.script))
-        takers: list[Callable[[Answered], None]] = [self.refusals.take, told.take]
+        takers: list[Callable[[Answered], None]] = [self.refusals.take, facts.take]
         self.ledger = Ledger(words.program, takers, self.refusals.add)
-        told.operators = self.ledger.operators
+        facts.operators = self.ledger.operators
         of_script = self.ledger.script, self.ledger.mended
-        self.pages = Pages(words, self.refusals, told, *of_script)
+        self.pages = Pages(words, self.refusals, facts, *of_script)
         self.source: ScriptFeed | LogFeed = (
             LogFeed(words, self.ledger) if words.log else ScriptFeed(words.script, self.ledger)
         )
-        near = NearLimits(self.ledger.messages.limits, tell_limit)
+        near = NearLimits(self.ledger.messages.limits, report_limit)
         takers.append(near.take)
         if isinstance(self.source, LogFeed):
-            self.source.known = told
-            self.source.archived = [self.refusals.take, told.take]
+            self.source.known = facts
+            self.source.archived = [self.refusals.take, facts.take]
             self.source.closed.append(near.sent.counts.clear)
             self.pages.archive = self.source.archive
         self.faults: list[str] = []
@@ -168,7 +169,7 @@ class Run:
 
     def wait(self) -> None:
         """Writes the pages every so many seconds until all is at its end. Raises Ended."""
-        due, shown = time.monotonic() + self.words.every, time.monotonic() + SHOWN
+        due, shown = time.monotonic() + self.pause(), time.monotonic() + SHOWN
         is_first = True
         while not self.has_ended() and self.ledger.replay.process.poll() is None:
             self.ends[0 if not self.ends[0].is_set() else 1].wait(LOOK)
@@ -177,10 +178,16 @@ class Run:
                 is_first &= not self.source.is_caught_up.is_set()
                 if fault := self.write():
                     log.error("%s; tried again in %g s", fault, self.words.every)
-                due = time.monotonic() + self.words.every
+                due = time.monotonic() + self.pause()
             if time.monotonic() >= shown:
                 self.progress()
                 shown = time.monotonic() + SHOWN
+
+    def pause(self) -> float:
+        """Seconds to the next writing of the pages, which come at once when what a log had at the start is read."""
+        every: float = self.words.every
+        is_reading = self.words.log and not self.source.is_caught_up.is_set()
+        return max(every, READING) if is_reading else every
 
     def write(self, is_last: bool = False) -> str | None:
         """Writes the pages, and gives what went wrong. The ledger goes on, and they are tried again. Those of sessions
@@ -205,7 +212,7 @@ class Run:
             return
         counts, size = self.ledger.counts, self.source.size()
         share = f", {min(100, 100 * counts['bytes'] / size):.0f} %" if size else ""
-        progress.tell(
+        progress.show(
             f"{counts['lines']:,} lines, {counts['bytes'] / 1e6:,.1f} MB{share}, {counts['refused']:,} "
             f"messages refused, {counts['faults']:,} faults"
         )
@@ -226,16 +233,16 @@ class Run:
         if sys.stderr.isatty():
             progress.clear()
         self.refusals.end()
-        self.source.tell()
+        self.source.report()
         log.info(
             "lines of the script: {lines}, messages accepted: {accepted}, refused: {refused}, of other actions: "
             "{left}, faults: {faults}; pages written: {pages}".format(
                 pages=self.pages.count, **self.ledger.counts
             )
         )
-        return self.told(status)
+        return self.report(status)
 
-    def told(self, status: int) -> int:
+    def report(self, status: int) -> int:
         """Reports what went wrong, with the replay's exit status, and returns the tool's."""
         for fault in self.faults:
             log.error("%s", fault)
@@ -252,7 +259,7 @@ class Run:
         return Status.TOLD if status or not has_board else Status.DONE
 
 
-def tell_limit(_answered: Answered, said: str, remedy: str) -> None:
+def report_limit(_answered: Answered, said: str, remedy: str) -> None:
     """Reports that a station comes near to its limits."""
     log.warning("%s; %s", said, remedy)
 
@@ -313,7 +320,8 @@ def arguments(argv: Sequence[str], prog: str) -> argparse.Namespace:
         metavar="SECONDS",
         type=seconds,
         default=10.0,
-        help="how long to wait from one writing to the next (default: 10)",
+        help="how long to wait from one writing to the next (default: 10; a minute or more until what the log had at "
+        "the start is read)",
     )
     parser.add_argument(
         "--oldest",

@@ -1,4 +1,4 @@
-"""The pages and tables of the sites of a ledger that grows, written anew where a site's board is another one."""
+"""The pages and tables of the sites of a ledger that grows, written again if a site's board is another one."""
 
 import argparse
 import logging
@@ -18,7 +18,7 @@ from ocpp_board.mending import MendedMessages
 from ocpp_board.refusals import Refusals
 from ocpp_board.script_lines import ScriptLines
 from ocpp_board.session_pages import Known, SessionPages
-from ocpp_board.told import Told
+from ocpp_board.session_facts import SessionFacts
 
 # The page that leads to those of all sites, where none has this name.
 SITES = "index"
@@ -31,13 +31,13 @@ class Pages:
         self,
         words: argparse.Namespace,
         refusals: Refusals,
-        told: Told,
+        facts: SessionFacts,
         script: ScriptLines | None = None,
         mended: MendedMessages | None = None,
     ) -> None:
         """`script`: where the lines of the script begin; `mended`: what it has that was mended."""
-        self.words, self.refusals, self.told = words, refusals, told
-        self.known = Known(told, refusals, script or ScriptLines(), mended or MendedMessages())
+        self.words, self.refusals, self.facts = words, refusals, facts
+        self.known = Known(facts, refusals, script or ScriptLines(), mended or MendedMessages())
         # The archive, where sessions are closed.
         self.archive: Archive | None = None
         # By site, the pages of sessions that are not written yet.
@@ -60,9 +60,9 @@ class Pages:
     def write(self, site: str, board: bytes) -> None:
         """Writes a site's files where its board or the number of refused messages is another, or where its data is too
         old by now, or no longer. Raises OSError."""
-        self.refusals.settle(self.told.has_taken)
+        self.refusals.settle(self.facts.has_taken)
         refused = self.refusals.count(site)
-        operators = self.told.operators
+        operators = self.facts.operators
         corrections = len(self.archive.corrections) if self.archive else 0
         shown = board, refused, self.is_old(), len(operators.deeds) + corrections
         if not board.startswith(b"board ") or self.shown.get(site) == shown:
@@ -70,8 +70,8 @@ class Pages:
         folder = Path(tempfile.mkdtemp(prefix=".live_board.", dir=self.words.out))
         try:
             self.refusals.write(folder / f"{site}.refused.csv", site)
-            operators.write(folder / f"{site}.operator.csv", self.told.sites(), site)
-            self.known.mended.write(folder / f"{site}.mended.csv", self.told.sites(), site)
+            operators.write(folder / f"{site}.operator.csv", self.facts.sites(), site)
+            self.known.mended.write(folder / f"{site}.mended.csv", self.facts.sites(), site)
             if self.archive:
                 self.archive.write(folder / f"{site}.corrections.csv", site)
             days = digests(board, self.calendar)
@@ -96,7 +96,7 @@ class Pages:
 
     def is_old(self) -> bool:
         """Whether nothing came for longer than the words allow."""
-        until, oldest = self.told.until(), self.words.oldest
+        until, oldest = self.facts.until(), self.words.oldest
         if until is None or oldest is None:
             return False
         return datetime.now(timezone.utc) - until > timedelta(seconds=oldest)
@@ -119,10 +119,10 @@ class Pages:
         words = tables.arguments(["--out", str(name), *more], self.words.prog)
         layout = replace(
             tables.layout_of(words),
-            until=self.told.until(),
+            until=self.facts.until(),
             oldest=self.words.oldest,
             refused=refused,
-            mended=self.known.mended.count(self.told.sites(), name.name),
+            mended=self.known.mended.count(self.facts.sites(), name.name),
             standing=standing,
             marks=self.marks.setdefault(name.name, {}),
         )

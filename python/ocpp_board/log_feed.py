@@ -1,7 +1,6 @@
 """Feeds a ledger with the script that is kept of a log, and then with the log as it grows."""
 
 import argparse
-import io
 import logging
 import re
 import threading
@@ -26,7 +25,7 @@ from ocpp_board.operators import Deed, deed_of, is_change
 from ocpp_board.refusals import MOST_UNTAKEN, comment_of
 from ocpp_board.script_plan import ScriptPlan
 from ocpp_board.statuses import Mistaken
-from ocpp_board.told import Told
+from ocpp_board.session_facts import SessionFacts
 
 log = logging.getLogger(__name__)
 
@@ -61,7 +60,7 @@ class LogFeed:
         self.last: Entry | None = None
         # How often each kind of mistake came, and what was reported once.
         self.untaken: Counter[str] = Counter()
-        self.told: set[str] = set()
+        self.reported: set[str] = set()
         self.is_ending, self.is_caught_up = threading.Event(), threading.Event()
         # Set when the script that was kept is handed on.
         self.is_loaded = threading.Event()
@@ -77,7 +76,7 @@ class LogFeed:
         )
         self.boundary = ""
         # What is known of sessions, who takes the messages of closed ones, and what is done where some were closed.
-        self.known = Told()
+        self.known = SessionFacts()
         self.archived, self.closed = list[Callable[[Answered], None]](), list[Callable[[], None]]()
 
     def takers(self) -> Takers:
@@ -122,11 +121,11 @@ class LogFeed:
         """The log, which is waited for where it is not there yet. Raises OSError."""
         while not self.is_ending.is_set():
             try:
-                followed = Followed(self.words.log, self.place, self.tell_cut)
+                followed = Followed(self.words.log, self.place, self.report_cut)
             except FileNotFoundError as fault:
                 if self.words.once:
                     raise
-                self.tell_once(f"{fault}; waited for")
+                self.report_once(f"{fault}; waited for")
                 self.catch_up()
                 self.is_ending.wait(AGAIN)
                 continue
@@ -140,10 +139,12 @@ class LogFeed:
         """All that was there is handed on."""
         self.is_caught_up.set()
         if not self.reader.has_form():
-            self.tell_once(f"no line of {self.words.log} is of the form {self.reader.form_name()}")
+            self.report_once(
+                f"no line of {self.words.log} is of the form {self.reader.form_name()}"
+            )
 
-    def tell_cut(self, what: str) -> None:
-        """Tells that the log was cut short, and which line was the last before."""
+    def report_cut(self, what: str) -> None:
+        """Reports that the log was cut short, and which line was the last before."""
         last = self.last
         if last is None:
             log.warning("%s", what)
@@ -156,10 +157,10 @@ class LogFeed:
             at,
         )
 
-    def tell_once(self, text: str) -> None:
+    def report_once(self, text: str) -> None:
         """Reports this, if it was not reported yet."""
-        if text not in self.told:
-            self.told.add(text)
+        if text not in self.reported:
+            self.reported.add(text)
             log.warning("%s", text)
 
     def take(self, lines: list[bytes | None], place: Place) -> None:
@@ -257,9 +258,9 @@ class LogFeed:
         self.last = self.reader.entry or self.last
         if taken.note:
             # Of each kind the first.
-            if taken.note.kind not in self.told:
+            if taken.note.kind not in self.reported:
                 log.warning("%s: %s", self.words.log, taken.note)
-            self.told.add(taken.note.kind)
+            self.reported.add(taken.note.kind)
         return self.after_now(taken)
 
     def refused(self, why: Refused) -> bytes:
@@ -281,8 +282,8 @@ class LogFeed:
 
     def put(self, lines: bytes) -> None:
         """Adds lines to the script, and hands them on."""
-        for line in io.BytesIO(lines):
-            self.ledger.send(line, partial(self.kept.append, line))
+        if lines:
+            self.ledger.send(lines, partial(self.kept.append, lines))
 
     def ask(self, line: bytes) -> bytes:
         """The answer to an operator's line; what it changed is on disk by then. Raises Ended, and Mistaken where the
@@ -316,6 +317,6 @@ class LogFeed:
         """Nothing more is wanted."""
         self.is_ending.set()
 
-    def tell(self) -> None:
+    def report(self) -> None:
         """What became of the log's lines."""
-        self.reader.tell()
+        self.reader.report()

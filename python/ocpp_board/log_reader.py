@@ -3,7 +3,8 @@
 import argparse
 import logging
 import re
-from datetime import datetime, timezone
+from datetime import date, datetime, timezone
+from functools import lru_cache
 from typing import NamedTuple
 
 from ocpp_board.escapes import shown
@@ -11,7 +12,7 @@ from ocpp_board.limits import FIRST_MOMENT, LONGEST_LOG_LINE, MOMENT, PAST_MOMEN
 from ocpp_board.logforms import Entry, form_of
 from ocpp_board.mending import Mender
 from ocpp_board.message_faults import OLD_ACTIONS
-from ocpp_board.messages import CALL, Refused, is_answer, msg_line, tells_moment
+from ocpp_board.messages import CALL, Refused, has_moment, is_answer, msg_line
 from ocpp_board.refusals import NOT_IN, UNTAKEN, Refusal, named_in
 from ocpp_board.script_plan import ScriptPlan
 
@@ -20,6 +21,11 @@ log = logging.getLogger(__name__)
 # Seconds since 1970, or thousandths, millionths or billionths of them, and digits of the greatest whole seconds.
 EPOCH = re.compile(r"([0-9]{9,19})(\.[0-9]*)?")
 SECONDS_DIGITS = 10
+# A time from 2000 to 2099 in UTC as most logs write it, and its day.
+PLAIN = re.compile(
+    r"(20[0-9]{2}-[0-9]{2}-[0-9]{2})T(?:[01][0-9]|2[0-3]):[0-5][0-9]:[0-5][0-9](?:\.[0-9]+)?Z"
+)
+SECONDS = len("2026-03-01T10:00:00")
 # What is to be done about a line that is not taken, by how the mistake begins.
 ADVICE = (
     (NOT_IN, "add the station to that file"),
@@ -53,11 +59,22 @@ def from_epoch(digits: str, part: str | None) -> datetime:
     return datetime.fromtimestamp(seconds, timezone.utc)
 
 
+@lru_cache(1_024)
+def is_day(text: str) -> bool:
+    """Whether the calendar has this day."""
+    try:
+        return bool(date.fromisoformat(text))
+    except ValueError:
+        return False
+
+
 def moment_of(text: str, is_utc: bool) -> str:
     """The moment of a time as scripts write it: UTC, whole seconds. `is_utc`: one without an offset is UTC.
 
     Raises Refused where the text is no time, or none from 2000 to 2099.
     """
+    if (plain := PLAIN.fullmatch(text)) and is_day(plain[1]):
+        return text[:SECONDS] + "Z"
     try:
         number = EPOCH.fullmatch(text)
         moment = from_epoch(number[1], number[2]) if number else datetime.fromisoformat(text)
@@ -113,17 +130,18 @@ class LogReader:
 
     def taken_of(self, entry: Entry) -> Taken:
         """What a line becomes that says this: a message where a station sent a call. Raises Refused."""
-        if entry.is_old or is_old_call(entry.message):
+        call = CALL.match(entry.message)
+        if entry.is_old or call and call[2] in OLD_ACTIONS:
             return Taken("old")
         site, station = self.plan.place(entry)
-        is_message = entry.is_stations and not is_answer(entry.message)
-        if not is_message:
+        is_answered = call is None and is_answer(entry.message)
+        if is_answered or not entry.is_stations:
             self.plan.admit(site, station)
-            return Taken("answers" if is_answer(entry.message) else "sent")
+            return Taken("answers" if is_answered else "sent")
         message, came = self.mended(site, station, entry)
         line = msg_line(station, message)
         self.plan.admit(site, station)
-        needs_time = tells_moment(entry.message)
+        needs_time = call is not None and has_moment(call[2])
         moment, note = self.moment(entry) if needs_time or self.words.received else (None, None)
         received = f"# received {moment}\n".encode() if moment and self.words.received else b""
         now = moment if needs_time else None
@@ -157,7 +175,7 @@ class LogReader:
         """The name of the log's form."""
         return "--regex" if self.words.regex else str(self.words.form)
 
-    def tell(self) -> None:
+    def report(self) -> None:
         """What became of the lines."""
         log.info(
             "lines: {lines}; messages of stations: {messages}, answers left out: {answers}, calls to stations left "
@@ -188,9 +206,3 @@ class LogReader:
             site,
             str(why),
         )
-
-
-def is_old_call(message: str) -> bool:
-    """Whether a message is a call that OCPP 1.6 has, and 2.0.1 has not."""
-    call = CALL.match(message)
-    return call is not None and call[2] in OLD_ACTIONS

@@ -7,8 +7,8 @@ OCPP-J text in a JSON string:
 
 --form and --regex read the shapes of other logs. The script declares all stations first, in the order in which
 the log names them. Each message becomes a `msg` line with the same bytes; a line feed in it becomes a blank.
-Replies to a BootNotification or a Heartbeat have the moment, so before these a `now` line gives the line's time
-where that has changed; where the time can't be read the message goes without it. Answers ([3,..] and [4,..]),
+Replies to a BootNotification or a Heartbeat have the moment, so a `now` line before these gives the line's time
+if that has changed; if the time can't be read, the message goes without it. Answers ([3,..] and [4,..]),
 messages of the CSMS and of OCPP 1.6, lines of others and blanks are left out and counted. What can't be taken is
 reported on standard error with its line number and becomes a comment of the script; the rest goes on. A mistake of
 many lines is reported at the first, and counted at the end.
@@ -84,7 +84,7 @@ class Mistakes:
         # By kind: how many more there were, and the number of the last line of these.
         self.more: dict[str, tuple[int, int]] = {}
 
-    def tell(self, number: int, why: Refused) -> None:
+    def report(self, number: int, why: Refused) -> None:
         """The line of this number can't be taken."""
         if why.kind in self.more:
             self.more[why.kind] = (self.more[why.kind][0] + 1, number)
@@ -98,7 +98,7 @@ class Mistakes:
         return self.more[why.kind][0] + 1
 
     def end(self) -> None:
-        """Tells of each kind how many more there were."""
+        """Reports of each kind how many more there were."""
         for kind, (count, last) in self.more.items():
             if count:
                 lines = "1 more line" if count == 1 else f"{count:,} more lines, the last"
@@ -279,7 +279,7 @@ class Conversion:
         number = 0
         try:
             for number, line in lines(file):
-                progress.tell(number, len(line or b""))
+                progress.report(number, len(line or b""))
                 self.take(number, line, mistakes)
         except Mistaken as fault:
             raise Mistaken(f"{self.words.log} {fault}") from None
@@ -297,24 +297,24 @@ class Conversion:
         try:
             taken = self.reader.take(line)
         except Refused as why:
-            mistakes.tell(number, why)
+            mistakes.report(number, why)
             if mistakes.count(why) <= MOST_UNTAKEN:
                 self.script.keep(self.reader.refusal(why))
             return
         if taken.note:
-            mistakes.tell(number, taken.note)
+            mistakes.report(number, taken.note)
         if taken.lines:
             self.script.put(taken)
 
     def refuse(self, mistakes: Mistakes, number: int, why: Refused) -> None:
         """Counts what can't be taken, and reports it."""
         self.counts["refused"] += 1
-        mistakes.tell(number, why)
+        mistakes.report(number, why)
 
-    def tell(self) -> None:
+    def report(self) -> None:
         """What became of the lines."""
         log.info("sites: %d, stations: %d", len(self.plan.sites()), len(self.plan.site_of))
-        self.reader.tell()
+        self.reader.report()
 
 
 def add_sites(parser: argparse.ArgumentParser) -> None:
@@ -392,7 +392,7 @@ def convert(words: argparse.Namespace) -> int:
         conversion.run(unpacked(file), Progress(file))
         conversion.plan.check_sites()
         conversion.script.write()
-    conversion.tell()
+    conversion.report()
     return Status.TOLD if conversion.counts["refused"] else Status.DONE
 
 

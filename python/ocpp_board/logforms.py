@@ -141,11 +141,11 @@ class JsonForm:
             return Entry(None, "", None, "", is_stations=False, is_old=True)
         site = text_member(entry, fields.site, named_by("site")) if fields.has_site else None
         station = text_member(entry, fields.station, named_by("station"))
-        told = time_member(entry, fields.time)
+        at = time_member(entry, fields.time)
         is_stations = (
             fields.direction is None or text_member(entry, fields.direction) == fields.incoming
         )
-        return Entry(site, station, told, self.message(of), is_stations)
+        return Entry(site, station, at, self.message(of), is_stations)
 
     def message(self, of: Members) -> str:
         """The message as the station sent it."""

@@ -42,8 +42,8 @@ Mends = dict[str, dict[str, Zone]]  # By site and fault, the zone of a time with
 
 def mend_word(text: str) -> tuple[str, str, Zone]:
     """A site, a fault, and for times without an offset their zone. Raises ArgumentTypeError."""
-    site, _, told = text.rpartition("=")
-    fault, _, name = told.partition(":")
+    site, _, mended = text.rpartition("=")
+    fault, _, name = mended.partition(":")
     if not is_name(site):
         raise argparse.ArgumentTypeError(f"no name of a site: {shown(text)}")
     if fault == TEXT_VALUE and not name:

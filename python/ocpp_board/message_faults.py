@@ -279,31 +279,31 @@ def unknown_action(action: str) -> Said:
     )
 
 
-def message_fault(text: str, told: str) -> Said:
+def message_fault(text: str, name: str) -> Said:
     """Why a message was refused with this description."""
-    if told in REMEDIES and told != "Format":
-        return REMEDIES[told]
+    if name in REMEDIES and name != "Format":
+        return REMEDIES[name]
     try:
         frame = JSON.decode(text)
     except (json.JSONDecodeError, RecursionError) as fault:
         return unread(text, fault)
-    if told == "NotJson":
+    if name == "NotJson":
         return (
             "the message is no JSON, as a number with zeros in front, or is nested deeper than 127",
             "JSON of RFC 8259",
         )
-    if told == "NotACall":
+    if name == "NotACall":
         return not_a_call(frame), 'a CALL: [2,"<id>","<action>",{<payload>}]'
-    if told == "MessageType":
+    if name == "MessageType":
         return (
             f"the message's type is {shown(str(frame[0]))}, and not 2, 3 or 4",
             "the type 2 for a CALL",
         )
-    if told == "UnknownAction":
+    if name == "UnknownAction":
         return unknown_action(frame[2])
-    is_moment, checks = told == "Moment", Checks(frame[3])
+    is_moment, checks = name == "Moment", Checks(frame[3])
     other = ("a timestamp", "is no time") if is_moment else ("a member", "broke the check")
-    failed = ((member, what) for fault, member, what in checks.failed if fault == told)
+    failed = ((member, what) for fault, member, what in checks.failed if fault == name)
     member, what = next(failed, other)
     remedy = "correct the station's message, or leave it out"
     if is_moment and OUT_OF_RANGE in what:

@@ -15,7 +15,7 @@ CALL = re.compile(rf"{B}\[{B}2{B},{B}{TEXT}{B},{B}{TEXT}", re.DOTALL)
 # A call up to its action. What begins so, with another action than TransactionEvent, is no event, whatever follows.
 HEAD = re.compile(r'\s*\[\s*2\s*,\s*"[^"\\]*"\s*,\s*"([^"\\]*)"\s*,')
 # Actions with the moment in their replies.
-TELLING_ACTIONS = ("BootNotification", "Heartbeat")
+MOMENT_ACTIONS = ("BootNotification", "Heartbeat")
 
 
 class Refused(Exception):
@@ -121,10 +121,9 @@ def is_answer(message: str) -> bool:
     return ANSWER.match(message) is not None
 
 
-def tells_moment(message: str) -> bool:
-    """Whether the reply to this message may have the moment."""
-    call = CALL.match(message)
-    return call is not None and (call[2] in TELLING_ACTIONS or "\\" in call[2])
+def has_moment(action: str) -> bool:
+    """Whether the reply to a call of this action, as it is written, may have the moment."""
+    return action in MOMENT_ACTIONS or "\\" in action
 
 
 def one_line(text: str) -> str:

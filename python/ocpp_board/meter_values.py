@@ -31,7 +31,9 @@ def seconds_of(text: str) -> float | None:
 
 def mwh_of(value: str, unit: dict[str, Any]) -> int:
     """A reading's value in whole mWh, rounded down."""
-    power = 3 + (3 if unit.get("unit") == "kWh" else 0) + int(unit.get("multiplier") or 0)
+    power = 3
+    if unit:
+        power += (3 if unit.get("unit") == "kWh" else 0) + int(unit.get("multiplier") or 0)
     if value.isdigit() and power >= 0:
         return int(value + "0" * power)
     return int(Decimal(value).scaleb(power, EXACT))

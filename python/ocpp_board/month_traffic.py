@@ -43,13 +43,13 @@ class Row(NamedTuple):
     def line(self, number: int) -> str:
         """The line as JSON."""
         text = json.dumps([2, str(number), self.action, self.payload], separators=(",", ":"))
-        told = {
+        entry = {
             "site": self.station.site,
             "station": self.station.name,
             "time": utc(self.at),
             "message": text,
         }
-        return json.dumps(told, separators=(",", ":"))
+        return json.dumps(entry, separators=(",", ":"))
 
 
 def utc(at: datetime) -> str:

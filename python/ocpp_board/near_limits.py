@@ -84,13 +84,13 @@ class NearLimits:
     """Takes messages, and reports once each limit that a station reached to nine tenths."""
 
     def __init__(
-        self, limits: Mapping[str, tuple[int, ...]], tell: Callable[[Answered, str, str], None]
+        self, limits: Mapping[str, tuple[int, ...]], report: Callable[[Answered, str, str], None]
     ) -> None:
-        """`limits` are those of the stations; `tell` gets the message that reached it, what to report, and a remedy."""
-        self.sent, self.tell = SentByStations(limits), tell
+        """`limits` are those of the stations; `report` gets the message that reached one, what to say, and a remedy."""
+        self.sent, self.report = SentByStations(limits), report
 
     def take(self, answered: Answered) -> None:
         """Takes a message with its answer."""
         if answered.is_accepted:
             for said in self.sent.taken(answered.station, answered.message):
-                self.tell(answered, said, REMEDY)
+                self.report(answered, said, REMEDY)

@@ -40,8 +40,8 @@ class Deed(NamedTuple):
 
     def comment(self) -> bytes:
         """The line of a script that keeps who, when and why."""
-        told = {name: text for name, text in self._asdict().items() if text}
-        return COMMENT + json.dumps(told, separators=(",", ":")).encode() + b"\n"
+        texts = {name: text for name, text in self._asdict().items() if text}
+        return COMMENT + json.dumps(texts, separators=(",", ":")).encode() + b"\n"
 
 
 def is_change(line: bytes) -> bool:
@@ -65,8 +65,8 @@ def commented(comment: bytes) -> Deed | None:
     if not comment.startswith(COMMENT):
         return None
     try:
-        told = json.loads(comment.removeprefix(COMMENT))
-        return Deed(**{name: str(told.get(name, "")) for name in Deed._fields})
+        texts = json.loads(comment.removeprefix(COMMENT))
+        return Deed(**{name: str(texts.get(name, "")) for name in Deed._fields})
     except (ValueError, AttributeError, RecursionError):
         return None
 

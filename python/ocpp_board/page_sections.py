@@ -69,7 +69,7 @@ def problems_of(stations: Iterable[Part]) -> Iterator[Problem]:
         "down is not 0",
         "A register fell, or readings were listed again. Look at it before you settle periods.",
     )
-    voided = Problem("voided events", "An operator voided them, and they count for nothing.")
+    voided = Problem("voided events", "An operator voided them, so they don't count.")
     for part in stations:
         unread.add(part.name, 0, not part.whole or part.total is None)
         voided.add(part.name, 0, part.total.voided if part.total else 0)

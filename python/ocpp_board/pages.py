@@ -84,27 +84,27 @@ height="4" patternUnits="userSpaceOnUse"><rect class="fall" width="4" height="2"
 </pattern></defs></svg>
 """
 
-BARS = """<p>Energy is in kWh, to a watt-hour; the CSV files have it exactly. Net is what was imported less what was \
-exported: up less down, less export up and more export down.</p>
-<p>A bar stands for a settlement period. A full bar goes up by what the meters rose, a striped one goes down by what \
-they fell, and a thick line at zero is a period whose readings show no difference. What was fed back goes down, full \
-and green; what the export register fell by goes up, striped and green. Each picture has its numbers in the table \
-beside.</p>
-<p>A difference of two readings counts in the period of its later reading: what a meter read at 10:15:00 has risen \
-since the reading before belongs to the period that begins at 10:15. Readings that an Ended event lists again show as \
-down, and again as up, where a page does not say that readings are taken by time.</p>
-<p>A figure is estimated where a session went on at an end of the period and has no reading within 2 seconds of it: \
-then its energy may belong to a period beside it. Numbers missing: messages of a session did not come then, or do not \
-count. All other figures are measured. The CSV file has what sharing by time would put into the period.</p>
+BARS = """<p>Energy is in kWh, to a watt-hour; the CSV files have it exactly. Net is what was imported less what \
+was exported: up less down, less export up and more export down.</p>
+<p>Each bar is a settlement period. A full bar shows upwards how much the meters rose, a striped one downwards how \
+much they fell. A thick line at zero is a period in which readings show no difference. Energy that was fed back goes \
+down, full and green; a fall of the export register goes up, striped and green. The table beside a picture has its \
+numbers.</p>
+<p>A difference of two readings counts in the period of the later one: a rise up to a reading of 10:15:00 belongs to \
+the period that begins at 10:15. Readings that an Ended event lists again show as down, and again as up, unless the \
+page says that readings are taken by time.</p>
+<p>A figure is estimated if a session went on at an end of the period and has no reading within 2 seconds of that end: \
+some of its energy may belong to the period beside. All other figures are measured. Numbers missing: messages of a \
+session did not come then, or do not count. The CSV file has what the period gets if energy is shared by time.</p>
 """
 
-SESSIONS = """<p>A session is complete when its first event is its start, its last one its end, no number between them \
-is missing, and none of those between is a start or an end. Voided events count for nothing. A red triangle marks what \
-is missing, not complete or voided.</p>
+SESSIONS = """<p>A session is complete if its first event is its start, its last one its end, no number between them \
+is missing, and no other event is a start or an end. Voided events don't count. A red triangle marks what is \
+missing, not complete or voided.</p>
 """
 
-# What colours and stripes stand for.
-LEGEND = """<section class="legend" aria-label="What colours and stripes stand for">
+# What colours and stripes mean.
+LEGEND = """<section class="legend" aria-label="What colours and stripes mean">
 {}</section>
 """.format(
     "".join(
@@ -135,7 +135,7 @@ def head(
     is_one: bool = False,
     whole: str = "",
 ) -> str:
-    """A page up to its main part. A browser draws it anew every `refresh` seconds, where these are given. `is_one`:
+    """A page up to its main part. A browser loads it again every `refresh` seconds, if these are given. `is_one`:
     it is of one site, which its title names. `whole`: the end of its title, which is not broken."""
     more = f" {whole}" if whole else ""
     kept = f' <span class="whole">{whole}</span>' if whole else ""

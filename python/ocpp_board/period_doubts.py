@@ -77,16 +77,14 @@ def together(parts: Iterable[KnownPeriods]) -> KnownPeriods:
 def flows_of(events: Sequence[Event], seconds: int, is_by_time: bool) -> dict[int, Flow]:
     """The energy of a session by periods of so many seconds, as the ledger has it: a difference counts in the period of
     its later reading."""
-    flows = dict[int, Flow]()
+    sums = dict[int, list[int]]()
     for is_export in (False, True):
         for (_, had), (_, one) in pairwise(readings_in_order(events, is_export, is_by_time)):
             if one.at is None:
                 continue
-            start = int(one.at // seconds) * seconds
-            rise, fall = max(one.mwh - had.mwh, 0), max(had.mwh - one.mwh, 0)
-            flow = Flow(0, 0, rise, fall) if is_export else Flow(rise, fall)
-            flows[start] = flows.get(start, Flow()).plus(flow)
-    return flows
+            flow = sums.setdefault(int(one.at // seconds) * seconds, [0, 0, 0, 0])
+            flow[2 * is_export + (one.mwh < had.mwh)] += abs(one.mwh - had.mwh)
+    return {start: Flow(*flow) for start, flow in sums.items()}
 
 
 def doubts_of(events: Sequence[Event], seconds: int, gaps: Sequence[tuple[int, int]]) -> Doubts:
@@ -101,7 +99,7 @@ def doubts_of(events: Sequence[Event], seconds: int, gaps: Sequence[tuple[int, i
     for at in unmeasured(begin, end, seconds, read):
         for start in (at - seconds, at):
             doubts[start] = Doubt(is_estimated=True)
-    for start, mwh in shares(events, seconds, doubts):
+    for start, mwh in shares(events, seconds, doubts) if doubts else ():
         doubts[start] = doubts[start].plus(Doubt(shared=mwh))
     for start in in_gaps(events, seconds, gaps):
         doubts[start] = doubts.get(start, SURE)._replace(has_gap=True)

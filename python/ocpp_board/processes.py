@@ -13,9 +13,9 @@ from pathlib import Path
 from ocpp_board.statuses import Status
 
 PACKAGES = Path(__file__).resolve().parent.parent
-# The programs that replay, and how the second one is built.
+# The programs that replay, and how the first one is built.
 PROGRAMS = ("ocpp_board", "ocpp_replay")
-BUILD = "build one by `cd crates/ocpp_replay && rt run --jobs 1 < stdin`, or name one by --program"
+BUILD = "build one by `cd crates/ocpp_board && rt run < stdin`, or name one by --program"
 # How a module of this package is run, by the Python that runs this one.
 MODULE = (sys.executable, "-P", "-m")
 # What the C library of a replay is asked for, where that is glibc: as many freed texts of a size at hand as the tree of

@@ -5,13 +5,13 @@ import sys
 import time
 from typing import IO
 
-# Seconds from one telling to the next, and lines after which the clock is looked at.
+# Seconds from one report to the next, and lines after which the clock is looked at.
 PAUSE = 0.5
 LINES = 1_024
 CLEAR = "\r\033[K"
 
 
-def tell(text: str) -> None:
+def show(text: str) -> None:
     """Writes a text over the one that was shown before."""
     print(f"\r{text} \033[K", end="", file=sys.stderr, flush=True)
 
@@ -29,13 +29,13 @@ class Progress:
         self.read, self.next = 0, 0.0
         self.is_shown = sys.stderr.isatty()
 
-    def tell(self, lines: int, count: int) -> None:
+    def report(self, lines: int, count: int) -> None:
         """So many lines were read, the last of so many bytes."""
         self.read += count
         if not self.is_shown or lines % LINES or time.monotonic() < self.next:
             return
         self.next = time.monotonic() + PAUSE
-        tell(f"{lines:,} lines, {self.read / 1e6:,.1f} MB{self.share()}")
+        show(f"{lines:,} lines, {self.read / 1e6:,.1f} MB{self.share()}")
 
     def share(self) -> str:
         """The part of the file that was read, where its size is known."""

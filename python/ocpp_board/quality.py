@@ -243,6 +243,8 @@ class Fall(NamedTuple):
 
 def told_falls(falls: Sequence[Fall], readings: Sequence[Reading]) -> Iterator[Finding]:
     """Falls of registers of a session, whose readings these are: those of meters that were reset, and the others."""
+    if not falls:
+        return
     starts = {
         is_export: next((r.mwh for r in readings if r.is_export == is_export), 0)
         for is_export in (False, True)

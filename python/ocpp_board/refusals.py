@@ -26,7 +26,7 @@ from ocpp_board.script_lines import ScriptLines
 log = logging.getLogger(__name__)
 
 # Refusals of a cause that are reported one by one; then one is reported if its count is a power of ten.
-MOST_TOLD = 10
+MOST_REPORTED = 10
 # Rows of a site. Further refusals are one row for each station and cause.
 MOST_ROWS = 65_536
 # Characters of a message's text that are kept.
@@ -139,8 +139,8 @@ def refusal_of(answered: Answered) -> Refusal | None:
 def said_of(answered: Answered) -> tuple[str, Said]:
     """The name of a refusal's cause, the cause in words and what to do."""
     if answered.answer.startswith("[4,"):
-        told = DESCRIPTION.search(answered.answer)
-        name = told[1] if told else "refused"
+        found = DESCRIPTION.search(answered.answer)
+        name = found[1] if found else "refused"
         return name, message_fault(answered.message, name)
     name = answered.answer.removeprefix("fault ")
     if name == "UnknownStation":
@@ -221,7 +221,7 @@ class Refusals:
         row.first, row.last = row.first or refusal.time, refusal.time or row.last
         self.of_site[refusal.site] += 1
         self.causes[refusal.cause] += 1
-        self.tell(refusal, self.causes[refusal.cause])
+        self.report(refusal, self.causes[refusal.cause])
 
     def of_sessions(self) -> dict[tuple[str, str], list[Row]]:
         """The rows by station and transaction, without those that name no transaction."""
@@ -240,9 +240,9 @@ class Refusals:
                 self.of_site[key.site] -= row.times
                 self.causes[UNTAKEN] -= row.times
 
-    def tell(self, refusal: Refusal, count: int) -> None:
-        """Tells a refusal, the one of this count of its cause."""
-        if count <= MOST_TOLD:
+    def report(self, refusal: Refusal, count: int) -> None:
+        """Reports a refusal, the one of this count of its cause."""
+        if count <= MOST_REPORTED:
             log.warning("refused: %s", sentence(refusal, self.source))
         elif str(count).strip("0") == "1":
             log.warning("refused: %s messages by now: %s", f"{count:,}", refusal.cause)
@@ -268,7 +268,7 @@ class Refusals:
         os.replace(made, path)
 
     def end(self) -> None:
-        """Tells how many there were of each cause."""
+        """Reports how many there were of each cause."""
         if self.count():
             some = sorted((name, count) for name, count in self.causes.items() if count)
             causes = ", ".join(f"{name} {count:,}" for name, count in some)
@@ -286,8 +286,8 @@ def sentence(refusal: Refusal, source: str = "") -> str:
 
 def comment_of(refusal: Refusal) -> bytes:
     """A line of a script that keeps the refusal of a line of a log; a replay passes over it."""
-    told = {name: text for name, text in refusal._asdict().items() if text and name != "cause"}
-    return COMMENT + json.dumps(told, separators=(",", ":")).encode() + b"\n"
+    texts = {name: text for name, text in refusal._asdict().items() if text and name != "cause"}
+    return COMMENT + json.dumps(texts, separators=(",", ":")).encode() + b"\n"
 
 
 def commented(line: bytes) -> Refusal | None:
@@ -295,8 +295,8 @@ def commented(line: bytes) -> Refusal | None:
     if not line.startswith(COMMENT):
         return None
     try:
-        told = json.loads(line.removeprefix(COMMENT))
-        texts = {name: str(told.get(name, "")) for name in Refusal._fields}
+        kept = json.loads(line.removeprefix(COMMENT))
+        texts = {name: str(kept.get(name, "")) for name in Refusal._fields}
     except (ValueError, AttributeError, RecursionError):
         return None
     return Refusal(**texts | {"cause": UNTAKEN})

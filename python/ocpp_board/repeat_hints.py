@@ -7,7 +7,7 @@ from ocpp_board.answered import Line
 from ocpp_board.boards import Part, Reader
 from ocpp_board.progress import Progress
 from ocpp_board.quality import Kind, order_option
-from ocpp_board.told import Told
+from ocpp_board.session_facts import SessionFacts
 
 
 class Repeats:
@@ -34,9 +34,9 @@ class Repeats:
 class RepeatHints:
     """Takes messages with their answers, and boards, and reports once each site with a board that has such sessions."""
 
-    def __init__(self, tell: Callable[[Line, str, str], None]) -> None:
-        """`tell` gets the line that asks for the board, what is reported, and a remedy."""
-        self.tell, self.messages = tell, Told()
+    def __init__(self, report: Callable[[Line, str, str], None]) -> None:
+        """`report` gets the line that asks for the board, what is reported, and a remedy."""
+        self.report, self.messages = report, SessionFacts()
         self.sites = set[str]()
 
     def look(self, line: Line, text: bytes) -> None:
@@ -52,7 +52,7 @@ class RepeatHints:
         if found.count:
             self.sites.add(site)
             sessions = "1 session" if found.count == 1 else f"{found.count:,} sessions"
-            self.tell(
+            self.report(
                 line,
                 f"in {sessions} of site {site}, such as {found.first}, readings are listed again, and by sequence that "
                 "is a fall and a second rise: their periods are wrong",

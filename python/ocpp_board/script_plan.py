@@ -53,8 +53,8 @@ def why_no_names(line: str, names: list[str]) -> str:
     if len(names) == 1:
         return shown(names[0])
     faults = (name_fault("name", name) for name in names)
-    told = next(filter(None, faults), ("a name has no blank", NAMES))
-    return f"{shown(line.strip())}: {told[0]}; {told[1]}"
+    fault = next(filter(None, faults), ("a name has no blank", NAMES))
+    return f"{shown(line.strip())}: {fault[0]}; {fault[1]}"
 
 
 def known(name: str, sites: Iterable[str]) -> str:
@@ -91,8 +91,8 @@ class ScriptPlan:
 
     def strangers(self) -> list[str]:
         """What is wrong with options that name sites which no station has, a sentence for each."""
-        told = [*self.sites(), *filter(None, [self.words.one_site]), *self.map.values()]
-        sites = list(dict.fromkeys(told))
+        known_sites = [*self.sites(), *filter(None, [self.words.one_site]), *self.map.values()]
+        sites = list(dict.fromkeys(known_sites))
         return [
             f"{option} names the site {shown(name)}, which {self.source()} does not have; {known(name, sites)}"
             for option, of_sites in self.options()
@@ -193,10 +193,10 @@ def limits_line_of(limits: Iterable[int]) -> bytes:
 
 def of_site(text: str) -> tuple[str, str]:
     """A site and what the option says of it; without a site of all others."""
-    site, _, told = text.rpartition("=")
+    site, _, said = text.rpartition("=")
     if "=" in text and not is_name(site):
         raise argparse.ArgumentTypeError(f"no name of a site: {shown(text)}")
-    return site, told
+    return site, said
 
 
 def period(text: str) -> tuple[str, int]:

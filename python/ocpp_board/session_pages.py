@@ -18,7 +18,7 @@ from ocpp_board.pages import FOOT, MARK, Row, head, kept, link, ranges, table
 from ocpp_board.refusals import Refusals, Row as Refused
 from ocpp_board.script_lines import ScriptLines
 from ocpp_board.session_times import duration
-from ocpp_board.told import Told
+from ocpp_board.session_facts import SessionFacts
 from ocpp_board.transactions import Event, moment
 
 # Rows of a page's tables, and characters of the lines that it has.
@@ -42,7 +42,7 @@ def href_of(out: str, station: str, tx: str) -> str:
 class Known:
     """What is known of sessions beside their boards, and which pages are written already."""
 
-    told: Told
+    facts: SessionFacts
     refusals: Refusals
     script: ScriptLines
     mended: MendedMessages = field(default_factory=MendedMessages)
@@ -88,8 +88,8 @@ class SessionPages:
 
     def is_new(self, site: str, station: str, session: Session, rows: Sequence[Refused]) -> bool:
         """Whether a session's page is not written as it would be."""
-        whole = self.known.told.transactions.of(site, station, session.tx)
-        deeds = self.known.told.operators.of(station, session.tx)
+        whole = self.known.facts.transactions.of(site, station, session.tx)
+        deeds = self.known.facts.operators.of(station, session.tx)
         counts = (len(whole.events), len(whole.conflicts), sum(whole.again.values()), len(deeds))
         said = (session.state, session.flow, [str(one) for one in session.findings])
         mark = hash(repr((counts, said, [(row.refusal, row.times) for row in rows])))
@@ -102,8 +102,8 @@ class SessionPages:
         self, site: str, station: str, session: Session, refused: Sequence[Refused]
     ) -> Iterator[str]:
         """The page of a session."""
-        whole = self.known.told.transactions.of(site, station, session.tx)
-        deeds = self.known.told.operators.of(station, session.tx)
+        whole = self.known.facts.transactions.of(site, station, session.tx)
+        deeds = self.known.facts.operators.of(station, session.tx)
         back = link("", f"Site {escape(site)}")
         back = back.replace('href=""', f'href="../{quote(Path(self.out).name)}.html"')
         title = f"Session {escape(whole.sent or session.tx)}"

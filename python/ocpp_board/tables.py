@@ -1,4 +1,4 @@
-"""Turns the boards that `ocpp_board replay` prints into two CSV files and pages.
+"""Turns the boards that `ocpp_board replay` prints into CSV files and pages.
 
     ocpp_board replay < SCRIPT | ocpp-board tables --out NAME
 
@@ -14,16 +14,16 @@ skipped and counted. It writes
 In the CSV files energies are whole mWh (milliwatt-hours), and the same in kWh. Times are UTC; with --tz
 the days and hours are those of that zone, and UTC is beside them. `board` counts the boards of the text,
 since a site may be printed more than once. Periods of a site are the sums of those of its stations, so
-add up rows of one level only. How long a period is, 300, 900, 1800 or 3600 seconds, the first line of its
-board says; sites may have different ones.
+add up rows of one level only. The first line of a board says how long its periods are, 300, 900, 1800 or
+3600 seconds; sites may have different ones.
 
-What `up` and `down` mean for a settlement: a difference of two readings counts in the period of its later
-reading, so what a meter read at 10:15:00 has risen since the reading before belongs to the period that
-begins at 10:15. Readings that an Ended event lists again show as `down`, back to the first of them, and
-again as `up`, unless the site's readings are taken by time (`order <site> moment` in the script): the
-column `readings` and the pages say so. `export up` and `export down` are the same of the export register,
-which vehicles that feed back have. The net energy, which the pages show, is what was imported less what
-was exported: `up` less `down`, less `export up` and more `export down`.
+What `up` and `down` mean for a settlement: a difference of two readings counts in the period of the
+later one, so a rise up to a reading of 10:15:00 belongs to the period that begins at 10:15. Readings
+that an Ended event lists again show as `down`, back to the first of them, and again as `up`, unless the
+site's readings are taken by time (`order <site> moment` in the script): the column `readings` and the
+pages say so. `export up` and `export down` are the same of the export register, which vehicles that
+feed back have. The net energy, which the pages show, is what was imported less what was exported: `up`
+less `down`, less `export up` and more `export down`.
 
 A board has no times of transactions. With --script the tool replays the script that the text is of, and takes
 from its messages when each transaction began and ended, what its registers read first and last, and why it stopped:
@@ -35,11 +35,11 @@ and at what was refused, too, and writes
 
     ocpp-board tables --script SCRIPT --program ocpp_board --out NAME TEXT
 
-Where no number is missing and a transaction is still not complete, one board doesn't show whether its end is yet
-to come or a start or an end is misplaced; if an earlier board of the same station in the text does, the table says it.
+If no number is missing and a transaction is still not complete, one board doesn't show whether its end is yet to
+come or a start or an end is misplaced; if an earlier board of the same station in the text does, the table says so.
 
 --follow reads a board from a server that lives, `ocpp_board serve --live --board-port 9080 ..`, again and again,
-and writes the files anew each time; the pages draw themselves anew as often:
+and writes the files again each time; browsers load the pages as often:
 
     ocpp-board tables --follow http://127.0.0.1:9080/board/north 10 --out NAME
 
@@ -81,7 +81,7 @@ from ocpp_board.session_pages import Known, SessionPages, href_of
 from ocpp_board.session_times import Registers
 from ocpp_board.sources import is_gzip, opened
 from ocpp_board.statuses import Mistaken, Status, ended
-from ocpp_board.told import Told
+from ocpp_board.session_facts import SessionFacts
 from ocpp_board.words import add_power, add_program, add_tokens, parsed, parser_of, zone
 
 log = logging.getLogger(__name__)
@@ -268,7 +268,7 @@ class Findings(CsvSink):
         said = [self.cell(one.detail), one.kind.meaning, one.kind.effect.value]
         self.rows.writerow([*front, *said])
 
-    def tell(self) -> None:
+    def report(self) -> None:
         """How many sessions have a finding of each kind."""
         found = [f"{label}: {count:,}" for label, count in self.counts.items() if count]
         log.info("sessions with findings: %s", ", ".join(found) or "none")
@@ -328,7 +328,7 @@ def add_moments(parser: argparse.ArgumentParser) -> None:
         "--refresh",
         metavar="SECONDS",
         type=int,
-        help="have a browser draw the pages anew every so many seconds",
+        help="have browsers load the pages again every so many seconds",
     )
 
 
@@ -353,7 +353,7 @@ def arguments(argv: Sequence[str], prog: str) -> argparse.Namespace:
         "--follow",
         nargs=2,
         metavar=("URL", "SECONDS"),
-        help="read a board from this address and write the files anew every so many seconds",
+        help="read a board from this address and write the files again every so many seconds",
     )
     parser.add_argument(
         "--raw", action="store_true", help="write names and ids into the CSV files as they are"
@@ -388,7 +388,7 @@ def fetched(url: str) -> IO[bytes]:
 
 
 def follow(words: argparse.Namespace, url: str, seconds: int) -> NoReturn:
-    """Writes the files anew every so many seconds. Without a server it writes those of the board before, which say
+    """Writes the files again every so many seconds. Without a server it writes those of the board before, which say
     that it is too old when it is."""
     words.oldest = LATE * seconds if words.oldest is None else words.oldest
     text: IO[bytes] | None = None
@@ -429,7 +429,7 @@ def write_files(
     """Writes the files of a text, and gives the exit status. `known`: what the messages add. `sites` gets a
     row and the figures of each board, for a page that leads to several texts' pages. `sessions` takes the sessions in
     place of pages that are written at once."""
-    told = known.told if known else None
+    facts = known.facts if known else None
 
     def file(name: str) -> TextIO:
         path = f"{words.out}.{name}.csv"
@@ -441,49 +441,49 @@ def write_files(
     days, index = DayPages(layout), Index(layout)
     with contextlib.ExitStack() as files:
         csv_files = file("periods"), file("transactions")
-        bill = (words.tokens, Path(f"{words.out}.signed")) if told else ("none", None)
+        bill = (words.tokens, Path(f"{words.out}.signed")) if facts else ("none", None)
         sinks: list[Sink] = [
-            Tables(*csv_files, words.raw, layout.calendar, told is not None, *bill)
+            Tables(*csv_files, words.raw, layout.calendar, facts is not None, *bill)
         ]
-        findings = Findings(file("findings"), words.raw, layout.calendar) if told else None
+        findings = Findings(file("findings"), words.raw, layout.calendar) if facts else None
         sinks += [findings] if findings else []
         sinks += [sessions] if sessions else []
         sinks.append(Boards([days.add, index.add]))
         name = "" if words.text == "-" else words.text
-        reader = Reader(sinks, Progress(text), told, name)
+        reader = Reader(sinks, Progress(text), facts, name)
         reader.read(text)
         days.close()
         index.close()
     if sites is not None:
         sites.add(index.sites)
-    reader.tell()
+    reader.report()
     if findings:
-        findings.tell()
+        findings.report()
     return Status.TOLD if reader.counts["unread"] else Status.DONE
 
 
 def read_script(words: argparse.Namespace, text: IO[bytes]) -> Known:
     """Replays the script that a text is of, and returns what its messages say and what was refused of them, which it
     writes. Raises Mistaken where the text is of another script."""
-    known = Known(Told(words.most_kw), Refusals(), ScriptLines())
-    told, refusals = known.told, known.refusals
+    known = Known(SessionFacts(words.most_kw), Refusals(), ScriptLines())
+    facts, refusals = known.facts, known.refusals
     known.script.path = Path(words.script)
     with opened(words.script) as file:
         if is_gzip(file):
             raise Mistaken(f"{words.script}: the script is compressed by gzip: gunzip it first")
         script = UntakenLines(file, known.script, known.mended.take)
-        messages = answered(words.program, script, told.operators.take)
-        hand_on(messages, [told.take, refusals.take])
-    check_text(text, told.transactions, words.script)
+        messages = answered(words.program, script, facts.operators.take)
+        hand_on(messages, [facts.take, refusals.take])
+    check_text(text, facts.transactions, words.script)
     for refusal in script.refusals:
-        if not told.has_taken(refusal):
+        if not facts.has_taken(refusal):
             refusals.add(refusal)
     refusals.end()
     refusals.write(Path(f"{words.out}.refused.csv"))
     for comment in script.operators:
-        told.operators.comment(comment)
-    told.operators.write(Path(f"{words.out}.operator.csv"), told.sites())
-    known.mended.write(Path(f"{words.out}.mended.csv"), told.sites())
+        facts.operators.comment(comment)
+    facts.operators.write(Path(f"{words.out}.operator.csv"), facts.sites())
+    known.mended.write(Path(f"{words.out}.mended.csv"), facts.sites())
     return known
 
 
@@ -501,7 +501,7 @@ def run(words: argparse.Namespace) -> int:
             return write_files(words, file, layout)
         text = whole(file)
         known = read_script(words, text)
-        until = words.until or known.told.until()
+        until = words.until or known.facts.until()
         layout = replace(
             layout,
             until=until,

@@ -36,7 +36,7 @@ class JsonFormatter(logging.Formatter):
     def format(self, record: logging.LogRecord) -> str:
         """One line of JSON."""
         moment = time.strftime("%Y-%m-%dT%H:%M:%S", time.gmtime(record.created))
-        told = {
+        entry = {
             "time": f"{moment}.{int(record.msecs):03}Z",
             "level": record.levelname.lower(),
             "program": self.program,
@@ -44,7 +44,7 @@ class JsonFormatter(logging.Formatter):
             "message": record.getMessage(),
         }
         line = getattr(record, "line", None)
-        return json.dumps(told if line is None else told | {"line": line})
+        return json.dumps(entry if line is None else entry | {"line": line})
 
 
 def set_up(program: str, as_json: bool = False, named_from: int = logging.ERROR) -> None:

@@ -18,6 +18,8 @@ from ocpp_board.signed_values import unlike_plain
 
 # What a measurand of active energy begins with, whether its readings count or not.
 ENERGY = "Energy.Active."
+# The unit of a value that names none.
+NO_UNIT: dict[str, Any] = {}
 CONFLICT = '"ConflictingEvent",{}]'
 # Seconds by which an event may lie after its receipt, and before it where it was not queued offline.
 FAR_AHEAD, FAR_BEHIND = 300, 3_600
@@ -118,33 +120,36 @@ def plain(value: Any) -> str:
 
 def event_of(payload: dict[str, Any], received: datetime | None, line: int = 0) -> Event:
     """The event of a payload that passed the program's checks. `line`: which of the script it is."""
-    readings, others, unlike = list[Reading](), set[str](), list[str]()
+    readings: list[Reading] = []
+    others: set[str] = set()
+    unlike: list[str] = []
     info = payload["transactionInfo"]
     has_details = "idToken" in payload or "remoteStartId" in info
     for at, sampled in sampled_values(payload):
         has_details = has_details or "signedMeterValue" in sampled
         measurand = measurand_of(sampled)
         if measurand in (IMPORT, EXPORT):
-            mwh = mwh_of(sampled["value"], sampled.get("unitOfMeasure") or {})
+            mwh = mwh_of(sampled["value"], sampled.get("unitOfMeasure") or NO_UNIT)
             readings.append(Reading(at, mwh, measurand == EXPORT))
             if "signedMeterValue" in sampled and (said := unlike_plain(sampled, mwh)):
                 unlike.append(said)
         elif measurand.startswith(ENERGY):
             others.add(plain(measurand))
     at = seconds_of(payload["timestamp"])
+    receipt = received.timestamp() if received else None
     return Event(
         int(payload["seqNo"]),
         payload["eventType"],
         at,
         tuple(readings),
-        tuple(sorted(others)),
-        is_far(at, received, payload.get("offline") is True),
+        tuple(sorted(others)) if others else (),
+        is_far(at, receipt, payload.get("offline") is True),
         plain(info.get("stoppedReason")),
-        evse_of(payload),
+        evse_of(payload) if "evse" in payload else 0,
         tuple(unlike),
         details_of(payload) if has_details else NOTHING,
         line,
-        received.timestamp() if received else None,
+        receipt,
     )
 
 
@@ -154,11 +159,11 @@ def evse_of(payload: dict[str, Any]) -> int:
     return int((evse or {}).get("id") or 0)
 
 
-def is_far(at: float | None, received: datetime | None, is_offline: bool) -> bool:
+def is_far(at: float | None, receipt: float | None, is_offline: bool) -> bool:
     """Whether an event's time lies too long after its receipt, or too long before it and it was not offline."""
-    if at is None or received is None:
+    if at is None or receipt is None:
         return False
-    late = received.timestamp() - at
+    late = receipt - at
     return late < -FAR_AHEAD or late > FAR_BEHIND and not is_offline
 
 
@@ -185,7 +190,7 @@ class Transactions:
         if head and head[1] != "TransactionEvent" or not (answered.is_accepted or is_conflict):
             return
         try:
-            _, _, action, payload = JSON.decode(answered.message)
+            _, _, action, payload = JSON.raw_decode(answered.message.lstrip())[0]
         except (ValueError, RecursionError):
             return
         if action != "TransactionEvent":

@@ -95,7 +95,7 @@ def inlet_energy(tx: str, begin: datetime) -> Session:
 
 
 def clock_back(tx: str, begin: datetime) -> Session:
-    """A session whose third event is half an hour too early."""
+    """A session with a third event that is half an hour too early."""
     session = sound(tx, begin)
     session[2].payload["timestamp"] = (begin - STEP).strftime(MOMENT)
     return session
@@ -107,7 +107,7 @@ def clock_far(tx: str, begin: datetime) -> Session:
 
 
 def register_falls(tx: str, begin: datetime) -> Session:
-    """A session whose register begins anew at its third event."""
+    """A session with a register that begins again at its third event."""
     session = sound(tx, begin)
     for one in session[2:]:
         one.payload["meterValue"][0]["sampledValue"][0]["value"] -= START
@@ -115,7 +115,7 @@ def register_falls(tx: str, begin: datetime) -> Session:
 
 
 def repeated(tx: str, begin: datetime) -> Session:
-    """A session whose last event lists all readings again."""
+    """A session that lists all readings again in its last event."""
     session = sound(tx, begin)
     session[-1].payload["meterValue"] = [
         value for one in session for value in one.payload["meterValue"]
@@ -124,14 +124,14 @@ def repeated(tx: str, begin: datetime) -> Session:
 
 
 def id_again(tx: str, begin: datetime) -> Session:
-    """A session whose id a second one takes, which begins at 0 again and goes on past the first one's end."""
+    """Two sessions of one id: the second one begins at 0 again and goes on past the first one's end."""
     again = [event(tx, 0, "Started", begin + 5 * STEP, START)]
     again += [event(tx, 4, "Updated", begin + 6 * STEP, START + 3 * RISE)]
     return sound(tx, begin) + again
 
 
 def above_0(tx: str, begin: datetime) -> Session:
-    """A session whose numbers begin at 3."""
+    """A session with numbers from 3 on."""
     session = sound(tx, begin)
     for one in session:
         one.payload["seqNo"] += 3
@@ -145,31 +145,31 @@ def missing_number(tx: str, begin: datetime) -> Session:
 
 
 def without_end(tx: str, begin: datetime) -> Session:
-    """A session whose end did not come."""
+    """A session without its end."""
     return sound(tx, begin)[:-1]
 
 
 def without_start(tx: str, begin: datetime) -> Session:
-    """A session of updates and an end, whose first event is no start."""
+    """A session of updates and an end, without a start."""
     session = sound(tx, begin)
     session[0].payload["eventType"] = "Updated"
     return session
 
 
 def conflict(tx: str, begin: datetime) -> Session:
-    """A session whose second event comes once more with another reading."""
+    """A session with a second event that comes once more with another reading."""
     session = sound(tx, begin)
     return session[:2] + [event(tx, 1, "Updated", begin + STEP, START)] + session[2:]
 
 
 def negative(tx: str, begin: datetime) -> Session:
-    """A session with an event more whose reading is negative."""
+    """A session with an event more, of a negative reading."""
     session = sound(tx, begin)
     return session[:2] + [event(tx, 9, "Updated", begin + STEP, -1)] + session[2:]
 
 
 def feeds_back(tx: str, begin: datetime) -> Session:
-    """A session whose vehicle feeds back."""
+    """A session with a vehicle that feeds back."""
     return changed(sound(tx, begin), lambda one: one.update(measurand=EXPORT))
 
 
@@ -180,14 +180,14 @@ def later(session: Session, wh: int) -> Session:
 
 
 def power(tx: str, begin: datetime) -> Session:
-    """A session whose register rises by a megawatt-hour in ten minutes."""
+    """A session with a register that rises by a megawatt-hour in ten minutes."""
     session = sound(tx, begin)
     changed(session[2:], lambda one: one.update(value=one["value"] + 1_000_000))
     return later(session, 1_000_000 + 3 * RISE)
 
 
 def signed_differs(tx: str, begin: datetime) -> Session:
-    """A session whose last reading has a signed value of a kilowatt-hour more; the others are signed as they are."""
+    """A session with a signed last reading of a kilowatt-hour more; the others are signed as they are."""
     session = sound(tx, begin)
     for one in session:
         sampled = one.payload["meterValue"][0]["sampledValue"][0]
@@ -206,7 +206,7 @@ def signed_differs(tx: str, begin: datetime) -> Session:
 
 
 def reset(tx: str, begin: datetime) -> Session:
-    """A session whose meter is exchanged behind its second event."""
+    """A session with a meter that is exchanged behind its second event."""
     session = sound(tx, begin)
     for one, wh in zip(session, (5_000, 10_000, 0, 4_995)):
         changed([one], lambda value, wh=wh: value.update(value=wh))  # type: ignore[misc]

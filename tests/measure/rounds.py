@@ -1,11 +1,11 @@
-"""Runs programs in turn on one script, and tells how long each takes.
+"""Runs programs in turn on one script, and says how long each takes.
 
     tests/one measure.rounds SCRIPT NAME=COMMAND .. [--rounds 9] [--processors 0-3] [--pipe NAME ..]
 
 Each round begins with another program. A command reads the script as its input, from the file, or through a pipe where
-its name stands behind --pipe. All must write the same bytes, or the status is 1. Behind the
-seconds of the middle round stands how many times as fast as the first program it was: the middle of
-the rounds' own ratios. The last line tells what other work took of the processors meanwhile, in
+its name is behind --pipe. All must write the same bytes, or the status is 1. Behind the
+seconds of the middle round is how many times as fast as the first program it was: the middle of
+the rounds' own ratios. The last line says what other work took of the processors meanwhile, in
 ticks of 10 ms, as far as the host says (`steal` of proc(5)).
 """
 

@@ -167,7 +167,7 @@ def scripts_of(path: Path) -> Iterator[tuple[str, Script]]:
             label = line[3:]
             name = f"{path.stem}.{NO_LETTERS.sub('_', label)}"
             if name in scripts:
-                raise Misplaced(f"{place}: this label stands twice")
+                raise Misplaced(f"{place}: this label is there twice")
             scripts[name] = front.copy()
         elif scripts:
             scripts[name].append((place, line))

@@ -200,7 +200,7 @@ def test_progress_is_silent_without_a_terminal(
     (tmp_path / "file").write_bytes(b"x" * 100)
     with open(tmp_path / "file", "rb") as file:
         progress = Progress(file)
-        progress.tell(1_024, 50)
+        progress.report(1_024, 50)
         progress.end()
         assert (progress.read, progress.size) == (50, os.stat(tmp_path / "file").st_size)
     assert capsys.readouterr().err == ""

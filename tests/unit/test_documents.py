@@ -1,4 +1,4 @@
-"""The documents: paths that stand, and tools that there are. `tests/one links` looks at links."""
+"""The documents: paths and tools that there are. `tests/one links` looks at links."""
 
 import re
 from collections.abc import Iterator
@@ -12,8 +12,13 @@ PATH = re.compile(
     r"(?<![\w/.-])((?:crates|docs|examples|packaging|python|tests)/[\w./-]+)(?![\w*{<])"
 )
 BUILT = re.compile(r"/out(/|$)")
+# A program of a build, and the command that proves, builds and runs one.
+PROGRAM = re.compile(r"crates/(\w+)/out/(\w+)")
+BUILD = re.compile(r"cd crates/(\w+) && rt run")
 TOOL = re.compile(r"ocpp-board ([a-z][a-z-]+)")
 CODE = re.compile(r"`([^`\n]+)`")
+# Words of a paragraph, which is one line, and lines of README.
+MOST_WORDS, MOST_LINES = 120, 125
 
 
 def pages() -> list[Path]:
@@ -24,7 +29,7 @@ def pages() -> list[Path]:
 
 
 def code(text: str) -> Iterator[str]:
-    """The code of a page: what stands between backquotes, and its blocks."""
+    """The code of a page: what is between backquotes, and its blocks."""
     is_code = False
     for line in text.splitlines():
         if line.lstrip().startswith("```"):
@@ -33,6 +38,12 @@ def code(text: str) -> Iterator[str]:
             yield line
         else:
             yield from CODE.findall(line)
+
+
+def code_and_indented(text: str) -> Iterator[str]:
+    """The code of a page, with the lines that are set in by four blanks."""
+    yield from code(text)
+    yield from (line for line in text.splitlines() if line.startswith("    "))
 
 
 def found(pattern: re.Pattern[str]) -> set[tuple[str, str]]:
@@ -45,9 +56,28 @@ def found(pattern: re.Pattern[str]) -> set[tuple[str, str]]:
     }
 
 
-def test_paths_stand() -> None:
+def test_paths_are_there() -> None:
     paths = {(page, path) for page, path in found(PATH) if not BUILT.search(path)}
     assert not {(page, path) for page, path in paths if not (TOP / path.rstrip("./")).exists()}
+
+
+def test_commands_of_readme_and_examples_take_the_program_that_readme_builds() -> None:
+    readme = TOP / "README.md"
+    texts = [page.read_text("utf-8") for page in (readme, *TOP.glob("examples/*/*.md"))]
+    built = BUILD.findall(texts[0])
+    taken = {
+        match
+        for text in texts
+        for line in code_and_indented(text)
+        for match in PROGRAM.findall(line)
+    }
+    assert len(built) == 1 and taken == {(built[0], built[0])}
+
+
+def test_paragraphs_are_short() -> None:
+    paragraphs = [(page.name, line) for page in pages() for line in page.read_text().splitlines()]
+    assert not {(name, line[:60]) for name, line in paragraphs if len(line.split()) > MOST_WORDS}
+    assert len((TOP / "README.md").read_text().splitlines()) <= MOST_LINES
 
 
 def test_tools_are_those_of_the_command() -> None:

@@ -3,8 +3,11 @@
 import argparse
 import json
 import os
+import threading
 from datetime import date, timezone
 from pathlib import Path
+from types import SimpleNamespace
+from typing import cast
 from zoneinfo import ZoneInfo
 
 import pytest
@@ -12,10 +15,10 @@ import pytest
 from ocpp_board.answered import Answered
 from ocpp_board.calendars import Calendar
 from ocpp_board.changed_days import digests
-from ocpp_board.live import arguments, keep_pages
+from ocpp_board.live import READING, Run, arguments, keep_pages
 from ocpp_board.live_pages import Pages
 from ocpp_board.refusals import Refusal, Refusals
-from ocpp_board.told import Told
+from ocpp_board.session_facts import SessionFacts
 from ocpp_board.troubles import FIRST, KINDS
 
 TOTAL = (
@@ -41,6 +44,20 @@ def changed(before: bytes, after: bytes) -> list[int]:
     calendar = Calendar(timezone.utc)
     old, new = digests(before, calendar), digests(after, calendar)
     return [day.day for day in new if old.get(day) != new[day]]
+
+
+def test_pages_wait_for_what_a_log_had_at_the_start() -> None:
+    caught_up = threading.Event()
+    words = SimpleNamespace(every=10.0, log=Path("csms.log"))
+    run = cast(Run, SimpleNamespace(words=words, source=SimpleNamespace(is_caught_up=caught_up)))
+    assert Run.pause(run) == READING
+    caught_up.set()
+    assert Run.pause(run) == 10.0
+    caught_up.clear()
+    words.every = 300.0
+    assert Run.pause(run) == 300.0
+    words.every, words.log = 10.0, None
+    assert Run.pause(run) == 10.0
 
 
 def test_a_day_changes_with_its_periods_alone() -> None:
@@ -79,7 +96,7 @@ def test_pages_are_written_for_the_days_that_changed(tmp_path: Path) -> None:
         out=tmp_path, tz=None, every=10, oldest=None, log_json=False, prog="live"
     )
     refusals = Refusals()
-    pages = Pages(words, refusals, Told())
+    pages = Pages(words, refusals, SessionFacts())
     pages.write("north", board(9, 1, 1))
     first = made(tmp_path)
     days = [f"north.2026-03-0{day}.html" for day in (1, 2, 3)]
@@ -113,7 +130,7 @@ def test_days_of_several_pages_stand_until_they_change(
     words = argparse.Namespace(
         out=tmp_path, tz=None, every=10, oldest=None, log_json=False, prog="live"
     )
-    pages = Pages(words, Refusals(), Told())
+    pages = Pages(words, Refusals(), SessionFacts())
     pages.write("north", board(9, 1))
     first = made(tmp_path)
     held = [os.open(tmp_path / name, os.O_RDONLY) for name in first]
@@ -132,7 +149,7 @@ def test_pages_have_times_and_findings(tmp_path: Path) -> None:
     words = argparse.Namespace(
         out=tmp_path, tz=None, every=10, oldest=None, log_json=False, prog="live"
     )
-    told, refusals = Told(), Refusals()
+    told, refusals = SessionFacts(), Refusals()
     refusals.add(Refusal("", "A", "T", "0", "Moment", "", "north", "is none"))
     session = KINDS["clock-far"]("T1", FIRST)
     for sent in session:
@@ -165,7 +182,7 @@ def test_one_page_leads_to_those_of_several_sites(tmp_path: Path) -> None:
     words = argparse.Namespace(
         out=tmp_path, tz=None, every=10, oldest=None, log_json=False, prog="live"
     )
-    pages = Pages(words, Refusals(), Told())
+    pages = Pages(words, Refusals(), SessionFacts())
     pages.write("south", board(9).replace(b"board north", b"board south"))
     assert not (tmp_path / "index.html").exists()
     pages.write("north", board(9, 1))
@@ -185,7 +202,7 @@ def test_what_is_no_board_writes_nothing(tmp_path: Path) -> None:
     words = argparse.Namespace(
         out=tmp_path, tz=None, every=10, oldest=None, log_json=False, prog="live"
     )
-    Pages(words, Refusals(), Told()).write("north", b"fault UnknownSite\n")
+    Pages(words, Refusals(), SessionFacts()).write("north", b"fault UnknownSite\n")
     assert made(tmp_path) == {}
 
 

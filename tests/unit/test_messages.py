@@ -3,15 +3,16 @@
 import pytest
 
 from ocpp_board.messages import (
+    CALL,
     HEAD,
     Refused,
+    has_moment,
     is_answer,
     members_of,
     msg_line,
     object_of,
     one_line,
     parsed,
-    tells_moment,
 )
 
 
@@ -65,7 +66,7 @@ def test_answers(message: str, is_one: bool) -> None:
 
 
 @pytest.mark.parametrize(
-    ("message", "tells"),
+    ("message", "has"),
     [
         ('[2,"1","Heartbeat",{}]', True),
         ('[2,"\\"","BootNotification",{}]', True),
@@ -74,8 +75,9 @@ def test_answers(message: str, is_one: bool) -> None:
         ('[3,"1",{"x":"Heartbeat"}]', False),
     ],
 )
-def test_replies_that_tell_the_moment(message: str, tells: bool) -> None:
-    assert tells_moment(message) is tells
+def test_replies_that_have_the_moment(message: str, has: bool) -> None:
+    call = CALL.match(message)
+    assert (call is not None and has_moment(call[2])) is has
 
 
 def test_line_feeds_become_blanks_where_it_is_json() -> None:

@@ -22,7 +22,7 @@ from ocpp_board.month_traffic import log
 from ocpp_board.powers import kw, peak_cell, peak_said
 from ocpp_board.quality import Effect, Finding, Kind
 from ocpp_board.statuses import Status
-from ocpp_board.told import Told
+from ocpp_board.session_facts import SessionFacts
 from ocpp_board.troubles import FIRST, sound
 from tests.reference import answers
 
@@ -80,7 +80,7 @@ def test_weeks_begin_on_monday_and_months_on_the_first() -> None:
 
 def marked(*left_out: int) -> Part:
     """A station with a session that lacks these events."""
-    told = Told()
+    told = SessionFacts()
     numbers = [number for number in range(4) if number not in left_out]
     for number in numbers:
         one = sound("T1", FIRST)[number]

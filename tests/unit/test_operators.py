@@ -14,7 +14,7 @@ from ocpp_board.ledger import Ledger
 from ocpp_board.operators import HEADS, Deed, Operators, commented, deed_of
 from ocpp_board.page_sections import problems_of, state_text
 from ocpp_board.statuses import Status
-from ocpp_board.told import Told
+from ocpp_board.session_facts import SessionFacts
 from ocpp_board.troubles import FIRST, messages, sound
 from tests.unit.test_ledger import feed_of
 
@@ -97,7 +97,7 @@ def test_who_and_why_are_kept_and_a_refused_line_does_not_count(
 
 def marked(*deeds: Deed) -> Session:
     """A session of numbers 0 to 5 without 2 and 3, and with such lines of operators."""
-    told = Told()
+    told = SessionFacts()
     for deed in deeds:
         told.operators.add(deed)
     session = Session("t1", 1, 4, 0, 5, False, 2, Flow(), [(2, 3)], "numbers missing")
@@ -127,7 +127,7 @@ def test_what_is_voided_is_not_missing() -> None:
     ("number", "wanted"), [(3, "voided by jo: no end"), (0, "voided by jo: no start")]
 )
 def test_an_end_that_is_voided_is_not_yet_to_come(number: int, wanted: str) -> None:
-    told = Told()
+    told = SessionFacts()
     for one in sound("T1", FIRST):
         message = json.dumps([2, "1", "TransactionEvent", one.payload])
         told.take(Answered(1, "north", "A", one.received, message, '[3,"1",{}]'))
@@ -144,7 +144,7 @@ def test_an_end_that_is_voided_is_not_yet_to_come(number: int, wanted: str) -> N
 
 def test_a_period_with_a_voided_event_lacks_no_number() -> None:
     def gaps_of(*deeds: Deed) -> list[int]:
-        told = Told()
+        told = SessionFacts()
         for one in sound("T1", FIRST):
             message = json.dumps([2, "1", "TransactionEvent", one.payload])
             told.take(Answered(1, "north", "A", one.received, message, '[3,"1",{}]'))

@@ -69,7 +69,7 @@ def test_all_that_pages_are_made_of_is_fine(tmp_path: Path) -> None:
 @pytest.mark.parametrize(
     ("old", "new", "told"),
     [
-        (' lang="en"', "", "tells no language"),
+        (' lang="en"', "", "names no language"),
         ("<title>Title</title>", "<title></title>", "no title"),
         ('name="viewport"', 'name="x"', "no viewport"),
         ("<h1>Title</h1>", "", "not one h1"),
@@ -92,7 +92,7 @@ def test_all_that_pages_are_made_of_is_fine(tmp_path: Path) -> None:
         ("<table>", "<img><table>", "picture without a label"),
         ("<table>", "<script>1</script><table>", "is a script"),
         ("<table>", '<p onclick="x">x</p><table>', "is a script"),
-        ("<table>", '<p id="a">x</p><table>', "stands twice"),
+        ("<table>", '<p id="a">x</p><table>', "is there twice"),
         ("<table>", '<iframe src="x"></iframe><table>', "loads something"),
         ("up</a>", "</a>", "has no text"),
     ],

@@ -12,7 +12,7 @@ from ocpp_board.boards import Part, Session
 from ocpp_board.energies import Flow
 from ocpp_board.quality import Finding, Kind, findings_of
 from ocpp_board.session_times import Registers, duration, times_of
-from ocpp_board.told import Told
+from ocpp_board.session_facts import SessionFacts
 from ocpp_board.transactions import Transaction, Transactions, mwh_of, seconds_of
 from ocpp_board.troubles import FIRST, KINDS, Sent, Session as Messages, event, reading, sound
 
@@ -80,7 +80,7 @@ def test_each_trouble_is_found_and_no_other(name: str, wanted: list[tuple[Kind, 
 
 def marked(name: str, count: int = 2) -> Part:
     """A station of the generator with so many sessions, as a board with their messages has it."""
-    told = Told()
+    told = SessionFacts()
     for number in range(count):
         for place, sent in enumerate(KINDS[name](f"T{number + 1}", FIRST + 3 * number * HOUR)):
             is_conflict = name == "id-again" and place == 4
@@ -136,7 +136,7 @@ def test_a_register_that_rises_outside_sessions_is_of_the_station() -> None:
     assert (found.kind, found.times) == (Kind.OUTSIDE, 1)
     assert found.detail == "0.250 kWh at EVSE 1" and found.first == FIRST + 5 * HOUR / 6
     # While a session goes on, and where nothing rises, MeterValues are no finding.
-    told = Told()
+    told = SessionFacts()
     for minutes, wh in ((0, 1), (10, 900), (40, 900), (50, 900)):
         told.take(
             answered(
@@ -155,7 +155,7 @@ def test_a_register_that_rises_outside_sessions_is_of_the_station() -> None:
 
 
 def test_between_sessions_a_meter_that_reads_less_was_exchanged() -> None:
-    told = Told()
+    told = SessionFacts()
     for tx, more in (("T1", 5_000), ("T2", 0)):
         for sent in sound(tx, FIRST + (3 * HOUR if tx == "T2" else 0 * HOUR)):
             sent.payload["meterValue"][0]["sampledValue"][0]["value"] += more
@@ -306,7 +306,7 @@ def test_by_time_the_first_and_the_last_reading_are_those_of_moments() -> None:
 
 
 def test_a_board_by_time_tells_its_sessions_so() -> None:
-    told = Told()
+    told = SessionFacts()
     for sent in KINDS["readings-repeated"]("T1", FIRST):
         told.take(answered(sent))
     one = session(0, 3, 4, True)
@@ -432,7 +432,7 @@ def test_refused_messages_and_other_actions_tell_nothing() -> None:
 
 
 def test_data_is_up_to_the_latest_receipt_or_to_the_latest_event_without_one() -> None:
-    found = Told()
+    found = SessionFacts()
     assert found.until() is None
     for sent in KINDS["clock-far"]("T1", FIRST):
         found.take(answered(sent))
@@ -503,7 +503,7 @@ def session(first: int, last: int, events: int, complete: bool) -> Session:
 def test_messages_tell_why_a_session_is_not_complete(
     name: str, last: int, events: int, state: str
 ) -> None:
-    told = Told()
+    told = SessionFacts()
     for number, sent in enumerate(KINDS[name]("T1", FIRST)):
         is_conflict = name == "id-again" and number == 4
         told.take(answered(sent, CONFLICT if is_conflict else '[3,"1",{}]'))

@@ -23,7 +23,7 @@ from ocpp_board.refusals import (
     sentence,
 )
 from ocpp_board.statuses import Mistaken
-from ocpp_board.told import Told
+from ocpp_board.session_facts import SessionFacts
 
 AT = datetime(2026, 3, 1, 10, 0, 5, tzinfo=timezone.utc)
 EVENT = (
@@ -294,7 +294,7 @@ def test_what_is_declared_has_its_limits() -> None:
 
 
 def test_what_was_taken_since_is_no_longer_listed(tmp_path: Path) -> None:
-    told, refusals = Told(), Refusals()
+    told, refusals = SessionFacts(), Refusals()
     refusal = Refusal("", "A", "T1", "0", UNTAKEN, "", "", "a station is not in stations.txt: 'A'")
     beat, other = (refusal._replace(transaction="", number=number) for number in ("", "x"))
     stay = [

@@ -15,7 +15,7 @@ from ocpp_board.refusals import Refusal, Refusals
 from ocpp_board.script_lines import ScriptLines
 from ocpp_board.session_pages import Known, SessionPages, href_of, path_of
 from ocpp_board.statuses import Status
-from ocpp_board.told import Told
+from ocpp_board.session_facts import SessionFacts
 from ocpp_board.troubles import FIRST, messages, sound
 
 
@@ -51,7 +51,7 @@ def test_a_script_gives_its_page(reference: str, tmp_path: Path) -> None:
 
 
 def test_a_page_is_written_again_where_it_changes(tmp_path: Path) -> None:
-    told, refusals, script = Told(), Refusals(), ScriptLines()
+    told, refusals, script = SessionFacts(), Refusals(), ScriptLines()
     script.path = tmp_path / "script"
     lines = [line.encode() + b"\n" for line in messages("A", sound("T1", FIRST))]
     for line in lines:

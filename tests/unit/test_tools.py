@@ -288,6 +288,21 @@ def test_a_fall_of_the_meter_alone_is_not_hinted_at(
     assert "remedy" not in capsys.readouterr().out
 
 
+def test_what_is_explained_names_the_script(
+    reference: str, tmp_path: Path, capsys: pytest.CaptureFixture[str]
+) -> None:
+    script = tmp_path / "day.script"
+    script.write_text("station north A\norder north moments\nenergy A\n")
+    assert cli.run("explain", ["--program", reference, str(script)], "explain") == Status.TOLD
+    assert capsys.readouterr().out == (
+        f"{script} line 2: order north moments\n  fault BadLine: 'moments' is no order of readings\n"
+        f"  remedy: sequence or moment\n{script}: lines: 3, reported: 1\n"
+    )
+    script.write_bytes(gzip.compress(b"station north A\n"))
+    assert cli.run("explain", ["--program", reference, str(script)], "explain") == Status.TOLD
+    assert capsys.readouterr().out.startswith(f"{script} line 1: the script is compressed by gzip")
+
+
 def test_faults_of_an_order_are_explained(
     reference: str, tmp_path: Path, capsys: pytest.CaptureFixture[str]
 ) -> None:
@@ -337,7 +352,7 @@ def test_a_program_is_found_where_a_checkout_built_it(
 
 
 def test_a_program_that_is_not_there_is_named_with_how_to_build_it() -> None:
-    with pytest.raises(FileNotFoundError, match="cd crates/ocpp_replay && rt run .* './nowhere'"):
+    with pytest.raises(FileNotFoundError, match="cd crates/ocpp_board && rt run .* './nowhere'"):
         Replay("./nowhere")
 
 

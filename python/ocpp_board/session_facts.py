@@ -32,7 +32,7 @@ def voided_by(voids: list[tuple[int, str, str]]) -> str:
     return "voided by " + ", ".join(dict.fromkeys(who or SOMEBODY for _, who, _ in voids))
 
 
-class Told:
+class SessionFacts:
     """Takes messages with their answers as they come, and gives each session of a board what they say of it."""
 
     def __init__(self, most_kw: int = MOST_KW) -> None:
