@@ -12,10 +12,9 @@ use Rattle.station_cell.specs.Cell.{Cell, Held}
 use Rattle.site_desk.specs.Close.{Ended, IsClosable}
 use Rattle.site_desk.specs.declared.roster.StationPlace.{StationPlace}
 use Rattle.site_desk.specs.Roster.{AreNewPlaces, Roster, StandsAt, new_place}
-use Rattle.ledger_model.specs.Step.{Reached}
 use Rattle.board_report.specs.Boards.{boards_at, site_named}
 use Rattle.board_report.proofs.SiteBoards.{some_same}
-use Rattle.board_report.specs.Closed.{AreBoards, IsClosedOf, boards_text}
+use Rattle.board_report.specs.Closed.{IsClosedOf}
 
 pub figures_alike : (order : Order) (period : ℕ) (xs : List StationPlan) (cells : List Cell) (site : ℕ) → length cells ≡ length xs
     → ((k : ℕ) (s : StationPlan) (c : Cell) → slice_get xs k ≡ Some s → slice_get cells k ≡ Some c → c.site ≡ s.site)
@@ -70,17 +69,3 @@ closed_of sites xs desk closed passes viewers planned new count books whole =
       at_sites = λ k s c at is. (stands k s c at is).site;
       summed = whole.summed;
     }
-
--- its boards are those of contents that its passes' commands lead to
-pub boards_are : (sites : List SitePlan) (xs : List StationPlan) (places : List StationPlace) (given : ℕ) (closed : Ended) (passes : List Held) (viewers : List Known) → IsClosedOf sites xs closed
-    → IsClosable places given closed.cells closed.books passes viewers → AreBoards sites xs passes (boards_text sites xs closed.cells (length sites))
-boards_are sites xs places given closed passes viewers of_plan whole = record {
-  cells = closed.cells;
-  of_plan = of_plan.cells;
-  at_sites = of_plan.at_sites;
-  counted = λ k c is. (whole.whole k c is).counted.changes;
-  reached = λ k c is.
-      let counted = (whole.whole k c is).counted in
-      subst (λ n. Reached c.limits n c.content) (sym counted.changes) counted.reached;
-  is = refl;
-}

@@ -1,14 +1,13 @@
 -- The boards of a desk that was closed.
 use Rattle.std.specs.Prelude.{◌≡◌, ℕ, zero, suc, List, [], ◌++◌, length, map, slice_get, get_or, Some}
 use Rattle.ledger_model.specs.Board.{site_board}
-use Rattle.ledger_model.specs.Step.{Reached}
 use Rattle.board_report.specs.Named.{NamedBoard}
 use Rattle.board_report.specs.Texts.{board_text}
 use Rattle.site_desk.specs.declared.plan.SitePlan.{SitePlan}
 use Rattle.site_desk.specs.declared.plan.StationPlan.{StationPlan}
-use Rattle.station_cell.specs.Cell.{Cell, Held}
+use Rattle.station_cell.specs.Cell.{Cell}
 use Rattle.site_desk.specs.Plan.{order_at, period_at}
-use Rattle.site_desk.specs.Close.{AreSummed, Ended, changes_of}
+use Rattle.site_desk.specs.Close.{AreSummed, Ended}
 use Rattle.board_report.specs.Boards.{AreOpenedFor, site_boards}
 
 -- A closed desk of these sites and stations: each site has its book, each station its cell at its site, and each book's totals are the sums over its site's cells.
@@ -28,12 +27,3 @@ closed_site sites stations cells site =
 abbrev pub boards_text : List SitePlan → List StationPlan → List Cell → ℕ → List ℕ
 boards_text sites stations cells zero = []
 boards_text sites stations cells (suc site) = boards_text sites stations cells site ++ board_text (closed_site sites stations cells site)
-
--- These are the texts of the boards of all sites, in the plan's order: over cells of which each was opened for its station, with its limits at its site and by its site's settlement period and order of readings, and holds what as many accepted commands as the station's passes made changes lead to from the empty content.
-pub record AreBoards (sites : List SitePlan) (stations : List StationPlan) (passes : List Held) (text : List ℕ) : Type 0 where
-  pub cells : List Cell
-  pub of_plan : AreOpenedFor sites stations cells
-  pub at_sites : (k : ℕ) (s : StationPlan) (c : Cell) → slice_get stations k ≡ Some s → slice_get cells k ≡ Some c → c.site ≡ s.site
-  pub counted : (k : ℕ) (c : Cell) → slice_get cells k ≡ Some c → c.content.changes ≡ changes_of k passes
-  pub reached : (k : ℕ) (c : Cell) → slice_get cells k ≡ Some c → Reached c.limits c.content.changes c.content
-  pub is : text ≡ boards_text sites stations cells (length sites)

@@ -4,9 +4,11 @@ use Rattle.ledger_model.specs.Board.{Board, site_board}
 use Rattle.board_report.specs.Named.{NamedBoard}
 use Rattle.board_report.specs.Texts.{board_text}
 use Rattle.site_desk.specs.declared.plan.SitePlan.{SitePlan}
+use Rattle.site_desk.specs.declared.plan.StationPlan.{StationPlan}
 use Rattle.site_desk.specs.declared.roster.StationPlace.{StationPlace}
 use Rattle.site_desk.specs.Operator.{AreBoardsAt}
 use Rattle.site_desk.specs.Plan.{order_at, period_at}
+use Rattle.site_desk.specs.Roster.{AreNewPlaces}
 
 -- The board of a site over these stations' boards, by the site's name, settlement period and order of readings: the sums of their figures, and of their quarters.
 abbrev pub running_site : List SitePlan → ℕ → List (List ℕ × Board) → NamedBoard
@@ -19,3 +21,9 @@ pub record IsRunningBoard (sites : List SitePlan) (places : List StationPlace) (
   pub boards : List (List ℕ × Board)
   pub of_site : AreBoardsAt places site boards
   pub is : text ≡ board_text (running_site sites site boards)
+
+-- The boards are of the stations of the site of this number, of a desk that was opened for this plan.
+pub record AreBoardsOfPlan (sites : List SitePlan) (stations : List StationPlan) (site : ℕ) (boards : List (List ℕ × Board)) : Type 0 where
+  pub places : List StationPlace
+  pub opened : AreNewPlaces sites stations places
+  pub of_site : AreBoardsAt places site boards

@@ -43,5 +43,5 @@ pub use boards::site_text;
 pub use closed::{BoardsFault, closed_board, write_boards, write_out};
 pub use fixed::{energy_text, export_text, total_text};
 pub use laws::plans_fit;
-pub use running::running_board;
+pub use running::{running_board, running_text};
 pub use write::write_board;

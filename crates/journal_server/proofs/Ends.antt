@@ -1,6 +1,6 @@
 -- What a server's script and its boards are, of what its desk was when it was closed.
 use Rattle.std.proofs.Common.{◌≡◌, ℕ, zero, suc, ◌<◌, ◌≤◌, Bool, List, [], ◌∷◌, ◌++◌, Option, None, Some, Result, Ok, Err, OnOk, IfOk, All, length, slice_get, refl, sym, ap, subst, ◌∙◌, arith}
-use Rattle.std.specs.Prelude.{IsOk}
+use Rattle.std.specs.Prelude.{IsOk, ⊤}
 use Rattle.std.specs.Io.KnownBytes.{Appends, append_known}
 use Rattle.std.proofs.lemmas.List.Elements.{All-cons, All-head, All-nil, All-tail}
 use Rattle.board_report.specs.Texts.{board_text}
@@ -33,7 +33,7 @@ use Rattle.site_desk.specs.Roster.{AreCellsOf, AreNewPlaces}
 use Rattle.site_desk.proofs.NewParts.{planned_names, planned_sites}
 use Rattle.journal_server.specs.Left.{Left}
 use Rattle.script_lines.specs.Lines.{Line}
-use Rattle.journal_server.specs.Served.{AreAccepted, AreLeftFrom, IsEnded, IsItsScript, IsKeptAnswer, IsToldOf, Leaves, TellsNew, TellsRestored, after, joined}
+use Rattle.journal_server.specs.Served.{AreAccepted, AreLeftFrom, Declares, IsEnded, IsItsScript, IsKeptAnswer, IsNewRun, IsToldOf, Leaves, TellsNew, TellsRestored, after, joined}
 
 all_placed : (n : ℕ) (stations : List StationPlan) → ((k : ℕ) (s : StationPlan) → slice_get stations k ≡ Some s → s.site < n) → All (λ s. s.site < n) stations
 all_placed n [] each = All-nil (λ s. s.site < n)
@@ -229,3 +229,14 @@ ended_as name name' first first' before before' sites stations left tells more n
 pub begin_those : {S F : Type 0} (r : Result S F) (handed : S → List (List Entry)) (all : List (List Entry)) (log : List Entry) → IfOk r (λ s. all ≡ handed s) → All (λ m. IsPrefix m log) all → IfOk r (λ s. All (λ m. IsPrefix m log) (handed s))
 begin_those (Ok s) handed all log same begin = subst (All (λ m. IsPrefix m log)) same begin
 begin_those (Err _) handed all log same begin = same
+
+-- a run by another name of its plan, of which nothing more is said
+pub run_of_plan : (sites sites' : List SitePlan) (stations stations' : List StationPlan) (before : Option (List ℕ)) (left : Left) (tells : List SitePlan → List Cell → List Entry → Type 0) → sites ≡ sites' → stations ≡ stations'
+    → IsNewRun sites stations before left tells → IsNewRun sites' stations' before left (λ read firsts log. ⊤)
+run_of_plan sites sites' stations stations' before left tells same at r = record {
+  head = r.head;
+  read = r.read;
+  firsts = r.firsts;
+  declares = subst (λ x. Declares x r.read r.firsts) same r.declares;
+  script = subst (λ x. IsItsScript r.head r.read x r.firsts (append_known before r.head) left (λ log. ⊤)) at (telling _ _ _ _ _ _ _ _ (λ log t. tt) r.script);
+}

@@ -1,3 +1,4 @@
 pub mod Comments
 pub mod Cuts
 pub mod Ends
+pub mod SimulatedPlan

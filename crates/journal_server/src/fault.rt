@@ -1,5 +1,5 @@
 use journal_script::RestoreFault;
-use site_server::ServiceFault;
+use server_parts::ServiceFault;
 use std::alloc::AllocError;
 use std::fmt;
 use std::fmt::{Display, Formatter};
@@ -50,7 +50,7 @@ impl From<RestoreFault> for JournalFault {
 impl From<AllocError> for JournalFault {
     ghost use Rattle.std.specs.Prelude.{◌≡◌};
     ghost use Rattle.journal_server.specs.declared.fault.JournalFault.TheVariants.{Service};
-    ghost use Rattle.site_server.specs.declared.fault.ServiceFault.TheVariants.{OutOfMemory};
+    ghost use Rattle.server_parts.specs.declared.fault.ServiceFault.TheVariants.{OutOfMemory};
 
     ghost from_gives = { λ error e. e ≡ Service OutOfMemory };
 

@@ -1,11 +1,13 @@
 //! A server that lives and writes a journal: a crash loses nothing that was answered.
 //!
-//! [`serve_journalled`] serves a plan's stations as [`serve_live`](live_server::serve_live) does, over a desk with a
+//! [`serve_journalled`] serves a plan's stations by [`live_server`], over a desk with a
 //! journal ([`KeptDesk`](kept_desk::KeptDesk)): before an answer goes out, the line of its change was written. The journal
 //! is a script: a comment, the plan's declarations, and one line for each accepted change, before which the time of its
 //! receipt may stand as a comment. [`serve_restored`] begins with
 //! such a script, up to the line `listen`, and goes on behind it. While no line of its operator is there it looks
-//! whether the journal can still be written, and ends if not.
+//! whether the journal can still be written, and ends if not. A server without a journal ([`serve_live`], one of so many
+//! connections by [`serve_counted`], and that of simulated stations by [`simulate`]) is the same, with a journal that is
+//! written nowhere.
 //!
 //! The crate's one contract ([`Served`], `IsItsScript` of `specs/Served.antt`): the boards that a server writes at its end
 //! are the answers to `board <site>` behind one script, which is what it read and wrote; behind its front that script is
@@ -28,7 +30,11 @@ mod run;
 mod same;
 mod serve;
 mod serving;
+mod simulation;
+mod unwritten;
 
 pub use fault::JournalFault;
 pub use run::Served;
 pub use serve::{Journalling, Restoring, serve_journalled, serve_restored};
+pub use simulation::{MAX_SIMULATED_EVENTS, simulate};
+pub use unwritten::{MAX_CONNECTIONS, Service, serve_counted, serve_live};

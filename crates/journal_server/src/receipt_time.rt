@@ -5,7 +5,7 @@ use arrayvec::ArrayString;
 use kept_desk::is_note;
 use ledger_model::Moment;
 use reading_decimal::moment_text;
-use site_server::SystemMoments;
+use server_parts::SystemMoments;
 use station_link::MomentSource;
 use std::fmt;
 use std::fmt::Write;

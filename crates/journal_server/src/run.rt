@@ -6,6 +6,7 @@ ghost use Rattle.site_book.specs.Tables.{HasTable, NamedBy};
 ghost use Rattle.site_desk.specs.Plan.{plan_fault};
 ghost use Rattle.site_desk.specs.Roster.{AreCellsOf, AreNewPlaces};
 ghost use Rattle.journal_server.specs.Left.{left_of};
+ghost use Rattle.live_server.specs.Told.{operator_input};
 ghost use Rattle.journal_server.specs.Served.{IsEnded, IsItsScript, Leaves, TellsNew};
 ghost use Rattle.site_book.specs.Prefix.{IsPrefix};
 ghost use Rattle.script_ledgers.specs.Running.{AreTheirPasses};
@@ -16,10 +17,10 @@ use board_report::write_boards;
 use gathered_input::Readiness;
 use journal_script::Restored;
 use kept_desk::{JournalTable, KeptDesk, Moment, Opening};
-use live_server::{Ran, Run, serve_plan_at};
+use live_server::{Clients, Ran, Run, serve_plan_at};
+use server_parts::{Host, ServiceFault};
 use site_book::{Naming, Tables, Viewer};
 use site_desk::{Parts, Plan};
-use site_server::{Host, ServiceFault};
 use station_cell::{Pass, StationCell};
 use std::alloc::{AllocError, Global};
 use std::io::{BufRead, BufWriter, Write};
@@ -44,7 +45,23 @@ pub struct Served<W, T> {
     pub console: T,
 }
 
-// Serves the stations of a script that was restored until the operator's lines end, which come from the input.
+// What a server is asked to do, and which connections it serves.
+#[derive(Drop)]
+pub(crate) struct Asked {
+    pub(crate) journalling: Journalling,
+    pub(crate) clients: Clients,
+}
+
+// Where a server writes: its journal, its console, and the lines of sessions and totals.
+#[derive(Drop)]
+pub(crate) struct Outputs<W: Write + Drop, T, L> {
+    pub(crate) journal: BufWriter<W>,
+    pub(crate) console: T,
+    pub(crate) lines: L,
+}
+
+// Serves the stations of a script that was restored until the operator's lines end, which come from the input, or so many
+// connections as are asked for have ended.
 pub(crate) fn run_restored<
     R: AllocGlobal + Host,
     I: BufRead + Readiness,
@@ -54,42 +71,36 @@ pub(crate) fn run_restored<
 >(
     rt: &R,
     restored: Restored,
-    journalling: Journalling,
+    asked: Asked,
     input: &mut I,
-    journal: BufWriter<W>,
-    console: T,
-    lines: L,
+    outputs: Outputs<W, T, L>,
 ) -> Result<Served<W, T>, ServiceFault>
     requires faultless { plan_fault restored.draft.sites restored.draft.stations ≡ None }
     requires cells { AreCellsOf restored.draft.sites restored.draft.stations restored.cells.items }
     requires passes { AreTheirPasses restored.cells.items restored.passes.items }
-    requires empty { writer_buffer journal ≡ [] }
+    requires empty { writer_buffer outputs.journal ≡ [] }
     ensures { IfOk result (λ s. (front : List ℕ) → Leaves front restored.draft.sites restored.draft.stations restored.cells.items
-        → IsItsScript front restored.draft.sites restored.draft.stations restored.cells.items (W.contents (writer_inner journal)) (left_of W.contents s)
-        (TellsNew s.ended restored.draft.stations (I.remaining input.old) (T.contents console) (T.contents s.console) restored.draft.sites restored.cells.items)) }
+        → IsItsScript front restored.draft.sites restored.draft.stations restored.cells.items (W.contents (writer_inner outputs.journal)) (left_of W.contents s)
+        (TellsNew s.ended restored.draft.stations (operator_input asked.clients.connections (I.remaining input.old)) (T.contents outputs.console) (T.contents s.console) restored.draft.sites restored.cells.items)) }
 {
-    let alloc = rt.alloc();
     let Restored {
         draft,
         cells,
         passes,
         has_lost: _,
     } = restored;
-    let tables = Tables::make(alloc, draft.plan().sites.len() as u16)?;
-    let table = JournalTable::new(alloc)?;
+    let tables = Tables::make(rt.alloc(), draft.plan().sites.len() as u16)?;
+    let table = JournalTable::new(rt.alloc())?;
     run_over::<Brand, Brand, R, I, W, T, L>(
         rt,
-        alloc,
         tables,
         table,
         draft.plan(),
         cells,
         passes,
-        journalling,
+        asked,
         input,
-        journal,
-        console,
-        lines,
+        outputs,
     )
 }
 
@@ -97,43 +108,50 @@ pub(crate) fn run_restored<
 fn run_over<
     J: Naming + Send + Sync,
     K: Opening + Send + Sync,
-    R: Host,
+    R: AllocGlobal + Host,
     I: BufRead + Readiness,
     W: Write + Send + Drop,
     T: Write + Drop,
     L: Write + Send + Drop,
 >(
     rt: &R,
-    alloc: Global,
     tables: Tables,
     table: JournalTable,
     plan: &Plan,
     cells: Vec<StationCell>,
     passes: Vec<Pass>,
-    journalling: Journalling,
+    asked: Asked,
     input: &mut I,
-    journal: BufWriter<W>,
-    console: T,
-    lines: L,
+    outputs: Outputs<W, T, L>,
 ) -> Result<Served<W, T>, ServiceFault>
     requires named { NamedBy J.table tables }
     requires there { (site : ℕ) → site < length plan.now.sites.items → HasTable tables site }
     requires table { table ≡ K.table }
-    requires before { W.contents (writer_inner journal) ≡ K.before }
-    requires empty { writer_buffer journal ≡ [] }
+    requires before { W.contents (writer_inner outputs.journal) ≡ K.before }
+    requires empty { writer_buffer outputs.journal ≡ [] }
     requires first { K.first ≡ contents_of cells.items }
     requires names { K.name ≡ names_of plan.now.stations.items }
     requires faultless { plan_fault plan.now.sites.items plan.now.stations.items ≡ None }
     requires cells { AreCellsOf plan.now.sites.items plan.now.stations.items cells.items }
     requires passes { AreTheirPasses cells.items passes.items }
-    ensures { IfOk result (λ s. IsEnded (names_of plan.now.stations.items) (contents_of cells.items) (W.contents (writer_inner journal))
+    ensures { IfOk result (λ s. IsEnded (names_of plan.now.stations.items) (contents_of cells.items) (W.contents (writer_inner outputs.journal))
         plan.now.sites.items plan.now.stations.items (left_of W.contents s)
-        (TellsNew s.ended plan.now.stations.items (I.remaining input.old) (T.contents console) (T.contents s.console) plan.now.sites.items cells.items)) }
+        (TellsNew s.ended plan.now.stations.items (operator_input asked.clients.connections (I.remaining input.old)) (T.contents outputs.console) (T.contents s.console) plan.now.sites.items cells.items)) }
 {
+    let alloc = rt.alloc();
+    let Asked {
+        journalling,
+        clients,
+    } = asked;
     let Journalling {
         live,
         has_receipt_times,
     } = journalling;
+    let Outputs {
+        journal,
+        console,
+        lines,
+    } = outputs;
     let (kept, viewers) = open_over::<J, K, W>(
         alloc,
         tables,
@@ -152,6 +170,7 @@ fn run_over<
         alloc,
         plan,
         live,
+        clients,
     };
     let ran = serve_plan_at(run, &serving, passes, viewers, input, console, lines)?;
     end_run(alloc, plan, serving.kept, ran)

@@ -10,19 +10,20 @@ ghost use Rattle.script_lines.specs.Ranges.{longest_line};
 ghost use Rattle.site_desk.specs.Plan.{plan_fault};
 ghost use Rattle.site_desk.specs.Roster.{AreCellsOf};
 ghost use Rattle.journal_server.specs.Left.{left_of};
+ghost use Rattle.live_server.specs.Told.{operator_input};
 ghost use Rattle.journal_server.specs.Served.{IsNewRun, IsRefused, IsRestoredRun, TellsNew, TellsRestored};
 
 use crate::declared::{journal_head, run_head};
 use crate::fault::JournalFault;
-use crate::run::{Served, run_restored};
+use crate::run::{Asked, Outputs, Served, run_restored};
 use crate::same::is_declared;
 use gathered_input::Readiness;
 use itoa::Buffer;
 use journal_script::{RestoreFault, Restored, restore};
-use live_server::Live;
+use live_server::{Clients, Live};
 use script_lines::write_bytes;
+use server_parts::{Host, ServiceFault};
 use site_desk::Plan;
-use site_server::{Host, ServiceFault};
 use station_cell::StationCell;
 use std::io;
 use std::io::{BufRead, BufWriter, Write};
@@ -49,13 +50,15 @@ pub struct Restoring {
     pub allows_left_out: bool,
 }
 
-/// Serves a plan's stations as [`serve_live`](live_server::serve_live) does, and writes a journal: a comment, the
-/// plan's declarations, and the line of each accepted change, which the writer behind the buffer took before the change
-/// is answered, with the time of its receipt in front of it where that is asked for. The console takes where the server
-/// listens and the answers to its operator; the boards come back as a value. Where the journal can't be written nothing
-/// more is accepted, and the server ends itself with `WriteFault`; its boards are there.
+/// Serves a plan's stations until the operator's lines end or say `close`, or the journal can't be written: writes
+/// `listening 127.0.0.1:<port>` to the console, and serves connections, two sessions of each station at once. Meanwhile it
+/// answers the lines of the input on the console, each answer out before the next line is read. The journal takes a comment,
+/// the plan's declarations, and the line of each accepted change, which the writer behind the buffer took before the change
+/// is answered, with the time of its receipt in front of it where that is asked for. At the end it ends all sessions, and
+/// the board of each site comes back as a value. Where the journal can't be written nothing more is accepted, and the
+/// server ends itself with `WriteFault`; its boards are there. What it reports of sessions and totals goes to `lines`.
 ///
-/// A plan with a fault is told before anything is written.
+/// A plan with a fault is reported before anything is written.
 pub fn serve_journalled<
     R: AllocGlobal + Host,
     I: BufRead + Readiness,
@@ -71,8 +74,41 @@ pub fn serve_journalled<
     console: T,
     lines: L,
 ) -> Result<Served<W, T>, JournalFault>
-    ensures served { IfOk result (λ s. IsNewRun plan.now.sites.items plan.now.stations.items (writer_contents W.contents journal) (left_of W.contents s)
+    ensures { IfOk result (λ s. IsNewRun plan.now.sites.items plan.now.stations.items (writer_contents W.contents journal) (left_of W.contents s)
         (TellsNew s.ended plan.now.stations.items (I.remaining input.old) (T.contents console) (T.contents s.console))) }
+{
+    let clients = Clients {
+        listener: None,
+        connections: None,
+    };
+    let asked = Asked {
+        journalling,
+        clients,
+    };
+    let outputs = Outputs {
+        journal,
+        console,
+        lines,
+    };
+    serve_plan(rt, plan, asked, input, outputs)
+}
+
+// Serves a plan's stations as it is asked.
+pub(crate) fn serve_plan<
+    R: AllocGlobal + Host,
+    I: BufRead + Readiness,
+    W: Write + Send + Drop,
+    T: Write + Drop,
+    L: Write + Send + Drop,
+>(
+    rt: &R,
+    plan: &Plan,
+    asked: Asked,
+    input: &mut I,
+    outputs: Outputs<W, T, L>,
+) -> Result<Served<W, T>, JournalFault>
+    ensures { IfOk result (λ s. IsNewRun plan.now.sites.items plan.now.stations.items (writer_contents W.contents outputs.journal) (left_of W.contents s)
+        (TellsNew s.ended plan.now.stations.items (operator_input asked.clients.connections (I.remaining input.old)) (T.contents outputs.console) (T.contents s.console))) }
 {
     if let Some(fault) = plan.fault() {
         return Err(JournalFault::Service(ServiceFault::from(fault)));
@@ -82,8 +118,18 @@ pub fn serve_journalled<
     if !is_declared(plan, restored.draft.plan(), restored.cells.as_slice()) {
         return Err(JournalFault::Service(ServiceFault::Torn));
     }
-    let journal = begin(journal, head.as_slice())?;
-    let served = run_restored(rt, restored, journalling, input, journal, console, lines)?;
+    let Outputs {
+        journal,
+        console,
+        lines,
+    } = outputs;
+    let journal = write_head(journal, head.as_slice())?;
+    let outputs = Outputs {
+        journal,
+        console,
+        lines,
+    };
+    let served = run_restored(rt, restored, asked, input, outputs)?;
     Ok(served)
 }
 
@@ -120,16 +166,21 @@ pub fn serve_restored<
     }
     tell_restored(&mut console, restored.cells.as_slice());
     let head = run_head(rt.alloc())?;
-    let journal = begin(journal, head.as_slice())?;
-    let served = run_restored(
-        rt,
-        restored,
-        restoring.journalling,
-        input,
+    let journal = write_head(journal, head.as_slice())?;
+    let clients = Clients {
+        listener: None,
+        connections: None,
+    };
+    let asked = Asked {
+        journalling: restoring.journalling,
+        clients,
+    };
+    let outputs = Outputs {
         journal,
         console,
         lines,
-    )?;
+    };
+    let served = run_restored(rt, restored, asked, input, outputs)?;
     Ok(served)
 }
 
@@ -141,7 +192,7 @@ fn is_refused(has_lost: bool, allows_left_out: bool) -> bool
 }
 
 // Writes how a run begins, of which nothing is left in the buffer then.
-fn begin<W: Write + Drop>(
+fn write_head<W: Write + Drop>(
     mut journal: BufWriter<W>,
     head: &[u8],
 ) -> Result<BufWriter<W>, ServiceFault>

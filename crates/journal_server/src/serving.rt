@@ -13,12 +13,12 @@ ghost use Rattle.station_link.specs.Answer.{Asks, IsSubmitted};
 use crate::receipt_time::receipt_note;
 use journal_script::{is_script_line, laws, message_line};
 use kept_desk::{KeptCell, KeptDesk, Moment, Opening};
-use ledger_model::{Answer, Command, Event, Key, Name, Refusal};
+use ledger_model::{Answer, Command, Name, Refusal};
 use running_desk::{MayBreak, Seen, Serves};
 use site_book::{Naming, Told};
 use site_desk::{BoardFault, Desk, Gate, NoGate};
 use station_cell::Pass;
-use station_link::Delivers;
+use station_link::{Delivers, Ordered};
 use std::alloc::{AllocError, Global};
 use std::io::Write;
 use std::sync::Wait;
@@ -56,11 +56,10 @@ impl<J: Naming, K: Opening, W: Write + Drop> Delivers<J, Moment<K>> for Serving<
         rt: &R,
         alloc: Global,
         pass: &mut Pass,
-        text: &str,
-        key: Key,
-        event: Event,
+        ordered: Ordered<'_>,
         gate: &G,
     ) -> Result<(Answer, Option<Told<J>>, Option<Moment<K>>), AllocError> {
+        let Ordered { text, key, event } = ordered;
         let Some(name) = self.kept.desk().name_of(pass.station()) else {
             return Ok(exhausted());
         };

@@ -16,7 +16,7 @@ use crate::share::Share;
 use crate::way::Journalled;
 use ledger_model::{Answer, Command, Refusal};
 use site_book::{Naming, SiteBook, Told};
-use site_desk::{HasCell, StationPlace, settle_at};
+use site_desk::{HasCell, Located, settle_at};
 use station_cell::{Pass, StationCell, TooManyPasses, enlist_cell};
 use station_ledger::Judgement;
 use std::io::Write;
@@ -100,23 +100,22 @@ impl<K: Opening> KeptCell<K> {
         &mut self,
         rt: &R,
         book: &Mutex<SiteBook<J>>,
-        number: usize,
-        place: &StationPlace,
+        at: Located<'_>,
         pass: &mut Pass,
         command: Command,
         way: &Journalled<'_, K, W>,
     ) -> (Answer, Option<Told<J>>, Option<Moment<K>>)
-        requires can { CanJudge number place.now self.old pass.old }
+        requires can { CanJudge at.number at.place.now self.old pass.old }
         requires note { IsNote way.now.note.now }
-        requires speaks { SpeaksOf (K.name number) way.now.line.now command }
-        ensures submitted { Submitted place.now pass.old command result.0 pass.new result.1 }
-        ensures received { IsReceived place.now (K.first number) result.0 (entry number way.now.note.now way.now.line.now command) result.1 result.2 }
+        requires speaks { SpeaksOf (K.name at.number) way.now.line.now command }
+        ensures submitted { Submitted at.entry.place.now pass.old command result.0 pass.new result.1 }
+        ensures received { IsReceived at.entry.place.now (K.first at.entry.number) result.0 (entry at.entry.number way.now.note.now way.now.line.now command) result.1 result.2 }
     {
         let judgement = self.cell.ledger().judgement(&command);
         match judgement.answer {
             Answer::Accepted(_) => {
                 let judged = Judged { command, judgement };
-                self.take_written(rt, book, number, place, pass, judged, way)
+                self.take_written(rt, book, at, pass, judged, way)
             }
             Answer::Repeat => (Answer::Repeat, None, None),
             Answer::Refused(why) => (Answer::Refused(why), None, None),
@@ -128,23 +127,22 @@ impl<K: Opening> KeptCell<K> {
         &mut self,
         rt: &R,
         book: &Mutex<SiteBook<J>>,
-        number: usize,
-        place: &StationPlace,
+        at: Located<'_>,
         pass: &mut Pass,
         judged: Judged,
         way: &Journalled<'_, K, W>,
     ) -> (Answer, Option<Told<J>>, Option<Moment<K>>)
-        requires can { CanJudge number place.now self.old pass.old }
+        requires can { CanJudge at.number at.place.now self.old pass.old }
         requires judged { IsJudged self.old.limits self.old.content judged.command judged.judgement.answer }
         requires accepted { IsAccepted judged.judgement.answer }
         requires note { IsNote way.now.note.now }
-        requires speaks { SpeaksOf (K.name number) way.now.line.now judged.command }
-        ensures submitted { Submitted place.now pass.old judged.command result.0 pass.new result.1 }
-        ensures received { IsReceived place.now (K.first number) result.0 (entry number way.now.note.now way.now.line.now judged.command) result.1 result.2 }
+        requires speaks { SpeaksOf (K.name at.number) way.now.line.now judged.command }
+        ensures submitted { Submitted at.entry.place.now pass.old judged.command result.0 pass.new result.1 }
+        ensures received { IsReceived at.entry.place.now (K.first at.entry.number) result.0 (entry at.entry.number way.now.note.now way.now.line.now judged.command) result.1 result.2 }
     {
         match way.write(rt, &mut self.share, &judged.command) {
             Ok(moment) => with_moment(
-                settle_written(rt, &mut self.cell, book, number, place, pass, judged),
+                settle_written(rt, &mut self.cell, book, at, pass, judged),
                 moment,
             ),
             Err(Broken) => (Answer::Refused(Refusal::ChangesExhausted), None, None),
@@ -176,19 +174,18 @@ fn settle_written<J: Naming, R: Wait>(
     rt: &R,
     cell: &mut StationCell,
     book: &Mutex<SiteBook<J>>,
-    number: usize,
-    place: &StationPlace,
+    at: Located<'_>,
     pass: &mut Pass,
     judged: Judged,
 ) -> (Answer, Option<Told<J>>)
-    requires can { CanJudge number place.now cell.old pass.old }
+    requires can { CanJudge at.number at.place.now cell.old pass.old }
     requires judged { IsJudged cell.old.limits cell.old.content judged.command judged.judgement.answer }
     ensures settled { IsInService cell.new → cell.new ≡ cell_after cell.old pass.old judged.command }
-    ensures tells { TellsOf place.now cell.old.content judged.command result.0 result.1 }
-    ensures submitted { Submitted place.now pass.old judged.command result.0 pass.new result.1 }
+    ensures tells { TellsOf at.entry.place.now cell.old.content judged.command result.0 result.1 }
+    ensures submitted { Submitted at.entry.place.now pass.old judged.command result.0 pass.new result.1 }
 {
     let Judged { command, judgement } = judged;
-    match settle_at(rt, cell, book, number, place, pass, command, judgement) {
+    match settle_at(rt, cell, book, at, pass, command, judgement) {
         Some(settled) => settled,
         None => {
             cell.retire();

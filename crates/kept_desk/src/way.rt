@@ -14,7 +14,7 @@ use crate::opening::Opening;
 use crate::share::Share;
 use ledger_model::{Answer, Command, Refusal};
 use site_book::{Naming, SiteBook, Told};
-use site_desk::{HasCell, Settles, StationPlace, can_judge};
+use site_desk::{HasCell, Located, Settles, can_judge};
 use station_cell::Pass;
 use std::io::Write;
 use std::sync::{Mutex, MutexGuard, Wait};
@@ -62,13 +62,12 @@ impl<'a, J: Naming, K: Opening, W: Write + Drop> Settles<J, KeptCell<K>, Moment<
         rt: &R,
         held: &mut KeptCell<K>,
         book: &Mutex<SiteBook<J>>,
-        number: usize,
-        place: &StationPlace,
+        at: Located<'_>,
         pass: &mut Pass,
         command: Command,
     ) -> (Answer, Option<Told<J>>, Option<Moment<K>>) {
-        if can_judge(held.cell(), number, place, pass) {
-            held.take(rt, book, number, place, pass, command, self)
+        if can_judge(held.cell(), at.number, at.place, pass) {
+            held.take(rt, book, at, pass, command, self)
         } else {
             (Answer::Refused(Refusal::ChangesExhausted), None, None)
         }

@@ -1,23 +1,22 @@
 -- What a live server writes, piece by piece.
-use Rattle.std.proofs.Common.{◌≡◌, ℕ, List, ◌++◌, Option, Some, Result, Ok, Err, subst}
-use Rattle.std.specs.Prelude.{IfOk, IsOk, OnOk}
+use Rattle.std.proofs.Common.{◌≡◌, ℕ, List, [], ◌++◌, Option, None, Some, Result, Ok, Err, refl, subst, sym}
+use Rattle.std.specs.Prelude.{IfOk, OnOk}
 use Rattle.std.specs.Io.KnownBytes.{Appends}
-use Rattle.std.proofs.KnownBytes.{Appends-trans}
-use Rattle.board_report.specs.Closed.{AreBoards}
+use Rattle.std.proofs.KnownBytes.{Appends-nil, Appends-trans}
+use Rattle.std.proofs.lemmas.List.Elements.{All-nil}
 use Rattle.ledger_model.specs.declared.answer.Answer.{Answer}
 use Rattle.ledger_model.specs.declared.command.Command.{Command}
 use Rattle.ledger_model.specs.Board.{Board}
+use Rattle.script_lines.specs.LineMeaning.{line_meaning}
 use Rattle.script_lines.specs.Lines.{Line}
 use Rattle.site_book.specs.Book.{Known}
 use Rattle.site_desk.specs.declared.plan.SitePlan.{SitePlan}
-use Rattle.site_desk.specs.declared.plan.StationPlan.{StationPlan}
 use Rattle.site_desk.specs.declared.roster.StationPlace.{StationPlace}
-use Rattle.site_desk.specs.Roster.{AreNewPlaces}
-use Rattle.site_server.specs.Written.{listening}
-use Rattle.station_cell.specs.Cell.{Held}
-use Rattle.running_desk.specs.Replied.{gives_nothing, shows_nothing}
-use Rattle.running_desk.specs.Replies.{AddsReplies}
-use Rattle.live_server.specs.Told.{IsServed, Tells, boards_at, ports}
+use Rattle.server_parts.specs.Ports.{listening}
+use Rattle.running_desk.specs.Ordered.{lines_in}
+use Rattle.running_desk.specs.Replied.{IsReplyOrMemory}
+use Rattle.running_desk.specs.Replies.{AddsReplies, Replied}
+use Rattle.live_server.specs.Told.{Tells, boards_at, operator_input, ports}
 
 -- where it listens for stations, and then for browsers
 pub both_told : {T E : Type 0} (r : Result T E) (w0 w1 w2 : Option (List ℕ)) → (port : ℕ) × Appends w0 w1 (listening port) → OnOk r ((port : ℕ) × Appends w1 w2 (boards_at port)) → OnOk r ((port : ℕ) × (browsers : Option ℕ) × Appends w0 w2 (ports port browsers))
@@ -31,24 +30,24 @@ module _ {M Z : Type 0} (gives : Z → ℕ → StationPlace → Command → Answ
   then_replies (Ok _) handed z sites places coming w0 w1 w2 first then = record { port = first.0; browsers = first.1; answered = w1; listens = first.2; replies = then }
   then_replies (Err _) handed z sites places coming w0 w1 w2 first then = then
 
-  -- answers at a desk that is the same under another name
-  pub replies_along : {T E : Type 0} (r : Result T E) (handed : T → List M) (z z' : Z) (sites sites' : List SitePlan) (places places' : List StationPlace) (coming : Option (List Line)) (w0 w1 w2 : Option (List ℕ)) → z' ≡ z → sites' ≡ sites → places' ≡ places
-      → (port : ℕ) × (browsers : Option ℕ) × Appends w0 w1 (ports port browsers) → IfOk r (λ seen. AddsReplies (gives z') (shows z') sites' places' coming w1 w2 (handed seen)) → IfOk r (λ seen. Tells (gives z) (shows z) sites places coming w0 w2 (handed seen))
-  replies_along r handed z z' sites sites' places places' coming w0 w1 w2 own same there first then =
+  -- answers at a desk that is the same under another name, to lines that are the same
+  pub replies_along : {T E : Type 0} (r : Result T E) (handed : T → List M) (z z' : Z) (sites sites' : List SitePlan) (places places' : List StationPlace) (coming coming' : Option (List Line)) (w0 w1 w2 : Option (List ℕ)) → z' ≡ z → sites' ≡ sites → places' ≡ places → coming' ≡ coming
+      → (port : ℕ) × (browsers : Option ℕ) × Appends w0 w1 (ports port browsers) → IfOk r (λ seen. AddsReplies (gives z') (shows z') sites' places' coming' w1 w2 (handed seen)) → IfOk r (λ seen. Tells (gives z) (shows z) sites places coming w0 w2 (handed seen))
+  replies_along r handed z z' sites sites' places places' coming coming' w0 w1 w2 own same there comes first then =
       then_replies r handed z sites places coming w0 w1 w2 first
       (subst (λ y. IfOk r (λ seen. AddsReplies (gives y) (shows y) sites places coming w1 w2 (handed seen))) own
-      (subst (λ s. IfOk r (λ seen. AddsReplies (gives z') (shows z') s places coming w1 w2 (handed seen))) same (subst (λ p. IfOk r (λ seen. AddsReplies (gives z') (shows z') sites' p coming w1 w2 (handed seen))) there then)))
+      (subst (λ s. IfOk r (λ seen. AddsReplies (gives z') (shows z') s places coming w1 w2 (handed seen))) same
+      (subst (λ p. IfOk r (λ seen. AddsReplies (gives z') (shows z') sites' p coming w1 w2 (handed seen))) there
+      (subst (λ k. IfOk r (λ seen. AddsReplies (gives z') (shows z') sites' places' k w1 w2 (handed seen))) comes then))))
 
--- what holds where a call ended well
-of_ok : {T E : Type 0} (r : Result T E) (P : T → Type 0) → IsOk r → IfOk r P → (t : T) × P t
-of_ok (Ok t) P is h = (t, h)
-of_ok (Err _) P is h = cc is
+module _ {M : Type 0} (gives : ℕ → StationPlace → Command → Answer → Option Known → Option M → Type 0) (shows : ℕ → List (List ℕ × Board) → M → Type 0) (sites : List SitePlan) (places : List StationPlace) where
+  -- where an operator's lines are read, they are those of the input
+  pub of_operator : {T E : Type 0} (r : Result T E) (handed : T → List M) (connections : Option ℕ) (input w0 w1 : Option (List ℕ)) → connections ≡ None
+      → IfOk r (λ seen. AddsReplies gives shows sites places (lines_in input) w0 w1 (handed seen)) → IfOk r (λ seen. AddsReplies gives shows sites places (lines_in (operator_input connections input)) w0 w1 (handed seen))
+  of_operator r handed connections input w0 w1 is h = subst (λ n. IfOk r (λ seen. AddsReplies gives shows sites places (lines_in (operator_input n input)) w0 w1 (handed seen))) (sym is) h
 
--- all that was written, where the operator's lines and the close ended well
-pub served_ok : {R S E F : Type 0} (r : Result R E) (contents : R → Option (List ℕ)) (passes : R → List Held) (ended : Result S F) (handed : S → List (Unit {0})) (sites : List SitePlan) (stations : List StationPlan) (places : List StationPlace) (coming : Option (List Line)) (w0 w1 : Option (List ℕ))
-    → AreNewPlaces sites stations places → IfOk ended (λ seen. Tells gives_nothing shows_nothing sites places coming w0 w1 (handed seen)) → OnOk r (IsOk ended)
-    → IfOk r (λ x. (boards : List ℕ) × Appends w1 (contents x) boards × AreBoards sites stations (passes x) boards) → IfOk r (λ x. IsServed sites stations coming w0 (contents x) (passes x))
-served_ok (Ok x) contents passes ended handed sites stations places coming w0 w1 placed told well boards =
-    let own = of_ok ended (λ seen. Tells gives_nothing shows_nothing sites places coming w0 w1 (handed seen)) well told in
-    record { places = places; placed = placed; told = w1; handed = handed own.0; tells = own.1; boards = boards.0; writes = boards.1; shown = boards.2 }
-served_ok (Err _) contents passes ended handed sites stations places coming w0 w1 placed told well boards = boards
+  -- where none are read, none are answered
+  pub of_nobody : (connections : Option ℕ) (n : ℕ) (input w : Option (List ℕ)) (handed : List M) → connections ≡ Some n → handed ≡ []
+      → AddsReplies gives shows sites places (lines_in (operator_input connections input)) w w handed
+  of_nobody connections n input w handed is none = subst (λ k. AddsReplies gives shows sites places (lines_in (operator_input k input)) w w handed) (sym is)
+      (record { lines = []; those = refl; replies = All-nil (λ (l : Replied M). IsReplyOrMemory gives shows sites places (line_meaning l.line) l.text l.seen); adds = Appends-nil w; all = none })

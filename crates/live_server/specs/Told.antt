@@ -2,18 +2,13 @@
 use Rattle.std.specs.Prelude.{ℕ, List, [], ◌∷◌, ◌++◌, Option, None, Some, codes}
 use Rattle.std.specs.Fmt.{decimal}
 use Rattle.std.specs.Io.KnownBytes.{Appends}
-use Rattle.board_report.specs.Closed.{AreBoards}
 use Rattle.ledger_model.specs.declared.answer.Answer.{Answer}
 use Rattle.ledger_model.specs.declared.command.Command.{Command}
 use Rattle.ledger_model.specs.Board.{Board}
 use Rattle.script_lines.specs.Lines.{Line}
 use Rattle.site_desk.specs.declared.plan.SitePlan.{SitePlan}
-use Rattle.site_desk.specs.declared.plan.StationPlan.{StationPlan}
 use Rattle.site_desk.specs.declared.roster.StationPlace.{StationPlace}
-use Rattle.site_desk.specs.Roster.{AreNewPlaces}
-use Rattle.site_server.specs.Written.{listening}
-use Rattle.station_cell.specs.Cell.{Held}
-use Rattle.running_desk.specs.Replied.{gives_nothing, shows_nothing}
+use Rattle.server_parts.specs.Ports.{listening}
 use Rattle.running_desk.specs.Replies.{AddsReplies}
 use Rattle.site_book.specs.Book.{Known}
 
@@ -26,6 +21,11 @@ abbrev pub ports : ℕ → Option ℕ → List ℕ
 ports port None = listening port
 ports port (Some browsers) = listening port ++ boards_at browsers
 
+-- The operator's bytes are those of the input; where a number of connections ends the server there are none.
+abbrev pub operator_input : Option ℕ → Option (List ℕ) → Option (List ℕ)
+operator_input None input = input
+operator_input (Some connections) input = Some []
+
 -- Behind what stood before, it was written where the server listens, and then the answers to the operator's lines that come, up to the line `close`; and what was seen of the desk's journal with these answers was handed out.
 pub record Tells {M : Type 0} (gives : ℕ → StationPlace → Command → Answer → Option Known → Option M → Type 0) (shows : ℕ → List (List ℕ × Board) → M → Type 0) (sites : List SitePlan) (places : List StationPlace) (coming : Option (List Line)) (before now : Option (List ℕ)) (handed : List M) : Type 0 where
   pub port : ℕ
@@ -33,14 +33,3 @@ pub record Tells {M : Type 0} (gives : ℕ → StationPlace → Command → Answ
   pub answered : Option (List ℕ)
   pub listens : Appends before answered (ports port browsers)
   pub replies : AddsReplies gives shows sites places coming answered now handed
-
--- All that a server without a journal wrote behind what stood before: where it listens; the answers to the operator's lines that come, up to the line `close`, at a desk of the plan's stations; and the boards of the plan's sites, of as many changes as these passes made.
-pub record IsServed (sites : List SitePlan) (stations : List StationPlan) (coming : Option (List Line)) (before now : Option (List ℕ)) (passes : List Held) : Type 0 where
-  pub places : List StationPlace
-  pub placed : AreNewPlaces sites stations places
-  pub told : Option (List ℕ)
-  pub handed : List (Unit {0})
-  pub tells : Tells gives_nothing shows_nothing sites places coming before told handed
-  pub boards : List ℕ
-  pub writes : Appends told now boards
-  pub shown : AreBoards sites stations passes boards

@@ -1,5 +1,5 @@
 //! Where threads wait for connections, and how they are called away from it.
-use site_server::Sockets;
+use server_parts::Sockets;
 use std::net::{TcpListener, TcpStream};
 use std::sync::Wait;
 use std::sync::atomic::{AtomicBool, AtomicU64, Ordering};

@@ -10,7 +10,7 @@ use crate::acceptor::Acceptor;
 use crate::connection::{Connection, ConnectionStream, Patience};
 use crate::reply::{Status, response};
 use crate::request::{Request, read_request};
-use crate::workers::Workers;
+use crate::shared::Shared;
 use board_report::running_board;
 use ledger_model::Name;
 use running_desk::{Running, Serves, site_of};
@@ -46,53 +46,54 @@ const PAGE: &str = "text/html; charset=utf-8";
 const NO_MEMORY: &[u8] =
     b"HTTP/1.1 503 Service Unavailable\r\nContent-Length: 0\r\nConnection: close\r\n\r\n";
 
-// Answers one request after the other until the server closes.
-pub(crate) fn serve_boards<J: Naming, C: HasCell, M: Drop, S: Serves<J, C, M>, R: Wait + Clock>(
-    rt: &R,
-    alloc: Global,
-    acceptor: &Acceptor<'_>,
-    running: &Running<'_, J, C, M, S>,
-    workers: &Workers,
-) {
-    for _ in rt.forever() {
-        let Some(stream) = acceptor.next(rt, &workers.closing) else {
-            acceptor.leave();
+impl<J: Naming, C: HasCell, M: Drop, S: Serves<J, C, M>, R: Wait + Clock, L: Write + Drop> Shared<
+    '_,
+    J,
+    C,
+    M,
+    S,
+    R,
+    L,
+> {
+    // Answers one request after the other until the server closes.
+    pub(crate) fn serve_boards(&self, acceptor: &Acceptor<'_>) {
+        for _ in self.rt.forever() {
+            let Some(stream) = acceptor.next(self.rt, &self.workers.closing) else {
+                acceptor.leave();
+                return;
+            };
+            self.serve_request(stream);
+        }
+    }
+
+    // Reads a request and writes its answer.
+    fn serve_request(&self, stream: TcpStream) {
+        let unmarked = AtomicBool::new(false);
+        let closing = &self.workers.closing;
+        let Ok(connection) = Connection::open(self.rt, closing, &unmarked, PATIENCE) else {
             return;
         };
-        serve_request(rt, alloc, running, workers, stream);
+        if let Ok(mut stream) = ConnectionStream::open(&connection, stream) {
+            let _ = self.answer_request(&connection, &mut stream);
+        }
     }
-}
 
-// Reads a request and writes its answer.
-fn serve_request<J: Naming, C: HasCell, M: Drop, S: Serves<J, C, M>, R: Wait + Clock>(
-    rt: &R,
-    alloc: Global,
-    running: &Running<'_, J, C, M, S>,
-    workers: &Workers,
-    stream: TcpStream,
-) {
-    let unmarked = AtomicBool::new(false);
-    let Ok(connection) = Connection::open(rt, &workers.closing, &unmarked, PATIENCE) else {
-        return;
-    };
-    if let Ok(mut stream) = ConnectionStream::open(&connection, stream) {
-        let _ = answer_request(rt, alloc, running, &connection, &mut stream);
+    // Answers the request of a connection over its stream.
+    fn answer_request(
+        &self,
+        connection: &Connection<'_, R>,
+        stream: &mut ConnectionStream<'_, R>,
+    ) -> io::Result<()> {
+        let request = request_of(self.alloc, stream)?;
+        connection.serves();
+        match answer(self.rt, self.alloc, &self.running, request) {
+            Ok(bytes) => stream.write_all(&bytes)?,
+            Err(_) => stream.write_all(NO_MEMORY)?,
+        }
+        stream.flush()?;
+        connection.leaves();
+        end_answer(stream)
     }
-}
-
-// Answers the request of a connection over its stream.
-fn answer_request<J: Naming, C: HasCell, M: Drop, S: Serves<J, C, M>, R: Wait + Clock>(
-    rt: &R,
-    alloc: Global,
-    running: &Running<'_, J, C, M, S>,
-    connection: &Connection<'_, R>,
-    stream: &mut ConnectionStream<'_, R>,
-) -> io::Result<()> {
-    let request = request_of(alloc, stream)?;
-    connection.serves();
-    put_answer(rt, alloc, running, request, stream)?;
-    connection.leaves();
-    end_answer(stream)
 }
 
 // Tells a browser that nothing more comes.
@@ -135,21 +136,6 @@ fn read_head<S: Read>(stream: &mut S, head: &mut [u8]) -> io::Result<Request> {
         }
     }
     Ok(Request::Malformed)
-}
-
-// Writes the answer to a request.
-fn put_answer<J: Naming, C: HasCell, M: Drop, S: Serves<J, C, M>, R: Wait, W: Write>(
-    rt: &R,
-    alloc: Global,
-    running: &Running<'_, J, C, M, S>,
-    request: Request,
-    stream: &mut W,
-) -> io::Result<()> {
-    match answer(rt, alloc, running, request) {
-        Ok(bytes) => stream.write_all(&bytes)?,
-        Err(_) => stream.write_all(NO_MEMORY)?,
-    }
-    stream.flush()
 }
 
 // Reads what a browser sent beyond its head: unread bytes would reset the connection before it has its answer.

@@ -1,23 +1,22 @@
-//! A server that lives: connections without end, an operator's lines while stations are served, and a clean end.
+//! A server that lives: connections, an operator's lines while stations are served, and a clean end.
 //!
-//! [`serve_live`] opens the desk of a plan, tells where it listens, and starts workers, which accept connections and
-//! serve them for as long as the server lives, at a [`Running`](running_desk::Running) desk: `Workers` has who has to go,
-//! `Log` where sessions are told, `NearLimits` which limits of stations are nearly used, and a `Connection` what one
-//! connection knows of its time. Meanwhile the calling thread answers an operator's lines
+//! [`serve_plan_at`] serves the stations of a plan at a desk that is handed in, which is anything that
+//! [`Serves`](running_desk::Serves). It writes where it listens, and starts workers, which accept connections and serve
+//! them for as long as the server lives, or so many as are asked for, at a [`Running`](running_desk::Running) desk:
+//! `Workers` has who has to go, `Log` where sessions are reported, `NearLimits` which limits of stations are nearly used,
+//! and a `Connection` what one connection knows of its time. Meanwhile the calling thread answers an operator's lines
 //! ([`operate`](running_desk::operate)), a thread glances at the totals, and another one answers browsers with boards
-//! ([`response`]). At the end it joins them all, closes the desk with all its checks, and writes the
-//! board of each site. `Seats` tell which worker serves a session of which station, and whom to send away: the oldest of
-//! three sessions of a station, or the oldest handshake.
-//! [`serve_plan_at`] serves so at anything that [`Serves`](running_desk::Serves), a desk or one that keeps more, and gives passes, viewers and the output back.
+//! ([`response`]). At the end it joins them all, and gives back passes, viewers and the output. `Seats` know which worker
+//! serves a session of which station, and whom to send away: the oldest of three sessions of a station, or the oldest
+//! handshake.
 //!
-//! The output takes where the server listens, then the answers to the operator's lines in their order up to `close`, and
-//! last, for each site in the plan's order, the board from scratch from the content of its stations' ledgers, of as many
-//! changes as the passes made that are given back (`IsServed` of `specs/Told.antt`). A browser's board is that of the site that was asked for. A
-//! session gets a pass of the station that its request names. That connections are accepted, sessions end in time and
-//! passes come back is shown by tests.
+//! The output takes where the server listens, and then the answers to the operator's lines in their order up to `close`
+//! (`Tells` of `specs/Told.antt`). A browser's board is that of the site that was asked for. A session gets a pass of the
+//! station that its request names. That connections are accepted, sessions end in time and passes come back is shown by
+//! tests.
 //!
 //! ```text
-//! let (output, passes) = serve_live(rt, alloc, &plan, live, &mut input, output, lines)?;   // until the input ends or says `close`
+//! let ran = serve_plan_at(run, &desk, passes, viewers, &mut input, output, lines)?;   // until the input ends or says `close`
 //! ```
 #![tactic(auto)]
 
@@ -37,4 +36,4 @@ mod watch;
 mod workers;
 
 pub use reply::{Status, response};
-pub use service::{Live, Ran, Run, serve_live, serve_plan_at};
+pub use service::{Clients, Live, Ran, Run, serve_plan_at};

@@ -7,7 +7,7 @@ use crate::service::Live;
 use arrayvec::ArrayString;
 use board_report::write_out;
 use itoa::Buffer;
-use site_server::{ServiceFault, Sockets, address_of, listen, tell_port};
+use server_parts::{ServiceFault, Sockets, address_of, listen, tell_port};
 use std::io::Write;
 use std::net::TcpListener;
 
@@ -19,15 +19,19 @@ pub(crate) struct Listeners {
 }
 
 impl Listeners {
-    // The listeners that are asked for, once their ports are told.
+    // The listeners that are asked for, once their ports are written; that of stations may be there already.
     pub(crate) fn open<R: Sockets, W: Write>(
         rt: &R,
+        listener: Option<TcpListener>,
         live: Live,
         output: &mut W,
     ) -> Result<Self, ServiceFault>
         ensures { OnOk result ((port : ℕ) × (browsers : Option ℕ) × Appends (W.contents output.old) (W.contents output.new) (ports port browsers)) }
     {
-        let stations = listen(rt, live.port)?;
+        let stations = match listener {
+            Some(listener) => listener,
+            None => listen(rt, live.port)?,
+        };
         let browsers = listen_for_browsers(rt, live.board_port)?;
         tell(&stations, browsers.as_ref(), output)?;
         Ok(Listeners { stations, browsers })

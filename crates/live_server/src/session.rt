@@ -6,12 +6,11 @@ use crate::shared::Shared;
 use arrayvec::ArrayString;
 use ledger_model::Name;
 use running_desk::Serves;
+use server_parts::SystemMoments;
 use site_book::Naming;
 use site_desk::HasCell;
-use site_server::SystemMoments;
 use station_cell::Pass;
-use station_link::{Attendant, Greeted, SessionEnd, greet, refuse, serve_session};
-use std::alloc::Global;
+use station_link::{Attendant, Client, Greeted, SessionEnd, greet, refuse, serve_session};
 use std::cell::Cell;
 use std::io::Write;
 use std::net::TcpStream;
@@ -27,147 +26,108 @@ const PATIENCE: Patience = Patience {
     writing: 30,
 };
 
-// Accepts connections and serves each, until the server closes.
-pub(crate) fn work<
+impl<
     J: Naming,
     C: HasCell,
     M: Drop,
     S: Serves<J, C, M>,
     R: Threads + Wait + Clock,
     L: Write + Drop,
->(
-    rt: &R,
-    alloc: Global,
-    acceptor: &Acceptor<'_>,
-    shared: &Shared<'_, J, C, M, S, L>,
-    worker: usize,
-    mark: &AtomicBool,
-) {
-    for _ in rt.forever() {
-        let Some(stream) = acceptor.next(rt, &shared.workers.closing) else {
-            acceptor.leave();
+> Shared<'_, J, C, M, S, R, L> {
+    // Accepts connections and serves each, until the server closes or as many came as it serves.
+    pub(crate) fn work(&self, acceptor: &Acceptor<'_>, worker: usize, mark: &AtomicBool) {
+        for _ in self.rt.forever() {
+            let Some(stream) = acceptor.next(self.rt, &self.workers.closing) else {
+                acceptor.leave();
+                return;
+            };
+            if !self.workers.takes_one() {
+                acceptor.leave();
+                return;
+            }
+            self.workers.greet(self.rt, worker);
+            self.serve_one(worker, mark, stream);
+            self.workers.end(self.rt, worker);
+        }
+    }
+
+    // Serves a connection: its handshake, and what comes behind it.
+    fn serve_one(&self, worker: usize, mark: &AtomicBool, stream: TcpStream) {
+        let closing = &self.workers.closing;
+        let Ok(connection) = Connection::open(self.rt, closing, mark, PATIENCE) else {
             return;
         };
-        shared.workers.greet(rt, worker);
-        serve_one(rt, alloc, shared, worker, mark, stream);
-        shared.workers.end(rt, worker);
-    }
-}
-
-// Serves a connection: its handshake, and what comes behind it.
-fn serve_one<
-    J: Naming,
-    C: HasCell,
-    M: Drop,
-    S: Serves<J, C, M>,
-    R: Threads + Wait + Clock,
-    L: Write + Drop,
->(
-    rt: &R,
-    alloc: Global,
-    shared: &Shared<'_, J, C, M, S, L>,
-    worker: usize,
-    mark: &AtomicBool,
-    stream: TcpStream,
-) {
-    let Ok(connection) = Connection::open(rt, &shared.workers.closing, mark, PATIENCE) else {
-        return;
-    };
-    let Ok(stream) = ConnectionStream::open(&connection, stream) else {
-        return;
-    };
-    match greet(alloc, stream) {
-        Ok(greeted) => receive(rt, alloc, shared, worker, &connection, greeted),
-        Err(why) => shared.log.tell_refused(rt, why, &ArrayString::new()),
-    }
-}
-
-// Serves the session of a client behind its handshake, where it is let in.
-fn receive<
-    J: Naming,
-    C: HasCell,
-    M: Drop,
-    S: Serves<J, C, M>,
-    R: Threads + Wait + Clock,
-    L: Write + Drop,
->(
-    rt: &R,
-    alloc: Global,
-    shared: &Shared<'_, J, C, M, S, L>,
-    worker: usize,
-    connection: &Connection<'_, R>,
-    greeted: Greeted<ConnectionStream<'_, R>>,
-) {
-    let Greeted {
-        mut socket,
-        asked,
-        shown,
-    } = greeted;
-    match shared.running.let_in(rt, asked) {
-        Ok((name, pass)) => {
-            shared.workers.begin(rt, worker, pass.station());
-            attend(rt, alloc, shared, &mut socket, &name, pass, connection);
-        }
-        Err(why) => {
-            connection.leaves();
-            refuse(&mut socket, why);
-            shared.log.tell_refused(rt, why, &shown);
+        let Ok(stream) = ConnectionStream::open(&connection, stream) else {
+            return;
+        };
+        match greet(self.alloc, stream) {
+            Ok(greeted) => self.receive(worker, &connection, greeted),
+            Err(why) => self.log.tell_refused(self.rt, why, &ArrayString::new()),
         }
     }
-}
 
-// Serves a session to its end.
-fn attend<
-    J: Naming,
-    C: HasCell,
-    M: Drop,
-    S: Serves<J, C, M>,
-    R: Threads + Wait + Clock,
-    L: Write + Drop,
->(
-    rt: &R,
-    alloc: Global,
-    shared: &Shared<'_, J, C, M, S, L>,
-    socket: &mut WebSocket<ConnectionStream<'_, R>, NoMask>,
-    name: &Name,
-    pass: Pass,
-    connection: &Connection<'_, R>,
-) {
-    shared.log.tell_begun(rt, name);
-    connection.serves();
-    let before = pass.changes();
-    let desk = shared.running.serves;
-    let gate = LimitGate {
-        desk: shared.running.desk.desk,
-        near: &shared.near,
-        log: &shared.log,
-        station: pass.station(),
-        has_event: Cell::new(false),
-    };
-    let mut clock = SystemMoments { rt };
-    let end = serve_session(
-        rt, alloc, socket, desk, name, pass, &gate, &mut clock, connection,
-    );
-    finish(rt, shared, name, before, end);
-}
+    // Serves the session of a client behind its handshake, where it is let in.
+    fn receive(
+        &self,
+        worker: usize,
+        connection: &Connection<'_, R>,
+        greeted: Greeted<ConnectionStream<'_, R>>,
+    ) {
+        let Greeted {
+            mut socket,
+            asked,
+            shown,
+        } = greeted;
+        match self.running.let_in(self.rt, asked) {
+            Ok((name, pass)) => {
+                self.workers.begin(self.rt, worker, pass.station());
+                self.attend(&mut socket, &name, pass, connection);
+            }
+            Err(why) => {
+                connection.leaves();
+                refuse(&mut socket, why);
+                self.log.tell_refused(self.rt, why, &shown);
+            }
+        }
+    }
 
-// Tells how a session ended that began with so many changes, and lays its pass back.
-fn finish<J: Naming, C: HasCell, M: Drop, S: Serves<J, C, M>, R: Wait, L: Write + Drop>(
-    rt: &R,
-    shared: &Shared<'_, J, C, M, S, L>,
-    name: &Name,
-    before: u64,
-    end: SessionEnd,
-) {
-    let SessionEnd {
-        why,
-        pass,
-        texts,
-        ..
-    } = end;
-    if let Some(pass) = pass {
-        let changes = pass.changes().saturating_sub(before);
-        shared.log.tell_ended(rt, name, why, texts, changes);
-        let _lost = shared.running.desk.lay(rt, pass);
+    // Serves a session to its end.
+    fn attend(
+        &self,
+        socket: &mut WebSocket<ConnectionStream<'_, R>, NoMask>,
+        name: &Name,
+        pass: Pass,
+        connection: &Connection<'_, R>,
+    ) {
+        self.log.tell_begun(self.rt, name);
+        connection.serves();
+        let before = pass.changes();
+        let (rt, alloc, desk) = (self.rt, self.alloc, self.running.serves);
+        let gate = LimitGate {
+            desk: self.running.desk.desk,
+            near: &self.near,
+            log: &self.log,
+            station: pass.station(),
+            has_event: Cell::new(false),
+        };
+        let mut clock = SystemMoments { rt };
+        let client = Client { socket, name, pass };
+        let end = serve_session(rt, alloc, client, desk, &gate, &mut clock, connection);
+        self.finish(name, before, end);
+    }
+
+    // Reports how a session ended that began with so many changes, and lays its pass back.
+    fn finish(&self, name: &Name, before: u64, end: SessionEnd) {
+        let SessionEnd {
+            why,
+            pass,
+            texts,
+            ..
+        } = end;
+        if let Some(pass) = pass {
+            let changes = pass.changes().saturating_sub(before);
+            self.log.tell_ended(self.rt, name, why, texts, changes);
+            let _lost = self.running.desk.lay(self.rt, pass);
+        }
     }
 }

@@ -1,8 +1,13 @@
 //! The workers of a live server: who has to go, and whether the server closes.
 use crate::seats::Seats;
 use std::alloc::{AllocError, Global};
-use std::sync::atomic::{AtomicBool, Ordering};
+use std::sync::atomic::{AtomicBool, AtomicU64, Ordering};
 use std::sync::{Mutex, Wait};
+use std::thread;
+use std::time::{Clock, Duration};
+
+// How long the end of all connections is waited for between two looks.
+const LOOK_MILLIS: u64 = 10;
 
 // What the workers look at while they wait.
 #[derive(Drop)]
@@ -12,11 +17,19 @@ pub(crate) struct Workers {
     // Of each worker, whether its connection has to go.
     pub(crate) marks: Vec<AtomicBool>,
     seats: Mutex<Seats>,
+    // How many connections are served in all, how many came, and how many have ended.
+    most: u64,
+    came: AtomicU64,
+    ended: AtomicU64,
 }
 
 impl Workers {
-    // So many workers, who serve nobody.
-    pub(crate) fn open(alloc: Global, workers: usize) -> Result<Self, AllocError> {
+    // So many workers, who serve nobody, for so many connections in all, or without end.
+    pub(crate) fn open(
+        alloc: Global,
+        workers: usize,
+        connections: Option<u8>,
+    ) -> Result<Self, AllocError> {
         let mut marks = Vec::with_capacity(alloc, workers)?;
         for _ in 0..workers {
             marks.push(AtomicBool::new(false))?;
@@ -25,7 +38,28 @@ impl Workers {
             closing: AtomicBool::new(false),
             marks,
             seats: Mutex::new(Seats::open(alloc, workers)?),
+            most: match connections {
+                Some(connections) => u64::from(connections),
+                None => u64::MAX,
+            },
+            came: AtomicU64::new(0),
+            ended: AtomicU64::new(0),
         })
+    }
+
+    // Counts a connection that came, and tells whether it is served.
+    pub(crate) fn takes_one(&self) -> bool {
+        self.came.fetch_add(1, Ordering::SeqCst) < self.most
+    }
+
+    // Waits until as many connections have ended as are served in all.
+    pub(crate) fn wait_for_all<R: Wait + Clock>(&self, rt: &R) {
+        for _ in rt.forever() {
+            if self.ended.load(Ordering::SeqCst) >= self.most {
+                return;
+            }
+            thread::sleep(rt, Duration::from_millis(LOOK_MILLIS));
+        }
     }
 
     // A worker's handshake begins; where few workers are left, the oldest one has to go.
@@ -49,6 +83,7 @@ impl Workers {
     // A worker's connection has ended.
     pub(crate) fn end<R: Wait>(&self, rt: &R, worker: usize) {
         self.seats.lock(rt).end(worker);
+        self.ended.fetch_add(1, Ordering::SeqCst);
     }
 
     // Notes whether a worker's connection has to go.

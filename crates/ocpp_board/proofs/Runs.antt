@@ -13,14 +13,14 @@ use Rattle.kept_desk.specs.Opened.{contents_of}
 use Rattle.running_desk.specs.Ordered.{lines_in}
 use Rattle.site_desk.specs.declared.plan.SitePlan.{SitePlan}
 use Rattle.site_desk.specs.declared.plan.StationPlan.{StationPlan}
-use Rattle.site_server.specs.declared.fault.ServiceFault.{ServiceFault}
+use Rattle.server_parts.specs.declared.fault.ServiceFault.{ServiceFault}
 use Rattle.script_lines.specs.Writing.{WritesFront}
 use Rattle.script_replay.specs.Whole.{HasOutput, Writes}
 use Rattle.script_replay.specs.declared.whole.Ended.{Ended}
 use Rattle.station_cell.specs.Cell.{Held}
 use Rattle.ocpp_board.specs.declared.journalling.Kept.{Kept}
 use Rattle.ocpp_board.specs.declared.run.Ran.{Ran}
-use Rattle.ocpp_board.specs.Run.{IsJournalRun, IsServerEnd, IsServerRun}
+use Rattle.ocpp_board.specs.Run.{IsJournalRun, IsServerEnd}
 use Rattle.ocpp_board.specs.Serving.{IsKept, kept_left}
 
 -- a front of bytes, behind others
@@ -35,12 +35,6 @@ writes_then r a b c x y w first is then = (x ++ then.0, Appends-trans a b c x th
 -- a front of bytes is a front of them with more behind
 pub front_of_more : (x y written rest : List ℕ) → x ≡ written ++ rest → x ++ y ≡ written ++ (rest ++ y)
 front_of_more x y written rest is = ap (λ l. l ++ y) is ∙ append_assoc written rest y
-
--- a server that writes to its output alone
-pub server_run : {W E : Type 0} (contents : W → Option (List ℕ)) (reports : E → Option (List ℕ)) (errors : E) (run : Ended W E) (output : Option W) (ended : Result (Unit {0}) JournalFault) (own passes : List Held)
-    (holds : List Held → Option (List ℕ) → Type 0) → run.output ≡ output → own ≡ passes → IsServerEnd reports errors run ended → OnOk ended (HasOutput contents output (holds passes)) → IsServerRun contents reports errors run (holds own)
-server_run contents reports errors run output ended own passes holds out same end h =
-    (ended, end, subst (λ o. OnOk ended (HasOutput contents o (holds own))) (sym out) (subst (λ ps. OnOk ended (HasOutput contents output (holds ps))) (sym same) h))
 
 of_ok : {T E : Type 0} (r : Result T E) (t : T) (P : Type 0) → r ≡ Ok t → OnOk r P → P
 of_ok (Ok _) t P is h = h
@@ -115,19 +109,20 @@ handed_on contents consoles (Some o) (Some c) answered boards first then = Appen
 handed_on contents consoles None (Some c) answered boards first then = absurd then
 handed_on contents consoles output None answered boards first then = absurd first
 
--- the end of a server that is restored without a journal
+-- the end of a server without a journal
 pub nowhere_kept : {W N C : Type 0} (contents : W → Option (List ℕ)) (nowhere : N → Option (List ℕ)) (consoles : C → Option (List ℕ)) (ended : Result (Unit {0}) JournalFault) (output : Option W) (own : List Held) (kept : Kept N C) (served : Served N C)
-    (allows : Bool) (input told : Option (List ℕ)) → kept_left nowhere kept served.journal ≡ left_of nowhere served → IsRestoredRun allows input None (left_of nowhere served) (TellsRestored served.ended told (consoles served.console))
+    (holds : Left → Result (Unit {0}) JournalFault → Option (List ℕ) → Type 0) → kept_left nowhere kept served.journal ≡ left_of nowhere served
+    → ((e : Result (Unit {0}) JournalFault) → OnOk e (served.ended ≡ Ok tt) → holds (left_of nowhere served) e (consoles served.console))
     → OnOk kept.ended (served.ended ≡ Ok tt) → OnOk kept.ended (HasOutput consoles kept.console (λ now. Appends (consoles served.console) now served.boards.items))
     → OnOk ended (kept.ended ≡ Ok tt) → OnOk ended (own ≡ kept.passes.items) → OnOk ended (HasOutput consoles kept.console (λ written. HasOutput contents output (Keeps written)))
-    → OnOk ended ((left : Left) × (answered : Option (List ℕ)) × IsRestoredRun allows input None left (TellsRestored ended told answered) × (left.passes ≡ own) × HasOutput contents output (λ now. Appends answered now left.boards))
-nowhere_kept contents nowhere consoles (Ok u) output own kept served allows input told left h well took closed passes on =
+    → OnOk ended ((left : Left) × (answered : Option (List ℕ)) × holds left ended answered × (left.passes ≡ own) × HasOutput contents output (λ now. Appends answered now left.boards))
+nowhere_kept contents nowhere consoles (Ok u) output own kept served holds left h well took closed passes on =
     let well' = of_ok kept.ended tt (served.ended ≡ Ok tt) closed well in
     let took' = of_ok kept.ended tt (HasOutput consoles kept.console (λ now. Appends (consoles served.console) now served.boards.items)) closed took in (
       left_of nowhere served,
       consoles served.console,
-      restored_through (Ok u) served.ended allows input None (left_of nowhere served) told (consoles served.console) well' h,
+      h (Ok u) well',
       sym (λ i. (left i).passes) ∙ sym passes,
       handed_on contents consoles output kept.console (consoles served.console) served.boards.items took' on,
     )
-nowhere_kept contents nowhere consoles (Err _) output own kept served allows input told left h well took closed passes on = closed
+nowhere_kept contents nowhere consoles (Err _) output own kept served holds left h well took closed passes on = closed

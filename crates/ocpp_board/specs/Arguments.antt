@@ -20,7 +20,7 @@ use Rattle.ocpp_board.specs.LimitWords.{AsksLimits}
 use Rattle.ocpp_board.specs.StationWords.{AnswersWords}
 use Rattle.ocpp_board.specs.declared.station_words.WordFault.{WordFault}
 use Rattle.ocpp_board.specs.declared.station_words.WordFault.TheVariants.{BadLimits}
-use Rattle.site_server.specs.declared.service.Service.{Service}
+use Rattle.journal_server.specs.declared.unwritten.Service.{Service}
 use Rattle.station_link.specs.Sim.{IsSimulated}
 
 -- A server is asked for 1 to 64 connections, a simulation for 1 to 64 stations and 2 to 64 events.

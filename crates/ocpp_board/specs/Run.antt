@@ -13,17 +13,14 @@ use Rattle.journal_server.specs.declared.fault.JournalFault.{JournalFault}
 use Rattle.journal_server.specs.declared.fault.JournalFault.TheVariants.{Service, Restore, LeftOut}
 use Rattle.journal_server.specs.Left.{Left}
 use Rattle.journal_server.specs.Served.{IsNewRun, IsRestoredRun, TellsNew, TellsRestored}
-use Rattle.live_server.specs.Told.{IsServed}
-use Rattle.running_desk.specs.Ordered.{lines_in}
 use Rattle.script_lines.specs.declared.fault.ReplayFault.{ReplayFault}
 use Rattle.script_lines.specs.declared.fault.ReplayFault.TheVariants as replay
 use Rattle.script_replay.specs.Whole.{HasOutput, IsMistake, IsReplayRun, IsReported, Shows, Writes, fault_report}
 use Rattle.script_replay.specs.declared.whole.Ended.{Ended}
 use Rattle.site_desk.specs.declared.plan.Plan.{Plan}
-use Rattle.site_server.specs.declared.fault.ServiceFault.{ServiceFault}
-use Rattle.site_server.specs.declared.fault.ServiceFault.TheVariants as service
-use Rattle.site_server.specs.Simulated.{simulated_sites, simulated_stations}
-use Rattle.site_server.specs.Written.{ShowsBoards, listening}
+use Rattle.server_parts.specs.declared.fault.ServiceFault.{ServiceFault}
+use Rattle.server_parts.specs.declared.fault.ServiceFault.TheVariants as service
+use Rattle.journal_server.specs.Simulated.{IsSimulatedRun}
 use Rattle.ocpp_board.specs.declared.asked.Asked.{Asked}
 use Rattle.ocpp_board.specs.declared.asked.Asked.TheVariants.{Replay, Serve, ServeLive, ServeJournalled, ServeRestored, Simulate}
 use Rattle.ocpp_board.specs.declared.station_words.WordFault.{WordFault}
@@ -96,10 +93,6 @@ pub record IsServerEnd {W E : Type 0} (reports : E → Option (List ℕ)) (error
   pub report : IsServerReport ended text
   pub written : Writes (reports errors) (reports run.errors) run.reported text
 
--- A server that writes to its output alone: after Ok, of what the output took this holds.
-abbrev pub IsServerRun : {W E : Type 0} → (W → Option (List ℕ)) → (E → Option (List ℕ)) → E → Ended W E → (Option (List ℕ) → Type 0) → Type 0
-IsServerRun contents reports errors run holds = (ended : Result (Unit {0}) JournalFault) × IsServerEnd reports errors run ended × OnOk ended (HasOutput contents run.output holds)
-
 -- A server with a journal, which its output took. Where the output is given back the journal is as it has to be, and after Ok it is given back. Then the console took what it has to, which is told of the journal's lines, and then the boards.
 pub record IsJournalRun {W C E : Type 0} (contents : W → Option (List ℕ)) (consoles : C → Option (List ℕ)) (reports : E → Option (List ℕ)) (errors : E) (ran : Ran W C E) (holds : Left → Result (Unit {0}) JournalFault → Option (List ℕ) → Type 0) : Type 0 where
   pub ended : Result (Unit {0}) JournalFault
@@ -111,9 +104,9 @@ pub record IsJournalRun {W C E : Type 0} (contents : W → Option (List ℕ)) (c
       × OnOk ended (HasOutput consoles ran.console (λ now. Appends answered now boards)))
   pub given : OnOk ended (is_some ran.ended.output ≡ true)
 
--- A server that is restored, without a journal. After Ok there is a list of lines as that of a journal, which is not written, and the output took what a console has to take, and then the boards.
-abbrev pub IsRestoredLive : {W C E : Type 0} → (W → Option (List ℕ)) → (E → Option (List ℕ)) → E → Ran W C E → (Left → Result (Unit {0}) JournalFault → Option (List ℕ) → Type 0) → Type 0
-IsRestoredLive contents reports errors ran holds =
+-- A server without a journal. After Ok there is a list of lines as that of a journal, which is not written, and the output took what a console has to take, and then the boards.
+abbrev pub IsUnwrittenRun : {W C E : Type 0} → (W → Option (List ℕ)) → (E → Option (List ℕ)) → E → Ran W C E → (Left → Result (Unit {0}) JournalFault → Option (List ℕ) → Type 0) → Type 0
+IsUnwrittenRun contents reports errors ran holds =
     (ended : Result (Unit {0}) JournalFault) × IsServerEnd reports errors ran.ended ended
     × OnOk ended ((left : Left) × (answered : Option (List ℕ)) × holds left ended answered × (left.passes ≡ ran.passes.items) × HasOutput contents ran.ended.output (λ now. Appends answered now left.boards))
 
@@ -126,19 +119,19 @@ abbrev pub Runs : {W C E : Type 0} → (W → Option (List ℕ)) → (C → Opti
 Runs contents consoles reports Replay input output console errors ran = IsReplayRun contents reports input output errors ran.ended
 Runs contents consoles reports (Serve (Err fault) service) input output console errors ran = IsWordMistake reports fault output errors ran.ended
 Runs contents consoles reports (Serve (Ok plan) service) input output console errors ran =
-    IsServerRun contents reports errors ran.ended (λ now. (port : ℕ) × ShowsBoards plan.sites.items plan.stations.items service.connections (listening port) (contents output) now ran.passes.items)
+    IsUnwrittenRun contents reports errors ran (λ left ended answered. IsNewRun plan.sites.items plan.stations.items None left (TellsNew ended plan.stations.items (Some []) (contents output) answered))
 Runs contents consoles reports (ServeLive (Err fault) live) input output console errors ran = IsWordMistake reports fault output errors ran.ended
 Runs contents consoles reports (ServeLive (Ok plan) live) input output console errors ran =
-    IsServerRun contents reports errors ran.ended (λ now. IsServed plan.sites.items plan.stations.items (lines_in input) (contents output) now ran.passes.items)
+    IsUnwrittenRun contents reports errors ran (λ left ended answered. IsNewRun plan.sites.items plan.stations.items None left (TellsNew ended plan.stations.items input (contents output) answered))
 Runs contents consoles reports (ServeJournalled (Err fault) journalling) input output console errors ran = IsWordMistake reports fault output errors ran.ended
 Runs contents consoles reports (ServeJournalled (Ok plan) journalling) input output console errors ran =
     IsJournalRun contents consoles reports errors ran (λ left ended answered. IsNewRun plan.sites.items plan.stations.items (contents output) left (TellsNew ended plan.stations.items input (consoles console) answered))
 Runs contents consoles reports (ServeRestored restoring true) input output console errors ran =
     IsJournalRun contents consoles reports errors ran (λ left ended answered. IsRestoredRun restoring.allows_left_out input (contents output) left (TellsRestored ended (consoles console) answered))
 Runs contents consoles reports (ServeRestored restoring false) input output console errors ran =
-    IsRestoredLive contents reports errors ran (λ left ended answered. IsRestoredRun restoring.allows_left_out input None left (TellsRestored ended (contents output) answered))
+    IsUnwrittenRun contents reports errors ran (λ left ended answered. IsRestoredRun restoring.allows_left_out input None left (TellsRestored ended (contents output) answered))
 Runs contents consoles reports (Simulate stations events) input output console errors ran =
-    IsServerRun contents reports errors ran.ended (λ now. ShowsBoards (simulated_sites stations) (simulated_stations stations) stations [] (contents output) now ran.passes.items)
+    IsUnwrittenRun contents reports errors ran (λ left ended answered. (answered ≡ contents output) × IsSimulatedRun stations left)
 
 -- Help or the version is asked for.
 abbrev pub IsHelp : ErrorKind → Type 0

@@ -20,3 +20,8 @@ kept_left contents kept output = record { now = contents output; buffer = kept.u
 -- Where the output is given back, of what a server with a journal left, of its end and of what its console took before the boards this holds; and after Ok the console took the boards behind that.
 abbrev pub IsKept : {W C : Type 0} → (W → Option (List ℕ)) → (C → Option (List ℕ)) → Kept W C → (Left → Result (Unit {0}) JournalFault → Option (List ℕ) → Type 0) → Type 0
 IsKept contents consoles kept holds = IfSome kept.output (λ o. (answered : Option (List ℕ)) × holds (kept_left contents kept o) kept.ended answered × OnOk kept.ended (HasOutput consoles kept.console (λ now. Appends answered now kept.boards.items)))
+
+-- After Ok, of what a server without a journal left, of its end and of what its output took before the boards this holds, and the output took the boards behind that.
+abbrev pub IsUnwritten : {W : Type 0} → (W → Option (List ℕ)) → Closed W → (Left → Result (Unit {0}) JournalFault → Option (List ℕ) → Type 0) → Type 0
+IsUnwritten contents closed holds =
+    OnOk closed.ended ((left : Left) × (answered : Option (List ℕ)) × holds left closed.ended answered × (left.passes ≡ closed.passes.items) × HasOutput contents closed.output (λ now. Appends answered now left.boards))

@@ -6,12 +6,11 @@ ghost use Rattle.ocpp_board.specs.Arguments.{AsksLive, AsksOrder, AsksPeriod, As
 use crate::limit_words::limits_of;
 use crate::station_words::{WordFault, plan_of};
 use clap::ArgMatches;
-use journal_server::{Journalling, Restoring};
+use journal_server::{Journalling, MAX_CONNECTIONS, MAX_SIMULATED_EVENTS, Restoring, Service};
 use ledger_model::{MAX_STATIONS, Order, Period};
 use live_server::Live;
 use script_lines::order_of;
 use site_desk::Plan;
-use site_server::{MAX_CONNECTIONS, MAX_SIMULATED_EVENTS, Service};
 
 /// How many stations a simulation may have: as many as a plan.
 pub const MAX_SIMULATED_STATIONS: u16 = MAX_STATIONS as u16;

@@ -1,12 +1,12 @@
 //! Servers with a journal, and servers that are restored, as the program runs them.
-ghost use Rattle.std.specs.Prelude.{◌≡◌, ℕ, List, None, Err, Ok, Option, Some, IfSome, OnOk, is_some, true, false};
+ghost use Rattle.std.specs.Prelude.{◌≡◌, None, Err, Ok, Some, IfSome, OnOk, is_some, true, false};
 ghost use Rattle.std.specs.Io.Buffered.{writer_contents};
 ghost use Rattle.std.specs.Io.KnownBytes.{Appends, Keeps};
-ghost use Rattle.journal_server.specs.Left.{Left, left_of};
+ghost use Rattle.journal_server.specs.Left.{left_of};
 ghost use Rattle.journal_server.specs.Served.{IsNewRun, IsRestoredRun, TellsNew, TellsRestored};
 ghost use Rattle.ocpp_board.specs.declared.asked.Asked.{Asked};
 ghost use Rattle.ocpp_board.specs.Run.{IsServerEnd, Runs};
-ghost use Rattle.ocpp_board.specs.Serving.{IsKept, kept_left};
+ghost use Rattle.ocpp_board.specs.Serving.{IsKept, IsUnwritten, kept_left};
 ghost use Rattle.script_replay.specs.Whole.{HasOutput};
 
 use crate::report::{cause_of, end_server};
@@ -18,8 +18,8 @@ use journal_server::{
     JournalFault, Journalling, Restoring, Served, serve_journalled, serve_restored,
 };
 use script_replay::buffered;
+use server_parts::{Host, ServiceFault};
 use site_desk::Plan;
-use site_server::{Host, ServiceFault};
 use station_cell::Pass;
 use std::alloc::Global;
 use std::io;
@@ -44,8 +44,8 @@ pub struct Kept<W, C> {
     pub ended: Result<(), JournalFault>,
 }
 
-// Writes the boards of a server that closed its desk to its console.
-fn keep<W: Write, C: Write>(served: Served<W, C>) -> Kept<W, C>
+/// Writes the boards of a server that closed its desk to its console.
+pub fn keep<W: Write, C: Write>(served: Served<W, C>) -> Kept<W, C>
     ensures output { result.output ≡ Some served.journal }
     ensures left { kept_left W.contents result served.journal ≡ left_of W.contents served }
     ensures ended { OnOk result.ended (served.ended ≡ Ok tt) }
@@ -244,8 +244,7 @@ fn restored_nowhere<
     W: Write + Drop,
     L: Write + Send + Drop,
 >(rt: &X, restoring: Restoring, input: R, output: W, lines: L) -> Closed<W>
-    ensures { OnOk result.ended ((left : Left) × (answered : Option (List ℕ)) × IsRestoredRun restoring.allows_left_out (R.remaining input) None left (TellsRestored result.ended (W.contents output) answered)
-        × (left.passes ≡ result.passes.items) × HasOutput W.contents result.output (λ now. Appends answered now left.boards)) }
+    ensures { IsUnwritten W.contents result (λ left ended answered. IsRestoredRun restoring.allows_left_out (R.remaining input) None left (TellsRestored ended (W.contents output) answered)) }
 {
     let memory = JournalFault::Service(ServiceFault::OutOfMemory);
     let Ok((mut reader, writer)) = buffered(rt, input, output) else {
@@ -260,8 +259,8 @@ fn restored_nowhere<
     }
 }
 
-// Hands on all that a console took.
-fn close_kept<W: Write + Drop, N: Drop>(alloc: Global, kept: Kept<N, BufWriter<W>>) -> Closed<W>
+/// Hands on all that a console took.
+pub fn close_kept<W: Write + Drop, N: Drop>(alloc: Global, kept: Kept<N, BufWriter<W>>) -> Closed<W>
     ensures ended { OnOk result.ended (kept.ended ≡ Ok tt) }
     ensures passes { OnOk result.ended (result.passes.items ≡ kept.passes.items) }
     ensures output { OnOk result.ended (HasOutput (writer_contents W.contents) kept.console (λ written. HasOutput W.contents result.output (Keeps written))) }

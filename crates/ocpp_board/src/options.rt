@@ -5,7 +5,7 @@ ghost use Rattle.ocpp_board.specs.Options.{IsCommand, IsOption, IsPlaced, IsProg
 
 use crate::asked::MAX_SIMULATED_STATIONS;
 use clap::{Arg, ArgAction, Command, value_parser};
-use site_server::{MAX_CONNECTIONS, MAX_SIMULATED_EVENTS};
+use journal_server::{MAX_CONNECTIONS, MAX_SIMULATED_EVENTS};
 use std::alloc::{AllocError, Global};
 
 // How many times a server's totals may be shown.
@@ -321,7 +321,7 @@ fn log_option<'a>(alloc: Global) -> Result<Arg<'a>, AllocError>
     Arg::new(alloc, "log")
         .long("log")
         .action(ArgAction::SetTrue)
-        .help("With --live, tell on standard error which sessions begin and end")
+        .help("With --live, report on standard error which sessions begin and end")
         .requires_arg("live")
 }
 

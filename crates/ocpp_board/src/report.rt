@@ -12,8 +12,8 @@ use ledger_model::{
 };
 use script_lines::{WriteStopped, write_bytes};
 use script_replay::{Ended, MISTAKEN};
+use server_parts::ServiceFault;
 use site_desk::Plan;
-use site_server::ServiceFault;
 use std::alloc::Global;
 use std::io;
 use std::io::Write;
@@ -125,7 +125,7 @@ pub fn cause_of(alloc: Global, plan: &Plan, port: u16, ended: Result<(), Journal
     match ended {
         Err(JournalFault::Service(ServiceFault::StationTwice)) => {
             if let Some(name) = plan.station_twice() {
-                let _ = writeln!(cause, "the station {} stands twice", name.text());
+                let _ = writeln!(cause, "the station {} is there twice", name.text());
             }
         }
         Err(JournalFault::Service(ServiceFault::ListenFailed(Some(code)))) => {

@@ -1,5 +1,5 @@
 //! A run of the program, from its words to its exit status.
-ghost use Rattle.std.specs.Prelude.{◌≡◌, ◌≢◌, ◌≤◌, Err, map};
+ghost use Rattle.std.specs.Prelude.{◌≡◌, ◌≢◌, Err, map};
 ghost use Rattle.std.specs.declared.io.ErrorKind.{ErrorKind};
 ghost use Rattle.clap.specs.Values.{kind_of};
 ghost use Rattle.clap.specs.declared.error.kind.ErrorKind.TheVariants as why;
@@ -18,11 +18,11 @@ use crate::serving::{live, serve, simulated};
 use crate::station_words::WordFault;
 use clap::Error;
 use gathered_input::Readiness;
-use journal_server::Journalling;
+use journal_server::{Journalling, Service};
 use live_server::Live;
 use script_replay::{Ended, ReplayFault, end_run, refuse, run_replay, show};
+use server_parts::Host;
 use site_desk::Plan;
-use site_server::{Host, Service};
 use station_cell::Pass;
 use std::alloc::Global;
 use std::convert::AsStr;
@@ -163,7 +163,6 @@ fn serve_words<
     service: Service,
     streams: Streams<R, W, C, E, L>,
 ) -> Ran<W, C, E>
-    requires { (1 ≤ service.connections) × (service.connections ≤ 64) }
     ensures { Runs W.contents C.contents E.contents (Asked.Serve plan.entry service) (R.remaining streams.input) streams.output streams.console streams.errors result }
 {
     match plan {

@@ -1,25 +1,23 @@
 //! Servers without a journal, as the program runs them.
-ghost use Rattle.std.specs.Prelude.{◌≡◌, ◌≤◌, ℕ, [], Err, Ok, OnOk};
+ghost use Rattle.std.specs.Prelude.{◌≡◌, [], Err, None, Ok, Some};
 ghost use Rattle.std.specs.Io.Buffered.{writer_contents};
 ghost use Rattle.journal_server.specs.declared.fault.JournalFault.{JournalFault};
-ghost use Rattle.live_server.specs.Told.{IsServed};
+ghost use Rattle.journal_server.specs.Served.{IsNewRun, TellsNew};
+ghost use Rattle.journal_server.specs.Simulated.{IsSimulatedRun};
 ghost use Rattle.ocpp_board.specs.declared.asked.Asked.{Asked};
 ghost use Rattle.ocpp_board.specs.Run.{IsServerEnd, Runs};
-ghost use Rattle.ocpp_board.specs.Serving.{IsClosed};
-ghost use Rattle.running_desk.specs.Ordered.{lines_in};
-ghost use Rattle.script_replay.specs.Whole.{HasOutput};
-ghost use Rattle.site_server.specs.Simulated.{simulated_sites, simulated_stations};
-ghost use Rattle.site_server.specs.Written.{ShowsBoards, listening};
+ghost use Rattle.ocpp_board.specs.Serving.{IsClosed, IsUnwritten};
 ghost use Rattle.station_link.specs.Sim.{IsSimulated};
 
+use crate::journalling::{close_kept, keep};
 use crate::report::{cause_of, end_server};
 use crate::run::{Ran, Streams};
 use gathered_input::Readiness;
-use journal_server::JournalFault;
-use live_server::{Live, serve_live};
+use journal_server::{JournalFault, Service, serve_counted, serve_live, simulate};
+use live_server::Live;
 use script_replay::buffered;
+use server_parts::{Host, ServiceFault};
 use site_desk::Plan;
-use site_server::{Host, Service, ServiceFault, serve_plan, simulate};
 use station_cell::Pass;
 use std::alloc::Global;
 use std::io::{BufWriter, Read, Write};
@@ -100,7 +98,6 @@ pub fn serve<
     E: Write,
     L: Write + Send + Drop,
 >(rt: &X, plan: &Plan, service: Service, streams: Streams<R, W, C, E, L>) -> Ran<W, C, E>
-    requires { (1 ≤ service.connections) × (service.connections ≤ 64) }
     ensures { Runs W.contents C.contents E.contents (Asked.Serve (Ok plan.now) service) (R.remaining streams.input) streams.output streams.console streams.errors result }
 {
     let Streams {
@@ -115,7 +112,7 @@ pub fn serve<
     end_closed(closed, &cause, console, errors)
 }
 
-// Serves a plan through buffers.
+// Serves a plan over so many connections, through buffers.
 fn serve_through<X: AllocGlobal + Host, R: Read + Drop, W: Write + Drop, L: Write + Send + Drop>(
     rt: &X,
     plan: &Plan,
@@ -124,16 +121,16 @@ fn serve_through<X: AllocGlobal + Host, R: Read + Drop, W: Write + Drop, L: Writ
     output: W,
     lines: L,
 ) -> Closed<W>
-    requires { (1 ≤ service.connections) × (service.connections ≤ 64) }
-    ensures { OnOk result.ended (HasOutput W.contents result.output (λ now. (port : ℕ) × ShowsBoards plan.now.sites.items plan.now.stations.items
-        service.connections (listening port) (W.contents output) now result.passes.items)) }
+    ensures { IsUnwritten W.contents result (λ left ended answered. IsNewRun plan.now.sites.items plan.now.stations.items None left
+        (TellsNew ended plan.now.stations.items (Some []) (W.contents output) answered)) }
 {
-    let Ok((_reader, mut writer)) = buffered(rt, input, output) else {
-        return close_badly(rt.alloc(), JournalFault::Service(ServiceFault::OutOfMemory));
+    let memory = JournalFault::Service(ServiceFault::OutOfMemory);
+    let Ok((_reader, writer)) = buffered(rt, input, output) else {
+        return close_badly(rt.alloc(), memory);
     };
-    match serve_plan(rt, rt.alloc(), plan, service, &mut writer, lines) {
-        Ok(passes) => close_well(rt.alloc(), writer, passes),
-        Err(fault) => close_badly(rt.alloc(), JournalFault::Service(fault)),
+    match serve_counted(rt, plan, service, writer, lines) {
+        Ok(served) => close_kept(rt.alloc(), keep(served)),
+        Err(fault) => close_badly(rt.alloc(), fault),
     }
 }
 
@@ -167,15 +164,16 @@ fn live_through<
     W: Write + Drop,
     L: Write + Send + Drop,
 >(rt: &X, plan: &Plan, live: Live, input: R, output: W, lines: L) -> Closed<W>
-    ensures { OnOk result.ended (HasOutput W.contents result.output (λ now. IsServed plan.now.sites.items plan.now.stations.items
-        (lines_in (R.remaining input)) (W.contents output) now result.passes.items)) }
+    ensures { IsUnwritten W.contents result (λ left ended answered. IsNewRun plan.now.sites.items plan.now.stations.items None left
+        (TellsNew ended plan.now.stations.items (R.remaining input) (W.contents output) answered)) }
 {
+    let memory = JournalFault::Service(ServiceFault::OutOfMemory);
     let Ok((mut reader, writer)) = buffered(rt, input, output) else {
-        return close_badly(rt.alloc(), JournalFault::Service(ServiceFault::OutOfMemory));
+        return close_badly(rt.alloc(), memory);
     };
-    match serve_live(rt, rt.alloc(), plan, live, &mut reader, writer, lines) {
-        Ok((writer, passes)) => close_well(rt.alloc(), writer, passes),
-        Err(fault) => close_badly(rt.alloc(), JournalFault::Service(fault)),
+    match serve_live(rt, plan, live, &mut reader, writer, lines) {
+        Ok(served) => close_kept(rt.alloc(), keep(served)),
+        Err(fault) => close_badly(rt.alloc(), fault),
     }
 }
 
@@ -211,14 +209,14 @@ fn simulate_through<X: AllocGlobal + Host + RandomSource, R: Read + Drop, W: Wri
     output: W,
 ) -> Closed<W>
     requires { IsSimulated stations events }
-    ensures { OnOk result.ended (HasOutput W.contents result.output (λ now. ShowsBoards (simulated_sites stations) (simulated_stations stations) stations
-        [] (W.contents output) now result.passes.items)) }
+    ensures { IsUnwritten W.contents result (λ left ended answered. (answered ≡ W.contents output) × IsSimulatedRun stations left) }
 {
-    let Ok((_reader, mut writer)) = buffered(rt, input, output) else {
-        return close_badly(rt.alloc(), JournalFault::Service(ServiceFault::OutOfMemory));
+    let memory = JournalFault::Service(ServiceFault::OutOfMemory);
+    let Ok((_reader, writer)) = buffered(rt, input, output) else {
+        return close_badly(rt.alloc(), memory);
     };
-    match simulate(rt, rt.alloc(), stations, events, &mut writer) {
-        Ok(passes) => close_well(rt.alloc(), writer, passes),
-        Err(fault) => close_badly(rt.alloc(), JournalFault::Service(fault)),
+    match simulate(rt, stations, events, writer) {
+        Ok(served) => close_kept(rt.alloc(), keep(served)),
+        Err(fault) => close_badly(rt.alloc(), fault),
     }
 }

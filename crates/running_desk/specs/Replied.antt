@@ -25,23 +25,14 @@ use Rattle.script_lines.specs.Texts.{answer_text, ended_line, fault_line}
 use Rattle.site_book.specs.Book.{Known}
 use Rattle.site_desk.specs.declared.plan.SitePlan.{SitePlan}
 use Rattle.site_desk.specs.declared.roster.StationPlace.{StationPlace}
-use Rattle.site_desk.specs.declared.plan.StationPlan.{StationPlan}
 use Rattle.site_desk.specs.Operator.{AreBoardsAt}
-use Rattle.site_desk.specs.Roster.{AreNewPlaces, IsNamed}
+use Rattle.site_desk.specs.Roster.{IsNamed}
 use Rattle.site_desk.specs.Submit.{Submitted}
 use Rattle.station_cell.specs.Cell.{Held}
 use Rattle.station_link.specs.Answer.{Answers, IsGivenAt}
 use Rattle.transaction_event.specs.Message.{Meaning, Event, Ready, Silence, message}
 use Rattle.transaction_event.specs.MessageMeaning.{IsMemoryReply}
 use Rattle.transaction_event.specs.Reply.{event_reply_bytes}
-
--- Of an answer at a desk without a journal nothing more is seen,
-abbrev pub gives_nothing : ℕ → StationPlace → Command → Answer → Option Known → Option (Unit {0}) → Type 0
-gives_nothing number at command answer told seen = Unit {0}
-
--- and nothing of its boards.
-abbrev pub shows_nothing : ℕ → List (List ℕ × Board) → Unit {0} → Type 0
-shows_nothing site boards seen = Unit {0}
 
 -- A replay may have this station under the name: the desk has one of the name, of these limits, and some accepted commands lead to its content.
 pub record IsStationOf (places : List StationPlace) (name : List ℕ) (s : Station) : Type 0 where
@@ -93,12 +84,6 @@ totals_line Export f e x = export_line x
 -- The answer to a question for a station's totals.
 abbrev pub IsTotals : List StationPlace → List ℕ → Asked → List ℕ → Type 0
 IsTotals places name asked text = AreTotals places name asked text ⊎ (text ≡ torn)
-
--- The boards are of the stations of the site of this number, of a desk that was opened for this plan.
-pub record AreBoardsOfPlan (sites : List SitePlan) (stations : List StationPlan) (site : ℕ) (boards : List (List ℕ × Board)) : Type 0 where
-  pub places : List StationPlace
-  pub opened : AreNewPlaces sites stations places
-  pub of_site : AreBoardsAt places site boards
 
 -- The text is that of the board over boards of the site's stations, each once and in the plan's order, of which each is made by a content that accepted commands leave; and what was seen is of these boards.
 pub record IsShownBoard {M : Type 0} (shows : ℕ → List (List ℕ × Board) → M → Type 0) (sites : List SitePlan) (places : List StationPlace) (site : ℕ) (text : List ℕ) (seen : Option M) : Type 0 where

@@ -7,7 +7,7 @@ use crate::attentive::Attentive;
 use crate::serves::MayBreak;
 use gathered_input::Readiness;
 use script_lines::{LineEnd, LineReader, MAX_LINE_BYTES, ReplayFault};
-use site_server::ServiceFault;
+use server_parts::ServiceFault;
 use std::alloc::Global;
 use std::io::BufRead;
 use std::sync::Wait;

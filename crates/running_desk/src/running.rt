@@ -1,26 +1,21 @@
 //! The desk of a plan while it is served.
-ghost use Rattle.std.specs.Prelude.{◌≡◌, ◌≤◌, ◌<◌, IfOk, IfSome, Some, length, map, sum_by};
+ghost use Rattle.std.specs.Prelude.{◌≡◌, ◌≤◌, ◌<◌, IfOk, IfSome, Some, length, sum_by};
 ghost use Rattle.std.specs.List.{position};
 ghost use Rattle.std.specs.Str.{bytes_eq};
-ghost use Rattle.board_report.specs.Running.{running_site};
-ghost use Rattle.board_report.specs.Texts.{board_text};
-ghost use Rattle.ledger_model.specs.Board.{sum_of_figures};
 ghost use Rattle.ledger_model.specs.Ranges.{most_plan_readings};
-ghost use Rattle.running_desk.specs.Replied.{AreBoardsOfPlan, IsShownBoard};
-ghost use Rattle.site_desk.specs.Operator.{AreBoardsAt};
+ghost use Rattle.running_desk.specs.Replied.{IsShownBoard};
 ghost use Rattle.site_desk.specs.Roster.{AreNewPlaces, IsNamed};
 ghost use Rattle.station_link.specs.Session.{MayLackPass};
 
 use crate::pooled_desk::{PassFault, PooledDesk};
 use crate::serves::Serves;
-use board_report::{site_board, write_board};
-use ledger_model::{Figures, Name};
+use board_report::running_text;
+use ledger_model::Name;
 use site_book::Naming;
 use site_desk::{BoardFault, HasCell, Plan};
 use station_cell::Pass;
-use station_ledger::StationBoard;
 use station_link::Why;
-use std::alloc::{AllocError, Global};
+use std::alloc::Global;
 use std::marker::PhantomData;
 use std::sync::{Mutex, Wait};
 use std::thread::Threads;
@@ -90,33 +85,11 @@ impl<'a, J: Naming, C: HasCell, M: Drop, S: Serves<J, C, M>> Running<'a, J, C, M
         ensures { IfOk result (λ r. IsShownBoard (S.shows self.now.serves.now) self.now.plan.now.sites.items self.now.desk.desk.now.stations site r.0.items (Some r.1)) }
     {
         let (boards, totals, seen) = self.serves.boards(rt, alloc, site)?;
-        match site_text(alloc, self.plan, site, boards, totals) {
+        match running_text(alloc, self.plan, site, boards, totals) {
             Ok(text) => Ok((text, seen)),
             Err(_) => Err(BoardFault::OutOfMemory),
         }
     }
-}
-
-// The text of the board of the site of this number over these boards of its stations and the sum of their figures.
-fn site_text(
-    alloc: Global,
-    plan: &Plan,
-    site: u16,
-    boards: Vec<(Name, StationBoard)>,
-    totals: Figures,
-) -> Result<Vec<u8>, AllocError>
-    requires opened { AreBoardsOfPlan plan.now.sites.items plan.now.stations.items site boards.items }
-    requires totals { totals ≡ sum_of_figures (map (λ s. s.1.figures) boards.items) }
-    requires readings { sum_by (λ s. s.limits.readings) plan.now.stations.items ≤ most_plan_readings }
-    requires planned { site < length plan.now.sites.items }
-    ensures { IfOk result (λ text. text.items ≡ board_text (running_site plan.now.sites.items site boards.items)) }
-{
-    let number = site as usize;
-    let name = plan.sites.as_slice()[number].name.copied();
-    let period = plan.period(number);
-    let order = plan.order(number);
-    let board = site_board(alloc, &name, period, order, totals, boards)?;
-    write_board(alloc, &board)
 }
 
 // Why a station that got no pass is refused.

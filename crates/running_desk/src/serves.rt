@@ -3,8 +3,8 @@ ghost use Rattle.std.specs.Prelude.{◌≡◌, Some, slice_get};
 
 use ledger_model::{Answer, Command, Figures, Name};
 use site_book::{Naming, Told};
-use site_desk::{BoardFault, Desk, HasCell, NoGate};
-use station_cell::{Pass, StationCell};
+use site_desk::{BoardFault, Desk, HasCell};
+use station_cell::Pass;
 use station_ledger::StationBoard;
 use station_link::Delivers;
 use std::alloc::Global;
@@ -65,37 +65,4 @@ pub trait Serves<J: Naming, C: HasCell, M>: Delivers<J, M> + MayBreak {
         ensures boards { IfOk result (λ r. AreBoardsAt (roster self.now).stations site r.0.items) }
         ensures totals { IfOk result (λ r. r.1 ≡ sum_of_figures (map (λ s. s.1.figures) r.0.items)) }
         ensures shown { IfOk result (λ r. shows self.now site r.0.items r.2) };
-}
-
-impl<J: Naming> MayBreak for Desk<J> {
-    fn is_broken(&self) -> bool {
-        false
-    }
-}
-
-impl<J: Naming> Serves<J, StationCell, ()> for Desk<J> {
-    ghost roster = { λ d. d };
-
-    ghost shows = { λ _ _ _ _. Unit {0} };
-
-    fn desk(&self) -> &Desk<J> {
-        self
-    }
-
-    fn command<R: Wait + Clock>(
-        &self,
-        rt: &R,
-        pass: &mut Pass,
-        _name: &Name,
-        what: Command,
-        _line: Option<&[u8]>,
-    ) -> (Answer, Option<Told<J>>, Option<()>) {
-        let (answer, told) = self.submit(rt, pass, what, &NoGate);
-        (answer, told, None)
-    }
-
-    fn boards<R: Wait>(&self, rt: &R, alloc: Global, site: u16) -> Result<Seen<()>, BoardFault> {
-        let (boards, totals) = self.site_boards(rt, alloc, site)?;
-        Ok((boards, totals, ()))
-    }
 }

@@ -27,7 +27,7 @@ use crate::notes::Notes;
 use crate::operator::{hold_stations, noted_boards_of, site_boards_of, sum_of, totals_of, used_of};
 use crate::parts::Parts;
 use crate::plan::Plan;
-use crate::roster::{StationPlace, number_of, open_places};
+use crate::roster::{Located, StationPlace, number_of, open_places};
 use crate::settles::{AtCell, Settles};
 use crate::submit::{board_of, stands_at};
 use energy_flow::Flow;
@@ -227,7 +227,14 @@ impl<J: Naming, C: HasCell> Desk<J, C> {
         let mut held = lock.lock(rt);
         gate.held(rt, &place.name);
         let book: &Mutex<SiteBook<J>> = &self.books[place.site as usize];
-        way.settle(rt, &mut held, book, number, place, pass, command)
+        way.settle(
+            rt,
+            &mut held,
+            book,
+            Located { number, place },
+            pass,
+            command,
+        )
     }
 
     /// The board of the station of this name. It waits for the station's lock. A cell there that is not

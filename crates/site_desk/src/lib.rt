@@ -52,6 +52,6 @@ pub use has_cell::HasCell;
 pub use notes::Notes;
 pub use parts::Parts;
 pub use plan::{MAX_VIEWERS, Plan, SitePlan, StationPlan};
-pub use roster::StationPlace;
+pub use roster::{Located, StationPlace};
 pub use settles::Settles;
 pub use submit::{can_judge, settle_at};

@@ -21,6 +21,15 @@ pub struct StationPlace {
     pub(crate) order: Order,
 }
 
+/// A station of a desk: its number, and its place.
+#[derive(Clone, Copy)]
+pub struct Located<'a> {
+    /// The number.
+    pub number: usize,
+    /// The place.
+    pub place: &'a StationPlace,
+}
+
 // The place of each station of a plan.
 pub(crate) fn open_places(
     alloc: Global,

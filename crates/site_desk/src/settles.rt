@@ -1,6 +1,6 @@
 ghost use Rattle.site_desk.specs.Submit.{Submitted};
 
-use crate::roster::StationPlace;
+use crate::roster::Located;
 use crate::submit::{can_judge, try_settle};
 use ledger_model::{Answer, Command, Refusal};
 use site_book::{Naming, SiteBook, Told};
@@ -30,14 +30,13 @@ pub trait Settles<J: Naming, C, N> {
         rt: &R,
         held: &mut C,
         book: &Mutex<SiteBook<J>>,
-        number: usize,
-        place: &StationPlace,
+        at: Located<'_>,
         pass: &mut Pass,
         command: Command,
     ) -> (Answer, Option<Told<J>>, Option<N>)
-        requires { asks self.now number command }
-        ensures submitted { Submitted place.now pass.old command result.0 pass.new result.1 }
-        ensures given { gives self.now number place.now command result.0 result.1 result.2 };
+        requires { asks self.now at.number command }
+        ensures submitted { Submitted at.entry.place.now pass.old command result.0 pass.new result.1 }
+        ensures given { gives self.now at.entry.number at.entry.place.now command result.0 result.1 result.2 };
 }
 
 // At the cell itself, and nowhere else; it gives no receipt.
@@ -53,13 +52,12 @@ impl<J: Naming> Settles<J, StationCell, ()> for AtCell {
         rt: &R,
         held: &mut StationCell,
         book: &Mutex<SiteBook<J>>,
-        number: usize,
-        place: &StationPlace,
+        at: Located<'_>,
         pass: &mut Pass,
         command: Command,
     ) -> (Answer, Option<Told<J>>, Option<()>) {
-        if can_judge(held, number, place, pass) {
-            let (answer, told) = try_settle(rt, held, book, number, place, pass, command);
+        if can_judge(held, at.number, at.place, pass) {
+            let (answer, told) = try_settle(rt, held, book, at, pass, command);
             (answer, told, None)
         } else {
             (Answer::Refused(Refusal::ChangesExhausted), None, None)

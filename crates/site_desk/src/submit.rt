@@ -7,7 +7,7 @@ ghost use Rattle.station_cell.specs.Settle.{cell_after};
 ghost use Rattle.station_ledger.specs.Judged.{IsJudged};
 ghost use Rattle.site_desk.specs.Submit.{CanJudge, CanSettle, IsBoardWithin, Submitted, TellsOf};
 
-use crate::roster::StationPlace;
+use crate::roster::{Located, StationPlace};
 use ledger_model::{Answer, Command, Refusal};
 use site_book::{Naming, SiteBook, Told};
 use station_cell::{Pass, StationCell, settle, tied};
@@ -78,18 +78,17 @@ pub(crate) fn try_settle<J: Naming, R: Wait>(
     rt: &R,
     cell: &mut StationCell,
     book: &Mutex<SiteBook<J>>,
-    number: usize,
-    place: &StationPlace,
+    at: Located<'_>,
     pass: &mut Pass,
     command: Command,
 ) -> (Answer, Option<Told<J>>)
-    requires can { CanJudge number place.now cell.old pass.old }
-    ensures { Submitted place.now pass.old command result.0 pass.new result.1 }
+    requires can { CanJudge at.number at.place.now cell.old pass.old }
+    ensures { Submitted at.entry.place.now pass.old command result.0 pass.new result.1 }
 {
     let judgement = cell.ledger().judgement(&command);
     match judgement.answer {
         Answer::Accepted(_) => {
-            match settle_at(rt, cell, book, number, place, pass, command, judgement) {
+            match settle_at(rt, cell, book, at, pass, command, judgement) {
                 Some(settled) => settled,
                 None => (Answer::Refused(Refusal::ChangesExhausted), None),
             }
@@ -109,22 +108,23 @@ pub fn settle_at<J: Naming, R: Wait>(
     rt: &R,
     cell: &mut StationCell,
     book: &Mutex<SiteBook<J>>,
-    number: usize,
-    place: &StationPlace,
+    at: Located<'_>,
     pass: &mut Pass,
     command: Command,
     judgement: Judgement,
 ) -> Option<(Answer, Option<Told<J>>)>
-    requires can { CanJudge number place.now cell.old pass.old }
+    requires can { CanJudge at.number at.place.now cell.old pass.old }
     requires judged { IsJudged cell.old.limits cell.old.content command judgement.answer }
     ensures cell { IfSome result (λ _. cell.new ≡ cell_after cell.old pass.old command) }
-    ensures tells { IfSome result (λ r. TellsOf place.now cell.old.content command r.0 r.1) }
-    ensures submitted { IfSome result (λ r. Submitted place.now pass.old command r.0 pass.new r.1) }
+    ensures tells { IfSome result (λ r. TellsOf at.entry.place.now cell.old.content command r.0 r.1) }
+    ensures submitted { IfSome result (λ r. Submitted at.entry.place.now pass.old command r.0 pass.new r.1) }
     ensures unchanged { IsNone result → (cell.new ≡ cell.old) × (pass.new ≡ pass.old) }
 {
     let mut book = book.lock(rt);
-    if can_post(cell, &book, number, place, pass) {
-        let settled = settle_locked(cell, &mut book, number, place, pass, command, judgement);
+    if can_post(cell, &book, at.number, at.place, pass) {
+        let settled = settle_locked(
+            cell, &mut book, at.number, at.place, pass, command, judgement,
+        );
         Some(settled)
     } else {
         None

@@ -5,9 +5,9 @@ ghost use Rattle.ocppj_frame.specs.Ranges.{longest_message};
 ghost use Rattle.transaction_event.specs.Reply.{answers_delivery, memory_reply};
 ghost use Rattle.station_link.specs.Answer.{Answers, Asks, IsGivenAt, IsNextPass, IsSubmitted, reply_of};
 
-use crate::delivers::Delivers;
+use crate::delivers::{Delivers, Ordered};
 use arrayvec::ArrayString;
-use ledger_model::{Answer, Event, Key, Moment};
+use ledger_model::{Answer, Moment};
 use ocppj_frame::{ErrorCode, error_text};
 use site_book::{Naming, Told};
 use site_desk::Gate;
@@ -30,17 +30,17 @@ pub struct Answered<J: Naming, M> {
     pub memory: bool,
 }
 
-/// What a text of a station came to, whose reply was put into a text that was lent.
+// What a text of a station came to, whose reply was put into a text that was lent.
 #[derive(Drop)]
-pub struct Replied<J: Naming, M> {
-    /// Whether it has a reply, which is then the lent text.
-    pub has_reply: bool,
-    /// What the site's book told, where the text's event was accepted.
-    pub told: Option<Told<J>>,
-    /// What the desk handed out with it.
-    pub seen: Option<M>,
-    /// Whether the reply tells that there was no memory; nothing changed then.
-    pub memory: bool,
+pub(crate) struct Replied<J: Naming, M> {
+    // Whether it has a reply, which is then the lent text.
+    pub(crate) has_reply: bool,
+    // What the site's book told, where the text's event was accepted.
+    pub(crate) told: Option<Told<J>>,
+    // What the desk handed out with it.
+    pub(crate) seen: Option<M>,
+    // Whether the reply tells that there was no memory; nothing changed then.
+    pub(crate) memory: bool,
 }
 
 // The answer to the delivery of an event, which always has a reply.
@@ -49,20 +49,18 @@ fn deliver<J: Naming, M: Drop, D: Delivers<J, M>, G: Gate, R: Wait + Clock>(
     rt: &R,
     alloc: Global,
     pass: &mut Pass,
-    text: &str,
-    key: Key,
-    event: Event,
+    ordered: Ordered<'_>,
     gate: &G,
 ) -> Result<(Answer, Option<Told<J>>, Option<M>), AllocError>
-    requires { Asks text.now key event }
-    ensures submitted { IfOk result (λ r. IsSubmitted (D.stations desk.now) pass.old (Command.Deliver key event) r.0 pass.new r.1) }
-    ensures given { IfOk result (λ r. IsGivenAt (D.gives desk.now) (D.stations desk.now) pass.old.station (Command.Deliver key event) r.0 r.1 r.2) }
+    requires { Asks ordered.text.now ordered.key ordered.event }
+    ensures submitted { IfOk result (λ r. IsSubmitted (D.stations desk.now) pass.old (Command.Deliver ordered.entry.key ordered.entry.event) r.0 pass.new r.1) }
+    ensures given { IfOk result (λ r. IsGivenAt (D.gives desk.now) (D.stations desk.now) pass.old.station (Command.Deliver ordered.entry.key ordered.entry.event) r.0 r.1 r.2) }
     ensures answered { IfOk result (λ r. answers_delivery r.0 ≡ true) }
     ensures same { OnErr result (pass.new ≡ pass.old) }
     ensures next { IsNextPass pass.old pass.new }
 {
     deliveries_are_answered();
-    desk.deliver(rt, alloc, pass, text, key, event, gate)
+    desk.deliver(rt, alloc, pass, ordered, gate)
 }
 
 // The reply that tells that there was no memory.
@@ -104,9 +102,9 @@ pub fn answer_text<J: Naming, M: Drop, D: Delivers<J, M>, G: Gate, R: Wait + Clo
     }
 }
 
-/// Answers a text as [`answer_text`] does, and puts the reply into `reply`, in the place of what it had. What that holds
-/// where the text gets none has no meaning.
-pub fn put_answer<J: Naming, M: Drop, D: Delivers<J, M>, G: Gate, R: Wait + Clock>(
+// Answers a text as `answer_text` does, and puts the reply into `reply`, in the place of what it had. What that holds
+// where the text gets none has no meaning.
+pub(crate) fn put_answer<J: Naming, M: Drop, D: Delivers<J, M>, G: Gate, R: Wait + Clock>(
     desk: &D,
     rt: &R,
     alloc: Global,
@@ -128,7 +126,7 @@ pub fn put_answer<J: Naming, M: Drop, D: Delivers<J, M>, G: Gate, R: Wait + Cloc
                 event,
                 token,
             },
-        ) => match deliver(desk, rt, alloc, pass, text, key, event, gate) {
+        ) => match deliver(desk, rt, alloc, pass, Ordered { text, key, event }, gate) {
             Ok((answer, told, seen)) => {
                 put_event_reply(reply, id.as_str(), token, &answer);
                 Replied {

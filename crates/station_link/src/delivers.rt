@@ -7,6 +7,17 @@ use std::alloc::{AllocError, Global};
 use std::sync::Wait;
 use std::time::Clock;
 
+/// A station's text, and the delivery that it asks for.
+#[derive(Drop)]
+pub struct Ordered<'a> {
+    /// The text.
+    pub text: &'a str,
+    /// The key of the event.
+    pub key: Key,
+    /// The event.
+    pub event: Event,
+}
+
 /// What takes the events that the texts of sessions ask to deliver: a desk, or one with a journal. With an answer it may
 /// hand out what it saw of its journal then (M); `gives` says what that tells of the command on the station of this number
 /// and place.
@@ -31,14 +42,12 @@ pub trait Delivers<J: Naming, M> {
         rt: &R,
         alloc: Global,
         pass: &mut Pass,
-        text: &str,
-        key: Key,
-        event: Event,
+        ordered: Ordered<'_>,
         gate: &G,
     ) -> Result<(Answer, Option<Told<J>>, Option<M>), AllocError>
-        requires { Asks text.now key event }
-        ensures submitted { IfOk result (λ r. IsSubmitted (stations self.now) pass.old (Command.Deliver key event) r.0 pass.new r.1) }
-        ensures given { IfOk result (λ r. IsGivenAt (gives self.now) (stations self.now) pass.old.station (Command.Deliver key event) r.0 r.1 r.2) }
+        requires { Asks ordered.text.now ordered.key ordered.event }
+        ensures submitted { IfOk result (λ r. IsSubmitted (stations self.now) pass.old (Command.Deliver ordered.entry.key ordered.entry.event) r.0 pass.new r.1) }
+        ensures given { IfOk result (λ r. IsGivenAt (gives self.now) (stations self.now) pass.old.station (Command.Deliver ordered.entry.key ordered.entry.event) r.0 r.1 r.2) }
         ensures same { OnErr result (pass.new ≡ pass.old) };
 }
 
@@ -52,11 +61,14 @@ impl<J: Naming> Delivers<J, ()> for Desk<J> {
         rt: &R,
         _alloc: Global,
         pass: &mut Pass,
-        _text: &str,
-        key: Key,
-        event: Event,
+        ordered: Ordered<'_>,
         gate: &G,
     ) -> Result<(Answer, Option<Told<J>>, Option<()>), AllocError> {
+        let Ordered {
+            text: _,
+            key,
+            event,
+        } = ordered;
         let (answer, told) = self.submit(rt, pass, Command::Deliver(key, event), gate);
         Ok((answer, told, None))
     }

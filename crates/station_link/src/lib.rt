@@ -34,12 +34,12 @@ mod request;
 mod session;
 mod sim;
 
-pub use answer::{Answered, Replied, answer_text, put_answer};
+pub use answer::{Answered, answer_text};
 pub use attendant::{Attendant, Nobody};
-pub use delivers::Delivers;
+pub use delivers::{Delivers, Ordered};
 pub use ending::Why;
 pub use greeting::{Greeted, greet, refuse};
 pub use moment::{MomentSource, present};
 pub use request::{Seen, admit};
-pub use session::{MAX_MESSAGES, SessionEnd, serve_connection, serve_session};
+pub use session::{Client, MAX_MESSAGES, SessionEnd, serve_connection, serve_session};
 pub use sim::{SimFault, SimStation};

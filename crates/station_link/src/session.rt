@@ -39,6 +39,17 @@ const READ_BYTES: usize = 4_096;
 // How many messages are read after a close frame, so that the peer gets its code before the stream ends.
 const MAX_LAST_READS: u32 = 64;
 
+/// A client that was let in: its socket behind the handshake, the name of its station, and a pass of that station.
+#[derive(Drop)]
+pub struct Client<'a, S: Read + Write + Drop> {
+    /// The socket.
+    pub socket: &'a mut WebSocket<S, NoMask>,
+    /// The station's name.
+    pub name: &'a Name,
+    /// The pass.
+    pub pass: Pass,
+}
+
 /// How a session ended.
 #[derive(Drop)]
 pub struct SessionEnd {
@@ -89,17 +100,14 @@ pub fn serve_connection<
         Err(why) => return SessionEnd::refused(why),
     };
     match admit(rt, desk, seen.into_inner()) {
-        Ok((name, pass)) => serve_session(
-            rt,
-            alloc,
-            &mut socket,
-            desk,
-            &name,
-            pass,
-            gate,
-            clock,
-            &Nobody,
-        ),
+        Ok((name, pass)) => {
+            let client = Client {
+                socket: &mut socket,
+                name: &name,
+                pass,
+            };
+            serve_session(rt, alloc, client, desk, gate, clock, &Nobody)
+        }
         Err(why) => {
             say_goodbye(&mut socket, end_of_refusal(why).code, "");
             SessionEnd::refused(why)
@@ -125,22 +133,25 @@ pub fn serve_session<
 >(
     rt: &R,
     alloc: Global,
-    socket: &mut WebSocket<S, NoMask>,
+    client: Client<'_, S>,
     desk: &D,
-    name: &Name,
-    mut pass: Pass,
     gate: &G,
     clock: &mut C,
     attendant: &A,
 ) -> SessionEnd
     ensures given_back { IsSome result.pass }
     ensures why { MayEnd (A.dismisses attendant.now) result.why }
-    ensures station { IfSome result.pass (λ p. p.station ≡ pass.station) }
-    ensures few { IfSome result.pass (λ p. p.changes ≤ pass.changes + result.messages) }
+    ensures station { IfSome result.pass (λ p. p.station ≡ client.entry.pass.station) }
+    ensures few { IfSome result.pass (λ p. p.changes ≤ client.entry.pass.changes + result.messages) }
     ensures texts { result.texts ≤ result.messages }
     ensures most { result.messages ≤ most_messages }
     ensures spent { result.why ≡ Why.MessagesSpent → result.messages ≡ most_messages }
 {
+    let Client {
+        socket,
+        name,
+        mut pass,
+    } = client;
     let ended = answer_all(
         rt, alloc, socket, desk, name, &mut pass, gate, clock, attendant,
     );

@@ -1,5 +1,2 @@
 mod client;
-mod no_thread;
-mod refused;
-mod scenes;
-mod sessions_in_turn;
+mod sessions_at_once;

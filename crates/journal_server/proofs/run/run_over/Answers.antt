@@ -2,6 +2,7 @@ use Rattle.std.proofs.Common.{OnOk, ap, subst, sym, ◌∙◌}
 use Rattle.board_report.proofs.ClosedSites.{value_told}
 use Rattle.journal_server.specs.Served.{IsToldOf}
 use Rattle.kept_desk.specs.Opened.{contents_of}
+use Rattle.live_server.specs.Told.{operator_input}
 use Rattle.running_desk.specs.Ordered.{lines_in}
 use Rattle.journal_server.proofs.Ends.{ended_as, ended_telling}
 use Rattle.journal_server.proofs.run.run_over.Goals as goal
@@ -11,8 +12,8 @@ returns g c =
     let sites = c.args.plan.now.sites.items in
     let stations = c.args.plan.now.stations.items in
     let ran = c.in_ok-ran.ran in
-    let coming = lines_in (g.I.Read.remaining c.args.input.now) in
-    let before = g.T.Write.contents c.args.console in
+    let coming = lines_in (operator_input c.args.asked.clients.connections (g.I.Read.remaining c.args.input.now)) in
+    let before = g.T.Write.contents c.args.outputs.console in
     value_told c.end_run.result _ _
     (λ s h.
     ended_as _ _ _ _ _ _ sites stations _ _ _ c.requires.names c.requires.first (sym c.requires.before)

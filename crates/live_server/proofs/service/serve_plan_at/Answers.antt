@@ -1,9 +1,14 @@
-use Rattle.std.proofs.Common.{ap}
+use Rattle.std.proofs.Common.{ap, ◌∙◌}
+use Rattle.running_desk.specs.Ordered.{lines_in}
 use Rattle.site_desk.specs.declared.plan.Plan.{Plan}
 use Rattle.site_desk.specs.Roster.{Roster}
+use Rattle.live_server.specs.Told.{operator_input}
 use Rattle.live_server.proofs.Told.{replies_along}
 use Rattle.live_server.proofs.service.serve_plan_at.Goals as goal
 
 pub returns : goal.returns
 returns g c =
-    replies_along g.S.Delivers.gives g.S.Serves.shows c.serve_all.result.ended (λ seen. seen.items) _ _ _ _ _ _ _ _ _ _ c.in_ok-shared.ensures.serves (ap (λ (p : Plan). p.sites.items) c.in_ok-shared.ensures.plan) (ap (λ (d : Roster). d.stations) c.in_ok-shared.ensures.desk) c.in_ok-listeners.ensures c.serve_all.ensures
+    let shared = c.in_ok-shared.ensures in
+    let running = c.open-running.ensures in
+    replies_along g.S.Delivers.gives g.S.Serves.shows c.serve_all.result.ended (λ seen. seen.items) _ _ _ _ _ _ _ _ _ _ _ (shared.serves ∙ running.serves) (ap (λ (p : Plan). p.sites.items) (shared.plan ∙ running.plan)) (ap (λ (d : Roster). d.stations) (shared.desk ∙ running.desk))
+    (ap (λ n. lines_in (operator_input n (g.I.Read.remaining c.args.input.now))) shared.connections) c.in_ok-listeners.ensures c.serve_all.ensures

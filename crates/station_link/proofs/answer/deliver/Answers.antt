@@ -3,7 +3,7 @@ use Rattle.station_link.proofs.answer.deliver.Goals as goal
 
 pub returns-clause-answered : goal.returns-clause-answered
 returns-clause-answered g c =
-    delivered_is_replied _ c.args.pass.now c.args.key c.args.event c.deliver.result c.deliver.new.pass c.deliveries_are_answered.ensures c.deliver.ensures.submitted
+    delivered_is_replied _ c.args.pass.now c.args.ordered.key c.args.ordered.event c.deliver.result c.deliver.new.pass c.deliveries_are_answered.ensures c.deliver.ensures.submitted
 
 pub returns-clause-next : goal.returns-clause-next
 returns-clause-next g c =

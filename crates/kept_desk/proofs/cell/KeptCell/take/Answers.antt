@@ -19,16 +19,16 @@ pub returns-in-Repeat-clause-submitted : goal.returns-in-Repeat-clause-submitted
 returns-in-Repeat-clause-submitted g c =
     let may = c.requires.can in
     let cell = c.args.self.now in
-    let book : Book = record { site = c.args.place.now.site; limits = []; posts = [] } in
+    let book : Book = record { site = c.args.at.place.now.site; limits = []; posts = [] } in
     let is = sym c.in-Repeat.is ∙ c.judgement-judgement.ensures.answered ∙ (λ i. answer (c.ledger.ensures.limits i) (c.ledger.ensures.content i) c.args.command) ∙ ap (λ d. answer d.limits d.content c.args.command) c.self.view_is in
-    submitted c.args.place.now c.args.number cell book c.args.pass.now c.args.command may.stands refl may.reached may.counted may.knows
+    submitted c.args.at.place.now c.args.at.number cell book c.args.pass.now c.args.command may.stands refl may.reached may.counted may.knows
     Repeat (cell_after cell c.args.pass.now c.args.command) book c.args.pass.now _ (λ no. absurd no) is refl refl (omega arith) refl refl
 
 pub returns-in-Refused-clause-submitted : goal.returns-in-Refused-clause-submitted
 returns-in-Refused-clause-submitted g c =
     let may = c.requires.can in
     let cell = c.args.self.now in
-    let book : Book = record { site = c.args.place.now.site; limits = []; posts = [] } in
+    let book : Book = record { site = c.args.at.place.now.site; limits = []; posts = [] } in
     let is = sym c.in-Refused.is ∙ c.judgement-judgement.ensures.answered ∙ (λ i. answer (c.ledger.ensures.limits i) (c.ledger.ensures.content i) c.args.command) ∙ ap (λ d. answer d.limits d.content c.args.command) c.self.view_is in
-    submitted c.args.place.now c.args.number cell book c.args.pass.now c.args.command may.stands refl may.reached may.counted may.knows
+    submitted c.args.at.place.now c.args.at.number cell book c.args.pass.now c.args.command may.stands refl may.reached may.counted may.knows
     (Refused c.in-Refused.why) (cell_after cell c.args.pass.now c.args.command) book c.args.pass.now _ (λ no. absurd no) is refl refl (omega arith) refl refl

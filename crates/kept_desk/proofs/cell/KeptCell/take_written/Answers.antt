@@ -22,7 +22,7 @@ write-requires-clause-speaks g c =
 
 pub settle_written-requires : goal.settle_written-requires
 settle_written-requires g c = record {
-  can = subst (λ d. CanJudge c.args.number c.args.place.now d c.args.pass.now) (sym c.self.view_is) c.requires.can;
+  can = subst (λ d. CanJudge c.args.at.number c.args.at.place.now d c.args.pass.now) (sym c.self.view_is) c.requires.can;
   judged = subst (λ d. IsJudged d.limits d.content c.args.judged.command c.args.judged.judgement.answer) (sym c.self.view_is) c.requires.judged;
 }
 
@@ -37,11 +37,11 @@ invariant_of-self g c =
 pub returns-in-Ok-clause-received : goal.returns-in-Ok-clause-received
 returns-in-Ok-clause-received g c =
     let serves = subst IsInService (sym c.self.view_is) c.requires.can.serves in
-    let stands = subst (StandsAt c.args.number c.args.place.now) (sym c.self.view_is) c.requires.can.stands in
+    let stands = subst (StandsAt c.args.at.number c.args.at.place.now) (sym c.self.view_is) c.requires.can.stands in
     let note = c.args.way.now.note.now in
     let line = c.args.way.now.line.now in
     let command = c.args.judged.command in
-    subst (λ (x : Answer × Option Known). IsReceived c.args.place.now (g.K.Opening.first c.args.number) x.0 (entry c.args.number note line command) x.1 c.with_moment.result.2)
+    subst (λ (x : Answer × Option Known). IsReceived c.args.at.place.now (g.K.Opening.first c.args.at.number) x.0 (entry c.args.at.number note line command) x.1 c.with_moment.result.2)
     (λ i. (sym c.with_moment.ensures.answer i, sym c.with_moment.ensures.told i))
-    (received c.args.place.now g.K.Opening.first c.args.number c.self.inside.cell c.self.inside.share note line command stands (c.self.invariant serves)
+    (received c.args.at.place.now g.K.Opening.first c.args.at.number c.self.inside.cell c.self.inside.share note line command stands (c.self.invariant serves)
     c.settle_written.result.0 c.settle_written.result.1 c.in-Ok.moment c.with_moment.result.2 c.in-Ok.ensures.noted c.settle_written.ensures.tells c.with_moment.ensures.moment)

@@ -1,0 +1,20 @@
+use Rattle.std.proofs.Common.{List, ℕ, None, Option, [], Some, subst}
+use Rattle.std.specs.Io.Buffered.{writer_contents}
+use Rattle.journal_server.specs.Left.{left_of}
+use Rattle.journal_server.specs.Served.{IsNewRun, TellsNew}
+use Rattle.ocpp_board.proofs.Runs.{new_through, nowhere_kept}
+use Rattle.ocpp_board.proofs.serving.serve_through.Goals as goal
+
+pub returns-in-Ok-serve_counted : goal.returns-in-Ok-serve_counted
+returns-in-Ok-serve_counted g c =
+    let sites = c.args.plan.now.sites.items in
+    let stations = c.args.plan.now.stations.items in
+    let served = c.in-Ok-serve_counted.served in
+    let before = g.W.Write.contents c.args.output in
+    let now = writer_contents g.W.Write.contents served.console in
+    let left = left_of (λ _. None) served in
+    let run = subst (λ (w : Option (List ℕ)). IsNewRun sites stations None left (TellsNew served.ended stations (Some []) w now)) c.in-Ok.ensures.output c.in-Ok-serve_counted.ensures in
+    nowhere_kept g.W.Write.contents (λ _. None) (writer_contents g.W.Write.contents) c.close_kept.result.ended c.close_kept.result.output c.close_kept.result.passes.items c.keep.result served
+    (λ left ended answered. IsNewRun sites stations None left (TellsNew ended stations (Some []) before answered)) c.keep.ensures.left
+    (λ e well. new_through e served.ended sites stations None left (Some []) before now well run)
+    c.keep.ensures.ended c.keep.ensures.boards c.close_kept.ensures.ended c.close_kept.ensures.passes c.close_kept.ensures.output

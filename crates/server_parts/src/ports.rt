@@ -1,0 +1,49 @@
+//! The port of 127.0.0.1 that a server listens on.
+ghost use Rattle.std.specs.Prelude.{◌≡◌, ℕ, OnOk};
+ghost use Rattle.std.specs.Io.KnownBytes.{Appends};
+ghost use Rattle.server_parts.specs.Ports.{listening};
+
+use crate::fault::ServiceFault;
+use crate::host::Sockets;
+use arrayvec::ArrayString;
+use board_report::write_out;
+use itoa::Buffer;
+use std::io::Write;
+use std::net::{Ipv4Addr, SocketAddr, TcpListener};
+
+/// A listener on this port of 127.0.0.1; for 0 the system chooses one.
+pub fn listen<R: Sockets>(rt: &R, port: u16) -> Result<TcpListener, ServiceFault> {
+    match TcpListener::bind(rt, (Ipv4Addr::LOCALHOST, port)) {
+        Ok(listener) => Ok(listener),
+        Err(error) => Err(ServiceFault::ListenFailed(error.raw_os_error())),
+    }
+}
+
+/// Where it listens.
+pub fn address_of(listener: &TcpListener) -> Result<SocketAddr, ServiceFault> {
+    match listener.local_addr() {
+        Ok(address) => Ok(address),
+        Err(error) => Err(ServiceFault::ListenFailed(error.raw_os_error())),
+    }
+}
+
+/// Writes the line `listening 127.0.0.1:<port>` of a listener.
+pub fn tell_port<W: Write>(listener: &TcpListener, output: &mut W) -> Result<(), ServiceFault>
+    ensures { OnOk result ((port : ℕ) × Appends (W.contents output.old) (W.contents output.new) (listening port)) }
+{
+    let address = address_of(listener)?;
+    let line = port_line(address.port());
+    write_out(output, line.as_str().as_bytes())?;
+    Ok(())
+}
+
+// The line of a port.
+fn port_line(port: u16) -> ArrayString<32>
+    ensures { result.bytes ≡ listening port }
+{
+    let mut line = ArrayString::new();
+    line.push_str("listening 127.0.0.1:");
+    line.push_str(Buffer::new().format(port));
+    line.push_str("\n");
+    line
+}

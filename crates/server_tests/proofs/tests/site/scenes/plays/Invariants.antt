@@ -1,6 +1,0 @@
-use Rattle.site_book.specs.Tables.{names_of}
-use Rattle.server_tests.proofs.tests.site.scenes.plays.Given as goal
-
--- the tables that were just made
-abbrev pub ghosts-at_desk : goal.ghosts-at_desk
-ghosts-at_desk g a = record { table = names_of a.tables }

@@ -1,2 +1,0 @@
-pub mod SimulatedPlan
-pub mod WrittenBoards

@@ -1,3 +1,0 @@
-pub mod Passes
-pub mod Simulated
-pub mod Written
