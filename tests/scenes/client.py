@@ -60,8 +60,8 @@ class Frame(NamedTuple):
         return head + MASK + masked.to_bytes(length, "big")
 
 
-def close(code: int) -> Frame:
-    return Frame(CLOSE, code.to_bytes(2, "big"))
+def close(code: int, reason: str = "") -> Frame:
+    return Frame(CLOSE, code.to_bytes(2, "big") + reason.encode())
 
 
 def request(path: str, offer: str) -> bytes:

@@ -106,8 +106,8 @@ def silent_connections_hold_no_other(program: str) -> None:
 
 
 def stations_at_once(program: str) -> None:
-    """Six sessions of A, four of B and two of C send the same two events at once."""
-    names = "AAAAAABBBBCC"
+    """Two sessions of each station, as many as it may have, send the same two events at once."""
+    names = "AABBCC"
     together = threading.Barrier(len(names))
 
     def play(server: Server, name: str) -> None:

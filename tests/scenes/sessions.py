@@ -71,17 +71,18 @@ def long_texts(is_whole: bool) -> list[Frame]:
 def sessions() -> list[Session]:
     found = [
         # Requests without the subprotocol are refused first, whatever the path.
-        Session(f"{path} without the subprotocol", path, offer, [], [close(1002)])
+        Session(f"{path} without the subprotocol", path, offer, [], [close(1002, "NotOcpp")])
         for path, offer in (("/ocpp/A", ""), ("/ocpp/A", OTHER), ("/ocpp/Z", OTHER))
     ]
     for path in ("/ocpp/Z", "/ocpp/", "/A", "/ocpp/A/", "/ocpp/a"):
-        found.append(Session(f"{path}, no station", path, OFFER, [], [close(1008)]))
-    for name, frame, code in (
-        ("a binary message", Frame(BINARY, b"[]"), 1003),
-        ("half a character", Frame(TEXT, b"\xc3"), 1007),
-        ("a frame that is not masked", Frame(TEXT, b"[]", False), 1002),
+        refused = [close(1008, "UnknownStation")]
+        found.append(Session(f"{path}, no station", path, OFFER, [], refused))
+    for name, frame, code, reason in (
+        ("a binary message", Frame(BINARY, b"[]"), 1003, "BinaryMessage"),
+        ("half a character", Frame(TEXT, b"\xc3"), 1007, "ReadFault"),
+        ("a frame that is not masked", Frame(TEXT, b"[]", False), 1002, "ReadFault"),
     ):
-        found.append(Session(name, "/ocpp/A", OFFER, [frame], [close(code)]))
+        found.append(Session(name, "/ocpp/A", OFFER, [frame], [close(code, reason)]))
     kinds = [
         Frame(TEXT, FIRST),
         Frame(PING, b"hi"),
@@ -99,7 +100,8 @@ def sessions() -> list[Session]:
         close(1000),
     ]
     found.append(Session("each kind of message", "/ocpp/A", OFFER, kinds, answers))
-    answers = [Frame(TEXT, NOT_JSON), Frame(TEXT, TOO_LONG), Frame(TEXT, TOO_LONG), close(1009)]
+    answers = [Frame(TEXT, NOT_JSON), Frame(TEXT, TOO_LONG), Frame(TEXT, TOO_LONG)]
+    answers.append(close(1009, "ReadFault"))
     for name, is_whole in (("long messages", True), ("long messages in fragments", False)):
         found.append(Session(name, "/ocpp/B", OFFER, long_texts(is_whole), answers))
     return found
