@@ -74,7 +74,7 @@ def script_of(seed: int, count: int) -> list[str]:
     """A script with so many commands for each station."""
     drawn, sent = Drawn(seed), list[str]()
     lines = [f"station {site} {station}" for station, site in STATIONS.items()]
-    lines.append("order north moment")
+    lines += ["order north moment", "settle north closing"]
     for number in range(count):
         # Some of what was sent comes again.
         again = sent and drawn.draws.randrange(6) == 0

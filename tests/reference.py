@@ -11,12 +11,14 @@ import json
 import sys
 from collections.abc import Iterable, Iterator
 from dataclasses import dataclass, field
-from datetime import datetime
+from datetime import UTC, datetime
 from decimal import Decimal
 from typing import Any, NamedTuple
 
 IMPORT, EXPORT = "Energy.Active.Import.Register", "Energy.Active.Export.Register"
 PERIODS, ORDERS = ("300", "900", "1800", "3600"), ("sequence", "moment")
+RULES = ("later", "closing")
+FIRST = datetime(2000, 1, 1, tzinfo=UTC)
 FLOW = ("up", "down", "export_up", "export_down")
 COUNTS = ("events", "voided", "transactions", "complete", "missing")
 
@@ -94,6 +96,7 @@ class Site:
 
     seconds: int = 900
     is_by_moment: bool = False
+    is_closing: bool = False
     stations: list[str] = field(default_factory=list)
 
 
@@ -172,7 +175,9 @@ class Station:
         found: dict[int, list[Pair]] = {}
         for pair in self.all_pairs():
             second = int(pair.at.timestamp())
-            found.setdefault(second - second % self.site.seconds, []).append(pair)
+            start = second - second % self.site.seconds
+            is_closed = self.site.is_closing and pair.at > FIRST and pair.at.timestamp() == start
+            found.setdefault(start - self.site.seconds * is_closed, []).append(pair)
         return {start: energy(pairs) for start, pairs in found.items()}
 
     def lines(self) -> Iterator[str]:
@@ -241,7 +246,8 @@ class Replay:
         """The lines of a site's board."""
         site = self.sites[name]
         order = " order=moment" if site.is_by_moment else ""
-        yield f"board {name} period={site.seconds}{order}"
+        settle = " settle=closing" if site.is_closing else ""
+        yield f"board {name} period={site.seconds}{order}{settle}"
         total, periods = Whole(), dict[int, Whole]()
         for station in (self.stations[one] for one in site.stations):
             total.add(station.total())
@@ -267,12 +273,14 @@ class Replay:
             self.stations[words[1]] = Station(site)
         elif kind == "period" and words[1] not in PERIODS:
             return "fault PlanLimit"
-        elif kind in ("period", "order") and site is None:
+        elif kind in ("period", "order", "settle") and site is None:
             return "fault UnknownSite"
         elif site and kind == "period":
             site.seconds = int(words[1])
-        elif site:
+        elif site and kind == "order":
             site.is_by_moment = words[1] == "moment"
+        elif site:
+            site.is_closing = words[1] == "closing"
         return None
 
     def answer(self, line: str) -> Iterator[str]:
@@ -282,7 +290,7 @@ class Replay:
             return
         if is_bad(kind, words):
             yield "fault BadLine"
-        elif kind in ("limits", "station", "period", "order"):
+        elif kind in ("limits", "station", "period", "order", "settle"):
             if fault := self.declare(kind, words):
                 yield fault
         else:
@@ -309,14 +317,16 @@ class Replay:
 
 # How many words there are behind the first one of a line.
 WORDS = {"limits": 4, "void": 3, "restore": 3, "erase": 3, "station": 2, "period": 2, "order": 2}
-WORDS |= {"msg": 2, "energy": 1, "export": 1, "total": 1, "board": 1}
+WORDS |= {"settle": 2, "msg": 2, "energy": 1, "export": 1, "total": 1, "board": 1}
 
 
 def is_bad(kind: str, words: list[str]) -> bool:
     """Whether a line is none, as far as the words of tests go."""
     if len(words) != WORDS.get(kind):
         return True
-    return kind == "order" and words[1] not in ORDERS or kind != "msg" and "/" in words[0]
+    if words[1:] and words[1] not in {"order": ORDERS, "settle": RULES}.get(kind, words):
+        return True
+    return kind != "msg" and "/" in words[0]
 
 
 def reply(station: Station, text: str) -> str:

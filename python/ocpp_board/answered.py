@@ -17,7 +17,7 @@ from ocpp_board.processes import BUILD, replay_environment
 from ocpp_board.statuses import Mistaken
 
 # The first words of lines that may write nothing.
-SILENT = (b"limits", b"station", b"period", b"order", b"now")
+SILENT = (b"limits", b"station", b"period", b"order", b"settle", b"now")
 # A line that is always BadLine, and a declaration that is always refused: by their two faults in a row the text of
 # the line before them ends, since no line writes two faults.
 MARK = b"-\nlimits 0 0 0 0\n"

@@ -66,7 +66,7 @@ class Plan:
             self.sites.setdefault(words[1], number)
             self.stations[words[2]] = words[1], number
             self.readings += self.limit
-        elif words[0] not in ("now", "period", "order") and self.opened is None:
+        elif words[0] not in ("now", "period", "order", "settle") and self.opened is None:
             self.opened = number, " ".join(words[:2])
 
     def over(self, words: list[str]) -> Said:
@@ -170,7 +170,7 @@ class Run:
             )
         if name == "UnknownStation":
             return self.unknown_station(words)
-        if name == "UnknownSite" and words[0] in ("period", "order"):
+        if name == "UnknownSite" and words[0] in ("period", "order", "settle"):
             return (
                 f"no station of site {words[1]} is declared yet",
                 "put it behind a `station` line of the site",

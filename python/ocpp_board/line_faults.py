@@ -10,6 +10,7 @@ from ocpp_board.limits import (
     GREATEST_LIMITS,
     GREATEST_SEQ_NO,
     ORDERS,
+    RULES,
     PAST_MOMENTS,
     TRANSACTION,
     is_name,
@@ -21,6 +22,7 @@ FORMS = {
     "station": "station <site> <station>",
     "period": "period <site> <seconds>",
     "order": "order <site> <word>",
+    "settle": "settle <site> <word>",
     "now": "now <time>",
     "msg": "msg <station> <text>",
     "void": "void <station> <transaction id> <seqNo>",
@@ -77,6 +79,13 @@ def order_fault(word: str) -> Said | None:
     return f"{shown(word)} is no order of readings", " or ".join(ORDERS)
 
 
+def rule_fault(word: str) -> Said | None:
+    """Why a word is no rule of settling."""
+    if word in RULES:
+        return None
+    return f"{shown(word)} is no rule of settling", " or ".join(RULES)
+
+
 def time_fault(text: str) -> str | None:
     """What is wrong with a time; the program takes some that Python doesn't, and decides."""
     try:
@@ -101,6 +110,8 @@ def words_fault(words: list[str]) -> Said | None:
         )
     if kind == "order":
         return name_fault("site's name", rest[0]) or order_fault(rest[1])
+    if kind == "settle":
+        return name_fault("site's name", rest[0]) or rule_fault(rest[1])
     if kind == "limits":
         faults = (
             number_fault(f"number of {what}", text, GREATEST)

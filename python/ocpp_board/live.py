@@ -348,8 +348,11 @@ def arguments(argv: Sequence[str], prog: str) -> argparse.Namespace:
         parser.error("--log takes --stations and --state")
     if words.script and (words.stations or words.state or words.once or words.close):
         parser.error("--stations, --state, --once and --close-month go with --log")
-    if words.script and (words.order or words.period or words.limits or words.mend):
-        parser.error("--order, --period, --limits and --mend go with --log; a SCRIPT has its lines")
+    asked = words.order or words.settle or words.period or words.limits or words.mend
+    if words.script and asked:
+        parser.error(
+            "--order, --settle, --period, --limits and --mend go with --log; a SCRIPT has its lines"
+        )
     return words
 
 

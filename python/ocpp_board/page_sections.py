@@ -132,13 +132,19 @@ def figures(total: Total | None, has_export: bool) -> Iterator[str]:
 
 
 def order_said(site: Part) -> str:
-    """That a site's readings are taken by time, where they are."""
-    if not site.is_by_time:
-        return ""
-    return (
-        '<p class="soft">Readings by time: those of a session are taken in the order of their own times, so that one '
-        "which is listed again changes nothing.</p>\n"
-    )
+    """That a site's readings are taken by time, and that they close periods, where it is so."""
+    said = ""
+    if site.is_by_time:
+        said = (
+            '<p class="soft">Readings by time: those of a session are taken in the order of their own times, so that '
+            "one which is listed again changes nothing.</p>\n"
+        )
+    if site.is_closing:
+        said += (
+            '<p class="soft">Settled by closing: the energy up to a reading at the end of a period counts in that '
+            "period.</p>\n"
+        )
+    return said
 
 
 def bar_cell(mwh: int, most: int) -> str:

@@ -9,6 +9,9 @@ from typing import NamedTuple
 from ocpp_board.energies import Flow
 from ocpp_board.transactions import Event, readings_in_order
 
+# 2000-01-01T00:00:00Z, before which no moment is.
+FIRST_SECOND = 946_684_800
+
 # Seconds by which a reading may lie beside the end of a period that it measures.
 BESIDE = 2
 # Periods of a session that are looked at: more than a year of the shortest ones.
@@ -74,15 +77,23 @@ def together(parts: Iterable[KnownPeriods]) -> KnownPeriods:
     return site
 
 
-def flows_of(events: Sequence[Event], seconds: int, is_by_time: bool) -> dict[int, Flow]:
-    """The energy of a session by periods of so many seconds, as the ledger has it: a difference counts in the period of
-    its later reading."""
+def period_of(at: float, seconds: int, is_closing: bool) -> int:
+    """The beginning of the period in which a difference counts whose later reading is of this moment: the period that
+    it lies in, or by closing the one that it closes."""
+    start = int(at // seconds) * seconds
+    return start - seconds if is_closing and at == start and start > FIRST_SECOND else start
+
+
+def flows_of(
+    events: Sequence[Event], seconds: int, is_by_time: bool, is_closing: bool = False
+) -> dict[int, Flow]:
+    """The energy of a session by periods of so many seconds, as the ledger has it."""
     sums = dict[int, list[int]]()
     for is_export in (False, True):
         for (_, had), (_, one) in pairwise(readings_in_order(events, is_export, is_by_time)):
             if one.at is None:
                 continue
-            flow = sums.setdefault(int(one.at // seconds) * seconds, [0, 0, 0, 0])
+            flow = sums.setdefault(period_of(one.at, seconds, is_closing), [0, 0, 0, 0])
             flow[2 * is_export + (one.mwh < had.mwh)] += abs(one.mwh - had.mwh)
     return {start: Flow(*flow) for start, flow in sums.items()}
 

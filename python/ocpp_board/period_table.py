@@ -21,8 +21,8 @@ FLOWS = [
     "export down (kWh)",
 ]
 KNOWN = ["net (kWh)", "figure", "shared by time (kWh)", "numbers missing"]
-# In which order readings are taken, in the last column.
-READINGS = "readings"
+# In which order readings are taken, and by which rule their differences count in periods, in the last columns.
+READINGS, SETTLE = "readings", "settle"
 
 
 def signed_kwh(mwh: int) -> str:
@@ -41,7 +41,7 @@ def heads(calendar: Calendar) -> list[str]:
     """The heads of all columns."""
     zones = ["UTC"] if calendar.is_utc else ["UTC", calendar.name]
     times = [f"period {end} ({zone})" for end in ("start", "end") for zone in zones]
-    return [*FRONT, *times, "period", *FLOWS, *KNOWN, READINGS]
+    return [*FRONT, *times, "period", *FLOWS, *KNOWN, READINGS, SETTLE]
 
 
 class PeriodTable:
@@ -93,7 +93,8 @@ class PeriodTable:
         doubts: Doubts | None,
     ) -> Iterator[str]:
         """The rows of a site, a station or an EVSE. Without doubts nothing is known of how figures were come by."""
-        seconds, last = part.seconds, f"{'by time' if part.is_by_time else 'by sequence'}\n"
+        rule = "closing" if part.is_closing else "later"
+        seconds, last = part.seconds, f"{'by time' if part.is_by_time else 'by sequence'},{rule}\n"
         none = ",".join(map(str, flow_cells(Flow())))
         sure = "measured,0,no" if doubts is not None else ",,"
         for start in starts:

@@ -12,6 +12,7 @@ from ocpp_board.limits import (
     MOST_SITES,
     MOST_STATIONS,
     ORDERS,
+    RULES,
     PERIODS,
     is_name,
 )
@@ -102,7 +103,8 @@ class ScriptPlan:
 
     def options(self) -> Iterator[tuple[str, Iterable[str]]]:
         """The options that name sites, with these."""
-        yield from (("--order", self.words.order), ("--period", self.words.period))
+        yield from (("--order", self.words.order), ("--settle", self.words.settle))
+        yield "--period", self.words.period
         yield "--mend", self.words.mend
 
     def source(self) -> str:
@@ -167,6 +169,11 @@ class ScriptPlan:
         word = self.words.order.get(site, self.words.order.get(""))
         return f"order {site} {word}\n".encode() if word else b""
 
+    def settle_line(self, site: str) -> bytes:
+        """The rule by which a site's differences count in its periods, where one is asked for."""
+        word = self.words.settle.get(site, self.words.settle.get(""))
+        return f"settle {site} {word}\n".encode() if word else b""
+
     def declarations(self, site_of: dict[str, str] | None = None) -> bytes:
         """The lines in front of the first message, of these stations or of all."""
         stations = self.site_of if site_of is None else site_of
@@ -177,7 +184,8 @@ class ScriptPlan:
             lines.append(f"station {site} {station}\n".encode())
             before = limits
         sites = dict.fromkeys(stations.values())
-        of_sites = [line(site) for site in sites for line in (self.period_line, self.order_line)]
+        kinds = (self.period_line, self.order_line, self.settle_line)
+        of_sites = [line(site) for site in sites for line in kinds]
         return b"".join([self.limits_line(), *lines, *of_sites])
 
     def boards(self, site_of: dict[str, str] | None = None) -> bytes:
@@ -214,6 +222,13 @@ def order(text: str) -> tuple[str, str]:
     return of_site(text)
 
 
+def settle(text: str) -> tuple[str, str]:
+    """A site and the rule by which its differences count in its periods."""
+    if text.rpartition("=")[2] not in RULES:
+        raise argparse.ArgumentTypeError(f"not {' or '.join(RULES)}: {shown(text)}")
+    return of_site(text)
+
+
 def add_plan(parser: argparse.ArgumentParser) -> None:
     """The options that say what the script declares."""
     parser.add_argument(
@@ -242,12 +257,23 @@ def add_plan(parser: argparse.ArgumentParser) -> None:
         help="the order of a site's readings, or of all sites that are not named so: sequence, the numbers of their "
         "events, or moment, their own times, for stations that list readings again (default: sequence)",
     )
+    parser.add_argument(
+        "--settle",
+        type=settle,
+        action="append",
+        default=[],
+        metavar="[SITE=]WORD",
+        help="the period in which a difference of a site counts, or of all sites that are not named so: later, that of "
+        "its later reading, or closing, the one that this reading closes, for stations that report on the quarter "
+        "hour (default: later)",
+    )
     add_mending(parser)
 
 
 def check_plan(parser: argparse.ArgumentParser, words: argparse.Namespace) -> None:
     """Brings these options into their form. Wrong ones end the program with status 2."""
     words.period, words.order = dict(words.period), dict(words.order)
+    words.settle = dict(words.settle)
     words.mend = mends_of(words.mend)
     greatest = GREATEST_LIMITS.values()
     if words.limits and not all(1 <= n <= most for n, most in zip(words.limits, greatest)):

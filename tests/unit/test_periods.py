@@ -12,7 +12,14 @@ from ocpp_board.board_pages import Board, DayPages, Layout
 from ocpp_board.boards import Part, Period
 from ocpp_board.calendars import LONGEST_PAUSE, Calendar
 from ocpp_board.energies import Flow
-from ocpp_board.period_doubts import Doubt, KnownPeriods, doubts_of, flows_of
+from ocpp_board.period_doubts import (
+    FIRST_SECOND,
+    Doubt,
+    KnownPeriods,
+    doubts_of,
+    flows_of,
+    period_of,
+)
 from ocpp_board.period_table import PeriodTable
 from ocpp_board.transactions import Event, Reading
 
@@ -80,6 +87,18 @@ def test_energy_is_in_the_periods_of_later_readings() -> None:
         1: Flow(100_000, 10_000),
         2: Flow(100_000, 0),
     }
+
+
+def test_a_reading_at_the_end_of_a_period_closes_it() -> None:
+    some = events((0, 0), (15, 100), (16, 90), (30, 190), (31, 200))
+    flows = flows_of(some, QUARTER, False, True)
+    assert {(start - TEN) // QUARTER: flow for start, flow in flows.items()} == {
+        0: Flow(100_000, 0),
+        1: Flow(100_000, 10_000),
+        2: Flow(10_000, 0),
+    }
+    assert period_of(TEN, QUARTER, True) == TEN - QUARTER
+    assert period_of(FIRST_SECOND, QUARTER, True) == FIRST_SECOND
 
 
 @pytest.mark.parametrize(

@@ -1,6 +1,7 @@
 -- The figures of a closed desk's site, over its cells and over its stations' boards.
 use Rattle.std.proofs.Common.{◌≡◌, ℕ, zero, suc, Bool, true, false, cond, eqb, eqb-true, List, [], ◌∷◌, Some, ◌<◌, length, map, get_or, refl, subst, sym, ◌∙◌, arith}
 use Rattle.std.specs.Prelude.{filter, slice_get, IfOk, Result, Err, Ok}
+use Rattle.ledger_model.specs.Periods.{Periods}
 use Rattle.ledger_model.specs.declared.figures.Figures.{Figures}
 use Rattle.ledger_model.specs.declared.order.Order.{Order}
 use Rattle.ledger_model.specs.Board.{Board, board_by, figures_by, site_board}
@@ -16,7 +17,7 @@ use Rattle.board_report.specs.Boards.{boards_at, site_named}
 use Rattle.board_report.proofs.SiteBoards.{some_same}
 use Rattle.board_report.specs.Closed.{IsClosedOf}
 
-pub figures_alike : (order : Order) (period : ℕ) (xs : List StationPlan) (cells : List Cell) (site : ℕ) → length cells ≡ length xs
+pub figures_alike : (order : Order) (period : Periods) (xs : List StationPlan) (cells : List Cell) (site : ℕ) → length cells ≡ length xs
     → ((k : ℕ) (s : StationPlan) (c : Cell) → slice_get xs k ≡ Some s → slice_get cells k ≡ Some c → c.site ≡ s.site)
     → ((k : ℕ) (s : StationPlan) (c : Cell) → slice_get xs k ≡ Some s → slice_get cells k ≡ Some c → s.site ≡ site → c.order ≡ order)
     → map (λ (c : Cell). figures_by c.order (entries c.content)) (filter (λ (c : Cell). eqb c.site site) cells) ≡ map (λ (s : List ℕ × Board). s.1.figures) (boards_at order period xs cells site)
@@ -46,7 +47,7 @@ name_at (p ∷ sites) zero other less = refl
 name_at (p ∷ sites) (suc site) other less = name_at sites site other (omega (arith, less))
 
 -- a board under the same name and totals is the same board
-pub named_alike : (name other : List ℕ) (period : ℕ) (order : Order) (totals all : Figures) (boards : List (List ℕ × Board)) → name ≡ other → totals ≡ all → all ≡ (site_board period boards).figures
+pub named_alike : (name other : List ℕ) (period : Periods) (order : Order) (totals all : Figures) (boards : List (List ℕ × Board)) → name ≡ other → totals ≡ all → all ≡ (site_board period boards).figures
     → site_named name period order totals boards ≡ record { name = other; period = period; order = order; figures = (site_board period boards).figures; quarters = (site_board period boards).quarters; stations = (site_board period boards).stations }
 named_alike name other period order totals all boards n t e = λ i. record { name = n i; period = period; order = order; figures = (t ∙ e) i; quarters = (site_board period boards).quarters; stations = boards }
 

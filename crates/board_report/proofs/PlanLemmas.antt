@@ -3,6 +3,7 @@ use Rattle.std.proofs.Common.{◌≡◌, ℕ, ◌+◌, ◌*◌, ◌<◌, ◌≤�
 use Rattle.std.specs.List.{sum_by, filter}
 use Rattle.std.proofs.lemmas.Bool.{cases_eq}
 use Rattle.std.proofs.lemmas.List.Sums.{sum_by-cons}
+use Rattle.ledger_model.specs.Periods.{Periods}
 use Rattle.ledger_model.specs.declared.order.Order.{Order}
 use Rattle.ledger_model.specs.declared.reading.Direction.{Direction}
 use Rattle.ledger_model.specs.declared.reading.Direction.TheVariants.{Import, Export}
@@ -54,14 +55,14 @@ sum-filter f p (x ∷ xs) = omega (arith, sum_by-filter_cons f p x xs, sum_by-co
     part true n = omega arith
     part false n = omega arith
 
-in_quarter_up : (order : Order) (d : Direction) (period q : ℕ) (es : List Entry) → (energy_in_by order d period q es).up ≤ (energy_by order d es).up
+in_quarter_up : (order : Order) (d : Direction) (period : Periods) (q : ℕ) (es : List Entry) → (energy_in_by order d period q es).up ≤ (energy_by order d es).up
 in_quarter_up order d period q es = sum-filter (λ p. (difference p).up) (λ p. eqb (quarter_of period p) q) (all_pairs_by order d es)
 
-in_quarter_down : (order : Order) (d : Direction) (period q : ℕ) (es : List Entry) → (energy_in_by order d period q es).down ≤ (energy_by order d es).down
+in_quarter_down : (order : Order) (d : Direction) (period : Periods) (q : ℕ) (es : List Entry) → (energy_in_by order d period q es).down ≤ (energy_by order d es).down
 in_quarter_down order d period q es = sum-filter (λ p. (difference p).down) (λ p. eqb (quarter_of period p) q) (all_pairs_by order d es)
 
 -- a board shows no more for a quarter than the quarter's pairs add up to
-under-board : (p : Part) (order : Order) (period q : ℕ) (es : List Entry) → p.measure (flows_under q (board_by order period es).quarters) ≤ p.measure (flows_in_by order period q es)
+under-board : (p : Part) (order : Order) (period : Periods) (q : ℕ) (es : List Entry) → p.measure (flows_under q (board_by order period es).quarters) ≤ p.measure (flows_in_by order period q es)
 under-board p order period q es =
     under-rising p (λ quarter. flows_in_by order period quarter es) q (quarters_by order period es) (rising-AreRising (map (quarter_of period) (all_pairs_by order Import es ++ all_pairs_by order Export es)))
 

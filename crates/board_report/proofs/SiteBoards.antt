@@ -4,6 +4,7 @@ use Rattle.std.specs.Prelude.{filter, slice_get, sum_by}
 use Rattle.std.proofs.lemmas.Bool.{eq-eqb, ne_eqb}
 use Rattle.std.proofs.lemmas.List.Elements.{All-nil, All-cons}
 use Rattle.std.proofs.lemmas.List.Sums.{sum_by-cons}
+use Rattle.ledger_model.specs.Periods.{Periods}
 use Rattle.ledger_model.specs.declared.figures.Figures.{Figures}
 use Rattle.ledger_model.specs.declared.order.Order.{Order}
 use Rattle.ledger_model.specs.Board.{Board, board_by, site_board}
@@ -28,7 +29,7 @@ stands (x ∷ xs) zero less = (x, refl)
 stands (x ∷ xs) (suc k) less = stands xs k (omega (arith, less))
 
 -- the boards of one station more
-boards_next : (order : Order) (period : ℕ) (xs : List StationPlan) (cells : List Cell) (site n : ℕ) (s : StationPlan) (c : Cell) → slice_get xs n ≡ Some s → slice_get cells n ≡ Some c
+boards_next : (order : Order) (period : Periods) (xs : List StationPlan) (cells : List Cell) (site n : ℕ) (s : StationPlan) (c : Cell) → slice_get xs n ≡ Some s → slice_get cells n ≡ Some c
     → boards_at order period (take (suc n) xs) cells site ≡ boards_at order period (take n xs) cells site ++ cond (eqb s.site site) ((s.name, board_by order period (entries c.content)) ∷ []) []
 boards_next order period [] cells site n s c at is = absurd (cc at)
 boards_next order period (x ∷ xs) [] site n s c at is = absurd (cc is)
@@ -44,15 +45,15 @@ boards_next order period (x ∷ xs) (d ∷ cells) site (suc n) s c at is = more 
     more true e = ap (λ l. (x.name, board_by order period (entries d.content)) ∷ l) e
     more false e = e
 
-boards_push : (order : Order) (period : ℕ) (xs : List StationPlan) (cells : List Cell) (site n : ℕ) (s : StationPlan) (c : Cell) → slice_get xs n ≡ Some s → slice_get cells n ≡ Some c
+boards_push : (order : Order) (period : Periods) (xs : List StationPlan) (cells : List Cell) (site n : ℕ) (s : StationPlan) (c : Cell) → slice_get xs n ≡ Some s → slice_get cells n ≡ Some c
     → boards_at order period (take (n + 1) xs) cells site ≡ boards_at order period (take n xs) cells site ++ cond (eqb s.site site) ((s.name, board_by order period (entries c.content)) ∷ []) []
 boards_push order period xs cells site n s c at is = let same : n + 1 ≡ suc n = omega arith in ap (λ m. boards_at order period (take m xs) cells site) same ∙ boards_next order period xs cells site n s c at is
 
-pub boards_more_yes : (order : Order) (period : ℕ) (xs : List StationPlan) (cells : List Cell) (site n : ℕ) (s : StationPlan) (c : Cell) → slice_get xs n ≡ Some s → slice_get cells n ≡ Some c → s.site ≡ site
+pub boards_more_yes : (order : Order) (period : Periods) (xs : List StationPlan) (cells : List Cell) (site n : ℕ) (s : StationPlan) (c : Cell) → slice_get xs n ≡ Some s → slice_get cells n ≡ Some c → s.site ≡ site
     → boards_at order period (take (n + 1) xs) cells site ≡ boards_at order period (take n xs) cells site ++ (s.name, board_by order period (entries c.content)) ∷ []
 boards_more_yes order period xs cells site n s c at is e = boards_push order period xs cells site n s c at is ∙ ap (λ b. boards_at order period (take n xs) cells site ++ cond b ((s.name, board_by order period (entries c.content)) ∷ []) []) (eq-eqb s.site site e)
 
-pub boards_more_no : (order : Order) (period : ℕ) (xs : List StationPlan) (cells : List Cell) (site n : ℕ) (s : StationPlan) (c : Cell) → slice_get xs n ≡ Some s → slice_get cells n ≡ Some c → s.site ≢ site
+pub boards_more_no : (order : Order) (period : Periods) (xs : List StationPlan) (cells : List Cell) (site n : ℕ) (s : StationPlan) (c : Cell) → slice_get xs n ≡ Some s → slice_get cells n ≡ Some c → s.site ≢ site
     → boards_at order period (take (n + 1) xs) cells site ≡ boards_at order period (take n xs) cells site
 boards_more_no order period xs cells site n s c at is e = boards_push order period xs cells site n s c at is ∙ ap (λ b. boards_at order period (take n xs) cells site ++ cond b ((s.name, board_by order period (entries c.content)) ∷ []) []) (ne_eqb s.site site e) ∙ append-nil (boards_at order period (take n xs) cells site)
 
@@ -74,12 +75,12 @@ sum_at (x ∷ xs) site = one (eqb x.site site) (sum_at xs site)
     one false e = omega (arith, e, sum_by-cons (λ (s : StationPlan). s.limits.readings) x xs)
 
 -- a board with these parts is the site's
-pub named_is : (b : NamedBoard) (name : List ℕ) (period : ℕ) (order : Order) (totals : Figures) (stations : List (List ℕ × Board)) → b.name ≡ name → b.figures ≡ totals → b.period ≡ period → b.order ≡ order → b.quarters ≡ (site_board period stations).quarters → b.stations ≡ stations
+pub named_is : (b : NamedBoard) (name : List ℕ) (period : Periods) (order : Order) (totals : Figures) (stations : List (List ℕ × Board)) → b.name ≡ name → b.figures ≡ totals → b.period ≡ period → b.order ≡ order → b.quarters ≡ (site_board period stations).quarters → b.stations ≡ stations
     → b ≡ site_named name period order totals stations
 named_is b name period order totals stations n f p o q s = λ i. record { name = n i; period = p i; order = o i; figures = f i; quarters = q i; stations = s i }
 
 -- the boards of a site are by its period
-pub boards_period : (order : Order) (period : ℕ) (xs : List StationPlan) (cells : List Cell) (site : ℕ) → AreOfPeriod period (boards_at order period xs cells site)
+pub boards_period : (order : Order) (period : Periods) (xs : List StationPlan) (cells : List Cell) (site : ℕ) → AreOfPeriod period (boards_at order period xs cells site)
 boards_period order period [] cells site = All-nil (λ (s : List ℕ × Board). s.1.period ≡ period)
 boards_period order period (x ∷ xs) [] site = All-nil (λ (s : List ℕ × Board). s.1.period ≡ period)
 boards_period order period (x ∷ xs) (c ∷ cells) site = one (eqb x.site site) (boards_period order period xs cells site)
@@ -89,5 +90,5 @@ boards_period order period (x ∷ xs) (c ∷ cells) site = one (eqb x.site site)
     one false h = h
 
 -- a board is by its own period
-pub by_own : (b : Board) (order : Order) (period : ℕ) (es : List Entry) → b ≡ board_by order period es → b ≡ board_by order b.period es
+pub by_own : (b : Board) (order : Order) (period : Periods) (es : List Entry) → b ≡ board_by order period es → b ≡ board_by order b.period es
 by_own b order period es is = is ∙ ap (λ s. board_by order s es) (sym (ap (λ (c : Board). c.period) is))

@@ -8,6 +8,7 @@ use Rattle.std.proofs.lemmas.List.{take_more}
 use Rattle.std.proofs.lemmas.Grind.{flat_map-append}
 use Rattle.std.proofs.lemmas.List.Sums.{sum_by-cons}
 use Rattle.std.proofs.lemmas.List.Sorted.{sum_by-IsPermutation, IsPermutation-sym}
+use Rattle.ledger_model.specs.Periods.{Periods}
 use Rattle.ledger_model.specs.Board.{Board, Flowed, flows_under}
 use Rattle.ledger_model.specs.Energy.{Flows, no_flows, plus_flows, put_in, rising}
 use Rattle.ledger_model.specs.Quarter.{IsQuarterOf}
@@ -283,17 +284,17 @@ fit_permuted xs ys same fit = record {
 }
 
 -- the quarters of lines are the period's
-line_own : (period : ℕ) (xs : List Flowed) (k : ℕ) → AreQuartersOf period xs → IsIn k (numbers xs) → IsQuarterOf period k
+line_own : (period : Periods) (xs : List Flowed) (k : ℕ) → AreQuartersOf period xs → IsIn k (numbers xs) → IsQuarterOf period.length k
 line_own period [] k own h = absurd h
-line_own period (x ∷ xs) k own (inl e) = subst (IsQuarterOf period) (sym e) (own 0 x (omega arith))
+line_own period (x ∷ xs) k own (inl e) = subst (IsQuarterOf period.length) (sym e) (own 0 x (omega arith))
 line_own period (x ∷ xs) k own (inr h) = line_own period xs k (λ n d lt. own (suc n) d (omega arith)) h
 
-lines_own : (period : ℕ) (e : ℕ → Flows) (ks : List ℕ) → ((k : ℕ) → IsIn k ks → IsQuarterOf period k) → AreQuartersOf period (map {B = Flowed} (λ k. (k, e k)) ks)
-lines_own period e [] each = All-nil (λ (line : Flowed). IsQuarterOf period line.0)
-lines_own period e (k ∷ ks) each = All-cons (λ (line : Flowed). IsQuarterOf period line.0) (k, e k) (map {B = Flowed} (λ j. (j, e j)) ks) (each k (inl refl)) (lines_own period e ks (λ j h. each j (inr h)))
+lines_own : (period : Periods) (e : ℕ → Flows) (ks : List ℕ) → ((k : ℕ) → IsIn k ks → IsQuarterOf period.length k) → AreQuartersOf period (map {B = Flowed} (λ k. (k, e k)) ks)
+lines_own period e [] each = All-nil (λ (line : Flowed). IsQuarterOf period.length line.0)
+lines_own period e (k ∷ ks) each = All-cons (λ (line : Flowed). IsQuarterOf period.length line.0) (k, e k) (map {B = Flowed} (λ j. (j, e j)) ks) (each k (inl refl)) (lines_own period e ks (λ j h. each j (inr h)))
 
 -- and so are those of their sums
-pub sums_own : (period : ℕ) (xs : List Flowed) → AreQuartersOf period xs → AreQuartersOf period (quarter_sums xs)
+pub sums_own : (period : Periods) (xs : List Flowed) → AreQuartersOf period xs → AreQuartersOf period (quarter_sums xs)
 sums_own period xs own = lines_own period (λ k. flows_under k xs) (rising (numbers xs)) (λ k h. line_own period xs k own ((rising-IsIn k (numbers xs)).0 h))
 
 -- the lines of one station more

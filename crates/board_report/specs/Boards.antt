@@ -1,5 +1,6 @@
 -- The stations of a site, by a plan and its cells, and the board that they make.
 use Rattle.std.specs.Prelude.{◌≡◌, ◌==◌, ℕ, List, [], ◌∷◌, if◌then◌else◌, length, Some, slice_get}
+use Rattle.ledger_model.specs.Periods.{Periods}
 use Rattle.ledger_model.specs.declared.figures.Figures.{Figures}
 use Rattle.ledger_model.specs.declared.order.Order.{Order}
 use Rattle.ledger_model.specs.Board.{Board, board_by, site_board}
@@ -18,7 +19,7 @@ pub record AreOpenedFor (sites : List SitePlan) (stations : List StationPlan) (c
   pub orders : (k : ℕ) (s : StationPlan) (c : Cell) → slice_get stations k ≡ Some s → slice_get cells k ≡ Some c → c.order ≡ order_at sites s.site
 
 -- The boards of the stations of the site of this number, by the stations' names, each from scratch from its cell's content, in this order of readings and by this settlement period.
-abbrev pub boards_at : Order → ℕ → List StationPlan → List Cell → ℕ → List (List ℕ × Board)
+abbrev pub boards_at : Order → Periods → List StationPlan → List Cell → ℕ → List (List ℕ × Board)
 boards_at order period [] cells site = []
 boards_at order period (s ∷ stations) [] site = []
 boards_at order period (s ∷ stations) (c ∷ cells) site =
@@ -29,7 +30,7 @@ abbrev pub site_boards : List SitePlan → List StationPlan → List Cell → �
 site_boards sites stations cells site = boards_at (order_at sites site) (period_at sites site) stations cells site
 
 -- The board of a site over its stations' boards, under its name, by this settlement period, in this order of readings and with these totals: its quarters are the sums over the stations.
-abbrev pub site_named : List ℕ → ℕ → Order → Figures → List (List ℕ × Board) → NamedBoard
+abbrev pub site_named : List ℕ → Periods → Order → Figures → List (List ℕ × Board) → NamedBoard
 site_named name period order totals stations = record { name = name; period = period; order = order; figures = totals; quarters = (site_board period stations).quarters; stations = stations }
 
 -- The board of the site of this number over the cells of its stations, under this name and with these totals: by the site's settlement period and in its order of readings.

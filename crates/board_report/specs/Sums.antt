@@ -1,6 +1,7 @@
 -- The quarters that the stations of a site show, and the condition on their sums.
 use Rattle.std.specs.Prelude.{◌≡◌, ℕ, ◌<◌, List, All, ◌^◌}
 use Rattle.std.specs.List.{flat_map}
+use Rattle.ledger_model.specs.Periods.{Periods}
 use Rattle.ledger_model.specs.Board.{Board, Flowed, flows_under}
 use Rattle.ledger_model.specs.Quarter.{IsQuarterOf}
 
@@ -15,10 +16,10 @@ pub record QuartersFit (lines : List Flowed) : Type 0 where
   pub export_up : (quarter : ℕ) → (flows_under quarter lines).export.up < 2 ^ 64
   pub export_down : (quarter : ℕ) → (flows_under quarter lines).export.down < 2 ^ 64
 
--- The stations' boards are by this settlement period.
-abbrev pub AreOfPeriod : ℕ → List (List ℕ × Board) → Type 0
+-- The stations' boards are by these settlement periods.
+abbrev pub AreOfPeriod : Periods → List (List ℕ × Board) → Type 0
 AreOfPeriod period stations = All (λ s. s.1.period ≡ period) stations
 
--- Each line is of a quarter of this period.
-abbrev pub AreQuartersOf : ℕ → List Flowed → Type 0
-AreQuartersOf period lines = All (λ line. IsQuarterOf period line.0) lines
+-- Each line is of one of these periods.
+abbrev pub AreQuartersOf : Periods → List Flowed → Type 0
+AreQuartersOf period lines = All (λ line. IsQuarterOf period.length line.0) lines

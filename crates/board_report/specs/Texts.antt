@@ -3,6 +3,9 @@ use Rattle.std.specs.Prelude.{ℕ, Bool, List, [], ◌∷◌, ◌++◌, codes, i
 use Rattle.std.specs.List.{flat_map}
 use Rattle.std.specs.Fmt.{decimal}
 use Rattle.energy_flow.specs.Flow.{Energy}
+use Rattle.ledger_model.specs.Periods.{Periods}
+use Rattle.ledger_model.specs.declared.settle.Settle.{Settle}
+use Rattle.ledger_model.specs.declared.settle.Settle.TheVariants.{Later, Closing}
 use Rattle.ledger_model.specs.declared.figures.Figures.{Figures}
 use Rattle.ledger_model.specs.declared.order.Order.{Order}
 use Rattle.ledger_model.specs.declared.order.Order.TheVariants.{Sequence, Moment}
@@ -45,12 +48,12 @@ total_text f =
     ++ (field (codes " transactions=") f.transactions ++ (field (codes " complete=") f.complete
     ++ (field (codes " missing=") f.missing ++ flows_fields f.up f.down f.export_up f.export_down))))
 
--- The text of a quarter's first moment, by this settlement period.
-unfoldable pub start_text : ℕ → ℕ → List ℕ
-start_text period quarter = text_of (quarter_start period quarter)
+-- The text of a quarter's first moment, by these settlement periods.
+unfoldable pub start_text : Periods → ℕ → List ℕ
+start_text period quarter = text_of (quarter_start period.length quarter)
 
 -- `period <start> up=<n> down=<n> export_up=<n> export_down=<n>`
-unfoldable pub quarter_line : ℕ → Flowed → List ℕ
+unfoldable pub quarter_line : Periods → Flowed → List ℕ
 quarter_line period q = line (codes "period " ++ (start_text period q.0 ++ flows_fields q.1.flow.up q.1.flow.down q.1.export.up q.1.export.down))
 
 -- `evse <n> up=<n> down=<n> export_up=<n> export_down=<n>`
@@ -94,11 +97,16 @@ abbrev pub order_field : Order → List ℕ
 order_field Sequence = []
 order_field Moment = codes " order=moment"
 
--- `board <name> period=<seconds>`, and the order of readings where it is not by sequence
-unfoldable pub heading : List ℕ → ℕ → Order → List ℕ
-heading name period order = line (codes "board " ++ (name ++ (field (codes " period=") period ++ order_field order)))
+-- ` settle=closing`, where differences count in the period that their later reading closes
+abbrev pub settle_field : Settle → List ℕ
+settle_field Later = []
+settle_field Closing = codes " settle=closing"
 
--- The text of a site's board: its name with its settlement period and order of readings, its total, its quarters, its stations, and `end`.
+-- `board <name> period=<seconds>`, the order of readings where it is not by sequence, and the rule of settling where it is not by the later reading
+unfoldable pub heading : List ℕ → Periods → Order → List ℕ
+heading name period order = line (codes "board " ++ (name ++ (field (codes " period=") period.length ++ (order_field order ++ settle_field period.rule))))
+
+-- The text of a site's board: its name with its settlement periods and order of readings, its total, its quarters, its stations, and `end`.
 abbrev pub board_text : NamedBoard → List ℕ
 board_text b =
     heading b.name b.period b.order ++ (line (total_text b.figures) ++ (flat_map (quarter_line b.period) b.quarters

@@ -3,17 +3,17 @@ ghost use Rattle.ledger_model.specs.Board.{site_board as site_board_of};
 ghost use Rattle.board_report.specs.Sums.{station_quarters, AreOfPeriod, AreQuartersOf, QuartersFit};
 
 use crate::sums::site_quarters;
-use ledger_model::{Figures, Listed, Name, Order, Period};
+use ledger_model::{Figures, Listed, Name, Order, Periods};
 use station_ledger::{QuarterLine, StationBoard};
 use std::alloc::{AllocError, Global};
 use std::marker::Model;
 
-/// The board of a site: its name, its settlement period, the order of its readings, its figures, its quarters with
+/// The board of a site: its name, its settlement periods, the order of its readings, its figures, its quarters with
 /// their energies, rising, and its stations' boards by name, in the order of declaration.
 #[derive(Debug, Drop)]
 pub struct SiteBoard {
     pub(crate) name: Name,
-    pub(crate) period: Period,
+    pub(crate) period: Periods,
     pub(crate) order: Order,
     pub(crate) figures: Figures,
     pub(crate) quarters: Listed<QuarterLine>,
@@ -39,8 +39,8 @@ impl SiteBoard {
         &self.name
     }
 
-    /// The settlement period that its quarters are counted by.
-    pub fn period(&self) -> Period
+    /// The settlement periods that its quarters are counted by.
+    pub fn period(&self) -> Periods
         ensures { result ≡ self.now.period }
     {
         self.period
@@ -60,7 +60,7 @@ impl SiteBoard {
         self.figures
     }
 
-    /// The quarters that a station of the site shows, rising, each one of the site's period and with its
+    /// The quarters that a station of the site shows, rising, each one of the site's periods and with its
     /// energies over all stations.
     pub fn quarters(&self) -> &[QuarterLine]
         ensures value { result.now ≡ self.now.quarters }
@@ -85,13 +85,13 @@ impl SiteBoard {
     }
 }
 
-/// The board of a site of this name, settlement period and order of readings, with these figures and these
+/// The board of a site of this name, these settlement periods and this order of readings, with these figures and these
 /// stations' boards: it adds up the stations' energies quarter by quarter, in milliwatt-hours. The boards have to
-/// be by that period ([`StationBoard::period`] tells), and the sums of each quarter to stay below 2^64.
+/// be by those periods ([`StationBoard::period`] tells), and the sums of each quarter to stay below 2^64.
 pub fn site_board(
     alloc: Global,
     name: &Name,
-    period: Period,
+    period: Periods,
     order: Order,
     figures: Figures,
     stations: Vec<(Name, StationBoard)>,

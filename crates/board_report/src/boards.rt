@@ -13,7 +13,7 @@ use station_cell::StationCell;
 use station_ledger::StationBoard;
 use std::alloc::{AllocError, Global};
 
-/// The text of the board of the site of this number, under this name, by the site's settlement period and
+/// The text of the board of the site of this number, under this name, by the site's settlement periods and
 /// order of readings and with these totals, over the cells of its stations.
 ///
 /// Condition: the plan has the site, each of its stations has its cell, opened with its limits and by its

@@ -14,7 +14,7 @@
 //! for each kind of line; and a site's board has each of the site's stations once, in the plan's order, its board from
 //! scratch from its cell's content, and shows each quarter that one of them shows, once and rising, with the sum over
 //! them. Of a closed desk the totals are the sums over the site's stations. The quarters of a board are quarters of its
-//! settlement period. A caller of `site_board` sees to it that all boards are by the site's period, and that the sums of
+//! settlement period. A caller of `site_board` sees to it that all boards are by the site's periods, and that the sums of
 //! each quarter stay below 2^64, which the boards of one plan always do ([`plans_fit`]).
 //!
 //! ```text

@@ -1,6 +1,7 @@
 // The sums of a site by quarter.
 ghost use Rattle.std.specs.Prelude.{◌≡◌, ℕ, reverse, IfOk, OnOk};
 ghost use Rattle.std.specs.List.Sorted.{IsPermutation};
+ghost use Rattle.ledger_model.specs.Periods.{Periods};
 ghost use Rattle.board_report.specs.Lines.{quarter_sums, AreInOrder, put_line, CanLead};
 ghost use Rattle.board_report.specs.Sums.{station_quarters, AreOfPeriod, AreQuartersOf, QuartersFit};
 
@@ -14,7 +15,7 @@ fn station_quarters(
     stations: &[(Name, StationBoard)],
 ) -> Result<Vec<QuarterLine>, AllocError>
     ensures lines { IfOk result (λ lines. lines.items ≡ station_quarters stations.now) }
-    ensures own { IfOk result (λ lines. (period : ℕ) → AreOfPeriod period stations.now → AreQuartersOf period lines.items) }
+    ensures own { IfOk result (λ lines. (period : Periods) → AreOfPeriod period stations.now → AreQuartersOf period lines.items) }
 {
     let mut lines = Vec::new(alloc);
     for station in stations {
@@ -73,7 +74,7 @@ pub(crate) fn site_quarters(
 ) -> Result<Vec<QuarterLine>, AllocError>
     requires { QuartersFit (station_quarters stations.now) }
     ensures sums { IfOk result (λ quarters. quarters.items ≡ quarter_sums (station_quarters stations.now)) }
-    ensures own { IfOk result (λ quarters. (period : ℕ) → AreOfPeriod period stations.now → AreQuartersOf period quarters.items) }
+    ensures own { IfOk result (λ quarters. (period : Periods) → AreOfPeriod period stations.now → AreQuartersOf period quarters.items) }
 {
     let mut lines = station_quarters(alloc, stations)?;
     put_in_order(&mut lines);

@@ -3,14 +3,14 @@ ghost use Rattle.std.specs.Prelude.{◌≡◌, ◌++◌, OnOk, IfOk};
 ghost use Rattle.std.specs.List.{flat_map};
 ghost use Rattle.ledger_model.specs.Quarter.{IsQuarterOf};
 ghost use Rattle.board_report.specs.Sums.{AreQuartersOf};
-ghost use Rattle.board_report.specs.Texts.{field, line, flows_fields, start_text, events_fields, completeness_fields, total_text as total_text_of, quarter_line, evse_line, yes_or_no, transaction_line, gap_line, transaction_text, station_text, heading, order_field, board_text};
+ghost use Rattle.board_report.specs.Texts.{field, line, flows_fields, start_text, events_fields, completeness_fields, total_text as total_text_of, quarter_line, evse_line, yes_or_no, transaction_line, gap_line, transaction_text, station_text, heading, order_field, settle_field, board_text};
 
 use crate::board::SiteBoard;
 use crate::fixed::total_text;
 use arrayvec::ArrayString;
 use energy_flow::Flow;
 use itoa::Buffer;
-use ledger_model::{Figures, Name, Order, Period, Quarter};
+use ledger_model::{Figures, Name, Order, Periods, Quarter, Settle};
 use reading_decimal::{moment_text, quarter_start};
 use station_ledger::{EvseLine, QuarterLine, StationBoard, TxLine};
 use std::alloc::{AllocError, Global};
@@ -65,17 +65,17 @@ fn put_total(text: &mut Vec<u8>, figures: &Figures) -> Result<(), AllocError>
 
 // The first moment of a quarter.
 #[tactic(auto, unfolding(crate::specs::Texts::start_text))]
-fn start_text(quarter: Quarter, period: Period) -> ArrayString<20>
-    requires { IsQuarterOf period quarter }
+fn start_text(quarter: Quarter, period: Periods) -> ArrayString<20>
+    requires { IsQuarterOf period.length quarter }
     ensures { result.bytes ≡ start_text period quarter }
 {
-    moment_text(quarter_start(quarter, period))
+    moment_text(quarter_start(quarter, period.length()))
 }
 
 // Appends the line of a quarter.
 #[tactic(auto, unfolding(crate::specs::Texts::quarter_line))]
-fn put_quarter(text: &mut Vec<u8>, period: Period, shown: &QuarterLine) -> Result<(), AllocError>
-    requires { IsQuarterOf period shown.now.0 }
+fn put_quarter(text: &mut Vec<u8>, period: Periods, shown: &QuarterLine) -> Result<(), AllocError>
+    requires { IsQuarterOf period.length shown.now.0 }
     ensures { OnOk result (text.new.items ≡ text.old.items ++ quarter_line period shown.now) }
 {
     text.extend_from_slice(b"period ")?;
@@ -165,7 +165,7 @@ fn put_with_gaps(text: &mut Vec<u8>, shown: &TxLine) -> Result<(), AllocError>
 // Appends the lines of quarters.
 fn put_quarters(
     text: &mut Vec<u8>,
-    period: Period,
+    period: Periods,
     quarters: &[QuarterLine],
 ) -> Result<(), AllocError>
     requires { AreQuartersOf period quarters.now }
@@ -230,20 +230,36 @@ fn order_field(order: Order) -> &'static str
     }
 }
 
-// Appends the name of a site, its settlement period, and the order of its readings where that is by moment.
+// Nothing for differences that count by the later reading, ` settle=closing` for those that count in the period that it closes.
+fn settle_field(settle: Settle) -> &'static str
+    ensures { result.now ≡ settle_field settle }
+{
+    match settle {
+        Settle::Later => "",
+        Settle::Closing => " settle=closing",
+    }
+}
+
+// Appends the name of a site, the length of its settlement periods, the order of its readings where that is by moment, and
+// the rule by which differences count where that is not by the later reading.
 #[tactic(auto, unfolding(crate::specs::Texts::heading))]
 fn put_heading(text: &mut Vec<u8>, board: &SiteBoard) -> Result<(), AllocError>
     ensures { OnOk result (text.new.items ≡ text.old.items ++ heading board.now.name board.now.period board.now.order) }
 {
     text.extend_from_slice(b"board ")?;
     text.extend_from_slice(board.name().text().as_bytes())?;
-    put_field(text, " period=", u64::from(board.period().seconds()))?;
+    put_field(
+        text,
+        " period=",
+        u64::from(board.period().length().seconds()),
+    )?;
     text.extend_from_slice(order_field(board.order()).as_bytes())?;
+    text.extend_from_slice(settle_field(board.period().rule()).as_bytes())?;
     text.push(b'\n')?;
     Ok(())
 }
 
-/// The text of a site's board: its name with its settlement period and order of readings, its total and its
+/// The text of a site's board: its name with its settlement periods and order of readings, its total and its
 /// quarters, then each station with its name, its total, its EVSEs, its quarters and its transactions, each of
 /// these with its gaps, and `end`. Each line ends with a line feed.
 pub fn write_board(alloc: Global, board: &SiteBoard) -> Result<Vec<u8>, AllocError>

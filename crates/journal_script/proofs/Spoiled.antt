@@ -13,6 +13,8 @@ use Rattle.std.proofs.lemmas.List.Sums.{passes_at_first, split_at_first}
 use Rattle.std.proofs.lemmas.Slice.Eq.{bytes_eq-Decides}
 use Rattle.ledger_model.specs.declared.order.Order.{Order}
 use Rattle.ledger_model.specs.declared.order.Order.TheVariants.{Sequence, Moment}
+use Rattle.ledger_model.specs.declared.settle.Settle.{Settle}
+use Rattle.ledger_model.specs.declared.settle.Settle.TheVariants.{Later, Closing}
 use Rattle.ledger_model.specs.Name.{is_name, is_name_character}
 use Rattle.ledger_model.specs.Ranges.{most_name_characters}
 use Rattle.ledger_model.specs.World.{Station}
@@ -21,7 +23,7 @@ use Rattle.marked_json.specs.Reading.{marked_reading}
 use Rattle.script_lines.specs.declared.script_line.LineFault.TheVariants.{BadLine, DeclaredLate, PlanLimit}
 use Rattle.script_lines.specs.declared.script_line.Operation.{Operation}
 use Rattle.script_lines.specs.declared.script_line.Operation.TheVariants as operation
-use Rattle.script_lines.specs.LineMeaning.{LineMeaning, ◌>>=◌, nothing, fails, sets_limits, declares, sets_period, sets_order, tells, sends, commands, asks_energy, asks_export, asks_total, asks_board, by_bytes, by_first_word, by_words, command_line, is_number, is_space, limits_line, line_meaning, moment, msg_line, name, now_line, number, order_line, order_word, parted, period_line, question_line, station_line, words}
+use Rattle.script_lines.specs.LineMeaning.{LineMeaning, ◌>>=◌, nothing, fails, sets_limits, declares, sets_period, sets_order, sets_settle, tells, sends, commands, asks_energy, asks_export, asks_total, asks_board, by_bytes, by_first_word, by_words, command_line, is_number, is_space, limits_line, line_meaning, moment, msg_line, name, now_line, number, order_line, order_word, settle_line, settle_word, parted, period_line, question_line, station_line, words}
 use Rattle.script_lines.specs.Lines.{ended}
 use Rattle.script_lines.specs.Texts.{fault_line}
 use Rattle.script_ledgers.specs.Script.{KeepsSites, Script, are_limits, by_meaning, limited_to, line_step, sent_to, station_named, step_by}
@@ -146,6 +148,7 @@ Idle (sets_limits _ _ _ _) = ⊤
 Idle (declares _ _) = ⊥
 Idle (sets_period _ _) = ⊥
 Idle (sets_order _ _) = ⊥
+Idle (sets_settle _ _) = ⊥
 Idle (tells _) = ⊤
 Idle (sends _ text) = IsAnswered text
 Idle (commands _ _) = ⊥
@@ -186,7 +189,7 @@ idle_station [] there = tt
 idle_station (a ∷ []) there = tt
 idle_station (a ∷ b ∷ d ∷ line) there = tt
 
-module _ (c : ℕ) (no_space : (32 == c) ≡ false) (no_digit : is_ascii_digit c ≡ false) (no_e : (101 == c) ≡ false) (no_t : (116 == c) ≡ false) (no_text : (front : List ℕ) → (fault : JsonFault) × (marked_reading (front ++ c ∷ []) ≡ Err fault)) where
+module _ (c : ℕ) (no_space : (32 == c) ≡ false) (no_digit : is_ascii_digit c ≡ false) (no_e : (101 == c) ≡ false) (no_t : (116 == c) ≡ false) (no_r : (114 == c) ≡ false) (no_g : (103 == c) ≡ false) (no_text : (front : List ℕ) → (fault : JsonFault) × (marked_reading (front ++ c ∷ []) ≡ Err fault)) where
   not_empty : {P : Type 0} → 32 ≡ c → P
   not_empty e = absurd (true≢false (ap (λ x. 32 == x) e ∙ no_space))
 
@@ -198,18 +201,28 @@ module _ (c : ℕ) (no_space : (32 == c) ≡ false) (no_digit : is_ascii_digit c
       none true e = let both = and_parts (is_ascii_digit x) (list_all is_ascii_digit xs) e in absurd (true≢false (sym (all_last is_ascii_digit x xs both.0 both.1) ∙ ap is_ascii_digit h ∙ no_digit))
       none false e = second_false (ltb 0 (length (x ∷ xs))) (list_all is_ascii_digit (x ∷ xs) && (not (slice_index (x ∷ xs) 0 == 48) || (length (x ∷ xs) == 1))) (ap (λ b. b && (not (slice_index (x ∷ xs) 0 == 48) || (length (x ∷ xs) == 1))) e)
 
+  -- a text is no word of another last letter
+  other : (text : List ℕ) → last 32 text ≡ c → (word : List ℕ) → (last 32 word == c) ≡ false → (b : Bool) → bytes_eq text word ≡ b → b ≡ false
+  other text h word none true is = absurd (true≢false (sym (eq-eqb (last 32 word) c (ap (last 32) (sym ((bytes_eq-Decides text word).0 is)) ∙ h)) ∙ none))
+  other text h word none false is = refl
+
   -- no word of another last letter than `e` and `t` names an order
   no_order : (text : List ℕ) → last 32 text ≡ c → order_word text ≡ None
   no_order text h =
-      ap (λ b. cond b (Some Sequence) moment) (other (codes "sequence") no_e (bytes_eq text (codes "sequence")) refl)
-      ∙ ap (λ b. cond b (Some Moment) None) (other (codes "moment") no_t (bytes_eq text (codes "moment")) refl)
+      ap (λ b. cond b (Some Sequence) moment) (other text h (codes "sequence") no_e (bytes_eq text (codes "sequence")) refl)
+      ∙ ap (λ b. cond b (Some Moment) None) (other text h (codes "moment") no_t (bytes_eq text (codes "moment")) refl)
     where
       moment : Option Order
       moment = cond (bytes_eq text (codes "moment")) (Some Moment) None
 
-      other : (word : List ℕ) → (last 32 word == c) ≡ false → (b : Bool) → bytes_eq text word ≡ b → b ≡ false
-      other word none true is = absurd (true≢false (sym (eq-eqb (last 32 word) c (ap (last 32) (sym ((bytes_eq-Decides text word).0 is)) ∙ h)) ∙ none))
-      other word none false is = refl
+  -- no word of another last letter than `r` and `g` names a rule
+  no_settle : (text : List ℕ) → last 32 text ≡ c → settle_word text ≡ None
+  no_settle text h =
+      ap (λ b. cond b (Some Later) closing) (other text h (codes "later") no_r (bytes_eq text (codes "later")) refl)
+      ∙ ap (λ b. cond b (Some Closing) None) (other text h (codes "closing") no_g (bytes_eq text (codes "closing")) refl)
+    where
+      closing : Option Settle
+      closing = cond (bytes_eq text (codes "closing")) (Some Closing) None
 
   idle_text : (name text : List ℕ) → last 32 text ≡ c → Idle (sends name text)
   idle_text name [] h = not_empty h
@@ -236,6 +249,12 @@ module _ (c : ℕ) (no_space : (32 == c) ≡ false) (no_digit : is_ascii_digit c
   idle_order (a ∷ []) h = tt
   idle_order (a ∷ b ∷ d ∷ line) h = tt
 
+  idle_settle : (line : List (List ℕ)) → Ends c line → Idle (settle_line line)
+  idle_settle (site ∷ word ∷ []) h = idle_read (name site) _ (λ _. idle_none (settle_word word) _ (no_settle word h))
+  idle_settle [] h = tt
+  idle_settle (a ∷ []) h = tt
+  idle_settle (a ∷ b ∷ d ∷ line) h = tt
+
   idle_command : (what : Operation) (line : List (List ℕ)) → Ends c line → Idle (command_line what line)
   idle_command what (station ∷ tx ∷ seq ∷ []) h = idle_read (name station) _ (λ _. idle_none (number seq) _ (no_number seq h))
   idle_command what [] h = tt
@@ -259,6 +278,7 @@ module _ (c : ℕ) (no_space : (32 == c) ≡ false) (no_digit : is_ascii_digit c
       (λ _. idle_if (bytes_eq word (codes "limits")) _ _ (λ _. idle_limits (words 4 rest))
       (λ _. idle_if (bytes_eq word (codes "period")) _ _ (λ _. idle_period (words 2 rest) (last_word c 2 rest end))
       (λ _. idle_if (bytes_eq word (codes "order")) _ _ (λ _. idle_order (words 2 rest) (last_word c 2 rest end))
+      (λ _. idle_if (bytes_eq word (codes "settle")) _ _ (λ _. idle_settle (words 2 rest) (last_word c 2 rest end))
       (λ _. idle_if (bytes_eq word (codes "now")) _ _ (λ _. idle_now (words 2 rest))
       (λ _. idle_if (bytes_eq word (codes "energy")) _ _ (λ _. idle_question asks_energy (λ _. tt) (words 1 rest))
       (λ _. idle_if (bytes_eq word (codes "export")) _ _ (λ _. idle_question asks_export (λ _. tt) (words 1 rest))
@@ -266,7 +286,7 @@ module _ (c : ℕ) (no_space : (32 == c) ≡ false) (no_digit : is_ascii_digit c
       (λ _. idle_if (bytes_eq word (codes "board")) _ _ (λ _. idle_question asks_board (λ _. tt) (words 1 rest))
       (λ _. idle_if (bytes_eq word (codes "void")) _ _ (λ _. idle_command operation.Void (words 3 rest) (last_word c 3 rest end))
       (λ _. idle_if (bytes_eq word (codes "restore")) _ _ (λ _. idle_command operation.Restore (words 3 rest) (last_word c 3 rest end))
-      (λ _. idle_if (bytes_eq word (codes "erase")) _ _ (λ _. idle_command operation.Erase (words 3 rest) (last_word c 3 rest end)) (λ _. tt)))))))))))))
+      (λ _. idle_if (bytes_eq word (codes "erase")) _ _ (λ _. idle_command operation.Erase (words 3 rest) (last_word c 3 rest end)) (λ _. tt))))))))))))))
 
   idle_parted : (text : List ℕ) (o : Option (List ℕ × List ℕ)) → last 32 text ≡ c → is_marked text ≡ true → parted text ≡ o → Idle (o >>= by_first_word)
   idle_parted text None h m e = tt
@@ -313,6 +333,7 @@ stays_step s (sets_limits transactions events readings changes) idle =
 stays_step s (declares _ _) idle = absurd idle
 stays_step s (sets_period _ _) idle = absurd idle
 stays_step s (sets_order _ _) idle = absurd idle
+stays_step s (sets_settle _ _) idle = absurd idle
 stays_step s (tells _) idle = (refl, record { sites = refl; periods = refl; orders = refl })
 stays_step s (sends name text) idle = stays_sent s (station_named name s.world) text idle
 stays_step s (commands _ _) idle = absurd idle
@@ -324,6 +345,6 @@ stays_step s (asks_board _) idle = (refl, record { sites = refl; periods = refl;
 -- a line in which a `#` stands, and which ends with it or with the run's comment, changes nothing that is shown
 pub spoiled : (s : Script) (most : ℕ) (front back : List ℕ) → (last 35 back ≡ 35) ⊎ (last 35 back ≡ 115) → Stays s (line_step s (ended most (front ++ 35 ∷ back))).0
 spoiled s most front back (inl hash) =
-    stays_step s (line_meaning (ended most (front ++ 35 ∷ back))) (idle_line 35 refl refl refl refl hash_not_read most (front ++ 35 ∷ back) refl (last_behind 32 front 35 back ∙ hash) (marked_behind front back))
+    stays_step s (line_meaning (ended most (front ++ 35 ∷ back))) (idle_line 35 refl refl refl refl refl refl hash_not_read most (front ++ 35 ∷ back) refl (last_behind 32 front 35 back ∙ hash) (marked_behind front back))
 spoiled s most front back (inr letter) =
-    stays_step s (line_meaning (ended most (front ++ 35 ∷ back))) (idle_line 115 refl refl refl refl s_not_read most (front ++ 35 ∷ back) refl (last_behind 32 front 35 back ∙ letter) (marked_behind front back))
+    stays_step s (line_meaning (ended most (front ++ 35 ∷ back))) (idle_line 115 refl refl refl refl refl refl s_not_read most (front ++ 35 ∷ back) refl (last_behind 32 front 35 back ∙ letter) (marked_behind front back))

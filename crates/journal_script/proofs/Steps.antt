@@ -9,7 +9,7 @@ use Rattle.kept_desk.specs.Entries.{line_text, text_of}
 use Rattle.ledger_model.specs.declared.command.Command.{Command}
 use Rattle.ledger_model.specs.World.{Station, World, Happens, run, station_after, world_after}
 use Rattle.transaction_event.specs.Message.{Meaning, Event, message}
-use Rattle.script_lines.specs.LineMeaning.{LineMeaning, nothing, fails, sets_limits, declares, sets_period, sets_order, tells, sends, commands, asks_energy, asks_export, asks_total, asks_board, line_meaning}
+use Rattle.script_lines.specs.LineMeaning.{LineMeaning, nothing, fails, sets_limits, declares, sets_period, sets_order, sets_settle, tells, sends, commands, asks_energy, asks_export, asks_total, asks_board, line_meaning}
 use Rattle.script_lines.specs.Lines.{Line, ended, lines_of, unended}
 use Rattle.script_lines.specs.Ranges.{longest_line}
 use Rattle.script_lines.proofs.Cuts.{cut-ended}
@@ -84,6 +84,7 @@ takes_step s (sets_limits _ _ _ _) name command station says found = absurd says
 takes_step s (declares _ _) name command station says found = absurd says
 takes_step s (sets_period _ _) name command station says found = absurd says
 takes_step s (sets_order _ _) name command station says found = absurd says
+takes_step s (sets_settle _ _) name command station says found = absurd says
 takes_step s (tells _) name command station says found = absurd says
 takes_step s (sends at text) name command station says found = takes_sent (station_named at s.world) s text command station (ap (λ n. station_named n s.world) says.0 ∙ found) says.1
 takes_step s (commands at asked) name command station says found = takes_commanded (station_named at s.world) s asked command station (ap (λ n. station_named n s.world) says.0 ∙ found) says.1

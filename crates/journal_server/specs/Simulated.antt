@@ -3,7 +3,7 @@ use Rattle.std.specs.Prelude.{ℕ, zero, suc, ⊤, List, [], ◌∷◌, ◌++◌
 use Rattle.std.specs.Fmt.{decimal}
 use Rattle.ledger_model.specs.declared.order.Order.TheVariants.{Sequence}
 use Rattle.ledger_model.specs.Limits.{default_limits}
-use Rattle.ledger_model.specs.Quarter.{default_period}
+use Rattle.ledger_model.specs.Settling.{default_periods}
 use Rattle.site_desk.specs.declared.plan.SitePlan.{SitePlan}
 use Rattle.site_desk.specs.declared.plan.StationPlan.{StationPlan}
 use Rattle.journal_server.specs.Left.{Left}
@@ -16,7 +16,7 @@ simulated_name number = codes "CS-" ++ decimal number
 -- The site `sim`, once it has a station, by the default settlement period and with readings by sequence.
 abbrev pub simulated_sites : ℕ → List SitePlan
 simulated_sites zero = []
-simulated_sites (suc before) = record { name = codes "sim"; viewers = 0; period = default_period; order = Sequence } ∷ []
+simulated_sites (suc before) = record { name = codes "sim"; viewers = 0; period = default_periods; order = Sequence } ∷ []
 
 -- So many simulated stations of it, numbered from 1, under the default limits.
 abbrev pub simulated_stations : ℕ → List StationPlan

@@ -4,7 +4,7 @@ ghost use Rattle.journal_script.specs.Cuts.{run_begins};
 
 use itoa::Buffer;
 use journal_script::RUN_LINE;
-use ledger_model::{Limits, Name, Order};
+use ledger_model::{Limits, Name, Order, Settle};
 use site_desk::{Plan, SitePlan, StationPlan};
 use std::alloc::{AllocError, Global};
 
@@ -31,6 +31,7 @@ pub(crate) fn journal_head(alloc: Global, plan: &Plan) -> Result<Vec<u8>, AllocE
     for site in plan.sites.as_slice() {
         put_period(&mut head, site)?;
         put_order(&mut head, site)?;
+        put_settle(&mut head, site)?;
     }
     head.extend_from_slice(MARK)?;
     Ok(head)
@@ -75,11 +76,11 @@ fn put_station(
     Ok(())
 }
 
-// The line of a site's settlement period.
+// The line of the length of a site's settlement periods.
 fn put_period(head: &mut Vec<u8>, site: &SitePlan) -> Result<(), AllocError> {
     head.extend_from_slice(b"period")?;
     put_name(head, &site.name)?;
-    put_number(head, u64::from(site.period.seconds()))?;
+    put_number(head, u64::from(site.period.length().seconds()))?;
     head.push(b'\n')?;
     Ok(())
 }
@@ -90,6 +91,16 @@ fn put_order(head: &mut Vec<u8>, site: &SitePlan) -> Result<(), AllocError> {
         head.extend_from_slice(b"order")?;
         put_name(head, &site.name)?;
         head.extend_from_slice(b" moment\n")?;
+    }
+    Ok(())
+}
+
+// The line of a site's rule of settling, where it is not the one that a script takes for undeclared ones.
+fn put_settle(head: &mut Vec<u8>, site: &SitePlan) -> Result<(), AllocError> {
+    if site.period.rule() == Settle::Closing {
+        head.extend_from_slice(b"settle")?;
+        put_name(head, &site.name)?;
+        head.extend_from_slice(b" closing\n")?;
     }
     Ok(())
 }

@@ -10,7 +10,7 @@ use crate::run::Served;
 use crate::unwritten::{NoLines, serve_unwritten};
 use arrayvec::ArrayString;
 use itoa::Buffer;
-use ledger_model::{Limits, Name, Order, Period};
+use ledger_model::{Limits, Name, Order, Periods};
 use live_server::{Clients, Live};
 use server_parts::{Host, ServiceFault, Sockets, address_of, listen};
 use site_desk::Plan;
@@ -97,7 +97,7 @@ fn simulated_plan(stations: u16) -> Plan
         plan.declare(
             site.copied(),
             0,
-            Period::default(),
+            Periods::default(),
             Order::Sequence,
             station,
             Limits::default(),

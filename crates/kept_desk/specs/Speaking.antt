@@ -6,7 +6,7 @@ use Rattle.ledger_model.specs.declared.command.Command.{Command}
 use Rattle.ledger_model.specs.declared.command.Command.TheVariants.{Deliver}
 use Rattle.transaction_event.specs.Message.{Event, message}
 use Rattle.transaction_event.specs.Request.{Request}
-use Rattle.script_lines.specs.LineMeaning.{LineMeaning, nothing, fails, sets_limits, declares, sets_period, sets_order, tells, sends, commands, asks_energy, asks_export, asks_total, asks_board, line_meaning}
+use Rattle.script_lines.specs.LineMeaning.{LineMeaning, nothing, fails, sets_limits, declares, sets_period, sets_order, sets_settle, tells, sends, commands, asks_energy, asks_export, asks_total, asks_board, line_meaning}
 use Rattle.script_lines.specs.Lines.{HasNoFeed}
 use Rattle.script_lines.specs.Ranges.{longest_line}
 
@@ -25,6 +25,7 @@ Says (sets_limits _ _ _ _) name command = ⊥
 Says (declares _ _) name command = ⊥
 Says (sets_period _ _) name command = ⊥
 Says (sets_order _ _) name command = ⊥
+Says (sets_settle _ _) name command = ⊥
 Says (tells _) name command = ⊥
 Says (sends at text) name command = (at ≡ name) × AsksFor text command
 Says (commands at asked) name command = (at ≡ name) × (asked ≡ command)

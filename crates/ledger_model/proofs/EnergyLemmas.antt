@@ -5,6 +5,7 @@ use Rattle.std.specs.Prelude.{sum_by}
 use Rattle.std.specs.List.{filter, flat_map}
 use Rattle.std.proofs.lemmas.List.Sums.{sum_by-cons}
 use Rattle.energy_flow.specs.Flow.{Energy}
+use Rattle.ledger_model.specs.Periods.{Periods}
 use Rattle.ledger_model.specs.declared.order.Order.{Order}
 use Rattle.ledger_model.specs.declared.reading.Direction.{Direction}
 use Rattle.ledger_model.specs.declared.reading.Direction.TheVariants.{Import, Export}
@@ -27,11 +28,11 @@ pub same_energy : (a b : Energy) → a.up ≡ b.up → a.down ≡ b.down → a �
 same_energy a b up down = λ i. record { up = up i; down = down i }
 
 -- the quarters of one direction's pairs are among those of both
-shown_pairs : (order : Order) (d : Direction) (period : ℕ) (es : List Entry) (n : ℕ) → IsIn n (map (quarter_of period) (all_pairs_by order d es)) → IsIn n (map (quarter_of period) (all_pairs_by order Import es ++ all_pairs_by order Export es))
+shown_pairs : (order : Order) (d : Direction) (period : Periods) (es : List Entry) (n : ℕ) → IsIn n (map (quarter_of period) (all_pairs_by order d es)) → IsIn n (map (quarter_of period) (all_pairs_by order Import es ++ all_pairs_by order Export es))
 shown_pairs order Import period es n there = among_front (quarter_of period) (all_pairs_by order Import es) (all_pairs_by order Export es) n there
 shown_pairs order Export period es n there = among_back (quarter_of period) (all_pairs_by order Import es) (all_pairs_by order Export es) n there
 
-pub by_quarter : (order : Order) (d : Direction) (period : ℕ) (es : List Entry) → energy_by order d es ≡ sum_of_energies (map (λ quarter. energy_in_by order d period quarter es) (quarters_by order period es))
+pub by_quarter : (order : Order) (d : Direction) (period : Periods) (es : List Entry) → energy_by order d es ≡ sum_of_energies (map (λ quarter. energy_in_by order d period quarter es) (quarters_by order period es))
 by_quarter order d period es = same_energy _ _
     (sym (sum_of-up (λ quarter. energy_in_by order d period quarter es) (quarters_by order period es) ∙ sum_by_among (λ p. (difference p).up) (quarter_of period) (all_pairs_by order d es) (all_pairs_by order Import es ++ all_pairs_by order Export es) (shown_pairs order d period es)))
     (sym (sum_of-down (λ quarter. energy_in_by order d period quarter es) (quarters_by order period es) ∙ sum_by_among (λ p. (difference p).down) (quarter_of period) (all_pairs_by order d es) (all_pairs_by order Import es ++ all_pairs_by order Export es) (shown_pairs order d period es)))
@@ -77,7 +78,7 @@ module _ (measure : Flows → ℕ) (none : measure no_flows ≡ 0) (both : (a b 
       step false e rest = omega arith
 
   -- a quarter that is not shown has no energy, and one that is shown has its own
-  station_part : (order : Order) (d : Direction) (f : Pair → ℕ) (period : ℕ) (es : List Entry) → ((q : ℕ) → measure (flows_in_by order period q es) ≡ sum_by f (filter (λ p. eqb (quarter_of period p) q) (all_pairs_by order d es)))
+  station_part : (order : Order) (d : Direction) (f : Pair → ℕ) (period : Periods) (es : List Entry) → ((q : ℕ) → measure (flows_in_by order period q es) ≡ sum_by f (filter (λ p. eqb (quarter_of period p) q) (all_pairs_by order d es)))
       → (q : ℕ) → sum_by (λ line. cond (eqb line.0 q) (measure line.1) 0) (board_by order period es).quarters ≡ measure (flows_in_by order period q es)
   station_part order d f period es part q =
       sum_by-map (λ (line : Flowed). cond (eqb line.0 q) (measure line.1) 0) (λ k. (k, flows_in_by order period k es)) (quarters_by order period es)
@@ -87,14 +88,14 @@ module _ (measure : Flows → ℕ) (none : measure no_flows ≡ 0) (both : (a b 
       ∙ sym (part q)
 
   -- over the lines of stations it is the sum over the stations
-  site_part : (order : Order) (d : Direction) (f : Pair → ℕ) (period quarter : ℕ) (stations : List (List Entry)) → ((es : List Entry) (q : ℕ) → measure (flows_in_by order period q es) ≡ sum_by f (filter (λ p. eqb (quarter_of period p) q) (all_pairs_by order d es)))
+  site_part : (order : Order) (d : Direction) (f : Pair → ℕ) (period : Periods) (quarter : ℕ) (stations : List (List Entry)) → ((es : List Entry) (q : ℕ) → measure (flows_in_by order period q es) ≡ sum_by f (filter (λ p. eqb (quarter_of period p) q) (all_pairs_by order d es)))
       → measure (flows_under quarter (flat_map (λ es. (board_by order period es).quarters) stations)) ≡ sum_by (λ es. measure (flows_in_by order period quarter es)) stations
   site_part order d f period quarter stations part =
       under-part quarter (flat_map (λ es. (board_by order period es).quarters) stations)
       ∙ sum_by-flat_map (λ (line : Flowed). cond (eqb line.0 quarter) (measure line.1) 0) (λ es. (board_by order period es).quarters) stations
       ∙ sum_by-same _ _ (λ es. station_part order d f period es (part es) quarter) stations
 
-pub site_quarter : (order : Order) (period quarter : ℕ) (stations : List (List Entry))
+pub site_quarter : (order : Order) (period : Periods) (quarter : ℕ) (stations : List (List Entry))
     → flows_under quarter (flat_map (λ es. (board_by order period es).quarters) stations) ≡ record { flow = sum_of_energies (map (energy_in_by order Import period quarter) stations); export = sum_of_energies (map (energy_in_by order Export period quarter) stations) }
 site_quarter order period quarter stations =
     let all = flows_under quarter (flat_map (λ es. (board_by order period es).quarters) stations) in
@@ -106,13 +107,13 @@ site_quarter order period quarter stations =
     (site_part (λ f. f.export.down) refl (λ a b. refl) order Export (λ p. (difference p).down) period quarter stations (λ es q. refl) ∙ sym (sum_of-down (energy_in_by order Export period quarter) stations)) in
     λ i. record { flow = imported i; export = exported i }
 
-pub quarters_shown : (order : Order) (period : ℕ) (es : List Entry) (quarter : ℕ) → IsIn quarter (quarters_by order period es) ↔ IsIn quarter (map (quarter_of period) (all_pairs_by order Import es ++ all_pairs_by order Export es))
+pub quarters_shown : (order : Order) (period : Periods) (es : List Entry) (quarter : ℕ) → IsIn quarter (quarters_by order period es) ↔ IsIn quarter (map (quarter_of period) (all_pairs_by order Import es ++ all_pairs_by order Export es))
 quarters_shown order period es quarter = rising-IsIn quarter (map (quarter_of period) (all_pairs_by order Import es ++ all_pairs_by order Export es))
 
 pub evses_shown : (es : List Entry) (evse : ℕ) → IsIn evse (evses es) ↔ IsIn evse (map (λ tx. evse_of tx es) (transactions_of (live es)))
 evses_shown es evse = rising-IsIn evse (map (λ tx. evse_of tx es) (transactions_of (live es)))
 
-pub quarters_rise : (order : Order) (period : ℕ) (es : List Entry) → AreRising (quarters_by order period es)
+pub quarters_rise : (order : Order) (period : Periods) (es : List Entry) → AreRising (quarters_by order period es)
 quarters_rise order period es = rising-AreRising (map (quarter_of period) (all_pairs_by order Import es ++ all_pairs_by order Export es))
 
 pub evses_rise : (es : List Entry) → AreRising (evses es)

@@ -2,6 +2,7 @@
 use Rattle.std.proofs.Common.{◌≡◌, ℕ, List, [], ◌∷◌, ◌+◌, refl, ap, sym, ◌∙◌, map}
 use Rattle.std.specs.Prelude.{sum_by}
 use Rattle.std.proofs.lemmas.List.Sums.{sum_by-cons}
+use Rattle.ledger_model.specs.Periods.{Periods}
 use Rattle.ledger_model.specs.declared.figures.Figures.{Figures}
 use Rattle.ledger_model.specs.Figures.{no_figures}
 use Rattle.ledger_model.specs.Board.{Board, plus_figures, sum_of_figures, site_board}
@@ -25,7 +26,7 @@ figures-AreSums fs = record {
   export_down = figure_of_sum (λ f. f.export_down) refl (λ a b. refl) fs;
 }
 
-pub site-AreSums : (period : ℕ) (stations : List (List ℕ × Board)) → AreSums (site_board period stations).figures (map (λ s. s.1.figures) stations)
+pub site-AreSums : (period : Periods) (stations : List (List ℕ × Board)) → AreSums (site_board period stations).figures (map (λ s. s.1.figures) stations)
 site-AreSums period stations = figures-AreSums (map (λ s. s.1.figures) stations)
 
 -- equal in each figure

@@ -4,6 +4,7 @@ use Rattle.std.specs.Prelude.{◌&&◌, ◌==◌, count_by}
 use Rattle.std.specs.List.{filter_map, flat_map}
 use Rattle.std.proofs.Math.Path.{fun_ext}
 use Rattle.energy_flow.specs.Flow.{Energy}
+use Rattle.ledger_model.specs.Periods.{Periods}
 use Rattle.ledger_model.specs.declared.reading.Direction.{Direction}
 use Rattle.ledger_model.specs.declared.reading.Direction.TheVariants.{Import, Export}
 use Rattle.ledger_model.specs.declared.order.Order.{Order}
@@ -43,7 +44,7 @@ pairs_over rs d txs = flat_map (λ tx. followed (rs d tx)) txs
 abbrev at_evse : Readings → Direction → ℕ → List Entry → Energy
 at_evse rs d at l = energy_over (pairs_over rs d (filter (λ tx. evse tx l == at) (transactions_of l)))
 
-abbrev in_quarter : Readings → Direction → ℕ → ℕ → List Entry → Energy
+abbrev in_quarter : Readings → Direction → Periods → ℕ → List Entry → Energy
 in_quarter rs d period quarter l = energy_over (filter (λ p. quarter_of period p == quarter) (pairs_over rs d (transactions_of l)))
 
 abbrev shown_of : Readings → List Entry → List ℕ → Shown
@@ -61,7 +62,7 @@ shown_of rs l tx = record {
 }
 
 -- The board of live events with their readings, and so many voided ones.
-abbrev of_live : Readings → ℕ → ℕ → List Entry → Board
+abbrev of_live : Readings → Periods → ℕ → List Entry → Board
 of_live rs period voided l = record {
   period = period;
   figures = record {
@@ -84,11 +85,11 @@ of_live rs period voided l = record {
 abbrev readings_in : Order → List Entry → Readings
 readings_in order l d tx = in_order order (λ r. r.moment) (flat_map (λ e. toward d e.1.event.readings) (of_one tx l))
 
-pub live_alone : (order : Order) (period : ℕ) (es fs : List Entry) → live es ≡ live fs → board_by order period es ≡ record (board_by order period fs) { figures = record (figures_by order fs) { voided = (figures_by order es).voided } }
+pub live_alone : (order : Order) (period : Periods) (es fs : List Entry) → live es ≡ live fs → board_by order period es ≡ record (board_by order period fs) { figures = record (figures_by order fs) { voided = (figures_by order es).voided } }
 live_alone order period es fs e = ap (λ l. of_live (readings_in order l) period (count_by (λ x. x.1.voided) es) l) e
 
 -- Where the two orders give the same readings, they give the same board.
-pub agreeing_boards : (period : ℕ) (es : List Entry) → ((d : Direction) (tx : List ℕ) → AreInTime taken_when (readings_of d tx es)) → board_by Moment period es ≡ board_by Sequence period es
+pub agreeing_boards : (period : Periods) (es : List Entry) → ((d : Direction) (tx : List ℕ) → AreInTime taken_when (readings_of d tx es)) → board_by Moment period es ≡ board_by Sequence period es
 agreeing_boards period es in_time =
     let same : (λ d tx. readings_by Moment d tx es) ≡ (λ d tx. readings_of d tx es) = fun_ext (λ d. fun_ext (λ tx. in_time-same taken_when (readings_of d tx es) (in_time d tx))) in
     ap (λ (rs : Readings). of_live rs period (count_by (λ x. x.1.voided) es) (live es)) same

@@ -7,6 +7,7 @@ use Rattle.std.specs.declared.cmp.Ordering.TheVariants.{Less, Equal, Greater}
 use Rattle.std.specs.FinMap.Entries.{find, below_all, length-put}
 use Rattle.std.proofs.lemmas.List.{length-append}
 use Rattle.energy_flow.specs.Flow.{Energy, plus}
+use Rattle.ledger_model.specs.Periods.{Periods}
 use Rattle.ledger_model.specs.declared.reading.Direction.{Direction}
 use Rattle.ledger_model.specs.declared.command.Command.TheVariants.{Deliver, Void, Restore, Erase}
 use Rattle.ledger_model.specs.Event.{EventContent}
@@ -73,7 +74,7 @@ energy_of_more d es more front e back one =
     same_energy (plus (energy_of d e.0.tx more) (energy_over (gone_by d front e back))) (plus (energy_of d e.0.tx es) (energy_over (came_by d front e back))) (transaction_moved d (λ p. (difference p).up) es more front e back one) (transaction_moved d (λ p. (difference p).down) es more front e back one)
 
 -- A sum over the pairs of a quarter.
-quarter_sums : (d : Direction) (f : Pair → ℕ) (period q : ℕ) (es more front : List Entry) (e : Entry) (back : List Entry) → IsOneMore es more front e back
+quarter_sums : (d : Direction) (f : Pair → ℕ) (period : Periods) (q : ℕ) (es more front : List Entry) (e : Entry) (back : List Entry) → IsOneMore es more front e back
     → sum_by f (filter (λ p. quarter_of period p == q) (pairs d more)) + sum_by f (filter (λ p. quarter_of period p == q) (gone_by d front e back)) ≡ sum_by f (filter (λ p. quarter_of period p == q) (pairs d es)) + sum_by f (filter (λ p. quarter_of period p == q) (came_by d front e back))
 quarter_sums d f period q es more front e back one =
     let test = λ (p : Pair). quarter_of period p == q in
@@ -81,14 +82,14 @@ quarter_sums d f period q es more front e back one =
     omega (arith, all, passed_sum f test (pairs d more), passed_sum f test (gone_by d front e back), passed_sum f test (pairs d es), passed_sum f test (came_by d front e back))
 
 -- The energy of a quarter.
-pub energy_in_more : (d : Direction) (period q : ℕ) (es more front : List Entry) (e : Entry) (back : List Entry) → IsOneMore es more front e back
+pub energy_in_more : (d : Direction) (period : Periods) (q : ℕ) (es more front : List Entry) (e : Entry) (back : List Entry) → IsOneMore es more front e back
     → plus (energy_in d period q more) (energy_over (filter (λ p. quarter_of period p == q) (gone_by d front e back))) ≡ plus (energy_in d period q es) (energy_over (filter (λ p. quarter_of period p == q) (came_by d front e back)))
 energy_in_more d period q es more front e back one =
     let test = λ (p : Pair). quarter_of period p == q in
     same_energy (plus (energy_in d period q more) (energy_over (filter test (gone_by d front e back)))) (plus (energy_in d period q es) (energy_over (filter test (came_by d front e back)))) (quarter_sums d (λ p. (difference p).up) period q es more front e back one) (quarter_sums d (λ p. (difference p).down) period q es more front e back one)
 
 -- How many pairs a quarter has.
-pub pairs_in_more : (d : Direction) (period q : ℕ) (es more front : List Entry) (e : Entry) (back : List Entry) → IsOneMore es more front e back
+pub pairs_in_more : (d : Direction) (period : Periods) (q : ℕ) (es more front : List Entry) (e : Entry) (back : List Entry) → IsOneMore es more front e back
     → count_by (λ p. quarter_of period p == q) (pairs d more) + count_by (λ p. quarter_of period p == q) (gone_by d front e back) ≡ count_by (λ p. quarter_of period p == q) (pairs d es) + count_by (λ p. quarter_of period p == q) (came_by d front e back)
 pairs_in_more d period q es more front e back one = station_moved d (λ p. cond (quarter_of period p == q) 1 0) es more front e back one
 

@@ -5,6 +5,7 @@ use Rattle.std.proofs.lemmas.Bool.{cases_Bool, cases_eq, eq-eqb, ne_eqb}
 use Rattle.std.proofs.lemmas.Grind.{flat_map-append}
 use Rattle.std.proofs.lemmas.List.Elements.{filter-append, recursion_from_All}
 use Rattle.std.proofs.lemmas.List.Sums.{sum_by-cons}
+use Rattle.ledger_model.specs.Periods.{Periods}
 use Rattle.ledger_model.specs.declared.order.Order.TheVariants.{Moment}
 use Rattle.ledger_model.specs.declared.reading.Direction.{Direction}
 use Rattle.ledger_model.specs.declared.reading.Direction.TheVariants.{Import, Export}
@@ -15,7 +16,7 @@ use Rattle.ledger_model.specs.Event.{MeterReading, same_direction, toward}
 use Rattle.ledger_model.specs.Evse.{energy_at_by, evse_of, first_or_zero, transactions_at}
 use Rattle.ledger_model.specs.InTime.{AreInTime, in_time}
 use Rattle.ledger_model.specs.Key.{KeyName}
-use Rattle.ledger_model.specs.Quarter.{quarter_at}
+use Rattle.ledger_model.specs.Settling.{settled_at}
 use Rattle.ledger_model.specs.ReadingOrder.{taken_when, IsOneReadingMore, IsRepeat}
 use Rattle.ledger_model.proofs.EnergyLemmas.{same_energy}
 use Rattle.ledger_model.proofs.InTimeLemmas.{AreFrom, AreUpTo, IsPutIn, in_time-rises, of_moment, one_put_in, rest_from, tail_rises}
@@ -280,18 +281,18 @@ module _ (es more : List Entry) (key : KeyName) (r : MeterReading) (one : IsOneR
         (λ i. energy_over (flat_map (λ tx. pairs_by Moment d tx more) (transactions_stay i)))
         ∙ same_energy _ _ (all_stay (λ a b m. b - a) nothing d (transactions_of (live es))) (all_stay (λ a b m. a - b) nothing d (transactions_of (live es)))
 
-    in_quarter : (period q : ℕ) (f : ℕ → ℕ → ℕ) → ((v : ℕ) → f v v ≡ 0) → (d : Direction) (txs : List (List ℕ))
+    in_quarter : (period : Periods) (q : ℕ) (f : ℕ → ℕ → ℕ) → ((v : ℕ) → f v v ≡ 0) → (d : Direction) (txs : List (List ℕ))
         → sum_by (λ (p : Pair). f p.0.mwh p.1.mwh) (filter (λ p. eqb (quarter_of period p) q) (flat_map (λ tx. pairs_by Moment d tx more) txs)) ≡ sum_by (λ (p : Pair). f p.0.mwh p.1.mwh) (filter (λ p. eqb (quarter_of period p) q) (flat_map (λ tx. pairs_by Moment d tx es) txs))
     in_quarter period q f same d txs =
         passed_sum (λ (p : Pair). f p.0.mwh p.1.mwh) (λ p. eqb (quarter_of period p) q) (flat_map (λ tx. pairs_by Moment d tx more) txs)
-        ∙ all_stay (λ a b m. taken (eqb (quarter_at period m) q) (f a b)) (λ v m. ap (taken (eqb (quarter_at period m) q)) (same v) ∙ none_taken (eqb (quarter_at period m) q)) d txs
+        ∙ all_stay (λ a b m. taken (eqb (settled_at period m) q) (f a b)) (λ v m. ap (taken (eqb (settled_at period m) q)) (same v) ∙ none_taken (eqb (settled_at period m) q)) d txs
         ∙ sym (passed_sum (λ (p : Pair). f p.0.mwh p.1.mwh) (λ p. eqb (quarter_of period p) q) (flat_map (λ tx. pairs_by Moment d tx es) txs))
       where
         none_taken : (b : Bool) → taken b 0 ≡ 0
         none_taken true = refl
         none_taken false = refl
 
-    pub quarter_stays : (d : Direction) (period q : ℕ) → energy_in_by Moment d period q more ≡ energy_in_by Moment d period q es
+    pub quarter_stays : (d : Direction) (period : Periods) (q : ℕ) → energy_in_by Moment d period q more ≡ energy_in_by Moment d period q es
     quarter_stays d period q =
         (λ i. energy_over (filter (λ p. eqb (quarter_of period p) q) (flat_map (λ tx. pairs_by Moment d tx more) (transactions_stay i))))
         ∙ same_energy _ _ (in_quarter period q (λ a b. b - a) (λ v. nothing v v) d (transactions_of (live es))) (in_quarter period q (λ a b. a - b) (λ v. nothing v v) d (transactions_of (live es)))

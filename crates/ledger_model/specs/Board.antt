@@ -1,6 +1,7 @@
 use Rattle.std.specs.Prelude.{ℕ, Bool, List, [], ◌∷◌, ◌+◌, map, count_by, sum_by, length, ◌==◌, if◌then◌else◌}
 use Rattle.std.specs.List.{flat_map}
 use Rattle.energy_flow.specs.Flow.{Energy}
+use Rattle.ledger_model.specs.Periods.{Periods}
 use Rattle.ledger_model.specs.declared.reading.Direction.TheVariants.{Import, Export}
 use Rattle.ledger_model.specs.declared.figures.Figures.{Figures}
 use Rattle.ledger_model.specs.Figures.{no_figures}
@@ -87,16 +88,16 @@ shown_by order es tx = record {
   gaps = gaps (numbers_of tx es);
 }
 
--- The board of a station: its settlement period in seconds, its figures, its EVSEs and its quarters with their energies, and its transactions with a live event.
+-- The board of a station: its settlement periods, its figures, its EVSEs and its quarters with their energies, and its transactions with a live event.
 pub record Board : Type 0 where
-  pub period : ℕ
+  pub period : Periods
   pub figures : Figures
   pub evses : List Flowed
   pub quarters : List Flowed
   pub transactions : List Shown
 
--- The board of a station, the readings of each transaction in an order, by settlement periods of so many seconds.
-abbrev pub board_by : Order → ℕ → List Entry → Board
+-- The board of a station, the readings of each transaction in an order, by these settlement periods.
+abbrev pub board_by : Order → Periods → List Entry → Board
 board_by order period es = record {
   period = period;
   figures = figures_by order es;
@@ -106,7 +107,7 @@ board_by order period es = record {
 }
 
 -- The board of a station, by sequence.
-abbrev pub board : ℕ → List Entry → Board
+abbrev pub board : Periods → List Entry → Board
 board period es = board_by Sequence period es
 
 -- The energies of a quarter over lines of several stations.
@@ -114,15 +115,15 @@ abbrev pub flows_under : ℕ → List Flowed → Flows
 flows_under quarter [] = no_flows
 flows_under quarter (line ∷ lines) = if line.0 == quarter then plus_flows line.1 (flows_under quarter lines) else flows_under quarter lines
 
--- The board of a site: its settlement period in seconds, the sums of its stations' figures and of their quarters, and its stations' boards by name in the order of declaration.
+-- The board of a site: its settlement periods, the sums of its stations' figures and of their quarters, and its stations' boards by name in the order of declaration.
 pub record SiteBoard : Type 0 where
-  pub period : ℕ
+  pub period : Periods
   pub figures : Figures
   pub quarters : List Flowed
   pub stations : List (List ℕ × Board)
 
--- The board of a site of this period over these stations' boards, which are of that period.
-abbrev pub site_board : ℕ → List (List ℕ × Board) → SiteBoard
+-- The board of a site of these settlement periods over its stations' boards, which are by the same.
+abbrev pub site_board : Periods → List (List ℕ × Board) → SiteBoard
 site_board period stations =
     let lines = flat_map (λ (s : List ℕ × Board). s.1.quarters) stations in
     record {

@@ -4,7 +4,12 @@ use Rattle.ledger_model.specs.declared.kind.Kind.{Kind}
 use Rattle.ledger_model.specs.declared.kind.Kind.TheVariants.{Started, Updated, Ended}
 use Rattle.ledger_model.specs.declared.reading.Direction.TheVariants.{Import, Export}
 use Rattle.ledger_model.specs.declared.figures.Figures.{Figures}
+use Rattle.ledger_model.specs.Periods.{Periods}
+use Rattle.ledger_model.specs.declared.settle.Settle.TheVariants.{Closing}
 use Rattle.ledger_model.specs.Event.{MeterReading}
+use Rattle.ledger_model.specs.Moment.{first_moment}
+use Rattle.ledger_model.specs.Quarter.{default_period}
+use Rattle.ledger_model.specs.Settling.{default_periods}
 use Rattle.ledger_model.specs.Content.{Entry}
 use Rattle.ledger_model.specs.Energy.{Flows, flows_toward}
 use Rattle.ledger_model.specs.Board.{Board, Flowed, SiteBoard}
@@ -51,7 +56,7 @@ first_run = metered Started 0 0 1_000 ∷ metered Updated 2 31 1_600 ∷ []
 
 abbrev pub first_run_board : Board
 first_run_board = record {
-  period = 900;
+  period = default_periods;
   figures = record { events = 2; voided = 0; transactions = 1; complete = 0; missing = 1; up = 600_000; down = 0; export_up = 0; export_down = 0 };
   evses = (0, took 600_000) ∷ [];
   quarters = (ten + 2, took 600_000) ∷ [];
@@ -60,7 +65,7 @@ first_run_board = record {
 
 -- The board of a site that has this station alone.
 abbrev pub first_run_site : SiteBoard
-first_run_site = record { period = 900; figures = first_run_board.figures; quarters = first_run_board.quarters; stations = (codes "A", first_run_board) ∷ [] }
+first_run_site = record { period = default_periods; figures = first_run_board.figures; quarters = first_run_board.quarters; stations = (codes "A", first_run_board) ∷ [] }
 
 -- Then the one between them.
 abbrev pub late_event : List Entry
@@ -68,7 +73,7 @@ late_event = metered Started 0 0 1_000 ∷ metered Updated 1 14 1_200 ∷ metere
 
 abbrev pub late_event_board : Board
 late_event_board = record {
-  period = 900;
+  period = default_periods;
   figures = record { events = 3; voided = 0; transactions = 1; complete = 0; missing = 0; up = 600_000; down = 0; export_up = 0; export_down = 0 };
   evses = (0, took 600_000) ∷ [];
   quarters = (ten, took 200_000) ∷ (ten + 2, took 400_000) ∷ [];
@@ -85,6 +90,18 @@ void_and_restore_board = record first_run_board { figures = record { events = 2;
 -- A later reading at the very beginning of a quarter.
 abbrev pub quarter_boundary : List Entry
 quarter_boundary = metered Started 0 0 1_000 ∷ metered Updated 1 15 1_100 ∷ []
+
+-- Settlement periods of 900 seconds, of which each later reading closes one.
+abbrev pub closing_periods : Periods
+closing_periods = record { length = default_period; rule = Closing }
+
+-- Readings at the beginnings of quarters.
+abbrev pub quarter_closed : List Entry
+quarter_closed = metered Started 0 0 1_000 ∷ metered Updated 1 15 1_400 ∷ metered Updated 2 30 1_600 ∷ metered Ended 3 40 1_700 ∷ []
+
+-- Two readings at the first moment there is, which begins the quarter 1,051,872.
+abbrev pub at_first_moment : List Entry
+at_first_moment = told Updated 0 0 None (record (reading 0 1_000) { moment = first_moment } ∷ record (reading 0 1_400) { moment = first_moment } ∷ []) ∷ []
 
 -- An end that tells all readings again.
 abbrev pub readings_again_at_end : List Entry

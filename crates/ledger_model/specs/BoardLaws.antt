@@ -1,6 +1,7 @@
 use Rattle.std.specs.Prelude.{ℕ, List, [], ◌∷◌, ◌++◌, ◌≡◌, ◌≢◌, ◌<◌, ◌≤◌, ◌+◌, ◌-◌, ◌⊎◌, Some, length, map, sum_by}
 use Rattle.std.specs.List.{flat_map, slice_get}
 use Rattle.energy_flow.specs.Flow.{Energy, no_energy, plus}
+use Rattle.ledger_model.specs.Periods.{Periods}
 use Rattle.ledger_model.specs.declared.figures.Figures.{Figures}
 use Rattle.ledger_model.specs.declared.kind.Kind.{Kind}
 use Rattle.ledger_model.specs.declared.kind.Kind.TheVariants.{Started, Ended}
@@ -63,11 +64,11 @@ abbrev pub pairs_of_both : Order → List Entry → List Pair
 pairs_of_both order es = all_pairs_by order Import es ++ all_pairs_by order Export es
 
 -- The quarters of several stations' boards, one behind the other.
-abbrev pub quarters_over : Order → ℕ → List (List Entry) → List Flowed
+abbrev pub quarters_over : Order → Periods → List (List Entry) → List Flowed
 quarters_over order period stations = flat_map (λ es. (board_by order period es).quarters) stations
 
 -- The energies of several stations in a quarter, added up in each direction.
-abbrev pub flows_over : Order → ℕ → ℕ → List (List Entry) → Flows
+abbrev pub flows_over : Order → Periods → ℕ → List (List Entry) → Flows
 flows_over order period quarter stations = record {
   flow = sum_of_energies (map (energy_in_by order Import period quarter) stations);
   export = sum_of_energies (map (energy_in_by order Export period quarter) stations);

@@ -2,6 +2,7 @@
 use Rattle.std.specs.Prelude.{◌≡◌, ℕ, ◌+◌, ◌≤◌, ◌==◌, true, false, if◌then◌else◌, List, ◌++◌, None, Some, count_by, filter, length, sum_by}
 use Rattle.std.specs.FinMap.{find}
 use Rattle.energy_flow.specs.Flow.{plus}
+use Rattle.ledger_model.specs.Periods.{Periods}
 use Rattle.ledger_model.specs.declared.command.Command.TheVariants.{Deliver, Void, Restore}
 use Rattle.ledger_model.specs.declared.order.Order.{Order}
 use Rattle.ledger_model.specs.declared.reading.Direction.{Direction}
@@ -58,21 +59,21 @@ pub record PairsMove (d : Direction) (es more front : List Entry) (e : Entry) (b
   pub more_kept : (f : Pair → ℕ) → sum_by f (pairs d more) ≡ sum_by f (came_by d front e back ++ kept_by d es front e back)
 
 -- Those of these pairs that are of a quarter.
-abbrev pub pairs_in : ℕ → ℕ → List Pair → List Pair
+abbrev pub pairs_in : Periods → ℕ → List Pair → List Pair
 pairs_in period quarter ps = filter (λ p. quarter_of period p == quarter) ps
 
 -- How many of these pairs are of a quarter.
-abbrev pub count_in : ℕ → ℕ → List Pair → ℕ
+abbrev pub count_in : Periods → ℕ → List Pair → ℕ
 count_in period quarter ps = count_by (λ p. quarter_of period p == quarter) ps
 
 -- With one live event more, the energies in a direction of the station, of the event's transaction and of each quarter lose the pair that goes and gain those that come, and so does the number of a quarter's pairs. The transaction's energy is taken from the EVSE where it was and brought to the one where it is.
 pub record EnergiesMove (d : Direction) (es more front : List Entry) (e : Entry) (back : List Entry) : Type 0 where
   pub station : plus (energy d more) (energy_over (gone_by d front e back)) ≡ plus (energy d es) (energy_over (came_by d front e back))
   pub transaction : plus (energy_of d e.0.tx more) (energy_over (gone_by d front e back)) ≡ plus (energy_of d e.0.tx es) (energy_over (came_by d front e back))
-  pub quarter : (period q : ℕ)
+  pub quarter : (period : Periods) (q : ℕ)
       → plus (energy_in d period q more) (energy_over (pairs_in period q (gone_by d front e back)))
       ≡ plus (energy_in d period q es) (energy_over (pairs_in period q (came_by d front e back)))
-  pub quarter_pairs : (period q : ℕ)
+  pub quarter_pairs : (period : Periods) (q : ℕ)
       → count_in period q (pairs d more) + count_in period q (gone_by d front e back)
       ≡ count_in period q (pairs d es) + count_in period q (came_by d front e back)
   pub evse : (order : Order) (evse : ℕ)

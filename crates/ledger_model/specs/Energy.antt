@@ -1,13 +1,14 @@
 use Rattle.std.specs.Prelude.{ℕ, List, [], ◌∷◌, ◌++◌, ◌==◌, nat_lt, if◌then◌else◌, map, filter, sum_by, drop}
 use Rattle.std.specs.List.{flat_map, zip}
 use Rattle.energy_flow.specs.Flow.{Energy, difference_of, minus, no_energy, plus}
+use Rattle.ledger_model.specs.Periods.{Periods}
 use Rattle.ledger_model.specs.declared.reading.Direction.{Direction}
 use Rattle.ledger_model.specs.declared.reading.Direction.TheVariants.{Import, Export}
 use Rattle.ledger_model.specs.declared.order.Order.{Order}
 use Rattle.ledger_model.specs.declared.order.Order.TheVariants.{Sequence}
 use Rattle.ledger_model.specs.Event.{MeterReading, toward}
 use Rattle.ledger_model.specs.InTime.{in_order}
-use Rattle.ledger_model.specs.Quarter.{quarter_at}
+use Rattle.ledger_model.specs.Settling.{settled_at}
 use Rattle.ledger_model.specs.Content.{Entry, live, live_of, transactions_of}
 
 -- The readings of a transaction in one direction, by sequence: of each live event in the order of its number, its readings of that direction in their order.
@@ -66,16 +67,16 @@ energy_by order d es = energy_over (all_pairs_by order d es)
 abbrev pub energy : Direction → List Entry → Energy
 energy d es = energy_by Sequence d es
 
--- The quarter of a pair, by settlement periods of so many seconds: that of its later reading.
-abbrev pub quarter_of : ℕ → Pair → ℕ
-quarter_of period p = quarter_at period p.1.moment
+-- The quarter of a pair, by the settlement periods of a site: the one that its rule finds by the later reading.
+abbrev pub quarter_of : Periods → Pair → ℕ
+quarter_of period p = settled_at period p.1.moment
 
 -- The energy of a quarter of a station in one direction, the readings of each transaction in an order.
-abbrev pub energy_in_by : Order → Direction → ℕ → ℕ → List Entry → Energy
+abbrev pub energy_in_by : Order → Direction → Periods → ℕ → List Entry → Energy
 energy_in_by order d period quarter es = energy_over (filter (λ p. quarter_of period p == quarter) (all_pairs_by order d es))
 
 -- The energy of a quarter of a station in one direction, by sequence.
-abbrev pub energy_in : Direction → ℕ → ℕ → List Entry → Energy
+abbrev pub energy_in : Direction → Periods → ℕ → List Entry → Energy
 energy_in d period quarter es = energy_in_by Sequence d period quarter es
 
 -- The energies of both directions.
@@ -101,7 +102,7 @@ abbrev pub minus_flows : Flows → Flows → Flows
 minus_flows a b = record { flow = minus a.flow b.flow; export = minus a.export b.export }
 
 -- The energies of a quarter of a station, in an order.
-abbrev pub flows_in_by : Order → ℕ → ℕ → List Entry → Flows
+abbrev pub flows_in_by : Order → Periods → ℕ → List Entry → Flows
 flows_in_by order period quarter es = record { flow = energy_in_by order Import period quarter es; export = energy_in_by order Export period quarter es }
 
 -- A number put into a rising list, where it does not stand in it already.
@@ -115,5 +116,5 @@ rising [] = []
 rising (n ∷ ns) = put_in n (rising ns)
 
 -- The quarters of a station that are shown, its readings in an order: each that has a pair of either direction, even one of difference zero.
-abbrev pub quarters_by : Order → ℕ → List Entry → List ℕ
+abbrev pub quarters_by : Order → Periods → List Entry → List ℕ
 quarters_by order period es = rising (map (quarter_of period) (all_pairs_by order Import es ++ all_pairs_by order Export es))

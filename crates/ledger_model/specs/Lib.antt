@@ -1,6 +1,8 @@
 pub mod Ranges
 pub mod Moment
 pub mod Quarter
+pub mod Periods
+pub mod Settling
 pub mod TxId
 pub mod Name
 pub mod Key

@@ -1,6 +1,7 @@
 -- What one event, or one reading, more changes in either order, law by law.
 use Rattle.std.specs.Prelude.{◌≡◌, ℕ, ◌+◌, ◌*◌, ◌≤◌, false, not, List, filter, length, sum_by}
 use Rattle.std.specs.Str.{bytes_eq}
+use Rattle.ledger_model.specs.Periods.{Periods}
 use Rattle.ledger_model.specs.declared.order.Order.{Order}
 use Rattle.ledger_model.specs.declared.order.Order.TheVariants.{Moment}
 use Rattle.ledger_model.specs.declared.reading.Direction.{Direction}
@@ -15,7 +16,7 @@ use Rattle.ledger_model.specs.ReadingOrder.{is_own, numbered_by, pairs_across, p
 pub record HaveSameEnergies (d : Direction) (es more : List Entry) : Type 0 where
   pub transaction : (tx : List ℕ) → energy_of_by Moment d tx more ≡ energy_of_by Moment d tx es
   pub evse : (evse : ℕ) → energy_at_by Moment d evse more ≡ energy_at_by Moment d evse es
-  pub quarter : (period q : ℕ) → energy_in_by Moment d period q more ≡ energy_in_by Moment d period q es
+  pub quarter : (period : Periods) (q : ℕ) → energy_in_by Moment d period q more ≡ energy_in_by Moment d period q es
   pub station : energy_by Moment d more ≡ energy_by Moment d es
 
 -- The second entries have one live event more, in the place of its key.

@@ -32,7 +32,9 @@ mod moment;
 mod name;
 mod order;
 mod period;
+mod periods;
 mod reading;
+mod settle;
 mod tx_id;
 
 pub use answer::{Answer, Refusal};
@@ -52,5 +54,7 @@ pub use moment::{FIRST_MOMENT, FIRST_QUARTER, LAST_QUARTER, MOMENTS_END, Moment,
 pub use name::{MAX_NAME, Name};
 pub use order::Order;
 pub use period::Period;
+pub use periods::Periods;
 pub use reading::{Direction, GREATEST_READING, Reading};
+pub use settle::Settle;
 pub use tx_id::{MAX_TX_ID, TxId};

@@ -2,6 +2,7 @@
 use Rattle.std.proofs.Common.{◌≡◌, ℕ, ◌≤◌, ◌&&◌, Bool, true, false, cond, List, [], ◌∷◌, ◌++◌, Option, None, Some, map, length, drop, slice_index_or, refl, ap, sym, subst, ◌∙◌, bytes_eq, arith, Bor}
 use Rattle.std.specs.List.{position}
 use Rattle.ledger_model.specs.declared.order.Order.{Order}
+use Rattle.ledger_model.specs.Periods.{Periods}
 use Rattle.ledger_model.specs.Limits.{Bounds}
 use Rattle.ledger_model.specs.Name.{is_name}
 use Rattle.site_desk.specs.declared.plan.SitePlan.{SitePlan}
@@ -26,7 +27,7 @@ names_of word site station e = at (is_name (site_of word) && is_name (station_of
     at false g = cc g
 
 -- a word that is one too many
-pub one_too_many : (viewers period : ℕ) (order : Order) (limits : Bounds) (words : List (Bor (List ℕ))) (d : Bor (List ℕ)) (sites : List SitePlan) (stations : List StationPlan) (site station : List ℕ) → 1 ≤ length words
+pub one_too_many : (viewers : ℕ) (period : Periods) (order : Order) (limits : Bounds) (words : List (Bor (List ℕ))) (d : Bor (List ℕ)) (sites : List SitePlan) (stations : List StationPlan) (site station : List ℕ) → 1 ≤ length words
     → station_word (slice_index_or words 0 d).now ≡ Some (site, station) → is_past (position (λ s. bytes_eq site s.name) sites) sites stations limits ≡ true
     → declared_by viewers period order limits (map (λ w. w.now) words) sites stations ≡ (Some (slice_index_or words 0 d).now, (sites, stations))
 one_too_many viewers period order limits [] d sites stations site station some e past = absurd (omega (arith, some))
@@ -35,7 +36,7 @@ one_too_many viewers period order limits (w ∷ words) d sites stations site sta
     (ap (λ n. is_past (position (λ s. bytes_eq n s.name) sites) sites stations limits) (names_of w.now site station e).0 ∙ past)
 
 -- a word that is declared, and those behind it
-pub one_declared : (viewers period : ℕ) (order : Order) (limits : Bounds) (words rest : List (Bor (List ℕ))) (d : Bor (List ℕ)) (sites new_sites : List SitePlan) (stations new_stations : List StationPlan) (site station : List ℕ)
+pub one_declared : (viewers : ℕ) (period : Periods) (order : Order) (limits : Bounds) (words rest : List (Bor (List ℕ))) (d : Bor (List ℕ)) (sites new_sites : List SitePlan) (stations new_stations : List StationPlan) (site station : List ℕ)
     (end : Option (List ℕ) × (List SitePlan × List StationPlan)) → 1 ≤ length words → rest ≡ drop 1 words
     → station_word (slice_index_or words 0 d).now ≡ Some (site, station) → is_past (position (λ s. bytes_eq site s.name) sites) sites stations limits ≡ false
     → new_sites ≡ sites_with (position (λ s. bytes_eq site s.name) sites) site viewers period order sites

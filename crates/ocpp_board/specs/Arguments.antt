@@ -13,9 +13,12 @@ use Rattle.journal_server.specs.declared.serve.Journalling.{Journalling}
 use Rattle.live_server.specs.declared.service.Live.{Live}
 use Rattle.ledger_model.specs.declared.order.Order.{Order}
 use Rattle.ledger_model.specs.declared.order.Order.TheVariants.{Sequence}
+use Rattle.ledger_model.specs.Periods.{Periods}
+use Rattle.ledger_model.specs.declared.settle.Settle.{Settle}
+use Rattle.ledger_model.specs.declared.settle.Settle.TheVariants.{Later}
 use Rattle.ledger_model.specs.Quarter.{IsPeriod, default_period}
 use Rattle.ledger_model.specs.Limits.{Bounds}
-use Rattle.script_lines.specs.LineMeaning.{order_word}
+use Rattle.script_lines.specs.LineMeaning.{order_word, settle_word}
 use Rattle.ocpp_board.specs.LimitWords.{AsksLimits}
 use Rattle.ocpp_board.specs.StationWords.{AnswersWords}
 use Rattle.ocpp_board.specs.declared.station_words.WordFault.{WordFault}
@@ -83,11 +86,21 @@ pub record AsksService (found : Found) (service : Service) : Type 0 where
   pub connections : GivesWithin found (codes "connections") 8 1 1 64 service.connections
   pub watch : Gives found (codes "watch") 16 0 service.glances
 
--- The settlement period of all sites of a server: that of its option, where it is one.
-pub record AsksPeriod (found : Found) (period : ℕ) : Type 0 where
+-- The rule of settling that a word asks for: the one that it names, and by the later reading where it names none or there is no word.
+abbrev pub asked_rule : Option (List ℕ) → Settle
+asked_rule None = Later
+asked_rule (Some word) = unwrap_or (settle_word word) Later
+
+-- The length of the settlement periods of all sites of a server: that of its option, where it is one.
+pub record AsksLength (found : Found) (seconds : ℕ) : Type 0 where
   pub given : ℕ
   pub gives : Gives found (codes "period") 16 default_period given
-  pub within : IsPeriod given → period ≡ given
+  pub within : IsPeriod given → seconds ≡ given
+
+-- The settlement periods of all sites of a server: of that length, and by the rule of its option's word.
+pub record AsksPeriod (found : Found) (period : Periods) : Type 0 where
+  pub length : AsksLength found period.length
+  pub rule : period.rule ≡ asked_rule (first_value found (codes "settle"))
 
 -- The order of readings that a word asks for: the one that it names, and by sequence where it names none or there is no word.
 abbrev pub asked_order : Option (List ℕ) → Order
@@ -106,10 +119,10 @@ option_words found option = option_map raw_values (matched_of found option)
 abbrev pub station_words : Found → List (List ℕ)
 station_words found = unwrap_or (option_words found (codes "stations")) []
 
--- The plan under these limits is that of the words, in which each site has the settlement period and the order of readings that are asked for, and a viewer where its totals are watched; where words state no limits, that is told.
+-- The plan under these limits is that of the words, in which each site has the settlement periods and the order of readings that are asked for, and a viewer where its totals are watched; where words state no limits, that is told.
 abbrev pub AsksStations : Found → ℕ → Option Bounds → Result Plan WordFault → Type 0
 AsksStations found glances None plan = plan ≡ Err BadLimits
-AsksStations found glances (Some limits) plan = (period : ℕ) × (AsksPeriod found period × ((order : Order) × (AsksOrder found order × AnswersWords plan (if nat_lt 0 glances then 1 else 0) period order limits (station_words found))))
+AsksStations found glances (Some limits) plan = (period : Periods) × (AsksPeriod found period × ((order : Order) × (AsksOrder found order × AnswersWords plan (if nat_lt 0 glances then 1 else 0) period order limits (station_words found))))
 
 -- The plan of a server is that of its words, under the limits that are asked for.
 abbrev pub AsksPlan : Found → ℕ → Result Plan WordFault → Type 0

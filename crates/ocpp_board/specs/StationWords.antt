@@ -4,6 +4,7 @@ use Rattle.std.specs.List.{before_first, after_first, find, position}
 use Rattle.std.specs.Str.{bytes_eq}
 use Rattle.std.specs.declared.result.Result.{Result}
 use Rattle.std.specs.declared.result.Result.TheVariants.{Ok, Err}
+use Rattle.ledger_model.specs.Periods.{Periods}
 use Rattle.ledger_model.specs.declared.order.Order.{Order}
 use Rattle.ledger_model.specs.Limits.{Bounds}
 use Rattle.ledger_model.specs.Name.{is_name}
@@ -38,7 +39,7 @@ abbrev pub new_station : Bounds → List SitePlan → List ℕ → StationPlan
 new_station limits sites word = record { site = site_number (found_site word sites) sites; name = station_of word; limits = limits }
 
 -- the words declare their stations under these limits, in their order, each site with so many viewers, this settlement period and this order of readings where it is mentioned first, up to the first that is one too many: that word, and the plan up to it
-abbrev pub declared_by : ℕ → ℕ → Order → Bounds → List (List ℕ) → List SitePlan → List StationPlan → Option (List ℕ) × (List SitePlan × List StationPlan)
+abbrev pub declared_by : ℕ → Periods → Order → Bounds → List (List ℕ) → List SitePlan → List StationPlan → Option (List ℕ) × (List SitePlan × List StationPlan)
 declared_by viewers period order limits [] sites stations = (None, (sites, stations))
 declared_by viewers period order limits (word ∷ words) sites stations =
     if is_too_many limits sites stations word
@@ -50,7 +51,7 @@ abbrev pub first_bad : List (List ℕ) → Option (List ℕ)
 first_bad words = find (λ w. is_none (station_word w)) words
 
 -- Words make the plan that they declare under these limits; else the first word that names no station is told, or, where all do, the first that is one too many.
-abbrev pub AnswersWords : Result Plan WordFault → ℕ → ℕ → Order → Bounds → List (List ℕ) → Type 0
+abbrev pub AnswersWords : Result Plan WordFault → ℕ → Periods → Order → Bounds → List (List ℕ) → Type 0
 AnswersWords (Ok plan) viewers period order limits words = (first_bad words ≡ None) × (declared_by viewers period order limits words [] [] ≡ (None, (plan.sites.items, plan.stations.items)))
 AnswersWords (Err BadLimits) viewers period order limits words = ⊥
 AnswersWords (Err (BadStation word)) viewers period order limits words = first_bad words ≡ Some word.now

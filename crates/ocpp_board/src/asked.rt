@@ -1,15 +1,15 @@
 //! What the options of a command ask for.
 ghost use Rattle.std.specs.Prelude.{◌≡◌, ◌≤◌, codes, option_map, true};
 ghost use Rattle.clap.specs.Matches.{found_of};
-ghost use Rattle.ocpp_board.specs.Arguments.{AsksLive, AsksOrder, AsksPeriod, AsksPlan, AsksServe, AsksService, AsksSimulate, IsAskable, IsFlag, asked_order, is_live};
+ghost use Rattle.ocpp_board.specs.Arguments.{AsksLength, AsksLive, AsksOrder, AsksPeriod, AsksPlan, AsksServe, AsksService, AsksSimulate, IsAskable, IsFlag, asked_order, asked_rule, is_live};
 
 use crate::limit_words::limits_of;
 use crate::station_words::{WordFault, plan_of};
 use clap::ArgMatches;
 use journal_server::{Journalling, MAX_CONNECTIONS, MAX_SIMULATED_EVENTS, Restoring, Service};
-use ledger_model::{MAX_STATIONS, Order, Period};
+use ledger_model::{MAX_STATIONS, Order, Period, Periods, Settle};
 use live_server::Live;
-use script_lines::order_of;
+use script_lines::{order_of, settle_of};
 use site_desk::Plan;
 
 /// How many stations a simulation may have: as many as a plan.
@@ -120,9 +120,27 @@ pub fn service_of(matches: &ArgMatches<'_>) -> Service
     }
 }
 
-/// The settlement period of all sites. It is one of the four already, which the checker sees by the match.
-pub fn period_of(matches: &ArgMatches<'_>) -> Period
+/// The settlement periods of all sites.
+pub fn period_of(matches: &ArgMatches<'_>) -> Periods
     ensures { AsksPeriod (found_of matches.now) result }
+{
+    let rule = rule_of_word(matches.get_str("settle"));
+    Periods::new(length_of(matches), rule)
+}
+
+// The rule of settling that a word asks for.
+fn rule_of_word(word: Option<&str>) -> Settle
+    ensures { result ≡ asked_rule (option_map (λ w. w.now) word.entry) }
+{
+    match word {
+        Some(word) => settle_of(word).unwrap_or(Settle::Later),
+        None => Settle::Later,
+    }
+}
+
+// The length of the settlement periods of all sites. It is one of the four already, which the checker sees by the match.
+fn length_of(matches: &ArgMatches<'_>) -> Period
+    ensures { AsksLength (found_of matches.now) result }
 {
     match matches.get_one::<u16>("period") {
         Some(seconds) => match Period::new(seconds) {

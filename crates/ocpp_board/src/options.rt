@@ -17,6 +17,9 @@ const PERIODS: [&str; 4] = ["300", "900", "1800", "3600"];
 // The orders of readings that a site may have.
 const ORDERS: [&str; 2] = ["sequence", "moment"];
 
+// The rules by which differences may count in settlement periods.
+const RULES: [&str; 2] = ["later", "closing"];
+
 // What help calls the four limits.
 const LIMITS: [&str; 4] = ["TRANSACTIONS", "EVENTS", "READINGS", "CHANGES"];
 
@@ -33,10 +36,14 @@ A script has one line for each step, and each answer is one line, or a board:
                              holds for the stations that follow; writes nothing
   station <site> <station>   declares a station; writes nothing
   period <site> <seconds>    the settlement period of the site's boards: 300, 900, 1800 or
-                             3600 seconds, 900 where none is told; writes nothing
+                             3600 seconds, 900 if there is no such line; writes nothing
   order <site> <word>        how the site takes a transaction's readings: `sequence`, by the
                              numbers of their events, or `moment`, by their own moments;
-                             `sequence` where none is told; writes nothing
+                             `sequence` if there is no such line; writes nothing
+  settle <site> <word>       in which period the difference of two readings counts: `later`, in
+                             that of the later reading, or `closing`, in the one that it closes
+                             (10:15:00 closes 10:00 to 10:15); `later` if there is no such line;
+                             writes nothing
   now <time>                 sets the moment, as 2026-03-01T10:00:00Z; writes nothing
   msg <station> <text>       an OCPP-J message of the station; writes the reply, or `silent`
   void, restore or erase, with <station> <transaction id> <seqNo>
@@ -168,6 +175,7 @@ fn with_numbers<'a>(alloc: Global, command: Command<'a>) -> Result<Command<'a>, 
     let command = with_option(command, watch_option(alloc))?;
     let command = with_option(command, period_option(alloc))?;
     let command = with_option(command, order_option(alloc))?;
+    let command = with_option(command, settle_option(alloc))?;
     with_option(command, limits_option(alloc))
 }
 
@@ -243,6 +251,14 @@ fn order_option<'a>(alloc: Global) -> Arg<'a>
     option(alloc, "order", "WORD", "sequence", help).value_parser(ORDERS.as_slice())
 }
 
+fn settle_option<'a>(alloc: Global) -> Arg<'a>
+    ensures { IsOption result }
+{
+    let help =
+        "In which period of all sites a difference counts: that of its later reading, or the one that this reading closes";
+    option(alloc, "settle", "WORD", "later", help).value_parser(RULES.as_slice())
+}
+
 fn limits_option<'a>(alloc: Global) -> Arg<'a>
     ensures { IsOption result }
 {
@@ -300,6 +316,7 @@ fn restore_option<'a>(alloc: Global) -> Result<Arg<'a>, AllocError>
         .conflicts_with("stations")?
         .conflicts_with("period")?
         .conflicts_with("order")?
+        .conflicts_with("settle")?
         .conflicts_with("limits")?
         .requires_arg("live")
 }

@@ -2,7 +2,7 @@
 ghost use Rattle.std.specs.Prelude.{◌≡◌, None, map, option_map};
 ghost use Rattle.ocpp_board.specs.StationWords.{declared_by, first_bad, station_word, AnswersWords};
 
-use ledger_model::{Limits, Name, Order, Period};
+use ledger_model::{Limits, Name, Order, Periods};
 use site_desk::Plan;
 use std::fmt;
 use std::fmt::{Display, Formatter};
@@ -29,12 +29,12 @@ impl Display for WordFault<'_> {
 }
 
 /// The plan of the stations that these words name, in their order, under these limits. A site begins at its first
-/// mention, and has so many viewers, this settlement period and this order of readings. Names of stations that stand
+/// mention, and has so many viewers, these settlement periods and this order of readings. Names of stations that stand
 /// twice are left to the desk to refuse.
 pub fn plan_of<'a>(
     words: &[&'a str],
     viewers: u16,
-    period: Period,
+    period: Periods,
     order: Order,
     limits: Limits,
 ) -> Result<Plan, WordFault<'a>>
@@ -68,7 +68,7 @@ fn declare_words<'a>(
     plan: &mut Plan,
     words: &[&'a str],
     viewers: u16,
-    period: Period,
+    period: Periods,
     order: Order,
     limits: Limits,
 ) -> Option<&'a str>

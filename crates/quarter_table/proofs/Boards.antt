@@ -5,6 +5,7 @@ use Rattle.std.proofs.lemmas.List.{map-append}
 use Rattle.std.proofs.lemmas.List.Elements.{filter-append}
 use Rattle.std.proofs.lemmas.List.Sums.{sum_by-append}
 use Rattle.std.proofs.Math.Path.{fun_ext}
+use Rattle.ledger_model.specs.Periods.{Periods}
 use Rattle.ledger_model.specs.declared.order.Order.{Order}
 use Rattle.ledger_model.specs.declared.reading.Direction.{Direction}
 use Rattle.ledger_model.specs.declared.reading.Direction.TheVariants.{Import, Export}
@@ -20,7 +21,7 @@ map_map f g [] = refl
 map_map f g (x ∷ xs) = ap (λ ys. f (g x) ∷ ys) (map_map f g xs)
 
 -- What the pairs of a quarter in one direction add up to, by a measure of what they show.
-quarter_sum : (measure : Flows → ℕ) (period : ℕ) (d : Direction) (q : ℕ) (ps : List Pair)
+quarter_sum : (measure : Flows → ℕ) (period : Periods) (d : Direction) (q : ℕ) (ps : List Pair)
     → sum_by (λ f. measure f.1) (filter (λ f. f.0 == q) (flows_of period d ps)) ≡ sum_by (λ p. measure (flows_toward d (difference p))) (filter (λ p. quarter_of period p == q) ps)
 quarter_sum measure period d q ps =
     passed_sum (λ (f : Flowed). measure f.1) (λ f. f.0 == q) (flows_of period d ps)
@@ -28,11 +29,11 @@ quarter_sum measure period d q ps =
     ∙ sym (passed_sum (λ p. measure (flows_toward d (difference p))) (λ p. quarter_of period p == q) ps)
 
 -- The pairs of a quarter in one direction.
-abbrev of_quarter : Order → ℕ → ℕ → Direction → List Entry → List Pair
+abbrev of_quarter : Order → Periods → ℕ → Direction → List Entry → List Pair
 of_quarter order period q d es = filter (λ p. quarter_of period p == q) (all_pairs_by order d es)
 
 -- The same of both directions: each adds up by itself.
-part_sum : (order : Order) (measure : Flows → ℕ) (period q : ℕ) (es : List Entry) → sum_by (λ f. measure f.1) (filter (λ f. f.0 == q) (station_flows_by order period es))
+part_sum : (order : Order) (measure : Flows → ℕ) (period : Periods) (q : ℕ) (es : List Entry) → sum_by (λ f. measure f.1) (filter (λ f. f.0 == q) (station_flows_by order period es))
     ≡ sum_by (λ p. measure (flows_toward Import (difference p))) (of_quarter order period q Import es) + sum_by (λ p. measure (flows_toward Export (difference p))) (of_quarter order period q Export es)
 part_sum order measure period q es =
     let a = flows_of period Import (all_pairs_by order Import es) in let b = flows_of period Export (all_pairs_by order Export es) in
@@ -45,7 +46,7 @@ abbrev line : ℕ → Flows → Flowed
 line q flows = (q, flows)
 
 -- The sums over a quarter's pairs are the energies of the quarter: pairs of one direction count nothing in the other.
-quarter_flows : (order : Order) (period : ℕ) (es : List Entry) (q : ℕ) → total (filter (λ f. f.0 == q) (station_flows_by order period es)) ≡ flows_in_by order period q es
+quarter_flows : (order : Order) (period : Periods) (es : List Entry) (q : ℕ) → total (filter (λ f. f.0 == q) (station_flows_by order period es)) ≡ flows_in_by order period q es
 quarter_flows order period es q =
     let own = filter (λ f. f.0 == q) (station_flows_by order period es) in
     let none_in = sum_by-none (of_quarter order period q Import es) in let none_out = sum_by-none (of_quarter order period q Export es) in
@@ -56,14 +57,14 @@ quarter_flows order period es q =
     λ i. record { flow = record { up = up i; down = down i }; export = record { up = export_up i; down = export_down i } }
 
 -- The quarters of a station's pairs, of both directions.
-quarters_of : (order : Order) (period : ℕ) (es : List Entry) → map (λ f. f.0) (station_flows_by order period es) ≡ map (quarter_of period) (all_pairs_by order Import es ++ all_pairs_by order Export es)
+quarters_of : (order : Order) (period : Periods) (es : List Entry) → map (λ f. f.0) (station_flows_by order period es) ≡ map (quarter_of period) (all_pairs_by order Import es ++ all_pairs_by order Export es)
 quarters_of order period es =
     map-append (λ (f : Flowed). f.0) (flows_of period Import (all_pairs_by order Import es)) (flows_of period Export (all_pairs_by order Export es))
     ∙ (λ i. map_map (λ (f : Flowed). f.0) (λ p. line (quarter_of period p) (flows_toward Import (difference p))) (all_pairs_by order Import es) i ++ map_map (λ (f : Flowed). f.0) (λ p. line (quarter_of period p) (flows_toward Export (difference p))) (all_pairs_by order Export es) i)
     ∙ sym (map-append (quarter_of period) (all_pairs_by order Import es) (all_pairs_by order Export es))
 
 -- The rows of a station's pairs are the quarters of its board.
-pub lines_of_station : (order : Order) (period : ℕ) (es : List Entry) → map line_of (rows_of (station_flows_by order period es)) ≡ (board_by order period es).quarters
+pub lines_of_station : (order : Order) (period : Periods) (es : List Entry) → map line_of (rows_of (station_flows_by order period es)) ≡ (board_by order period es).quarters
 lines_of_station order period es =
     let fs = station_flows_by order period es in
     map_map line_of (λ q. row_of q fs) (rising (map (λ f. f.0) fs))

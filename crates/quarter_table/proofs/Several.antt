@@ -2,6 +2,7 @@
 use Rattle.std.proofs.Common.{◌≡◌, ℕ, ◌+◌, List, [], ◌∷◌, ◌++◌, refl, sym, ap, ◌∙◌, arith}
 use Rattle.std.specs.List.{sum_by}
 use Rattle.std.proofs.lemmas.List.Sums.{sum_by-append}
+use Rattle.ledger_model.specs.Periods.{Periods}
 use Rattle.ledger_model.specs.declared.reading.Direction.{Direction}
 use Rattle.ledger_model.specs.declared.reading.Direction.TheVariants.{Import, Export}
 use Rattle.ledger_model.specs.Board.{Flowed}
@@ -23,7 +24,7 @@ made_without [] gs = refl
 made_without (f ∷ fs) gs = ap (rows_without fs) (made_removed [] f.0 f.1 (fs ++ gs)) ∙ made_without fs gs
 
 -- Pairs of one direction that add up as two lists do.
-pub one_side : (period : ℕ) (d : Direction) (all some rest : List Pair) → ((f : Pair → ℕ) → sum_by f all ≡ sum_by f (some ++ rest))
+pub one_side : (period : Periods) (d : Direction) (all some rest : List Pair) → ((f : Pair → ℕ) → sum_by f all ≡ sum_by f (some ++ rest))
     → (measure : Flowed → ℕ) → sum_by measure (flows_of period d all) ≡ sum_by measure (flows_of period d some) + sum_by measure (flows_of period d rest)
 one_side period d all some rest same measure =
     let shown : Pair → Flowed = λ p. (quarter_of period p, flows_toward d (difference p)) in
@@ -37,11 +38,11 @@ both_sides measure all some rest others few more one other =
     omega (arith, one, other, sum_by-append measure all others, sum_by-append measure (some ++ few) (rest ++ more), sum_by-append measure some few, sum_by-append measure rest more)
 
 -- The pairs that an event leaves, of both directions.
-abbrev kept_flows : ℕ → List Entry → List Entry → Entry → List Entry → List Flowed
+abbrev kept_flows : Periods → List Entry → List Entry → Entry → List Entry → List Flowed
 kept_flows period es front e back = flows_of period Import (kept_by Import es front e back) ++ flows_of period Export (kept_by Export es front e back)
 
 -- The rows of a station's pairs without an event: those that it takes away, and those that it leaves.
-pub rows_less : (period : ℕ) (es more front : List Entry) (e : Entry) (back : List Entry) → IsOneMore es more front e back
+pub rows_less : (period : Periods) (es more front : List Entry) (e : Entry) (back : List Entry) → IsOneMore es more front e back
     → rows_of (station_flows period es) ≡ rows_of (gone_flows period front e back ++ kept_flows period es front e back)
 rows_less period es more front e back one =
     let side = λ (d : Direction). one_side period d (pairs d es) (gone_by d front e back) (kept_by d es front e back) (λ f. less_kept d f es more front e back one) in
@@ -49,7 +50,7 @@ rows_less period es more front e back one =
     both_sides measure (flows_of period Import (pairs Import es)) (flows_of period Import (gone_by Import front e back)) (flows_of period Import (kept_by Import es front e back)) (flows_of period Export (pairs Export es)) (flows_of period Export (gone_by Export front e back)) (flows_of period Export (kept_by Export es front e back)) (side Import measure) (side Export measure))
 
 -- With it: those that it brings, and those that it leaves.
-pub rows_more : (period : ℕ) (es more front : List Entry) (e : Entry) (back : List Entry) → IsOneMore es more front e back
+pub rows_more : (period : Periods) (es more front : List Entry) (e : Entry) (back : List Entry) → IsOneMore es more front e back
     → rows_of (station_flows period more) ≡ rows_of (came_flows period front e back ++ kept_flows period es front e back)
 rows_more period es more front e back one =
     let side = λ (d : Direction). one_side period d (pairs d more) (came_by d front e back) (kept_by d es front e back) (λ f. more_kept d f es more front e back one) in
@@ -57,14 +58,14 @@ rows_more period es more front e back one =
     both_sides measure (flows_of period Import (pairs Import more)) (flows_of period Import (came_by Import front e back)) (flows_of period Import (kept_by Import es front e back)) (flows_of period Export (pairs Export more)) (flows_of period Export (came_by Export front e back)) (flows_of period Export (kept_by Export es front e back)) (side Import measure) (side Export measure))
 
 -- One live event more: the pairs that it takes away are taken out, and those that it brings are added.
-pub rows_event_more : (period : ℕ) (es more front : List Entry) (e : Entry) (back : List Entry) → IsOneMore es more front e back
+pub rows_event_more : (period : Periods) (es more front : List Entry) (e : Entry) (back : List Entry) → IsOneMore es more front e back
     → rows_with (came_flows period front e back) (rows_without (gone_flows period front e back) (rows_of (station_flows period es))) ≡ rows_of (station_flows period more)
 rows_event_more period es more front e back one =
     let a = gone_flows period front e back in let m = came_flows period front e back in let k = kept_flows period es front e back in
     ap (λ rows. rows_with m (rows_without a rows)) (rows_less period es more front e back one) ∙ ap (rows_with m) (made_without a k) ∙ made_with m k ∙ sym (rows_more period es more front e back one)
 
 -- One live event less: the other way round.
-pub rows_event_less : (period : ℕ) (es more front : List Entry) (e : Entry) (back : List Entry) → IsOneMore es more front e back
+pub rows_event_less : (period : Periods) (es more front : List Entry) (e : Entry) (back : List Entry) → IsOneMore es more front e back
     → rows_with (gone_flows period front e back) (rows_without (came_flows period front e back) (rows_of (station_flows period more))) ≡ rows_of (station_flows period es)
 rows_event_less period es more front e back one =
     let a = gone_flows period front e back in let m = came_flows period front e back in let k = kept_flows period es front e back in

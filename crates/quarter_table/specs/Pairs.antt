@@ -1,6 +1,7 @@
 -- The rows that pairs make.
 use Rattle.std.specs.Prelude.{◌≡◌, ◌<◌, ℕ, ◌==◌, List, [], ◌∷◌, ◌++◌, map, filter, length, sum_by}
 use Rattle.energy_flow.specs.Flow.{CanMinus}
+use Rattle.ledger_model.specs.Periods.{Periods}
 use Rattle.ledger_model.specs.declared.order.Order.{Order}
 use Rattle.ledger_model.specs.declared.order.Order.TheVariants.{Sequence}
 use Rattle.ledger_model.specs.declared.reading.Direction.{Direction}
@@ -30,23 +31,23 @@ abbrev pub rows_of : List Flowed → List QuarterRow
 rows_of flows = map (λ quarter. row_of quarter flows) (rising (map (λ f. f.0) flows))
 
 -- Pairs of readings of one direction, each by its quarter and its difference.
-abbrev pub flows_of : ℕ → Direction → List Pair → List Flowed
+abbrev pub flows_of : Periods → Direction → List Pair → List Flowed
 flows_of period d pairs = map (λ p. (quarter_of period p, flows_toward d (difference p))) pairs
 
 -- The pairs of a station, of both directions, the readings of each transaction in an order.
-abbrev pub station_flows_by : Order → ℕ → List Entry → List Flowed
+abbrev pub station_flows_by : Order → Periods → List Entry → List Flowed
 station_flows_by order period es = flows_of period Import (all_pairs_by order Import es) ++ flows_of period Export (all_pairs_by order Export es)
 
 -- The pairs of a station, of both directions, by sequence.
-abbrev pub station_flows : ℕ → List Entry → List Flowed
+abbrev pub station_flows : Periods → List Entry → List Flowed
 station_flows period es = station_flows_by Sequence period es
 
 -- The pairs that go with one live event more.
-abbrev pub gone_flows : ℕ → List Entry → Entry → List Entry → List Flowed
+abbrev pub gone_flows : Periods → List Entry → Entry → List Entry → List Flowed
 gone_flows period front e back = flows_of period Import (gone_by Import front e back) ++ flows_of period Export (gone_by Export front e back)
 
 -- The pairs that come with it.
-abbrev pub came_flows : ℕ → List Entry → Entry → List Entry → List Flowed
+abbrev pub came_flows : Periods → List Entry → Entry → List Entry → List Flowed
 came_flows period front e back = flows_of period Import (came_by Import front e back) ++ flows_of period Export (came_by Export front e back)
 
 -- What a board shows of a row.
@@ -80,7 +81,7 @@ pub record HasPair (flows : Flows) (row : QuarterRow) : Type 0 where
   pub last_export : row.pairs ≡ 1 → row.export ≡ flows.export
 
 -- With one live event more, the rows follow where the pairs that go are taken out and those that come are added; with one less, the other way round.
-pub record RowsFollow (period : ℕ) (es more front : List Entry) (e : Entry) (back : List Entry) : Type 0 where
+pub record RowsFollow (period : Periods) (es more front : List Entry) (e : Entry) (back : List Entry) : Type 0 where
   pub one_more : rows_with (came_flows period front e back) (rows_without (gone_flows period front e back) (rows_of (station_flows period es)))
       ≡ rows_of (station_flows period more)
   pub one_less : rows_with (gone_flows period front e back) (rows_without (came_flows period front e back) (rows_of (station_flows period more)))

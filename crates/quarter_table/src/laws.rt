@@ -1,6 +1,7 @@
 //! Laws of rows, each the contract of a function with nothing to do. A pair is given by its quarter
 //! and its difference in each direction.
 ghost use Rattle.std.specs.Prelude.{◌≡◌, ◌≢◌, ◌≤◌, ℕ, List, [], ◌∷◌, ◌++◌, length, map, sum_by};
+ghost use Rattle.ledger_model.specs.Periods.{Periods};
 ghost use Rattle.ledger_model.specs.declared.order.Order.{Order};
 ghost use Rattle.ledger_model.specs.Board.{Flowed, board_by};
 ghost use Rattle.ledger_model.specs.Content.{Entry};
@@ -51,10 +52,10 @@ pub fn rows_are_within_pairs()
 pub fn rows_follow_events()
     ensures several_added { (flows others : List Flowed) → rows_with flows (rows_of others) ≡ rows_of (flows ++ others) }
     ensures several_removed { (flows others : List Flowed) → rows_without flows (rows_of (flows ++ others)) ≡ rows_of others }
-    ensures events { (period : ℕ) (es more front : List Entry) (e : Entry) (back : List Entry) → IsOneMore es more front e back → RowsFollow period es more front e back }
+    ensures events { (period : Periods) (es more front : List Entry) (e : Entry) (back : List Entry) → IsOneMore es more front e back → RowsFollow period es more front e back }
 {}
 
 /// The rows of a station's pairs are the quarters of its board, in either order.
 pub fn rows_are_quarters_of_board()
-    ensures { (order : Order) (period : ℕ) (es : List Entry) → map line_of (rows_of (station_flows_by order period es)) ≡ (board_by order period es).quarters }
+    ensures { (order : Order) (period : Periods) (es : List Entry) → map line_of (rows_of (station_flows_by order period es)) ≡ (board_by order period es).quarters }
 {}

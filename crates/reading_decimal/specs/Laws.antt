@@ -1,9 +1,10 @@
 -- The laws that tie the definitions of this crate to one another.
-use Rattle.std.specs.Prelude.{◌≡◌, ◌↔◌, ℕ, ℤ, List, IsTrue, Ok}
+use Rattle.std.specs.Prelude.{◌≡◌, ◌≢◌, ◌↔◌, ℕ, ◌+◌, ◌<◌, ℤ, List, IsTrue, Ok}
 use Rattle.std.specs.Float.Numeral.{Parts}
 use Rattle.reading_decimal.specs.declared.decimal.Unit.{Unit as EnergyUnit}
-use Rattle.ledger_model.specs.Moment.{IsMoment}
-use Rattle.ledger_model.specs.Quarter.{IsPeriod, IsQuarterOf}
+use Rattle.ledger_model.specs.Moment.{IsMoment, first_moment}
+use Rattle.ledger_model.specs.Quarter.{IsPeriod, IsQuarterOf, quarter_at}
+use Rattle.ledger_model.specs.Settling.{closed_at}
 use Rattle.reading_decimal.specs.Decimal.{IsMwh, is_decimal, mwh, parts}
 use Rattle.reading_decimal.specs.Grammar.{IsNumber, frac_digits, exp_digits, is_negative_exp}
 use Rattle.reading_decimal.specs.Moment.{moment_reading}
@@ -17,6 +18,12 @@ RoundsDown = (p : Parts) (multiplier : ℤ) (unit : EnergyUnit) → IsMwh p mult
 -- for each period, and each of its quarters that moments fall into
 abbrev pub StartsQuarters : Type 0
 StartsQuarters = (period number : ℕ) → IsPeriod period → IsQuarterOf period number → IsStart period number (quarter_start period number)
+
+-- Each moment but the first closes the period before the one that it begins, where it begins one; elsewhere it closes the one that it lies in.
+pub record ClosesQuarters : Type 0 where
+  pub begins : (period moment : ℕ) → IsPeriod period → IsMoment moment → first_moment < moment → moment ≡ quarter_start period (quarter_at period moment) → closed_at period moment + 1 ≡ quarter_at period moment
+  pub within : (period moment : ℕ) → IsPeriod period → IsMoment moment → moment ≢ quarter_start period (quarter_at period moment) → closed_at period moment ≡ quarter_at period moment
+  pub first : (period : ℕ) → closed_at period first_moment ≡ quarter_at period first_moment
 
 -- for each moment
 abbrev pub ReadsBack : Type 0

@@ -1,5 +1,5 @@
 // What the definitions of this crate mean together, each as the contract of a call without a body.
-ghost use Rattle.reading_decimal.specs.Laws.{ReadsBack, ReadsNumbers, ReadsParts, RoundsDown, StartsQuarters};
+ghost use Rattle.reading_decimal.specs.Laws.{ClosesQuarters, ReadsBack, ReadsNumbers, ReadsParts, RoundsDown, StartsQuarters};
 
 /// The milliwatt-hours of a decimal are the greatest whole number that is not above its value, with
 /// both sides times the power of ten that makes them whole.
@@ -10,6 +10,13 @@ pub fn rounds_down()
 /// The start of each settlement period is a moment, falls into that period, and is the first to do so.
 pub fn starts_quarters()
     ensures { StartsQuarters }
+{}
+
+/// A moment at which a settlement period begins closes the period before; every other moment, and the first of
+/// all, closes the period that it lies in. So the two rules count a difference in two periods exactly where its
+/// later reading lies at the beginning of one.
+pub fn closes_quarters()
+    ensures { ClosesQuarters }
 {}
 
 /// The text of a moment reads back as the moment's whole second.

@@ -1,9 +1,11 @@
 // Settlement periods of moments.
-ghost use Rattle.std.specs.Prelude.{◌≡◌, ◌↔◌, IsTrue};
+ghost use Rattle.std.specs.Prelude.{◌≡◌, ◌↔◌, ◌-◌, IsTrue, max};
+ghost use Rattle.ledger_model.specs.Moment.{first_moment};
 ghost use Rattle.ledger_model.specs.Quarter.{IsQuarterOf, quarter_at};
+ghost use Rattle.ledger_model.specs.Settling.{settled_at};
 ghost use Rattle.reading_decimal.specs.Quarter.{quarter_start};
 
-use ledger_model::{FIRST_MOMENT, MOMENTS_END, Moment, Period, Quarter};
+use ledger_model::{FIRST_MOMENT, MOMENTS_END, Moment, Period, Periods, Quarter, Settle};
 
 const NANOS_PER_SECOND: u64 = 1_000_000_000;
 
@@ -15,6 +17,28 @@ pub fn quarter(moment: Moment, period: Period) -> Quarter
 {
     let number = moment.nanos() / NANOS_PER_SECOND / u64::from(period.seconds());
     Quarter::new(number as u32).unwrap()
+}
+
+/// The quarter in which a difference counts by the settlement periods of its site, its later reading taken
+/// at this moment.
+pub fn settled_quarter(moment: Moment, periods: Periods) -> Quarter
+    ensures value { result ≡ settled_at periods moment }
+    ensures own { IsQuarterOf periods.length result }
+{
+    match periods.rule() {
+        Settle::Later => quarter(moment, periods.length()),
+        Settle::Closing => quarter(moment_before(moment), periods.length()),
+    }
+}
+
+// The moment a nanosecond earlier; the first moment has none, and stands for itself.
+fn moment_before(moment: Moment) -> Moment
+    ensures { result ≡ max (moment - 1) first_moment }
+{
+    match Moment::new(moment.nanos() - 1) {
+        Some(before) => before,
+        None => Moment::first(),
+    }
 }
 
 /// Tells whether a quarter is one of this period's: whether it begins at a moment.

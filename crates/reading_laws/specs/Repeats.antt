@@ -1,6 +1,7 @@
 -- Live readings that repeat others of their transaction.
 use Rattle.std.specs.Prelude.{◌≡◌, ℕ, false, List, ◌∷◌, ◌++◌, None, All}
 use Rattle.std.specs.FinMap.{find}
+use Rattle.ledger_model.specs.Periods.{Periods}
 use Rattle.ledger_model.specs.declared.order.Order.TheVariants.{Moment}
 use Rattle.ledger_model.specs.declared.reading.Direction.{Direction}
 use Rattle.ledger_model.specs.Content.{Entry, live}
@@ -42,5 +43,5 @@ pub record AreReadingsMore (es more : List Entry) (key : KeyName) (rs : List Met
 -- The second entries have the energies by moment of the first: of each transaction and each quarter, and of the station.
 pub record HaveSameSums (d : Direction) (es more : List Entry) : Type 0 where
   pub transaction : (tx : List ℕ) → energy_of_by Moment d tx more ≡ energy_of_by Moment d tx es
-  pub quarter : (period q : ℕ) → energy_in_by Moment d period q more ≡ energy_in_by Moment d period q es
+  pub quarter : (period : Periods) (q : ℕ) → energy_in_by Moment d period q more ≡ energy_in_by Moment d period q es
   pub station : energy_by Moment d more ≡ energy_by Moment d es

@@ -20,7 +20,7 @@ use Rattle.running_desk.specs.declared.operator.Asked.TheVariants.{Figures, Impo
 use Rattle.ocppj_frame.specs.Frame.{frame}
 use Rattle.script_ledgers.specs.Script.{commanded_to, energy_answer, energy_line, export_answer, export_line, sent_to, start, total_answer}
 use Rattle.script_lines.specs.declared.script_line.LineFault.TheVariants.{BadLine, DeclaredLate, UnknownSite, UnknownStation}
-use Rattle.script_lines.specs.LineMeaning.{LineMeaning, nothing, fails, sets_limits, declares, sets_period, sets_order, tells, sends, commands, asks_energy, asks_export, asks_total, asks_board}
+use Rattle.script_lines.specs.LineMeaning.{LineMeaning, nothing, fails, sets_limits, declares, sets_period, sets_order, sets_settle, tells, sends, commands, asks_energy, asks_export, asks_total, asks_board}
 use Rattle.script_lines.specs.Texts.{answer_text, ended_line, fault_line}
 use Rattle.site_book.specs.Book.{Known}
 use Rattle.site_desk.specs.declared.plan.SitePlan.{SitePlan}
@@ -158,6 +158,7 @@ IsReply gives shows sites places (sets_limits transactions events readings chang
 IsReply gives shows sites places (declares site name) text seen = text ≡ fault_line DeclaredLate
 IsReply gives shows sites places (sets_period site seconds) text seen = text ≡ fault_line DeclaredLate
 IsReply gives shows sites places (sets_order site order) text seen = text ≡ fault_line DeclaredLate
+IsReply gives shows sites places (sets_settle site rule) text seen = text ≡ fault_line DeclaredLate
 IsReply gives shows sites places (tells nanos) text seen = text ≡ fault_line BadLine
 IsReply gives shows sites places (sends name words) text seen = ((moment : ℕ) × IsSent places name words moment text) × IsMessaged gives places name words text seen
 IsReply gives shows sites places (commands name command) text seen = IsCommanded places name command text × IsSubmitted gives places name command text seen

@@ -182,7 +182,8 @@ fn answer_said<J: Naming, C: HasCell, M: Drop, S: Serves<J, C, M>, R: Threads + 
         ScriptLine::Limits(_, _, _, _)
         | ScriptLine::Declares(_, _)
         | ScriptLine::SetsPeriod(_, _)
-        | ScriptLine::SetsOrder(_, _) => put_fault(reply, LineFault::DeclaredLate)?,
+        | ScriptLine::SetsOrder(_, _)
+        | ScriptLine::SetsSettle(_, _) => put_fault(reply, LineFault::DeclaredLate)?,
         ScriptLine::Tells(_) => put_fault(reply, LineFault::BadLine)?,
         ScriptLine::AsksEnergy(name) => put_totals(rt, running, &name, Asked::Import, reply)?,
         ScriptLine::AsksExport(name) => put_totals(rt, running, &name, Asked::Export, reply)?,

@@ -8,6 +8,7 @@ use Rattle.std.proofs.lemmas.List.FromFn.{map-range_with_len_more}
 use Rattle.std.proofs.lemmas.List.Sums.{length-filter}
 use Rattle.std.proofs.lemmas.Option.{get_or_from_slice_get}
 use Rattle.std.proofs.lemmas.Slice.Eq.{bytes_eq-Decides}
+use Rattle.ledger_model.specs.Periods.{Periods}
 use Rattle.ledger_model.specs.declared.order.Order.{Order}
 use Rattle.ledger_model.specs.Board.{Board, board_by, figures_by, site_board, sum_of_figures}
 use Rattle.ledger_model.specs.Content.{entries}
@@ -38,7 +39,7 @@ count_is site ys = sym (length-filter (λ (s : StationPlan). eqb s.site site) ys
 row_is : (xs : List StationPlan) (site n : ℕ) → row_at xs site n ≡ length (limits_at (take n xs) site)
 row_is xs site n = count_is site (take n xs)
 
-module _ (d : Drafted) (cells : List Cell) (books : List Book) (passes : List Held) (r : IsRunning d.sites d.stations cells books passes) (period site : ℕ) (b : Book) (book : slice_get books site ≡ Some b) where
+module _ (d : Drafted) (cells : List Cell) (books : List Book) (passes : List Held) (r : IsRunning d.sites d.stations cells books passes) (period : Periods) (site : ℕ) (b : Book) (book : slice_get books site ≡ Some b) where
   abbrev order : Order
   order = order_at d.sites site
 
@@ -139,7 +140,7 @@ found_alike sites name site k once less lk named = ⊎_elim
     no_match false is never = refl
 
 -- the boards of a site's stations, found by its name
-shown_alike : (order : Order) (period : ℕ) (sites : List SitePlan) (stations : List StationPlan) (cells : List Cell) (name : List ℕ) (site : ℕ) → All (λ s. bytes_eq name (site_name sites s.site) ≡ eqb s.site site) stations
+shown_alike : (order : Order) (period : Periods) (sites : List SitePlan) (stations : List StationPlan) (cells : List Cell) (name : List ℕ) (site : ℕ) → All (λ s. bytes_eq name (site_name sites s.site) ≡ eqb s.site site) stations
     → map (shown_station order period) (stations_of name (filled (planned_world sites stations) cells)) ≡ boards_at order period stations cells site
 shown_alike order period sites [] cells name site all = refl
 shown_alike order period sites (s ∷ stations) [] name site all = refl
@@ -157,7 +158,7 @@ shown_alike order period sites (s ∷ stations) (c ∷ cells) name site all =
     one true e = ap (λ l. (s.name, board_by order period (entries c.content)) ∷ l) e
     one false e = e
 
-pub site_shown : (order : Order) (period : ℕ) (sites : List SitePlan) (stations : List StationPlan) (cells : List Cell) (name : List ℕ) (site : ℕ) → has_twice (map (λ s. s.name) sites) ≡ false → All (λ s. s.site < length sites) stations
+pub site_shown : (order : Order) (period : Periods) (sites : List SitePlan) (stations : List StationPlan) (cells : List Cell) (name : List ℕ) (site : ℕ) → has_twice (map (λ s. s.name) sites) ≡ false → All (λ s. s.site < length sites) stations
     → position (λ s. bytes_eq name s.name) sites ≡ Some site → map (shown_station order period) (stations_of name (filled (planned_world sites stations) cells)) ≡ boards_at order period stations cells site
 site_shown order period sites stations cells name site once placed e =
     let there = some_placed {X = SitePlan} (λ s. s.name) name sites site e in
@@ -165,7 +166,7 @@ site_shown order period sites stations cells name site once placed e =
 
 -- ---- the board
 
-pub board_is : (name : List ℕ) (in_order order : Order) (by period : ℕ) (b : NamedBoard) (stations : World) (boards : List (List ℕ × Board)) → map (shown_station order period) stations ≡ boards → in_order ≡ order → by ≡ period → b.name ≡ name → b.period ≡ period → b.order ≡ order → b.figures ≡ (site_board period boards).figures → b.quarters ≡ (site_board period boards).quarters → b.stations ≡ boards
+pub board_is : (name : List ℕ) (in_order order : Order) (by period : Periods) (b : NamedBoard) (stations : World) (boards : List (List ℕ × Board)) → map (shown_station order period) stations ≡ boards → in_order ≡ order → by ≡ period → b.name ≡ name → b.period ≡ period → b.order ≡ order → b.figures ≡ (site_board period boards).figures → b.quarters ≡ (site_board period boards).quarters → b.stations ≡ boards
     → b ≡ shown_site name in_order by stations
 board_is name in_order order by period b stations boards shown ordered same names period_is order_is figures_are quarters_are stations_are =
     ◌∙◌ {A = NamedBoard} (λ i. record { name = names i; period = period_is i; order = order_is i; figures = figures_are i; quarters = quarters_are i; stations = stations_are i })

@@ -9,7 +9,7 @@ use Rattle.std.proofs.lemmas.List.Elements.{All-append, All-cons, All-nil}
 use Rattle.std.proofs.lemmas.List.Sums.{sum_by-append, sum_by-cons}
 use Rattle.ledger_model.specs.declared.order.Order.TheVariants.{Sequence}
 use Rattle.ledger_model.specs.Limits.{Bounds}
-use Rattle.ledger_model.specs.Quarter.{default_period}
+use Rattle.ledger_model.specs.Settling.{default_periods}
 use Rattle.ledger_model.specs.Ranges.{most_sites, most_stations, most_plan_readings}
 use Rattle.ledger_model.specs.World.{Station}
 use Rattle.site_desk.specs.declared.plan.SitePlan.{SitePlan}
@@ -67,9 +67,9 @@ past_drafted v d site is kept = sym (past_plan v site (position (λ s. bytes_eq 
 -- ---- one site more
 
 site_kept : (sites : List SitePlan) (stations : List StationPlan) (name : List ℕ) → IsPlan sites stations → length sites < most_sites → position (λ s. bytes_eq name s.name) sites ≡ None
-    → IsPlan (sites ++ record { name = name; viewers = 0; period = default_period; order = Sequence } ∷ []) stations
+    → IsPlan (sites ++ record { name = name; viewers = 0; period = default_periods; order = Sequence } ∷ []) stations
 site_kept sites stations name kept room none =
-    let new : SitePlan = record { name = name; viewers = 0; period = default_period; order = Sequence } in
+    let new : SitePlan = record { name = name; viewers = 0; period = default_periods; order = Sequence } in
     let more : length (sites ++ new ∷ []) ≡ length sites + 1 = length-append sites (new ∷ []) in
     record {
       few_sites = omega (arith, more, room);
@@ -83,9 +83,9 @@ site_kept sites stations name kept room none =
 
 -- the sites once a new one is mentioned, and one that stands already
 sites_more : (name : List ℕ) (sites : List SitePlan) → position (λ s. bytes_eq name s.name) sites ≡ None
-    → map (λ s. s.name) (sites ++ record { name = name; viewers = 0; period = default_period; order = Sequence } ∷ []) ≡ sites_with name (map (λ s. s.name) sites)
+    → map (λ s. s.name) (sites ++ record { name = name; viewers = 0; period = default_periods; order = Sequence } ∷ []) ≡ sites_with name (map (λ s. s.name) sites)
 sites_more name sites none =
-    map-append (λ (s : SitePlan). s.name) sites (record { name = name; viewers = 0; period = default_period; order = Sequence } ∷ [])
+    map-append (λ (s : SitePlan). s.name) sites (record { name = name; viewers = 0; period = default_periods; order = Sequence } ∷ [])
     ∙ ap (λ b. cond b (map (λ (s : SitePlan). s.name) sites) (map (λ (s : SitePlan). s.name) sites ++ name ∷ [])) (sym (none_placed {X = SitePlan} (λ s. s.name) name sites none))
 
 sites_same : (name : List ℕ) (sites : List SitePlan) (n : ℕ) → position (λ s. bytes_eq name s.name) sites ≡ Some n → map (λ s. s.name) sites ≡ sites_with name (map (λ s. s.name) sites)
@@ -94,20 +94,20 @@ sites_same name sites n e =
 
 -- their settlement periods
 periods_more : (name : List ℕ) (sites : List SitePlan) → position (λ s. bytes_eq name s.name) sites ≡ None
-    → map (λ s. s.period) (sites ++ record { name = name; viewers = 0; period = default_period; order = Sequence } ∷ []) ≡ periods_with name (map (λ s. s.name) sites) (map (λ s. s.period) sites)
+    → map (λ s. s.period) (sites ++ record { name = name; viewers = 0; period = default_periods; order = Sequence } ∷ []) ≡ periods_with name (map (λ s. s.name) sites) (map (λ s. s.period) sites)
 periods_more name sites none =
-    map-append (λ (s : SitePlan). s.period) sites (record { name = name; viewers = 0; period = default_period; order = Sequence } ∷ [])
-    ∙ ap (λ b. cond b (map (λ (s : SitePlan). s.period) sites) (map (λ (s : SitePlan). s.period) sites ++ default_period ∷ [])) (sym (none_placed {X = SitePlan} (λ s. s.name) name sites none))
+    map-append (λ (s : SitePlan). s.period) sites (record { name = name; viewers = 0; period = default_periods; order = Sequence } ∷ [])
+    ∙ ap (λ b. cond b (map (λ (s : SitePlan). s.period) sites) (map (λ (s : SitePlan). s.period) sites ++ default_periods ∷ [])) (sym (none_placed {X = SitePlan} (λ s. s.name) name sites none))
 
 periods_same : (name : List ℕ) (sites : List SitePlan) (n : ℕ) → position (λ s. bytes_eq name s.name) sites ≡ Some n → map (λ s. s.period) sites ≡ periods_with name (map (λ s. s.name) sites) (map (λ s. s.period) sites)
 periods_same name sites n e =
-    ap (λ b. cond b (map (λ (s : SitePlan). s.period) sites) (map (λ (s : SitePlan). s.period) sites ++ default_period ∷ [])) (sym (some_placed {X = SitePlan} (λ s. s.name) name sites n e).among)
+    ap (λ b. cond b (map (λ (s : SitePlan). s.period) sites) (map (λ (s : SitePlan). s.period) sites ++ default_periods ∷ [])) (sym (some_placed {X = SitePlan} (λ s. s.name) name sites n e).among)
 
 -- their orders of readings
 orders_more : (name : List ℕ) (sites : List SitePlan) → position (λ s. bytes_eq name s.name) sites ≡ None
-    → map (λ s. s.order) (sites ++ record { name = name; viewers = 0; period = default_period; order = Sequence } ∷ []) ≡ orders_with name (map (λ s. s.name) sites) (map (λ s. s.order) sites)
+    → map (λ s. s.order) (sites ++ record { name = name; viewers = 0; period = default_periods; order = Sequence } ∷ []) ≡ orders_with name (map (λ s. s.name) sites) (map (λ s. s.order) sites)
 orders_more name sites none =
-    map-append (λ (s : SitePlan). s.order) sites (record { name = name; viewers = 0; period = default_period; order = Sequence } ∷ [])
+    map-append (λ (s : SitePlan). s.order) sites (record { name = name; viewers = 0; period = default_periods; order = Sequence } ∷ [])
     ∙ ap (λ b. cond b (map (λ (s : SitePlan). s.order) sites) (map (λ (s : SitePlan). s.order) sites ++ Sequence ∷ [])) (sym (none_placed {X = SitePlan} (λ s. s.name) name sites none))
 
 orders_same : (name : List ℕ) (sites : List SitePlan) (n : ℕ) → position (λ s. bytes_eq name s.name) sites ≡ Some n → map (λ s. s.order) sites ≡ orders_with name (map (λ s. s.name) sites) (map (λ s. s.order) sites)
@@ -183,10 +183,10 @@ has_room o sites stations limits none =
 -- a plan that one station more keeps, and the script that it is seen as
 pub joins : (d : Drafted) (o : Option ℕ) (site name : List ℕ) → o ≡ position (λ s. bytes_eq site s.name) d.sites → IsPlan d.sites d.stations → is_past o d.sites d.stations d.limits ≡ false
     → position (λ s. bytes_eq name s.name) d.stations ≡ None
-    → IsPlan (plan.sites_with o site 0 default_period Sequence d.sites) (d.stations ++ record { site = site_number o d.sites; name = name; limits = d.limits } ∷ [])
-    × (planned (record d { sites = plan.sites_with o site 0 default_period Sequence d.sites; stations = d.stations ++ record { site = site_number o d.sites; name = name; limits = d.limits } ∷ [] }) ≡ (joined_by None (planned d) site name).0)
+    → IsPlan (plan.sites_with o site 0 default_periods Sequence d.sites) (d.stations ++ record { site = site_number o d.sites; name = name; limits = d.limits } ∷ [])
+    × (planned (record d { sites = plan.sites_with o site 0 default_periods Sequence d.sites; stations = d.stations ++ record { site = site_number o d.sites; name = name; limits = d.limits } ∷ [] }) ≡ (joined_by None (planned d) site name).0)
 joins d None site name e kept room none =
-    let new : SitePlan = record { name = site; viewers = 0; period = default_period; order = Sequence } in
+    let new : SitePlan = record { name = site; viewers = 0; period = default_periods; order = Sequence } in
     let station : StationPlan = record { site = length d.sites; name = name; limits = d.limits } in
     let r = has_room None d.sites d.stations d.limits room in
     let more : length (d.sites ++ new ∷ []) ≡ length d.sites + 1 = length-append d.sites (new ∷ []) in

@@ -1,17 +1,18 @@
--- Another settlement period, or another order of readings, for a site of a plan, and the script that it is seen as.
+-- Other settlement periods, or another order of readings, for a site of a plan, and the script that it is seen as.
 use Rattle.std.proofs.Common.{◌≡◌, ℕ, zero, suc, ◌+◌, true, cond, List, [], ◌∷◌, None, Some, All, length, map, get_or, slice_set, refl, ap, sym, ◌∙◌, bytes_eq, arith}
 use Rattle.std.specs.List.{position, position_from}
 use Rattle.std.proofs.lemmas.Iterator.Adapters.{position_from-zero}
+use Rattle.ledger_model.specs.Periods.{Periods}
 use Rattle.ledger_model.specs.declared.order.Order.{Order}
 use Rattle.ledger_model.specs.declared.order.Order.TheVariants.{Sequence}
-use Rattle.ledger_model.specs.Quarter.{default_period}
+use Rattle.ledger_model.specs.Settling.{default_periods}
 use Rattle.site_desk.specs.declared.plan.SitePlan.{SitePlan}
 use Rattle.site_desk.specs.declared.plan.StationPlan.{StationPlan}
 use Rattle.site_desk.specs.Plan.{has_twice, order_at, period_at, sites_by, sites_changed, sites_in}
 use Rattle.script_lines.specs.declared.script_line.LineFault.TheVariants.{PlanLimit, UnknownSite}
 use Rattle.script_lines.specs.Texts.{fault_line}
 use Rattle.script_ledgers.specs.Drafts.{Drafted, IsPlan, planned}
-use Rattle.script_ledgers.specs.Script.{is_period, new_station, order_of, order_to, ordered_by, period_of, period_to, settled_by, site_number}
+use Rattle.script_ledgers.specs.Script.{is_period, lasting, new_station, order_of, order_to, ordered_by, period_of, period_to, settled_by, site_number}
 
 -- a site stands at one place in the plan and in the list of names
 from_alike : (name : List ℕ) (i : ℕ) (sites : List SitePlan) → position_from (bytes_eq name) i (map (λ s. s.name) sites) ≡ position_from (λ (s : SitePlan). bytes_eq name s.name) i sites
@@ -22,7 +23,7 @@ pub number_alike : (name : List ℕ) (sites : List SitePlan) → site_number nam
 number_alike name sites = position_from-zero (bytes_eq name) (map (λ (s : SitePlan). s.name) sites) ∙ from_alike name 0 sites ∙ sym (position_from-zero (λ (s : SitePlan). bytes_eq name s.name) sites)
 
 -- its period is that of its number
-period_there : (sites : List SitePlan) (n : ℕ) → get_or (map (λ s. s.period) sites) n default_period ≡ period_at sites n
+period_there : (sites : List SitePlan) (n : ℕ) → get_or (map (λ s. s.period) sites) n default_periods ≡ period_at sites n
 period_there [] n = refl
 period_there (s ∷ sites) zero = refl
 period_there (s ∷ sites) (suc n) = period_there sites n
@@ -51,6 +52,12 @@ set_of : {X : Type 0} (f : SitePlan → X) (change : SitePlan → SitePlan) (x :
 set_of f change x is n [] = refl
 set_of f change x is zero (s ∷ sites) = ap (λ y. y ∷ map f sites) (is s)
 set_of f change x is (suc n) (s ∷ sites) = ap (λ l. f s ∷ l) (set_of f change x is n sites)
+
+changed_of : {X : Type 0} (f : SitePlan → X) (change : SitePlan → SitePlan) (g : X → X) → ((s : SitePlan) → f (change s) ≡ g (f s)) → (d : X) (n : ℕ) (sites : List SitePlan)
+    → map f (sites_changed change n sites) ≡ slice_set (map f sites) n (g (get_or (map f sites) n d))
+changed_of f change g is d n [] = refl
+changed_of f change g is d zero (s ∷ sites) = ap (λ y. y ∷ map f sites) (is s)
+changed_of f change g is d (suc n) (s ∷ sites) = ap (λ l. f s ∷ l) (changed_of f change g is d n sites)
 
 length_kept : (change : SitePlan → SitePlan) (n : ℕ) (sites : List SitePlan) → length (sites_changed change n sites) ≡ length sites
 length_kept change n [] = refl
@@ -90,37 +97,38 @@ module _ (change : SitePlan → SitePlan) (named : (s : SitePlan) → (change s)
       let names = kept_of (λ (s : SitePlan). s.name) change named n d.sites in
       λ i. record (planned (record d { sites = sites_changed change n d.sites })) { sites = names i; world = map (λ (s : StationPlan). new_station s.limits (get_or (names i) s.site []) s.name) d.stations }
 
--- ---- another settlement period
+-- ---- other settlement periods
 
-pub settled_kept : (n period : ℕ) (sites : List SitePlan) (stations : List StationPlan) → IsPlan sites stations → IsPlan (sites_by n period sites) stations
-settled_kept n period sites stations kept = plan_kept (λ (s : SitePlan). record s { period = period }) (λ s. refl) (λ s. refl) n sites stations kept
+module _ (change : Periods → Periods) where
+  pub settled_kept : (n : ℕ) (sites : List SitePlan) (stations : List StationPlan) → IsPlan sites stations → IsPlan (sites_changed (λ s. record s { period = change s.period }) n sites) stations
+  settled_kept n sites stations kept = plan_kept (λ (s : SitePlan). record s { period = change s.period }) (λ s. refl) (λ s. refl) n sites stations kept
 
--- the script once a site has another period
-pub settled_planned : (d : Drafted) (name : List ℕ) (n period : ℕ) → position (λ (s : SitePlan). bytes_eq name s.name) d.sites ≡ Some n
-    → settled_by (site_number name (planned d).sites) (planned d) period ≡ (planned (record d { sites = sites_by n period d.sites }), [])
-settled_planned d name n period e =
-    let change : SitePlan → SitePlan = λ s. record s { period = period } in
-    let periods = set_of (λ (s : SitePlan). s.period) change period (λ s. refl) n d.sites in
-    let orders = kept_of (λ (s : SitePlan). s.order) change (λ s. refl) n d.sites in
-    ap (λ o. settled_by o (planned d) period) (number_alike name d.sites ∙ e)
-    ∙ (λ i. (record (planned d) { periods = sym periods i; orders = sym orders i }, []))
-    ∙ ap (λ s. (s, [])) (sym (planned_with change (λ s. refl) (λ s. refl) d n))
+  -- the script once a site has other periods
+  pub settled_known : (d : Drafted) (name : List ℕ) (n : ℕ) → position (λ (s : SitePlan). bytes_eq name s.name) d.sites ≡ Some n
+      → settled_by (site_number name (planned d).sites) (planned d) change ≡ (planned (record d { sites = sites_changed (λ s. record s { period = change s.period }) n d.sites }), [])
+  settled_known d name n e =
+      let changed : SitePlan → SitePlan = λ s. record s { period = change s.period } in
+      let periods = changed_of (λ (s : SitePlan). s.period) changed change (λ s. refl) default_periods n d.sites in
+      let orders = kept_of (λ (s : SitePlan). s.order) changed (λ s. refl) n d.sites in
+      ap (λ o. settled_by o (planned d) change) (number_alike name d.sites ∙ e)
+      ∙ (λ i. (record (planned d) { periods = sym periods i; orders = sym orders i }, []))
+      ∙ ap (λ s. (s, [])) (sym (planned_with changed (λ s. refl) (λ s. refl) d n))
 
-pub settled_unknown : (d : Drafted) (name : List ℕ) (period : ℕ) → position (λ (s : SitePlan). bytes_eq name s.name) d.sites ≡ None
-    → settled_by (site_number name (planned d).sites) (planned d) period ≡ settled_by None (planned d) period
-settled_unknown d name period e = ap (λ o. settled_by o (planned d) period) (number_alike name d.sites ∙ e)
+  pub settled_unknown : (d : Drafted) (name : List ℕ) → position (λ (s : SitePlan). bytes_eq name s.name) d.sites ≡ None
+      → settled_by (site_number name (planned d).sites) (planned d) change ≡ (planned d, fault_line UnknownSite)
+  settled_unknown d name e = ap (λ o. settled_by o (planned d) change) (number_alike name d.sites ∙ e)
 
--- what a `period` line of one of the four periods is answered
+-- what a `period` line of one of the four lengths is answered
 pub period_unknown : (d : Drafted) (name : List ℕ) (seconds : ℕ) → is_period seconds ≡ true → position (λ (s : SitePlan). bytes_eq name s.name) d.sites ≡ None
     → period_to (planned d) name seconds ≡ (planned d, fault_line UnknownSite)
 period_unknown d name seconds is e =
-    ap (λ b. cond b (settled_by (site_number name (planned d).sites) (planned d) seconds) (planned d, fault_line PlanLimit)) is ∙ settled_unknown d name seconds e
+    ap (λ b. cond b (settled_by (site_number name (planned d).sites) (planned d) (lasting seconds)) (planned d, fault_line PlanLimit)) is ∙ settled_unknown (lasting seconds) d name e
 
 pub period_known : (d : Drafted) (name : List ℕ) (seconds n period : ℕ) → is_period seconds ≡ true → period ≡ seconds → position (λ (s : SitePlan). bytes_eq name s.name) d.sites ≡ Some n
     → period_to (planned d) name seconds ≡ (planned (record d { sites = sites_by n period d.sites }), [])
 period_known d name seconds n period is same e =
-    ap (λ b. cond b (settled_by (site_number name (planned d).sites) (planned d) seconds) (planned d, fault_line PlanLimit)) is
-    ∙ settled_planned d name n seconds e ∙ ap (λ p. (planned (record d { sites = sites_by n p d.sites }), [])) (sym same)
+    ap (λ b. cond b (settled_by (site_number name (planned d).sites) (planned d) (lasting seconds)) (planned d, fault_line PlanLimit)) is
+    ∙ settled_known (lasting seconds) d name n e ∙ ap (λ p. (planned (record d { sites = sites_by n p d.sites }), [])) (sym same)
 
 -- ---- another order of readings
 

@@ -3,6 +3,7 @@ use Rattle.std.specs.Prelude.{◌≡◌, ℕ, Bool, true, false, ◌&&◌, ◌||
 use Rattle.std.specs.List.{list_any, position}
 use Rattle.std.specs.Str.{bytes_eq}
 use Rattle.energy_flow.specs.Flow.{Energy}
+use Rattle.ledger_model.specs.Periods.{Periods}
 use Rattle.ledger_model.specs.declared.command.Command.{Command}
 use Rattle.ledger_model.specs.declared.command.Command.TheVariants.{Deliver}
 use Rattle.ledger_model.specs.declared.order.Order.{Order}
@@ -13,7 +14,8 @@ use Rattle.ledger_model.specs.Energy.{energy_by}
 use Rattle.ledger_model.specs.declared.reading.Direction.TheVariants.{Import, Export}
 use Rattle.ledger_model.specs.Limits.{Bounds, default_limits}
 use Rattle.ledger_model.specs.Moment.{first_moment}
-use Rattle.ledger_model.specs.Quarter.{default_period}
+use Rattle.ledger_model.specs.Settling.{default_periods}
+use Rattle.ledger_model.specs.declared.settle.Settle.{Settle}
 use Rattle.ledger_model.specs.Ranges.{most_transactions, most_events, most_readings, most_changes, most_sites, most_stations, most_plan_readings}
 use Rattle.ledger_model.specs.Step.{answer}
 use Rattle.ledger_model.specs.World.{Station, World, world_after}
@@ -23,14 +25,14 @@ use Rattle.transaction_event.specs.Message.{Meaning, Event, Ready, Silence, mess
 use Rattle.transaction_event.specs.Reply.{event_reply_bytes}
 use Rattle.script_lines.specs.declared.script_line.LineFault.TheVariants.{DeclaredLate, PlanLimit, StationTwice, UnknownStation, UnknownSite}
 use Rattle.script_lines.specs.Lines.{Line, text_by}
-use Rattle.script_lines.specs.LineMeaning.{LineMeaning, nothing, fails, sets_limits, declares, sets_period, sets_order, tells, sends, commands, asks_energy, asks_export, asks_total, asks_board, line_meaning}
+use Rattle.script_lines.specs.LineMeaning.{LineMeaning, nothing, fails, sets_limits, declares, sets_period, sets_order, sets_settle, tells, sends, commands, asks_energy, asks_export, asks_total, asks_board, line_meaning}
 use Rattle.script_lines.specs.Texts.{ended_line, fault_line, answer_text}
 
--- where a script stands: the limits of the stations that are declared next; the sites of the plan so far in the order of their first mention, the settlement period of each in seconds and the order of its readings; the world, whose stations are those of the plan and have empty contents until the ledgers are opened; whether they are; and the moment
+-- where a script stands: the limits of the stations that are declared next; the sites of the plan so far in the order of their first mention, the settlement periods of each and the order of its readings; the world, whose stations are those of the plan and have empty contents until the ledgers are opened; whether they are; and the moment
 pub record Script : Type 0 where
   pub limits : Bounds
   pub sites : List (List ℕ)
-  pub periods : List ℕ
+  pub periods : List Periods
   pub orders : List Order
   pub world : World
   pub opened : Bool
@@ -90,15 +92,15 @@ limited_to s transactions events readings changes =
 abbrev pub sites_with : List ℕ → List (List ℕ) → List (List ℕ)
 sites_with site sites = if is_among site sites then sites else sites ++ site ∷ []
 
--- the settlement periods of these sites, one for each, once this one is mentioned: one that begins has the default period
-abbrev pub periods_with : List ℕ → List (List ℕ) → List ℕ → List ℕ
-periods_with site sites periods = if is_among site sites then periods else periods ++ default_period ∷ []
+-- the settlement periods of these sites, those of one behind those of the other, once this one is mentioned: one that begins has the default ones
+abbrev pub periods_with : List ℕ → List (List ℕ) → List Periods → List Periods
+periods_with site sites periods = if is_among site sites then periods else periods ++ default_periods ∷ []
 
 -- the orders of readings of these sites, one for each, once this one is mentioned: one that begins goes by sequence
 abbrev pub orders_with : List ℕ → List (List ℕ) → List Order → List Order
 orders_with site sites orders = if is_among site sites then orders else orders ++ Sequence ∷ []
 
--- one of the four settlement periods
+-- one of the four lengths of settlement periods, in seconds
 abbrev pub is_period : ℕ → Bool
 is_period seconds = (seconds == 300) || ((seconds == 900) || ((seconds == 1_800) || (seconds == 3_600)))
 
@@ -106,19 +108,30 @@ is_period seconds = (seconds == 300) || ((seconds == 900) || ((seconds == 1_800)
 abbrev pub site_number : List ℕ → List (List ℕ) → Option ℕ
 site_number site sites = position (bytes_eq site) sites
 
--- the settlement period of the site of this number
-abbrev pub period_of : Option ℕ → List ℕ → ℕ
-period_of None periods = default_period
-period_of (Some number) periods = get_or periods number default_period
+-- the settlement periods of the site of this number
+abbrev pub period_of : Option ℕ → List Periods → Periods
+period_of None periods = default_periods
+period_of (Some number) periods = get_or periods number default_periods
 
--- another settlement period for the site of this number, where there is one
-abbrev pub settled_by : Option ℕ → Script → ℕ → Script × List ℕ
-settled_by None s seconds = (s, fault_line UnknownSite)
-settled_by (Some number) s seconds = (record s { periods = slice_set s.periods number seconds }, [])
+-- a change of the settlement periods of the site of this number, where there is one
+abbrev pub settled_by : Option ℕ → Script → (Periods → Periods) → Script × List ℕ
+settled_by None s change = (s, fault_line UnknownSite)
+settled_by (Some number) s change = (record s { periods = slice_set s.periods number (change (get_or s.periods number default_periods)) }, [])
 
--- a settlement period before the ledgers are opened: it holds for all stations of the site, declared or not
+-- periods of so many seconds, and periods in which differences count by this rule
+abbrev pub lasting : ℕ → Periods → Periods
+lasting seconds p = record p { length = seconds }
+
+abbrev pub settling : Settle → Periods → Periods
+settling rule p = record p { rule = rule }
+
+-- the length of settlement periods before the ledgers are opened: it holds for all stations of the site, declared or not
 abbrev pub period_to : Script → List ℕ → ℕ → Script × List ℕ
-period_to s site seconds = if is_period seconds then settled_by (site_number site s.sites) s seconds else (s, fault_line PlanLimit)
+period_to s site seconds = if is_period seconds then settled_by (site_number site s.sites) s (lasting seconds) else (s, fault_line PlanLimit)
+
+-- the rule of settling before the ledgers are opened: it holds for all stations of the site, declared or not
+abbrev pub settle_to : Script → List ℕ → Settle → Script × List ℕ
+settle_to s site rule = settled_by (site_number site s.sites) s (settling rule)
 
 -- the order of readings of the site of this number
 abbrev pub order_of : Option ℕ → List Order → Order
@@ -171,25 +184,25 @@ abbrev pub total_answer : (List ℕ → Order) → Option Station → List ℕ
 total_answer order None = fault_line UnknownStation
 total_answer order (Some station) = ended_line (total_text (figures_by (order station.site) (entries station.content)))
 
--- the board of a station under its name by an order of readings and a settlement period, computed from all its events
-abbrev pub shown_station : Order → ℕ → Station → List ℕ × Board
+-- the board of a station under its name by an order of readings and settlement periods, computed from all its events
+abbrev pub shown_station : Order → Periods → Station → List ℕ × Board
 shown_station order period station = (station.name, board_by order period (entries station.content))
 
--- the board of a site by its order and its settlement period over these stations: the sums of their figures and of their quarters, and their boards
-abbrev pub shown_site : List ℕ → Order → ℕ → World → NamedBoard
+-- the board of a site by its order and its settlement periods over these stations: the sums of their figures and of their quarters, and their boards
+abbrev pub shown_site : List ℕ → Order → Periods → World → NamedBoard
 shown_site site order period stations =
     let b = site_board period (map (shown_station order period) stations) in
     record { name = site; period = b.period; order = order; figures = b.figures; quarters = b.quarters; stations = b.stations }
 
--- the settlement period of the site of this name
-abbrev pub period_named : Script → List ℕ → ℕ
+-- the settlement periods of the site of this name
+abbrev pub period_named : Script → List ℕ → Periods
 period_named s site = period_of (site_number site s.sites) s.periods
 
 -- the order of readings of the site of this name
 abbrev pub order_named : Script → List ℕ → Order
 order_named s site = order_of (site_number site s.sites) s.orders
 
--- the board of the site of this name by its order and its settlement period, computed from all events of its stations
+-- the board of the site of this name by its order and its settlement periods, computed from all events of its stations
 abbrev pub board_of_site : Script → List ℕ → NamedBoard
 board_of_site s site = shown_site site (order_named s site) (period_named s site) (stations_of site s.world)
 
@@ -218,6 +231,7 @@ step_by s (sets_limits transactions events readings changes) = if s.opened then 
 step_by s (declares site name) = if s.opened then (s, fault_line DeclaredLate) else declared_to s site name
 step_by s (sets_period site seconds) = if s.opened then (s, fault_line DeclaredLate) else period_to s site seconds
 step_by s (sets_order site order) = if s.opened then (s, fault_line DeclaredLate) else order_to s site order
+step_by s (sets_settle site rule) = if s.opened then (s, fault_line DeclaredLate) else settle_to s site rule
 step_by s (tells nanos) = (record s { moment = nanos }, [])
 step_by s (sends name text) = sent_to (station_named name s.world) s text
 step_by s (commands name command) = commanded_to (station_named name s.world) s command
@@ -247,6 +261,7 @@ opening (sets_limits _ _ _ _) = false
 opening (declares _ _) = false
 opening (sets_period _ _) = false
 opening (sets_order _ _) = false
+opening (sets_settle _ _) = false
 opening (tells _) = false
 opening (sends _ _) = true
 opening (commands _ _) = true

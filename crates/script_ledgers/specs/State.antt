@@ -2,6 +2,7 @@
 use Rattle.std.specs.Prelude.{ℕ, Bool, List, Option, None, Some, refl}
 use Rattle.std.specs.Coded.{Coded, code_by, coded×, coded_bool, coded_list, coded_ℕ}
 use Rattle.ledger_model.specs.contracts.order.Order as orders
+use Rattle.ledger_model.specs.Periods.{Periods, periods_code}
 use Rattle.ledger_model.specs.declared.order.Order.{Order}
 use Rattle.ledger_model.specs.Content.{Content}
 use Rattle.ledger_model.specs.Limits.{Bounds}
@@ -35,8 +36,8 @@ station_code = code_by (List ℕ × (List ℕ × (Bounds × Content))) (coded× 
 
 abbrev pub script_code : Coded Script
 script_code =
-    code_by (Bounds × (List (List ℕ) × (List ℕ × (List Order × (List Station × (Bool × ℕ))))))
-    (coded× bounds_code (coded× (coded_list (coded_list coded_ℕ)) (coded× (coded_list coded_ℕ) (coded× (coded_list orders.the_row.coded) (coded× (coded_list station_code) (coded× coded_bool coded_ℕ))))))
+    code_by (Bounds × (List (List ℕ) × (List Periods × (List Order × (List Station × (Bool × ℕ))))))
+    (coded× bounds_code (coded× (coded_list (coded_list coded_ℕ)) (coded× (coded_list periods_code) (coded× (coded_list orders.the_row.coded) (coded× (coded_list station_code) (coded× coded_bool coded_ℕ))))))
     (λ s. (s.limits, (s.sites, (s.periods, (s.orders, (s.world, (s.opened, s.moment)))))))
     (λ p. record { limits = p.0; sites = p.1.0; periods = p.1.1.0; orders = p.1.1.1.0; world = p.1.1.1.1.0; opened = p.1.1.1.1.1.0; moment = p.1.1.1.1.1.1 })
     (λ _. refl)

@@ -1,13 +1,13 @@
 ghost use Rattle.std.specs.Prelude.{◌≡◌, ◌<◌, false, None, Some, [], length, IfOk, IfSome, IsTrue, OnOk};
-ghost use Rattle.site_desk.specs.Plan.{sites_by, sites_in};
+ghost use Rattle.site_desk.specs.Plan.{sites_by, sites_in, sites_settling};
 ghost use Rattle.std.specs.Option.{is_some};
 ghost use Rattle.std.specs.List.{position};
 ghost use Rattle.std.specs.Str.{bytes_eq};
 ghost use Rattle.script_lines.specs.ScriptLines.{meaning_of};
 ghost use Rattle.script_ledgers.specs.Drafts.{planned, IsPlan};
-ghost use Rattle.script_ledgers.specs.Script.{start, declared_to, is_past_plan, is_period, joined_by, limited_to, opening, order_to, period_to, step_by};
+ghost use Rattle.script_ledgers.specs.Script.{start, declared_to, is_past_plan, is_period, joined_by, limited_to, opening, order_to, period_to, settle_to, step_by};
 
-use ledger_model::{Limits, Moment, Name, Order, Period};
+use ledger_model::{Limits, Moment, Name, Order, Period, Periods, Settle};
 use script_lines::{LineFault, ScriptLine, put_fault};
 use site_desk::Plan;
 use std::alloc::AllocError;
@@ -122,6 +122,7 @@ impl Draft {
             ScriptLine::Declares(site, name) => self.declare(site, name, reply),
             ScriptLine::SetsPeriod(site, seconds) => self.period_by(&site, seconds, reply),
             ScriptLine::SetsOrder(site, order) => self.order_by(&site, order, reply),
+            ScriptLine::SetsSettle(site, rule) => self.settle_by(&site, rule, reply),
             ScriptLine::Tells(moment) => {
                 self.tell(moment);
                 Ok(())
@@ -158,8 +159,8 @@ impl Draft {
         }
     }
 
-    // Gives a site another settlement period, or puts the fault that it is none, or that there is no
-    // such site, into the reply.
+    // Gives the settlement periods of a site another length, or puts the fault that it is none, or that there is
+    // no such site, into the reply.
     fn period_by(
         &mut self,
         site: &Name,
@@ -179,7 +180,7 @@ impl Draft {
         Ok(())
     }
 
-    // Gives the site of this number another settlement period.
+    // Gives the settlement periods of the site of this number another length.
     fn set_period(&mut self, site: usize, period: Period)
         requires { site < length self.old.sites }
         ensures { self.new ≡ record self.old { sites = sites_by site period self.old.sites } }
@@ -205,6 +206,31 @@ impl Draft {
         ensures { self.new ≡ record self.old { sites = sites_in site order self.old.sites } }
     {
         self.plan.set_order(site, order);
+    }
+
+    // Gives a site another rule of settling, or puts the fault that there is no such site into the reply.
+    fn settle_by(
+        &mut self,
+        site: &Name,
+        rule: Settle,
+        reply: &mut Vec<u8>,
+    ) -> Result<(), AllocError>
+        requires { reply.old.items ≡ [] }
+        ensures { OnOk result (settle_to (planned self.old) site.now rule ≡ (planned self.new, reply.new.items)) }
+    {
+        let Some(number) = self.site(site) else {
+            return put_fault(reply, LineFault::UnknownSite);
+        };
+        self.set_settle(number, rule);
+        Ok(())
+    }
+
+    // Gives the site of this number another rule of settling.
+    fn set_settle(&mut self, site: usize, rule: Settle)
+        requires { site < length self.old.sites }
+        ensures { self.new ≡ record self.old { sites = sites_settling site rule self.old.sites } }
+    {
+        self.plan.set_settle(site, rule);
     }
 
     // Adds a station, or puts the fault that keeps it out into the reply.
@@ -238,7 +264,7 @@ impl Draft {
         self.plan.declare(
             site,
             0,
-            Period::default(),
+            Periods::default(),
             Order::default(),
             name,
             self.limits,
@@ -246,7 +272,7 @@ impl Draft {
     }
 }
 
-// The settlement period of so many seconds, if it is one.
+// The length of settlement periods of so many seconds, if it is one.
 fn period_of(seconds: u64) -> Option<Period>
     ensures is { is_some result ≡ is_period seconds }
     ensures value { IfSome result (λ p. p ≡ seconds) }

@@ -169,6 +169,7 @@ impl<J: Naming> OpenedScript<J> {
             ScriptLine::Limits(_, _, _, _)
             | ScriptLine::Declares(_, _)
             | ScriptLine::SetsOrder(_, _)
+            | ScriptLine::SetsSettle(_, _)
             | ScriptLine::SetsPeriod(_, _) => put_fault(reply, LineFault::DeclaredLate),
             ScriptLine::Tells(moment) => {
                 self.draft.tell(moment);

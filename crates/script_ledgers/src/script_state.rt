@@ -197,6 +197,7 @@ fn needs_ledgers(asked: &ScriptLine<'_>) -> bool
         | ScriptLine::Declares(_, _)
         | ScriptLine::SetsPeriod(_, _)
         | ScriptLine::SetsOrder(_, _)
+        | ScriptLine::SetsSettle(_, _)
         | ScriptLine::Tells(_) => false,
         ScriptLine::Sends(_, _)
         | ScriptLine::Commands(_, _)

@@ -10,6 +10,8 @@ use Rattle.ledger_model.specs.declared.command.Command.{Command}
 use Rattle.ledger_model.specs.declared.command.Command.TheVariants.{Void, Restore, Erase}
 use Rattle.ledger_model.specs.declared.order.Order.{Order}
 use Rattle.ledger_model.specs.declared.order.Order.TheVariants.{Sequence, Moment}
+use Rattle.ledger_model.specs.declared.settle.Settle.{Settle}
+use Rattle.ledger_model.specs.declared.settle.Settle.TheVariants.{Later, Closing}
 use Rattle.ledger_model.specs.Key.{KeyName}
 use Rattle.ledger_model.specs.Name.{is_name}
 use Rattle.ledger_model.specs.Ranges.{sequence_end}
@@ -21,7 +23,7 @@ use Rattle.script_lines.specs.declared.script_line.Operation.{Operation}
 use Rattle.script_lines.specs.declared.script_line.Operation.TheVariants as operation
 use Rattle.script_lines.specs.Lines.{Line}
 
--- what a line says: nothing, a fault, the limits of the stations that follow, a station's declaration, the settlement period of a site, the order of its readings, a moment, a message of a station, a command on a station, or a question for a station's imported or exported energy or its figures or for a site's board
+-- what a line says: nothing, a fault, the limits of the stations that follow, a station's declaration, the length of a site's settlement periods, the order of its readings, the rule by which differences count in those periods, a moment, a message of a station, a command on a station, or a question for a station's imported or exported energy or its figures or for a site's board
 pub data LineMeaning : Type 0 where
   nothing : LineMeaning
   fails : LineFault → LineMeaning
@@ -29,6 +31,7 @@ pub data LineMeaning : Type 0 where
   declares : List ℕ → List ℕ → LineMeaning
   sets_period : List ℕ → ℕ → LineMeaning
   sets_order : List ℕ → Order → LineMeaning
+  sets_settle : List ℕ → Settle → LineMeaning
   tells : ℕ → LineMeaning
   sends : List ℕ → List ℕ → LineMeaning
   commands : List ℕ → Command → LineMeaning
@@ -77,6 +80,13 @@ order_word word =
     else (if bytes_eq word (codes "moment") then Some Moment
     else None)
 
+-- the rule of settling that a word names
+abbrev pub settle_word : List ℕ → Option Settle
+settle_word word =
+    if bytes_eq word (codes "later") then Some Later
+    else (if bytes_eq word (codes "closing") then Some Closing
+    else None)
+
 -- the key of a transaction's id, which is folded, and a sequence number
 abbrev pub key : List ℕ → ℕ → Option KeyName
 key tx seq = if is_tx_id tx && nat_lt seq sequence_end then Some (record { tx = folded tx; seq = seq }) else None
@@ -115,6 +125,11 @@ abbrev pub order_line : List (List ℕ) → LineMeaning
 order_line (site ∷ word ∷ []) = do sets_order (← name site) (← order_word word)
 order_line _ = fails BadLine
 
+-- `settle <site> <word>`
+abbrev pub settle_line : List (List ℕ) → LineMeaning
+settle_line (site ∷ word ∷ []) = do sets_settle (← name site) (← settle_word word)
+settle_line _ = fails BadLine
+
 -- `now <time>`
 abbrev pub now_line : List (List ℕ) → LineMeaning
 now_line (time ∷ []) = do tells (← moment time)
@@ -145,6 +160,7 @@ by_first_word (word, rest) =
     else (if bytes_eq word (codes "limits") then limits_line (words 4 rest)
     else (if bytes_eq word (codes "period") then period_line (words 2 rest)
     else (if bytes_eq word (codes "order") then order_line (words 2 rest)
+    else (if bytes_eq word (codes "settle") then settle_line (words 2 rest)
     else (if bytes_eq word (codes "now") then now_line (words 2 rest)
     else (if bytes_eq word (codes "energy") then question_line asks_energy (words 1 rest)
     else (if bytes_eq word (codes "export") then question_line asks_export (words 1 rest)
@@ -153,7 +169,7 @@ by_first_word (word, rest) =
     else (if bytes_eq word (codes "void") then command_line operation.Void (words 3 rest)
     else (if bytes_eq word (codes "restore") then command_line operation.Restore (words 3 rest)
     else (if bytes_eq word (codes "erase") then command_line operation.Erase (words 3 rest)
-    else fails BadLine))))))))))))
+    else fails BadLine)))))))))))))
 
 -- a line has a first word, and a space behind it
 abbrev pub by_text : List ℕ → LineMeaning

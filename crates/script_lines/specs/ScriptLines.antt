@@ -1,8 +1,8 @@
 -- What a line that was read says.
 use Rattle.std.specs.Prelude.{Option}
 use Rattle.script_lines.specs.declared.script_line.ScriptLine.{ScriptLine}
-use Rattle.script_lines.specs.declared.script_line.ScriptLine.TheVariants.{Nothing, Fails, Limits, Declares, SetsPeriod, SetsOrder, Tells, Sends, Commands, AsksEnergy, AsksExport, AsksTotal, AsksBoard}
-use Rattle.script_lines.specs.LineMeaning.{LineMeaning, ◌>>=◌, nothing, fails, sets_limits, declares, sets_period, sets_order, tells, sends, commands, asks_energy, asks_export, asks_total, asks_board}
+use Rattle.script_lines.specs.declared.script_line.ScriptLine.TheVariants.{Nothing, Fails, Limits, Declares, SetsPeriod, SetsOrder, SetsSettle, Tells, Sends, Commands, AsksEnergy, AsksExport, AsksTotal, AsksBoard}
+use Rattle.script_lines.specs.LineMeaning.{LineMeaning, ◌>>=◌, nothing, fails, sets_limits, declares, sets_period, sets_order, sets_settle, tells, sends, commands, asks_energy, asks_export, asks_total, asks_board}
 
 -- The meaning of a line that was read.
 abbrev pub meaning_of : ScriptLine → LineMeaning
@@ -12,6 +12,7 @@ meaning_of (Limits transactions events readings changes) = sets_limits transacti
 meaning_of (Declares site name) = declares site name
 meaning_of (SetsPeriod site seconds) = sets_period site seconds
 meaning_of (SetsOrder site order) = sets_order site order
+meaning_of (SetsSettle site settle) = sets_settle site settle
 meaning_of (Tells moment) = tells moment
 meaning_of (Sends name text) = sends name text.now
 meaning_of (Commands name command) = commands name command

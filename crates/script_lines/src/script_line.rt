@@ -6,7 +6,7 @@ ghost use Rattle.script_lines.specs.Lines.{line_bytes};
 ghost use Rattle.script_lines.specs.ScriptLines.{meaning_of, meaning_of_form};
 ghost use Rattle.script_lines.specs.LineMeaning as spec;
 
-use ledger_model::{Command, Key, Moment, Name, Order, TxId};
+use ledger_model::{Command, Key, Moment, Name, Order, Settle, TxId};
 use reading_decimal::moment_of;
 
 /// Why a line of a script changes no plan, content or moment; the first that applies, in this order.
@@ -82,10 +82,12 @@ pub enum ScriptLine<'a> {
     Limits(u64, u64, u64, u64),
     /// `station <site> <station>`: one more station of the plan.
     Declares(Name, Name),
-    /// `period <site> <seconds>`: the settlement period of a site's boards.
+    /// `period <site> <seconds>`: the length of a site's settlement periods.
     SetsPeriod(Name, u64),
     /// `order <site> <word>`: the order in which a site takes the readings of a transaction.
     SetsOrder(Name, Order),
+    /// `settle <site> <word>`: the rule by which differences count in a site's settlement periods.
+    SetsSettle(Name, Settle),
     /// `now <time>`: the moment from here on.
     Tells(Moment),
     /// `msg <station> <text>`: a message of a station.
@@ -159,6 +161,7 @@ fn line_of_form<'a>(word: &str, rest: &'a str) -> Option<ScriptLine<'a>>
         "limits" => limits_line(rest),
         "period" => period_line(rest),
         "order" => order_line(rest),
+        "settle" => settle_line(rest),
         "now" => now_line(rest),
         "energy" => Some(ScriptLine::AsksEnergy(Name::new(rest)?)),
         "export" => Some(ScriptLine::AsksExport(Name::new(rest)?)),
@@ -217,6 +220,17 @@ pub fn order_of(word: &str) -> Option<Order>
     }
 }
 
+/// The rule of settling that a word names: `later` or `closing`.
+pub fn settle_of(word: &str) -> Option<Settle>
+    ensures { result ≡ spec.settle_word word.now }
+{
+    match word {
+        "later" => Some(Settle::Later),
+        "closing" => Some(Settle::Closing),
+        _ => None,
+    }
+}
+
 // The key of a transaction's id and a sequence number.
 fn key_of(tx: &str, seq: u64) -> Option<Key>
     ensures { result ≡ spec.key tx.now seq }
@@ -261,6 +275,14 @@ fn order_line(rest: &str) -> Option<ScriptLine<'_>>
 {
     let (site, word) = parted(rest)?;
     Some(ScriptLine::SetsOrder(Name::new(site)?, order_of(word)?))
+}
+
+// `settle <site> <word>`
+fn settle_line(rest: &str) -> Option<ScriptLine<'_>>
+    ensures { meaning_of_form result ≡ spec.settle_line (spec.words 2 rest.now) }
+{
+    let (site, word) = parted(rest)?;
+    Some(ScriptLine::SetsSettle(Name::new(site)?, settle_of(word)?))
 }
 
 // `now <time>`

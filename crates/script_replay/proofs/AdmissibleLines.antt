@@ -12,7 +12,7 @@ use Rattle.script_lines.specs.declared.script_line.LineFault.TheVariants.{BadLin
 use Rattle.script_lines.specs.declared.script_line.Operation.{Operation}
 use Rattle.script_lines.specs.declared.script_line.Operation.TheVariants as operation
 use Rattle.script_lines.specs.Lines.{Line}
-use Rattle.script_lines.specs.LineMeaning.{LineMeaning, ◌>>=◌, nothing, fails, sets_limits, declares, sets_period, sets_order, tells, sends, commands, asks_energy, asks_export, asks_total, asks_board, by_bytes, by_first_word, by_words, command_line, command_of, key, limits_line, line_meaning, moment, msg_line, name, now_line, number, order_line, order_word, parted, period_line, question_line, station_line, words}
+use Rattle.script_lines.specs.LineMeaning.{LineMeaning, ◌>>=◌, nothing, fails, sets_limits, declares, sets_period, sets_order, sets_settle, tells, sends, commands, asks_energy, asks_export, asks_total, asks_board, by_bytes, by_first_word, by_words, command_line, command_of, key, limits_line, line_meaning, moment, msg_line, name, now_line, number, order_line, order_word, settle_line, settle_word, parted, period_line, question_line, station_line, words}
 
 -- a command that the line asks is admissible
 abbrev pub IsFine : LineMeaning → Type 0
@@ -22,6 +22,7 @@ IsFine (sets_limits _ _ _ _) = Unit {0}
 IsFine (declares _ _) = Unit {0}
 IsFine (sets_period _ _) = Unit {0}
 IsFine (sets_order _ _) = Unit {0}
+IsFine (sets_settle _ _) = Unit {0}
 IsFine (tells _) = Unit {0}
 IsFine (sends _ _) = Unit {0}
 IsFine (commands name command) = IsAdmissible command
@@ -54,6 +55,10 @@ fine_period _ = tt
 fine_order : (line : List (List ℕ)) → IsFine (order_line line)
 fine_order (site ∷ word ∷ []) = reads (name site) _ (λ _. reads (order_word word) _ (λ _. tt))
 fine_order _ = tt
+
+fine_settle : (line : List (List ℕ)) → IsFine (settle_line line)
+fine_settle (site ∷ word ∷ []) = reads (name site) _ (λ _. reads (settle_word word) _ (λ _. tt))
+fine_settle _ = tt
 
 fine_now : (line : List (List ℕ)) → IsFine (now_line line)
 fine_now (time ∷ []) = reads (moment time) _ (λ _. tt)
@@ -92,6 +97,7 @@ fine_words (word, rest) =
     (either (bytes_eq word (codes "limits")) _ _ (fine_limits (words 4 rest))
     (either (bytes_eq word (codes "period")) _ _ (fine_period (words 2 rest))
     (either (bytes_eq word (codes "order")) _ _ (fine_order (words 2 rest))
+    (either (bytes_eq word (codes "settle")) _ _ (fine_settle (words 2 rest))
     (either (bytes_eq word (codes "now")) _ _ (fine_now (words 2 rest))
     (either (bytes_eq word (codes "energy")) _ _ (fine_question asks_energy (λ _. tt) (words 1 rest))
     (either (bytes_eq word (codes "export")) _ _ (fine_question asks_export (λ _. tt) (words 1 rest))
@@ -99,7 +105,7 @@ fine_words (word, rest) =
     (either (bytes_eq word (codes "board")) _ _ (fine_question asks_board (λ _. tt) (words 1 rest))
     (either (bytes_eq word (codes "void")) _ _ (fine_command operation.Void (words 3 rest))
     (either (bytes_eq word (codes "restore")) _ _ (fine_command operation.Restore (words 3 rest))
-    (either (bytes_eq word (codes "erase")) _ _ (fine_command operation.Erase (words 3 rest)) tt))))))))))))
+    (either (bytes_eq word (codes "erase")) _ _ (fine_command operation.Erase (words 3 rest)) tt)))))))))))))
 
 fine_bytes : (bytes : List ℕ) → IsFine (by_bytes bytes)
 fine_bytes [] = tt

@@ -11,8 +11,9 @@ use Rattle.script_lines.specs.declared.script_line.LineFault.{LineFault}
 use Rattle.script_lines.specs.declared.script_line.LineFault.TheVariants.{DeclaredLate, PlanLimit}
 use Rattle.script_replay.specs.Laws.{FaultsChangeNothing}
 use Rattle.script_lines.specs.Texts.{answer_text, ended_line, fault_line}
-use Rattle.script_ledgers.specs.Script.{Script, are_limits, by_meaning, commanded_to, declared_to, is_past_plan, is_period, joined_by, limited_to, order_to, ordered_by, period_to, sent_to, settled_by, site_number, station_named, step_by}
-use Rattle.script_lines.specs.LineMeaning.{LineMeaning, nothing, fails, sets_limits, declares, sets_period, sets_order, tells, sends, commands, asks_energy, asks_export, asks_total, asks_board, line_meaning}
+use Rattle.ledger_model.specs.Periods.{Periods}
+use Rattle.script_ledgers.specs.Script.{Script, are_limits, by_meaning, commanded_to, declared_to, is_past_plan, is_period, joined_by, lasting, limited_to, order_to, ordered_by, period_to, sent_to, settle_to, settled_by, settling, site_number, station_named, step_by}
+use Rattle.script_lines.specs.LineMeaning.{LineMeaning, nothing, fails, sets_limits, declares, sets_period, sets_order, sets_settle, tells, sends, commands, asks_energy, asks_export, asks_total, asks_board, line_meaning}
 
 -- nothing has changed but whether the ledgers are opened
 abbrev Same : Script → Script × List ℕ → Type 0
@@ -51,13 +52,13 @@ declared : (past : Bool) (s : Script) (site name : List ℕ) → Holds s (cond p
 declared true s site name fault e = refl
 declared false s site name fault e = joined (station_named name s.world) s site name fault e
 
-settled : (o : Option ℕ) (s : Script) (seconds : ℕ) → Holds s (settled_by o s seconds)
-settled None s seconds fault e = refl
-settled (Some number) s seconds fault e = absurd (some_text fault e)
+settled : (o : Option ℕ) (s : Script) (change : Periods → Periods) → Holds s (settled_by o s change)
+settled None s change fault e = refl
+settled (Some number) s change fault e = absurd (some_text fault e)
 
-by_period : (is : Bool) (s : Script) (o : Option ℕ) (seconds : ℕ) → Holds s (cond is (settled_by o s seconds) (s, fault_line PlanLimit))
-by_period true s o seconds fault e = settled o s seconds fault e
-by_period false s o seconds fault e = refl
+by_period : (is : Bool) (s : Script) (o : Option ℕ) (change : Periods → Periods) → Holds s (cond is (settled_by o s change) (s, fault_line PlanLimit))
+by_period true s o change fault e = settled o s change fault e
+by_period false s o change fault e = refl
 
 ordered : (o : Option ℕ) (s : Script) (order : Order) → Holds s (ordered_by o s order)
 ordered None s order fault e = refl
@@ -93,8 +94,9 @@ steps s nothing fault e = refl
 steps s (fails _) fault e = refl
 steps s (sets_limits t n r c) fault e = late s.opened s (limited_to s t n r c) (limited (are_limits t n r c) s t n r c) fault e
 steps s (declares site name) fault e = late s.opened s (declared_to s site name) (declared (is_past_plan s site) s site name) fault e
-steps s (sets_period site seconds) fault e = late s.opened s (period_to s site seconds) (by_period (is_period seconds) s (site_number site s.sites) seconds) fault e
+steps s (sets_period site seconds) fault e = late s.opened s (period_to s site seconds) (by_period (is_period seconds) s (site_number site s.sites) (lasting seconds)) fault e
 steps s (sets_order site order) fault e = late s.opened s (order_to s site order) (ordered (site_number site s.sites) s order) fault e
+steps s (sets_settle site rule) fault e = late s.opened s (settle_to s site rule) (settled (site_number site s.sites) s (settling rule)) fault e
 steps s (tells nanos) fault e = absurd (some_text fault e)
 steps s (sends name text) fault e = sent_by (station_named name s.world) s text fault e
 steps s (commands name command) fault e = commanded (station_named name s.world) s command fault e

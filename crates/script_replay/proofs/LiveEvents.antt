@@ -4,6 +4,7 @@ use Rattle.std.specs.List.{flat_map}
 use Rattle.std.proofs.lemmas.Bool.{cases_Bool}
 use Rattle.std.proofs.lemmas.Slice.Eq.{bytes_eq-Decides}
 use Rattle.board_report.specs.Named.{NamedBoard}
+use Rattle.ledger_model.specs.Periods.{Periods}
 use Rattle.ledger_model.specs.declared.order.Order.{Order}
 use Rattle.ledger_model.specs.declared.reading.Direction.{Direction}
 use Rattle.ledger_model.specs.declared.reading.Direction.TheVariants.{Import, Export}
@@ -37,13 +38,13 @@ same_quarters [] = refl
 same_quarters (b ∷ bs) = ap (λ l. b.1.quarters ++ l) (same_quarters bs)
 
 -- The board of a site over its stations' boards.
-abbrev site_over : List ℕ → Order → ℕ → List Named → NamedBoard
+abbrev site_over : List ℕ → Order → Periods → List Named → NamedBoard
 site_over site order period bs =
     let b = site_board period bs in
     record { name = site; period = b.period; order = order; figures = b.figures; quarters = b.quarters; stations = b.stations }
 
 -- Without the voided events, it is the board over the stations' boards without theirs.
-site_but_voided : (site : List ℕ) (order : Order) (period : ℕ) (bs : List Named) → board_but_voided (site_over site order period bs) ≡ site_over site order period (map but_voided bs)
+site_but_voided : (site : List ℕ) (order : Order) (period : Periods) (bs : List Named) → board_but_voided (site_over site order period bs) ≡ site_over site order period (map but_voided bs)
 site_but_voided site order period bs =
     let sums = sums_but_voided bs in let lines = same_quarters bs in
     λ i. record {
@@ -56,11 +57,11 @@ site_but_voided site order period bs =
     }
 
 -- Live events alone make a board, but for how many events are voided.
-same_board : (order : Order) (period : ℕ) (a b : Station) → live (entries a.content) ≡ live (entries b.content)
+same_board : (order : Order) (period : Periods) (a b : Station) → live (entries a.content) ≡ live (entries b.content)
     → with_voided 0 (board_by order period (entries a.content)) ≡ with_voided 0 (board_by order period (entries b.content))
 same_board order period a b same = ap (with_voided 0) (live_alone order period (entries a.content) (entries b.content) same)
 
-same_boards : (order : Order) (period : ℕ) (v w : World)
+same_boards : (order : Order) (period : Periods) (v w : World)
     → map (λ (s : Station). s.name) v ≡ map (λ (s : Station). s.name) w
     → map (λ (s : Station). live (entries s.content)) v ≡ map (λ (s : Station). live (entries s.content)) w
     → map but_voided (map (shown_station order period) v) ≡ map but_voided (map (shown_station order period) w)

@@ -20,9 +20,10 @@ use Rattle.transaction_event.proofs.AdmissibleRequests.{each_delivery_is_admissi
 use Rattle.script_replay.specs.Laws.{StationsAreReached, EnergyIsFromScratch, ExportIsFromScratch, TotalsAreFromScratch, BoardsAreFromScratch}
 use Rattle.script_lines.specs.Lines.{Line}
 use Rattle.script_lines.specs.Texts.{fault_line}
-use Rattle.script_ledgers.specs.Script.{Script, are_limits, by_meaning, commanded_to, declared_to, energy_answer, export_answer, is_among, is_past_plan, is_period, joined_by, limited_to, line_step, new_station, order_named, order_to, ordered_by, period_named, period_to, sent_to, settled_by, shown_site, site_number, start, station_named, stations_of, step_by, total_answer, script_after}
+use Rattle.ledger_model.specs.Periods.{Periods}
+use Rattle.script_ledgers.specs.Script.{Script, are_limits, by_meaning, commanded_to, declared_to, energy_answer, export_answer, is_among, is_past_plan, is_period, joined_by, lasting, limited_to, line_step, new_station, order_named, order_to, ordered_by, period_named, period_to, sent_to, settle_to, settled_by, settling, shown_site, site_number, start, station_named, stations_of, step_by, total_answer, script_after}
 use Rattle.board_report.specs.Texts.{board_text}
-use Rattle.script_lines.specs.LineMeaning.{LineMeaning, nothing, fails, sets_limits, declares, sets_period, sets_order, tells, sends, commands, asks_energy, asks_export, asks_total, asks_board, line_meaning}
+use Rattle.script_lines.specs.LineMeaning.{LineMeaning, nothing, fails, sets_limits, declares, sets_period, sets_order, sets_settle, tells, sends, commands, asks_energy, asks_export, asks_total, asks_board, line_meaning}
 use Rattle.script_lines.specs.declared.script_line.LineFault.TheVariants.{DeclaredLate, PlanLimit, UnknownSite}
 use Rattle.script_replay.proofs.AdmissibleLines.{IsFine, fine_line}
 
@@ -150,13 +151,13 @@ kept_limited : (is : Bool) (s : Script) (t e r c : ℕ) → Kept s.world → Kep
 kept_limited true s t e r c kept = kept
 kept_limited false s t e r c kept = kept
 
-kept_settled : (o : Option ℕ) (s : Script) (seconds : ℕ) → Kept s.world → Kept (settled_by o s seconds).0.world
-kept_settled None s seconds kept = kept
-kept_settled (Some number) s seconds kept = kept
+kept_settled : (o : Option ℕ) (s : Script) (change : Periods → Periods) → Kept s.world → Kept (settled_by o s change).0.world
+kept_settled None s change kept = kept
+kept_settled (Some number) s change kept = kept
 
-kept_period : (is : Bool) (s : Script) (o : Option ℕ) (seconds : ℕ) → Kept s.world → Kept (cond is (settled_by o s seconds) (s, fault_line PlanLimit)).0.world
-kept_period true s o seconds kept = kept_settled o s seconds kept
-kept_period false s o seconds kept = kept
+kept_period : (is : Bool) (s : Script) (o : Option ℕ) (change : Periods → Periods) → Kept s.world → Kept (cond is (settled_by o s change) (s, fault_line PlanLimit)).0.world
+kept_period true s o change kept = kept_settled o s change kept
+kept_period false s o change kept = kept
 
 kept_ordered : (o : Option ℕ) (s : Script) (order : Order) → Kept s.world → Kept (ordered_by o s order).0.world
 kept_ordered None s order kept = kept
@@ -181,8 +182,9 @@ kept_step s nothing fine kept = kept
 kept_step s (fails _) fine kept = kept
 kept_step s (sets_limits t e r c) fine kept = kept_late s.opened s (limited_to s t e r c) kept (kept_limited (are_limits t e r c) s t e r c kept)
 kept_step s (declares site name) fine kept = kept_late s.opened s (declared_to s site name) kept (kept_declared (is_past_plan s site) s site name kept)
-kept_step s (sets_period site seconds) fine kept = kept_late s.opened s (period_to s site seconds) kept (kept_period (is_period seconds) s (site_number site s.sites) seconds kept)
+kept_step s (sets_period site seconds) fine kept = kept_late s.opened s (period_to s site seconds) kept (kept_period (is_period seconds) s (site_number site s.sites) (lasting seconds) kept)
 kept_step s (sets_order site order) fine kept = kept_late s.opened s (order_to s site order) kept (kept_ordered (site_number site s.sites) s order kept)
+kept_step s (sets_settle site rule) fine kept = kept_late s.opened s (settle_to s site rule) kept (kept_settled (site_number site s.sites) s (settling rule) kept)
 kept_step s (tells _) fine kept = kept
 kept_step s (sends name text) fine kept = kept_sent (station_named name s.world) s text kept
 kept_step s (commands name command) fine kept = kept_commanded (station_named name s.world) s command fine kept

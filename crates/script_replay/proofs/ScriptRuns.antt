@@ -14,9 +14,10 @@ use Rattle.transaction_event.specs.Message.{Meaning, Event, Ready, Silence, mess
 use Rattle.script_lines.specs.declared.script_line.LineFault.TheVariants.{DeclaredLate, PlanLimit}
 use Rattle.script_replay.specs.Laws.{asked_by, asked_of, commanded_by, emptied, happened, sent_by, IsNoOperation, OrderChangesNoBoard, UnacceptedChangesNothing, WorldsAreRuns}
 use Rattle.script_lines.specs.Lines.{Line}
-use Rattle.script_lines.specs.LineMeaning.{LineMeaning, nothing, fails, sets_limits, declares, sets_period, sets_order, tells, sends, commands, asks_energy, asks_export, asks_total, asks_board, line_meaning}
+use Rattle.script_lines.specs.LineMeaning.{LineMeaning, nothing, fails, sets_limits, declares, sets_period, sets_order, sets_settle, tells, sends, commands, asks_energy, asks_export, asks_total, asks_board, line_meaning}
 use Rattle.script_lines.specs.Texts.{fault_line}
-use Rattle.script_ledgers.specs.Script.{KeepsSites, Script, start, are_limits, board_answer, by_meaning, commanded_to, declared_to, is_past_plan, is_period, joined_by, limited_to, line_step, order_to, ordered_by, period_to, sent_to, settled_by, site_number, station_named, step_by, script_after}
+use Rattle.ledger_model.specs.Periods.{Periods}
+use Rattle.script_ledgers.specs.Script.{KeepsSites, Script, start, are_limits, board_answer, by_meaning, commanded_to, declared_to, is_past_plan, is_period, joined_by, lasting, limited_to, line_step, order_to, ordered_by, period_to, sent_to, settle_to, settled_by, settling, site_number, station_named, step_by, script_after}
 use Rattle.script_replay.proofs.ReachedStations.{kept_from_start, same_world}
 
 -- ---- stations without events
@@ -69,13 +70,13 @@ run_declared : (past : Bool) (s : Script) (site name : List ℕ) (hs : List Happ
 run_declared true s site name hs closed ran = still s s hs refl (λ f. f) ran
 run_declared false s site name hs closed ran = run_joined (station_named name s.world) s site name hs closed ran
 
-run_settled : (o : Option ℕ) (s : Script) (seconds : ℕ) (hs : List Happens) → IsRun s hs → IsRun (settled_by o s seconds).0 (hs ++ [])
-run_settled None s seconds hs ran = still s s hs refl (λ f. f) ran
-run_settled (Some number) s seconds hs ran = still s (settled_by (Some number) s seconds).0 hs refl (λ f. f) ran
+run_settled : (o : Option ℕ) (s : Script) (change : Periods → Periods) (hs : List Happens) → IsRun s hs → IsRun (settled_by o s change).0 (hs ++ [])
+run_settled None s change hs ran = still s s hs refl (λ f. f) ran
+run_settled (Some number) s change hs ran = still s (settled_by (Some number) s change).0 hs refl (λ f. f) ran
 
-run_period : (is : Bool) (s : Script) (o : Option ℕ) (seconds : ℕ) (hs : List Happens) → IsRun s hs → IsRun (cond is (settled_by o s seconds) (s, fault_line PlanLimit)).0 (hs ++ [])
-run_period true s o seconds hs ran = run_settled o s seconds hs ran
-run_period false s o seconds hs ran = still s s hs refl (λ f. f) ran
+run_period : (is : Bool) (s : Script) (o : Option ℕ) (change : Periods → Periods) (hs : List Happens) → IsRun s hs → IsRun (cond is (settled_by o s change) (s, fault_line PlanLimit)).0 (hs ++ [])
+run_period true s o change hs ran = run_settled o s change hs ran
+run_period false s o change hs ran = still s s hs refl (λ f. f) ran
 
 run_ordered : (o : Option ℕ) (s : Script) (order : Order) (hs : List Happens) → IsRun s hs → IsRun (ordered_by o s order).0 (hs ++ [])
 run_ordered None s order hs ran = still s s hs refl (λ f. f) ran
@@ -103,8 +104,9 @@ run_step s nothing hs ran = still s s hs refl (λ f. f) ran
 run_step s (fails _) hs ran = still s s hs refl (λ f. f) ran
 run_step s (sets_limits t e r c) hs ran = run_late s.opened s (limited_to s t e r c) hs refl ran (λ f. run_limited (are_limits t e r c) s t e r c hs ran)
 run_step s (declares site name) hs ran = run_late s.opened s (declared_to s site name) hs refl ran (λ f. run_declared (is_past_plan s site) s site name hs f ran)
-run_step s (sets_period site seconds) hs ran = run_late s.opened s (period_to s site seconds) hs refl ran (λ f. run_period (is_period seconds) s (site_number site s.sites) seconds hs ran)
+run_step s (sets_period site seconds) hs ran = run_late s.opened s (period_to s site seconds) hs refl ran (λ f. run_period (is_period seconds) s (site_number site s.sites) (lasting seconds) hs ran)
 run_step s (sets_order site order) hs ran = run_late s.opened s (order_to s site order) hs refl ran (λ f. run_ordered (site_number site s.sites) s order hs ran)
+run_step s (sets_settle site rule) hs ran = run_late s.opened s (settle_to s site rule) hs refl ran (λ f. run_settled (site_number site s.sites) s (settling rule) hs ran)
 run_step s (tells nanos) hs ran = still s (record s { moment = nanos }) hs refl (λ f. f) ran
 run_step s (sends name text) hs ran = run_sent (station_named name s.world) s text hs ran
 run_step s (commands name command) hs ran = run_commanded (station_named name s.world) s command hs ran
@@ -151,6 +153,7 @@ asks_step s (sets_limits _ _ _ _) name command e = cc e
 asks_step s (declares _ _) name command e = cc e
 asks_step s (sets_period _ _) name command e = cc e
 asks_step s (sets_order _ _) name command e = cc e
+asks_step s (sets_settle _ _) name command e = cc e
 asks_step s (tells _) name command e = cc e
 asks_step s (sends at text) name command e = asks_sent (station_named at s.world) s text name command e
 asks_step s (commands at asked) name command e = asks_commanded (station_named at s.world) s asked name command e
@@ -183,6 +186,7 @@ delivers_line s (sets_limits _ _ _ _) is = All-nil (λ h. IsDelivery h.1)
 delivers_line s (declares _ _) is = All-nil (λ h. IsDelivery h.1)
 delivers_line s (sets_period _ _) is = All-nil (λ h. IsDelivery h.1)
 delivers_line s (sets_order _ _) is = All-nil (λ h. IsDelivery h.1)
+delivers_line s (sets_settle _ _) is = All-nil (λ h. IsDelivery h.1)
 delivers_line s (tells _) is = All-nil (λ h. IsDelivery h.1)
 delivers_line s (sends name text) is = delivers_sent (station_named name s.world) text s.moment
 delivers_line s (commands _ _) is = absurd is

@@ -1,5 +1,6 @@
 -- What the text of a script means, in words of its own.
 use Rattle.std.specs.Prelude.{◌≡◌, ℕ, true, List, [], ◌∷◌, ◌++◌, ⊤, All, map, Option, None, Some, IsPermutation}
+use Rattle.ledger_model.specs.Periods.{Periods}
 use Rattle.ledger_model.specs.declared.command.Command.{Command}
 use Rattle.ledger_model.specs.declared.command.Command.TheVariants.{Deliver}
 use Rattle.ledger_model.specs.declared.order.Order.{Order}
@@ -18,7 +19,7 @@ use Rattle.script_lines.specs.declared.script_line.LineFault.{LineFault}
 use Rattle.script_lines.specs.Lines.{Line, lines_of}
 use Rattle.script_lines.specs.Texts.{ended_line, fault_line}
 use Rattle.script_ledgers.specs.Script.{KeepsSites, Script, start, line_step, script_text, script_after, station_named, stations_of, is_among, energy_line, export_line, order_named, period_named, shown_site}
-use Rattle.script_lines.specs.LineMeaning.{LineMeaning, nothing, fails, sets_limits, declares, sets_period, sets_order, tells, sends, commands, asks_energy, asks_export, asks_total, asks_board, line_meaning}
+use Rattle.script_lines.specs.LineMeaning.{LineMeaning, nothing, fails, sets_limits, declares, sets_period, sets_order, sets_settle, tells, sends, commands, asks_energy, asks_export, asks_total, asks_board, line_meaning}
 
 -- the text of no bytes is empty
 abbrev pub AnEmptyScriptWritesNothing : Type 0
@@ -59,20 +60,20 @@ BoardsAreFromScratch = (lines : List Line) (line : Line) (site : List ℕ) → l
     → (line_step (script_after start lines) line).1 ≡ board_text (shown_site site (order_named (script_after start lines) site) (period_named (script_after start lines) site) (stations_of site (script_after start lines).world))
 
 -- what stations imported and exported in a quarter in an order of readings, added up
-abbrev pub sums_in : Order → ℕ → ℕ → World → Flows
+abbrev pub sums_in : Order → Periods → ℕ → World → Flows
 sums_in order period quarter stations = record {
   flow = sum_of_energies (map (λ s. energy_in_by order Import period quarter (entries s.content)) stations);
   export = sum_of_energies (map (λ s. energy_in_by order Export period quarter (entries s.content)) stations);
 }
 
 -- the figures of a site are the sums over these stations, and so, whatever the order of readings and the settlement period, are the energies of each quarter that it shows
-pub record AreSitesSums (site : List ℕ) (order : Order) (period : ℕ) (stations : World) : Type 0 where
+pub record AreSitesSums (site : List ℕ) (order : Order) (period : Periods) (stations : World) : Type 0 where
   pub figures_are : AreSums (shown_site site order period stations).figures (map (λ s. figures_by order (entries s.content)) stations)
   pub quarters_are : All (λ line. line.1 ≡ sums_in order period line.0 stations) (shown_site site order period stations).quarters
 
 -- the board of each site shows the sums over its stations
 abbrev pub SitesAreSums : Type 0
-SitesAreSums = (site : List ℕ) (order : Order) (period : ℕ) (stations : World) → AreSitesSums site order period stations
+SitesAreSums = (site : List ℕ) (order : Order) (period : Periods) (stations : World) → AreSitesSums site order period stations
 
 -- the command that a message of this meaning asks of the station
 abbrev pub asked_by : Meaning → Station → List Happens
@@ -98,6 +99,7 @@ asked_of s (sets_limits _ _ _ _) = []
 asked_of s (declares _ _) = []
 asked_of s (sets_period _ _) = []
 asked_of s (sets_order _ _) = []
+asked_of s (sets_settle _ _) = []
 asked_of s (tells _) = []
 asked_of s (sends name text) = sent_by (station_named name s.world) text s.moment
 asked_of s (commands name command) = commanded_by (station_named name s.world) command

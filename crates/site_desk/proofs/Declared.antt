@@ -3,10 +3,11 @@ use Rattle.std.proofs.Common.{◌≡◌, ℕ, zero, suc, ◌+◌, ◌<◌, ◌||
 use Rattle.std.specs.Prelude.{sum_by}
 use Rattle.std.proofs.lemmas.Bool.Decides.{nat_tests}
 use Rattle.ledger_model.specs.Limits.{Bounds}
+use Rattle.ledger_model.specs.Periods.{Periods}
 use Rattle.ledger_model.specs.Ranges.{most_sites, most_stations, most_plan_readings}
 use Rattle.site_desk.specs.declared.plan.SitePlan.{SitePlan}
 use Rattle.site_desk.specs.declared.plan.StationPlan.{StationPlan}
-use Rattle.site_desk.specs.Plan.{is_past, sites_changed}
+use Rattle.site_desk.specs.Plan.{is_past, period_at, sites_changed}
 
 second : (a b : Bool) → (a || b) ≡ false → b ≡ false
 second true b e = cc e
@@ -45,3 +46,9 @@ pub site_set : (change : SitePlan → SitePlan) (site : ℕ) (d : SitePlan) (sit
 site_set change site d sites less =
     let set = changed_set change site d sites less in
     (λ i. take (length sites) (set i ++ drop (length (set i)) sites)) ∙ all_back sites (sites_changed change site sites) (changed_length change site sites)
+
+-- periods that were read before they are changed
+pub periods_changed : (change : Periods → Periods) (site : ℕ) (sites : List SitePlan) → sites_changed (λ s. record s { period = change (period_at sites site) }) site sites ≡ sites_changed (λ s. record s { period = change s.period }) site sites
+periods_changed change site [] = refl
+periods_changed change zero (s ∷ sites) = refl
+periods_changed change (suc site) (s ∷ sites) = ap (λ ss. s ∷ ss) (periods_changed change site sites)

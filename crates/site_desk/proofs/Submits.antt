@@ -1,6 +1,7 @@
 -- What a settled command tells one who does not know what lay behind the locks.
 use Rattle.std.proofs.Common.{◌≡◌, ℕ, ◌+◌, ◌≤◌, [], ◌∷◌, ◌++◌, sum, get_or, List, None, Some, Ok, Err, ap, sym, ◌∙◌, subst, arith}
 use Rattle.std.specs.Prelude.{Option, Result, IfOk}
+use Rattle.ledger_model.specs.Periods.{Periods}
 use Rattle.ledger_model.specs.declared.answer.Answer.{Answer}
 use Rattle.ledger_model.specs.declared.answer.Answer.TheVariants.{Accepted, Repeat, Refused}
 use Rattle.ledger_model.specs.declared.answer.Refusal.TheVariants.{ConflictingEvent, TooManyTransactions, EventsFull, ReadingsFull, NoSuchEvent, AlreadyVoided, NotVoided, ChangesExhausted}
@@ -85,7 +86,7 @@ module _ (at : StationPlace) (number : ℕ) (c : Cell) (b : Book) (p : Held) (co
   submitted (Refused ChangesExhausted) c' b' p' told tied is cells passes bound books told_is = record { pass = passes; untold = told_is }
 
 -- the board of a ledger
-pub board_shown : {E : Type 0} (r : Result Board E) (limits : Bounds) (by period : ℕ) (by_order order : Order) (content c : Content) → IfOk r (λ b. b ≡ board_by by_order by (entries content)) → by ≡ period → by_order ≡ order → content ≡ c → Reached limits c.changes c → IfOk r (IsBoardWithin limits period order)
+pub board_shown : {E : Type 0} (r : Result Board E) (limits : Bounds) (by period : Periods) (by_order order : Order) (content c : Content) → IfOk r (λ b. b ≡ board_by by_order by (entries content)) → by ≡ period → by_order ≡ order → content ≡ c → Reached limits c.changes c → IfOk r (IsBoardWithin limits period order)
 board_shown (Ok b) limits by period by_order order content c shown same ordered is reached = record { content = c; reached = reached; shown = shown ∙ (λ i. board_by (ordered i) (same i) (entries (is i))) }
 board_shown (Err e) limits by period by_order order content c shown same ordered is reached = tt
 
@@ -99,6 +100,6 @@ board_named places name k at c b named is stands within =
     record { number = k; named = named; board = subst (λ l. IsBoardWithin l named.place.period named.place.order b) limits (subst (λ s. IsBoardWithin c.limits s named.place.order b) period (subst (λ o. IsBoardWithin c.limits c.period o b) order within)) }
 
 -- the board of a ledger, of just this content
-pub board_of_content : {E : Type 0} (r : Result Board E) (by period : ℕ) (by_order order : Order) (content c : Content) → IfOk r (λ b. b ≡ board_by by_order by (entries content)) → by ≡ period → by_order ≡ order → content ≡ c → IfOk r (λ b. b ≡ board_by order period (entries c))
+pub board_of_content : {E : Type 0} (r : Result Board E) (by period : Periods) (by_order order : Order) (content c : Content) → IfOk r (λ b. b ≡ board_by by_order by (entries content)) → by ≡ period → by_order ≡ order → content ≡ c → IfOk r (λ b. b ≡ board_by order period (entries c))
 board_of_content (Ok b) by period by_order order content c shown same ordered is = shown ∙ (λ i. board_by (ordered i) (same i) (entries (is i)))
 board_of_content (Err e) by period by_order order content c shown same ordered is = tt

@@ -5,7 +5,9 @@ use Rattle.std.specs.Str.{bytes_eq}
 use Rattle.ledger_model.specs.declared.order.Order.{Order}
 use Rattle.ledger_model.specs.declared.order.Order.TheVariants.{Sequence}
 use Rattle.ledger_model.specs.Limits.{Bounds}
-use Rattle.ledger_model.specs.Quarter.{default_period}
+use Rattle.ledger_model.specs.Periods.{Periods}
+use Rattle.ledger_model.specs.declared.settle.Settle.{Settle}
+use Rattle.ledger_model.specs.Settling.{default_periods}
 use Rattle.ledger_model.specs.Ranges.{most_sites, most_stations, most_plan_readings}
 use Rattle.site_desk.specs.declared.plan.SitePlan.{SitePlan}
 use Rattle.site_desk.specs.declared.plan.StationPlan.{StationPlan}
@@ -50,8 +52,8 @@ abbrev pub site_number : Option ℕ → List SitePlan → ℕ
 site_number (Some number) sites = number
 site_number None sites = length sites
 
--- The sites once one of this name is mentioned: it begins at its first mention, with so many viewers, this settlement period and this order of readings.
-abbrev pub sites_with : Option ℕ → List ℕ → ℕ → ℕ → Order → List SitePlan → List SitePlan
+-- The sites once one of this name is mentioned: it begins at its first mention, with so many viewers, these settlement periods and this order of readings.
+abbrev pub sites_with : Option ℕ → List ℕ → ℕ → Periods → Order → List SitePlan → List SitePlan
 sites_with (Some number) name viewers period order sites = sites
 sites_with None name viewers period order sites = sites ++ record { name = name; viewers = viewers; period = period; order = order } ∷ []
 
@@ -59,13 +61,13 @@ sites_with None name viewers period order sites = sites ++ record { name = name;
 abbrev pub stations_with : Option ℕ → List SitePlan → List ℕ → Bounds → List StationPlan → List StationPlan
 stations_with found sites name limits stations = stations ++ record { site = site_number found sites; name = name; limits = limits } ∷ []
 
--- The settlement period of a site, if there is the site.
-abbrev pub period_or_default : Option SitePlan → ℕ
-period_or_default None = default_period
+-- The settlement periods of a site, if there is the site.
+abbrev pub period_or_default : Option SitePlan → Periods
+period_or_default None = default_periods
 period_or_default (Some s) = s.period
 
--- The settlement period of the site of this number, in seconds.
-abbrev pub period_at : List SitePlan → ℕ → ℕ
+-- The settlement periods of the site of this number.
+abbrev pub period_at : List SitePlan → ℕ → Periods
 period_at sites site = period_or_default (slice_get sites site)
 
 -- The order of readings of a site, if there is the site.
@@ -83,9 +85,13 @@ sites_changed change site [] = []
 sites_changed change zero (s ∷ sites) = change s ∷ sites
 sites_changed change (suc site) (s ∷ sites) = s ∷ sites_changed change site sites
 
--- The sites once that of this number has this settlement period.
+-- The sites once that of this number has settlement periods of so many seconds.
 abbrev pub sites_by : ℕ → ℕ → List SitePlan → List SitePlan
-sites_by site period sites = sites_changed (λ s. record s { period = period }) site sites
+sites_by site seconds sites = sites_changed (λ s. record s { period = record s.period { length = seconds } }) site sites
+
+-- The sites once that of this number counts differences in its settlement periods by this rule.
+abbrev pub sites_settling : ℕ → Settle → List SitePlan → List SitePlan
+sites_settling site rule sites = sites_changed (λ s. record s { period = record s.period { rule = rule } }) site sites
 
 -- The sites once that of this number has this order of readings.
 abbrev pub sites_in : ℕ → Order → List SitePlan → List SitePlan

@@ -1,4 +1,5 @@
 use Rattle.std.specs.Prelude.{◌≡◌, ℕ, suc, ◌+◌, ◌<◌, ◌≤◌, ◌^◌, List, [], ◌∷◌, ◌++◌, length, sum, Option, None, Some}
+use Rattle.ledger_model.specs.Periods.{Periods}
 use Rattle.ledger_model.specs.declared.answer.Answer.{Answer}
 use Rattle.ledger_model.specs.declared.answer.Answer.TheVariants.{Accepted, Repeat, Refused}
 use Rattle.ledger_model.specs.declared.answer.Refusal.TheVariants.{ConflictingEvent, TooManyTransactions, EventsFull, ReadingsFull, NoSuchEvent, AlreadyVoided, NotVoided, ChangesExhausted}
@@ -85,7 +86,7 @@ Submitted at p command (Refused AlreadyVoided) p' told = IsAnswered at p command
 Submitted at p command (Refused NotVoided) p' told = IsAnswered at p command (Refused NotVoided) p' told
 
 -- The board is that of some content that accepted commands leave within these limits, by this settlement period and in this order of readings.
-pub record IsBoardWithin (limits : Bounds) (period : ℕ) (order : Order) (b : Board) : Type 0 where
+pub record IsBoardWithin (limits : Bounds) (period : Periods) (order : Order) (b : Board) : Type 0 where
   pub content : Content
   pub reached : Reached limits content.changes content
   pub shown : b ≡ board_by order period (entries content)

@@ -3,22 +3,24 @@ ghost use Rattle.std.specs.List.{list_all, list_any, position};
 ghost use Rattle.std.specs.Option.{is_some};
 ghost use Rattle.std.specs.Str.{bytes_eq};
 ghost use Rattle.ledger_model.specs.Ranges.{most_sites};
-ghost use Rattle.site_desk.specs.Plan.{blank_name, first_twice, has_twice, is_past, is_within_limits, most_viewers, order_at, period_at, plan_fault, site_number, sites_by, sites_in, sites_with, stations_with};
+ghost use Rattle.site_desk.specs.Plan.{blank_name, first_twice, has_twice, is_past, is_within_limits, most_viewers, order_at, period_at, plan_fault, site_number, sites_by, sites_in, sites_settling, sites_with, stations_with};
 
 use crate::fault::DeskFault;
 use arrayvec::ArrayVec;
-use ledger_model::{Limits, MAX_PLAN_READINGS, MAX_SITES, MAX_STATIONS, Name, Order, Period};
+use ledger_model::{
+    Limits, MAX_PLAN_READINGS, MAX_SITES, MAX_STATIONS, Name, Order, Period, Periods, Settle,
+};
 
 /// How many viewers a site may have.
 pub const MAX_VIEWERS: u16 = 64;
 
-/// A site: its name, how many viewers it has, at most 64, the settlement period of its boards, and the order
-/// in which it takes the readings of a transaction.
+/// A site: its name, how many viewers it has, at most 64, the settlement periods of its boards with the rule by
+/// which differences count in them, and the order in which it takes the readings of a transaction.
 #[derive(Debug, Drop)]
 pub struct SitePlan {
     pub name: Name,
     pub viewers: u16,
-    pub period: Period,
+    pub period: Periods,
     pub order: Order,
 }
 
@@ -85,15 +87,15 @@ impl Plan {
     }
 
     /// Adds a station of this name with these limits, behind those that stand. Its site begins at its first
-    /// mention, with so many viewers, this settlement period and this order of readings. A name that stands
-    /// already is left to [`Plan::fault`].
+    /// mention, with so many viewers, these settlement periods and this order of readings. A name that is in the
+    /// plan already is left to [`Plan::fault`].
     ///
     /// Condition: that is not more than a plan may have (test [`Plan::is_past`]).
     pub fn declare(
         &mut self,
         site: Name,
         viewers: u16,
-        period: Period,
+        period: Periods,
         order: Order,
         name: Name,
         limits: Limits,
@@ -107,7 +109,7 @@ impl Plan {
     }
 
     // The number of the site of this name, which begins at its first mention.
-    fn mention(&mut self, name: Name, viewers: u16, period: Period, order: Order) -> u16
+    fn mention(&mut self, name: Name, viewers: u16, period: Periods, order: Order) -> u16
         requires room { position (λ s. bytes_eq name s.name) self.old.sites.items ≡ None → length self.old.sites.items < most_sites }
         ensures sites { self.new.sites.items ≡ sites_with (position (λ s. bytes_eq name s.name) self.old.sites.items) name viewers period order self.old.sites.items }
         ensures stations { self.new.stations.items ≡ self.old.stations.items }
@@ -128,17 +130,17 @@ impl Plan {
         }
     }
 
-    /// The settlement period of the site of this number.
+    /// The settlement periods of the site of this number.
     ///
     /// Condition: the plan has the site ([`Plan::site`] tells).
-    pub fn period(&self, site: usize) -> Period
+    pub fn period(&self, site: usize) -> Periods
         requires { site < length self.now.sites.items }
         ensures { result ≡ period_at self.now.sites.items site }
     {
         self.sites.as_slice()[site].period
     }
 
-    /// Gives the site of this number another settlement period.
+    /// Gives the settlement periods of the site of this number another length.
     ///
     /// Condition: the plan has the site ([`Plan::site`] tells).
     pub fn set_period(&mut self, site: usize, period: Period)
@@ -146,7 +148,20 @@ impl Plan {
         ensures sites { self.new.sites.items ≡ sites_by site period self.old.sites.items }
         ensures stations { self.new.stations.items ≡ self.old.stations.items }
     {
-        self.sites.as_mut_slice()[site].period = period;
+        let lasting = self.period(site).with_length(period);
+        self.sites.as_mut_slice()[site].period = lasting;
+    }
+
+    /// Gives the site of this number another rule by which differences count in its settlement periods.
+    ///
+    /// Condition: the plan has the site ([`Plan::site`] tells).
+    pub fn set_settle(&mut self, site: usize, settle: Settle)
+        requires { site < length self.old.sites.items }
+        ensures sites { self.new.sites.items ≡ sites_settling site settle self.old.sites.items }
+        ensures stations { self.new.stations.items ≡ self.old.stations.items }
+    {
+        let settling = self.period(site).with_rule(settle);
+        self.sites.as_mut_slice()[site].period = settling;
     }
 
     /// The order in which the site of this number takes the readings of a transaction.
@@ -196,18 +211,18 @@ impl Plan {
 
 impl Default for SitePlan {
     ghost use Rattle.std.specs.Prelude.{◌≡◌};
-    ghost use Rattle.ledger_model.specs.Quarter.{default_period};
+    ghost use Rattle.ledger_model.specs.Settling.{default_periods};
     ghost use Rattle.ledger_model.specs.declared.order.Order.TheVariants.{Sequence};
     ghost use Rattle.site_desk.specs.Plan.{blank_name};
 
-    ghost is_default = { λ s. s ≡ record { name = blank_name; viewers = 0; period = default_period; order = Sequence } };
+    ghost is_default = { λ s. s ≡ record { name = blank_name; viewers = 0; period = default_periods; order = Sequence } };
 
-    /// A site named `-`, without viewers, by the default settlement period, its readings by sequence.
+    /// A site named `-`, without viewers, by the default settlement periods, its readings by sequence.
     fn default() -> Self {
         SitePlan {
             name: blank(),
             viewers: 0,
-            period: Period::default(),
+            period: Periods::default(),
             order: Order::default(),
         }
     }
@@ -230,13 +245,13 @@ impl Default for StationPlan {
     }
 }
 
-// The settlement period of the site of this number, and the default one where there is no such site.
-pub(crate) fn period_of(sites: &[SitePlan], site: u16) -> Period
+// The settlement periods of the site of this number, and the default ones where there is no such site.
+pub(crate) fn period_of(sites: &[SitePlan], site: u16) -> Periods
     ensures { result ≡ period_at sites.now site }
 {
     match sites.get(usize::from(site)) {
         Some(site) => site.period,
-        None => Period::default(),
+        None => Periods::default(),
     }
 }
 

@@ -6,18 +6,18 @@ ghost use Rattle.site_desk.specs.Roster.{AreNewPlaces, IsNamed};
 
 use crate::parts::row_of;
 use crate::plan::{SitePlan, StationPlan, order_of, period_of};
-use ledger_model::{Limits, Name, Order, Period};
+use ledger_model::{Limits, Name, Order, Periods};
 use std::alloc::{AllocError, Global};
 
 /// Where a station stands: its name, its site's number, its row in the site's book, its limits, its
-/// settlement period, and the order of its readings.
+/// settlement periods, and the order of its readings.
 #[derive(Drop)]
 pub struct StationPlace {
     pub(crate) name: Name,
     pub(crate) site: u16,
     pub(crate) row: u16,
     pub(crate) limits: Limits,
-    pub(crate) period: Period,
+    pub(crate) period: Periods,
     pub(crate) order: Order,
 }
 

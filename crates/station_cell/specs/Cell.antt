@@ -1,5 +1,6 @@
 use Rattle.std.specs.Prelude.{◌≡◌, ◌≢◌, ℕ, ◌≤◌, List, [], length, sum, Some, slice_get, refl}
 use Rattle.std.specs.Coded.{Coded, code_by, coded×, coded_list, coded_ℕ}
+use Rattle.ledger_model.specs.Periods.{Periods, periods_code}
 use Rattle.ledger_model.specs.declared.order.Order.{Order}
 use Rattle.ledger_model.specs.contracts.order.Order as orders
 use Rattle.ledger_model.specs.Limits.{Bounds}
@@ -11,13 +12,13 @@ use Rattle.station_ledger.specs.Ledger.{bounds_code, content_code}
 abbrev pub most_passes : ℕ
 most_passes = 65_536
 
--- A station's cell: the station's number in the plan, its site's number, its row in the site's book, its limits, its settlement period in seconds, the order of its readings, its content, and how many changes each of its passes made.
+-- A station's cell: the station's number in the plan, its site's number, its row in the site's book, its limits, its settlement periods, the order of its readings, its content, and how many changes each of its passes made.
 pub record Cell : Type 0 where
   pub station : ℕ
   pub site : ℕ
   pub row : ℕ
   pub limits : Bounds
-  pub period : ℕ
+  pub period : Periods
   pub order : Order
   pub content : Content
   pub counts : List ℕ
@@ -40,13 +41,13 @@ IsInService c = c.station ≢ no_station
 -- A cell is kept as the tuple of its parts.
 abbrev pub cell_code : Coded Cell
 cell_code =
-    code_by (ℕ × (ℕ × (ℕ × (Bounds × (ℕ × (Order × (Content × List ℕ))))))) (coded× coded_ℕ (coded× coded_ℕ (coded× coded_ℕ (coded× bounds_code (coded× coded_ℕ (coded× orders.the_row.coded (coded× content_code (coded_list coded_ℕ))))))))
+    code_by (ℕ × (ℕ × (ℕ × (Bounds × (Periods × (Order × (Content × List ℕ))))))) (coded× coded_ℕ (coded× coded_ℕ (coded× coded_ℕ (coded× bounds_code (coded× periods_code (coded× orders.the_row.coded (coded× content_code (coded_list coded_ℕ))))))))
     (λ c. (c.station, (c.site, (c.row, (c.limits, (c.period, (c.order, (c.content, c.counts))))))))
     (λ p. record { station = p.0; site = p.1.0; row = p.1.1.0; limits = p.1.1.1.0; period = p.1.1.1.1.0; order = p.1.1.1.1.1.0; content = p.1.1.1.1.1.1.0; counts = p.1.1.1.1.1.1.1 })
     (λ _. refl)
 
 -- The cell of a station without events, to which no pass was given.
-abbrev pub new_cell : ℕ → ℕ → ℕ → Bounds → ℕ → Order → Cell
+abbrev pub new_cell : ℕ → ℕ → ℕ → Bounds → Periods → Order → Cell
 new_cell station site row limits period order = record { station = station; site = site; row = row; limits = limits; period = period; order = order; content = empty_content; counts = [] }
 
 -- A pass that made no change yet.

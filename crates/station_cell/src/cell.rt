@@ -8,7 +8,7 @@ ghost use Rattle.station_ledger.specs.Spent.{most_spent};
 use crate::fault::TooManyPasses;
 use crate::pass::Pass;
 use energy_flow::Work;
-use ledger_model::{Answer, Command, Limits, Order, Period};
+use ledger_model::{Answer, Command, Limits, Order, Periods};
 use station_ledger::{Judgement, StationLedger};
 use std::alloc::{AllocError, Global};
 use std::marker::Model;
@@ -46,20 +46,20 @@ impl Model for StationCell {
 
 impl StationCell {
     /// The cell of a station without events: the station's number, its site's, its row in that site's book,
-    /// its limits, its site's settlement period and the order of its readings, with room for all its passes. It
-    /// alone takes memory.
+    /// its limits, its site's settlement periods and the order of its readings, with room for all its passes. Only
+    /// it takes memory.
     pub fn open(
         alloc: Global,
         station: u16,
         site: u16,
         row: u16,
         limits: Limits,
-        period: Period,
+        period: Periods,
         order: Order,
     ) -> Result<Self, AllocError>
         ensures { IfOk result (λ c. c ≡ new_cell station site row limits period order) }
     {
-        let ledger = StationLedger::open(alloc, limits, period, order)?;
+        let ledger = StationLedger::open(alloc, limits, period.length(), order, period.rule())?;
         let counts = Vec::with_capacity(alloc, MAX_PASSES)?;
         Ok(StationCell {
             station,

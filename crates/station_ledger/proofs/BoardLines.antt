@@ -3,6 +3,7 @@ use Rattle.std.proofs.Common.{◌==◌, ℕ, ◌≤◌, List, [], ◌∷◌, ◌
 use Rattle.std.specs.List.{All}
 use Rattle.std.proofs.lemmas.List.Elements.{All-nil, All-cons, All-append}
 use Rattle.energy_flow.specs.Flow.{Energy}
+use Rattle.ledger_model.specs.Periods.{Periods}
 use Rattle.ledger_model.specs.Board.{Flowed, board_by}
 use Rattle.ledger_model.specs.Content.{Entry}
 use Rattle.ledger_model.specs.Energy.{Flows, Pair, all_pairs_by, flows_in_by, energy_by, energy_in_by, energy_of_by, quarter_of, quarters_by, difference}
@@ -33,7 +34,7 @@ module _ (order : Order) (limits : Bounds) (es : List Entry) (within : AreAllowe
   evse_flow : (d : Direction) (n : ℕ) → IsStationFlow (energy_at_by order d n es)
   evse_flow d n = small d (energy_at_by order d n es) (evse_up_le order d n es) (evse_down_le order d n es)
 
-  quarter_flow : (d : Direction) (period q : ℕ) → IsStationFlow (energy_in_by order d period q es)
+  quarter_flow : (d : Direction) (period : Periods) (q : ℕ) → IsStationFlow (energy_in_by order d period q es)
   quarter_flow d period q = small d (energy_in_by order d period q es) (part_le (λ p. (difference p).up) (λ p. quarter_of period p == q) (all_pairs_by order d es)) (part_le (λ p. (difference p).down) (λ p. quarter_of period p == q) (all_pairs_by order d es))
 
   all_lines : (f : ℕ → Flows) (ns : List ℕ) → ((n : ℕ) → AreStationFlows (f n)) → All (λ line. AreStationFlows line.1) (map {B = Flowed} (λ n. (n, f n)) ns)
@@ -45,9 +46,9 @@ module _ (order : Order) (limits : Bounds) (es : List Entry) (within : AreAllowe
   own_lines f period (n ∷ ns) each = All-cons (λ line. IsQuarterOf period line.0) (n, f n) (map {B = Flowed} (λ k. (k, f k)) ns) (each n (inl refl)) (own_lines f period ns (λ k h. each k (inr h)))
 
   -- no line has more than the readings of a station can show, and each quarter is the period's
-  pub lines_within : (period : ℕ) → IsPeriod period → AreStationLines period (board_by order period es).evses (board_by order period es).quarters
+  pub lines_within : (period : Periods) → IsPeriod period.length → AreStationLines period (board_by order period es).evses (board_by order period es).quarters
   lines_within period is = record {
     evse_flows = all_lines (λ n. flows_at_by order n es) (evses es) (λ n. record { flow = evse_flow Import n; export = evse_flow Export n });
     quarter_flows = all_lines (λ q. flows_in_by order period q es) (quarters_by order period es) (λ q. record { flow = quarter_flow Import period q; export = quarter_flow Export period q });
-    own_quarters = own_lines (λ q. flows_in_by order period q es) period (quarters_by order period es) (λ q h. in_period period (all_pairs_by order Import es ++ all_pairs_by order Export es) q is (All-append (λ (p : Pair). IsMoment p.1.moment) (all_pairs_by order Import es) (all_pairs_by order Export es) (within.in_time Import) (within.in_time Export)) ((rising-IsIn q (map (quarter_of period) (all_pairs_by order Import es ++ all_pairs_by order Export es))).0 h));
+    own_quarters = own_lines (λ q. flows_in_by order period q es) period.length (quarters_by order period es) (λ q h. in_period period (all_pairs_by order Import es ++ all_pairs_by order Export es) q is (All-append (λ (p : Pair). IsMoment p.1.moment) (all_pairs_by order Import es) (all_pairs_by order Export es) (within.in_time Import) (within.in_time Export)) ((rising-IsIn q (map (quarter_of period) (all_pairs_by order Import es ++ all_pairs_by order Export es))).0 h));
   }

@@ -4,6 +4,7 @@ use Rattle.std.proofs.lemmas.Bool.{ne_eqb}
 use Rattle.event_chain.specs.Chains.{Chained, stored}
 use Rattle.event_chain.specs.Table as table
 use Rattle.event_chain.specs.Table.{Table as Slots, row_of}
+use Rattle.ledger_model.specs.Periods.{Periods}
 use Rattle.ledger_model.specs.Content.{Entry, live, live_of, transactions_of}
 use Rattle.ledger_model.specs.declared.order.Order.TheVariants.{Moment}
 use Rattle.ledger_model.specs.declared.reading.Direction.{Direction}
@@ -43,7 +44,7 @@ has_live less more front e back one =
 pub slot_small : (limits : Bounds) (es : List Entry) (slots : Slots) (tx : List ℕ) (old : Slots) (slot : ℕ) → IsSlotGiven tx old slots slot → old.capacity ≡ limits.transactions → limits.transactions ≤ most_transactions → table.AreBelow slots.capacity slots.rows → slot < 2 ^ 24
 slot_small limits es slots tx old slot given room few below = let h = below tx given.row given.there in omega (arith, h, ap (λ s. s) given.is, given.capacity, room, few)
 
-module _ {chains : Chained} {es : List Entry} {key : KeyName} {b : ByMoment} {period : ℕ} {t : Table} (is : IsComing es chains key b period t) where
+module _ {chains : Chained} {es : List Entry} {key : KeyName} {b : ByMoment} {period : Periods} {t : Table} (is : IsComing es chains key b period t) where
   abbrev new : List Entry
   new = stored chains
 

@@ -10,6 +10,7 @@ use Rattle.event_chain.specs.declared.row.TableRow.{TableRow}
 use Rattle.event_chain.specs.Table.{Table as Slots, TxRow, row_of, without_row}
 use Rattle.transaction_map.proofs.Found.{found_out, length_out}
 use Rattle.transaction_map.proofs.Rising.{id_total}
+use Rattle.ledger_model.specs.Periods.{Periods}
 use Rattle.ledger_model.specs.Content.{Entry, live, live_of, transactions_of, has_transaction}
 use Rattle.ledger_model.specs.declared.order.Order.TheVariants.{Moment}
 use Rattle.ledger_model.specs.declared.reading.Direction.{Direction}
@@ -60,7 +61,7 @@ both_ways (r ∷ rs) =
       | Export ↦ omega (arith, rest)
     ]
 
-module _ {chains : Chained} {es : List Entry} {key : KeyName} {b : ByMoment} {period : ℕ} {t : Table} (is : IsGoing es chains key b period t) where
+module _ {chains : Chained} {es : List Entry} {key : KeyName} {b : ByMoment} {period : Periods} {t : Table} (is : IsGoing es chains key b period t) where
   abbrev new : List Entry
   new = stored chains
 

@@ -2,6 +2,7 @@
 use Rattle.std.proofs.Common.{◌≡◌, ℕ, ◌+◌, ◌*◌, ◌<◌, ◌≤◌, ◌^◌, ◌⊎◌, true, false, not, List, [], length, sym, ap, subst, ◌∙◌, arith}
 use Rattle.std.specs.List.{AllByRecursion}
 use Rattle.event_chain.specs.Chains.{Chained}
+use Rattle.ledger_model.specs.Periods.{Periods}
 use Rattle.ledger_model.specs.Board.{Flowed}
 use Rattle.ledger_model.specs.Content.{Entry, Stored}
 use Rattle.ledger_model.specs.declared.order.Order.TheVariants.{Moment}
@@ -98,14 +99,14 @@ module _ (chains : Chained) {less more : List Entry} {key : KeyName} {event : St
   can_list d low room = record { slot_small = low; few = (let n = ap length (readings d) in let m = few_toward d event.event.readings in omega (arith, n, m, few)); list_room = room }
 
   -- what is known of a side is known by other words
-  as_side : (period : ℕ) (d : Direction) {l : List Timed} {ps qs : List Pair} {t : Table} {rest : List Flowed} → l ≡ without_it d → qs ≡ ps → AreApart (owner slot d) key.seq period d (S d) (without_it d) ps t rest → IsSide slot period d chains key l qs t rest
+  as_side : (period : Periods) (d : Direction) {l : List Timed} {ps qs : List Pair} {t : Table} {rest : List Flowed} → l ≡ without_it d → qs ≡ ps → AreApart (owner slot d) key.seq period d (S d) (without_it d) ps t rest → IsSide slot period d chains key l qs t rest
   as_side period d {l = l} {ps = ps} {qs = qs} {t = t} {rest = rest} l_is qs_is a =
       subst (λ r. AreApart (owner slot d) key.seq period d r l qs t rest) (sym (listed_is d)) (subst (λ x. AreApart (owner slot d) key.seq period d (S d) l x t rest) (sym qs_is) (subst (λ x. AreApart (owner slot d) key.seq period d (S d) x ps t rest) (sym l_is) a))
 
   with_is : (d : Direction) {l : List Timed} → l ≡ without_it d → put_each (listed_of slot d chains key) l ≡ put_each (S d) (without_it d)
   with_is d l_is = λ i. put_each (listed_is d i) (l_is i)
 
-  module _ (period : ℕ) (index : TimedReadings) (t : Table) (rising : AreRising index.entries) where
+  module _ (period : Periods) (index : TimedReadings) (t : Table) (rising : AreRising index.entries) where
     -- before and after the readings of one direction came
     module _ (d : Direction) (l_is : side slot d index ≡ without_it d) where
       pub can_put_entries : ArePuttable (listed_of slot d chains key) index.entries

@@ -4,6 +4,7 @@ use Rattle.std.specs.List.{AllByRecursion}
 use Rattle.std.proofs.lemmas.Bool.{cases_lt, cases_eq, lt-ltb, le-ltb}
 use Rattle.std.proofs.lemmas.List.{append-nil, length-map}
 use Rattle.energy_flow.specs.Flow.{CanPlus, Energy, plus}
+use Rattle.ledger_model.specs.Periods.{Periods}
 use Rattle.ledger_model.specs.Board.{Flowed}
 use Rattle.ledger_model.specs.Deltas.{across, pairs_between, first_reading, last_reading}
 use Rattle.ledger_model.specs.declared.reading.Direction.{Direction}
@@ -168,7 +169,7 @@ module _ {seq : ℕ} {before after : Option MeterReading} {run without with_it :
   pub without_few : length (fa ++ fb) + length (across before after) ≤ length without
   without_few = let n = three (across before after) in let long = ap length less_pairs in let few = pairs-less without in omega (arith, n, long, few)
 
-  module _ (period : ℕ) (d : Direction) (rest : List Flowed) where
+  module _ (period : Periods) (d : Direction) (rest : List Flowed) where
     abbrev pub beside : List Flowed
     beside = quartered period d (fa ++ fb) ++ rest
 
@@ -372,7 +373,7 @@ pub at_both : (P : Option MeterReading → Option MeterReading → Type 0) {r s 
 at_both P {r = r} {s = s} {b = b} {a = a} e f h = subst (λ x. P x a) e (subst (P r) f h)
 
 -- A run's pairs in the quarters: what is there, and where there is room.
-module _ (period : ℕ) (d : Direction) {seq : ℕ} {before after : Option MeterReading} {run without with_it : List Timed} (r : IsRun seq before after run without with_it) (rest : List Flowed) (t : Table) where
+module _ (period : Periods) (d : Direction) {seq : ℕ} {before after : Option MeterReading} {run without with_it : List Timed} (r : IsRun seq before after run without with_it) (rest : List Flowed) (t : Table) where
   module _ (rows : t.rows ≡ rows_of (quartered period d (pairs_among without) ++ rest)) where
     pub gap_held : HoldsPairs period d (across before after) t
     gap_held = (beside r period d rest, rows ∙ without_rows r period d rest)
@@ -391,7 +392,7 @@ module _ (period : ℕ) (d : Direction) {seq : ℕ} {before after : Option Meter
   put_back ps rows put = put.rows ∙ ap (rows_with (quartered period d ps)) rows ∙ made_with (quartered period d ps) (beside r period d rest)
 
 -- Where the walk over an event's readings stands: the pairs of the owner that are in the quarters now, and the energies that went and came.
-pub record IsMoving (period : ℕ) (d : Direction) (all left from now : List Timed) (rest : List Flowed) (t : Table) (less more : Energy) : Type 0 where
+pub record IsMoving (period : Periods) (d : Direction) (all left from now : List Timed) (rest : List Flowed) (t : Table) (less more : Energy) : Type 0 where
   pub rows : t.rows ≡ rows_of (quartered period d (pairs_among now) ++ rest)
   pub up : (energy_over (pairs_among now)).up + less.up ≡ (energy_over (pairs_among from)).up + more.up
   pub down : (energy_over (pairs_among now)).down + less.down ≡ (energy_over (pairs_among from)).down + more.down
@@ -404,11 +405,11 @@ pub run_some : {seq : ℕ} {before after : Option MeterReading} {run without wit
 run_some r = let n = ap length r.run_is in omega (arith, n)
 
 -- What pairs that went and came cost.
-pub spent_swap : {period : ℕ} {d : Direction} {gone came : List Pair} {t next : Table} {w v : ℕ} {m : Moved} → AreSwapped period d gone came t next w v m → (v ≤ w + length gone + length came) × (w ≤ v)
+pub spent_swap : {period : Periods} {d : Direction} {gone came : List Pair} {t next : Table} {w v : ℕ} {m : Moved} → AreSwapped period d gone came t next w v m → (v ≤ w + length gone + length came) × (w ≤ v)
 spent_swap s = (omega (arith, s.taken.work.bound, s.added.work.bound), omega (arith, s.taken.work.grows, s.added.work.grows))
 
 -- A run came, or went, and so much is left.
-module _ {seq period : ℕ} {d : Direction} {before after : Option MeterReading} {run without with_it : List Timed} (r : IsRun seq before after run without with_it) {all left beyond from : List Timed} {rest : List Flowed} {t next : Table} {less more : Energy} {w v : ℕ} {m : Moved} (long : length left ≡ length run + length beyond) where
+module _ {seq : ℕ} {period : Periods} {d : Direction} {before after : Option MeterReading} {run without with_it : List Timed} (r : IsRun seq before after run without with_it) {all left beyond from : List Timed} {rest : List Flowed} {t next : Table} {less more : Energy} {w v : ℕ} {m : Moved} (long : length left ≡ length run + length beyond) where
   pub run_in : IsMoving period d all left from without rest t less more → AreSwapped period d (across before after) (pairs_between before (bare run) after) t next w v m → IsMoving period d all beyond from with_it rest next (plus less m.less) (plus more m.more)
   run_in h s = record {
     rows = put_back period d r rest s.left (pairs_between before (bare run) after) (gap_left period d r rest t h.rows s.taken.quarters) s.added.quarters ∙ sym (with_rows r period d rest);
@@ -432,7 +433,7 @@ module _ {seq period : ℕ} {d : Direction} {before after : Option MeterReading}
   }
 
 -- There is room for a run's pairs, and for the pair across its gap.
-module _ {o seq period : ℕ} {d : Direction} {all others : List Timed} {ps : List Pair} {base : Table} {rest : List Flowed} (a : AreApart o seq period d all others ps base rest) {before after : Option MeterReading} {run without with_it : List Timed} (r : IsRun seq before after run without with_it) {from left : List Timed} {t : Table} {less more : Energy} (same : ps ≡ pairs_among from) (cap : t.capacity ≡ base.capacity) where
+module _ {o seq : ℕ} {period : Periods} {d : Direction} {all others : List Timed} {ps : List Pair} {base : Table} {rest : List Flowed} (a : AreApart o seq period d all others ps base rest) {before after : Option MeterReading} {run without with_it : List Timed} (r : IsRun seq before after run without with_it) {from left : List Timed} {t : Table} {less more : Energy} (same : ps ≡ pairs_among from) (cap : t.capacity ≡ base.capacity) where
   module _ {now : List Timed} (h : IsMoving period d all left from now rest t less more) (fewer_up : (energy_over (fa r ++ fb r)).up ≤ (energy_over (pairs_among now)).up) (fewer_down : (energy_over (fa r ++ fb r)).down ≤ (energy_over (pairs_among now)).down) where
     few_now : AreFew (most_readings + 2 * most_event_readings) d (energy_over (fa r ++ fb r)) rest
     few_now =
@@ -445,7 +446,7 @@ module _ {o seq period : ℕ} {d : Direction} {all others : List Timed} {ps : Li
         has_room period d (fa r ++ fb r) rest n (most_readings + 2 * most_event_readings) _ rows (omega (arith, room, a.room, cap, next_cap)) (omega (arith, a.few_rows, cap, next_cap)) few_now (omega (arith, small))
 
 -- What is known of an event's readings of which some are left.
-pub record IsComing (seq period : ℕ) (d : Direction) (all left others : List Timed) (rest : List Flowed) (t : Table) (start w : ℕ) (less more : Energy) : Type 0 where
+pub record IsComing (seq : ℕ) (period : Periods) (d : Direction) (all left others : List Timed) (rest : List Flowed) (t : Table) (start w : ℕ) (less more : Energy) : Type 0 where
   pub done : List Timed
   pub split : all ≡ done ++ left
   pub gap : (done ≡ []) ⊎ ((left ≡ []) ⊎ AreParted done left others)
@@ -453,7 +454,7 @@ pub record IsComing (seq period : ℕ) (d : Direction) (all left others : List T
   pub spent : w + length left ≤ start + length all + 2 * runs (own_timed seq) (put_each done others)
   pub grows : start ≤ w
 
-pub record IsGoing (seq period : ℕ) (d : Direction) (all left others : List Timed) (rest : List Flowed) (t : Table) (start w : ℕ) (less more : Energy) : Type 0 where
+pub record IsGoing (seq : ℕ) (period : Periods) (d : Direction) (all left others : List Timed) (rest : List Flowed) (t : Table) (start w : ℕ) (less more : Energy) : Type 0 where
   pub done : List Timed
   pub split : all ≡ done ++ left
   pub moving : IsMoving period d all left (put_each all others) (put_each left others) rest t less more
@@ -483,7 +484,7 @@ module _ {others left run next_left : List Timed} {before behind : Option Timed}
   pub long_left : length left ≡ length run + length next_left
   long_left = let e = ap length (sym (fitting-beyond behind left) ∙ sym (λ i. turn.run_is i ++ turn.next_is i)) in let n = length-append run next_left in omega (arith, e, n)
 
-  module _ {o seq period : ℕ} {d : Direction} {all : List Timed} {rest : List Flowed} {base : Table} {ps : List Pair} (a : AreApart o seq period d all others ps base rest) where
+  module _ {o seq : ℕ} {period : Periods} {d : Direction} {all : List Timed} {rest : List Flowed} {base : Table} {ps : List Pair} (a : AreApart o seq period d all others ps base rest) where
     module _ (done : List Timed) (split : all ≡ done ++ left) where
       mine : AreOwn (own_timed seq) (done ++ left)
       mine = subst (AreOwn (own_timed seq)) split a.own
@@ -624,14 +625,14 @@ none_left [] h = refl
 none_left (x ∷ xs) h = absurd (omega (arith, h))
 
 -- The energies by other names.
-pub moved_on_coming : {seq period : ℕ} {d : Direction} {all left others : List Timed} {rest : List Flowed} {t : Table} {start w : ℕ} {less more l m : Energy} → l ≡ less → m ≡ more → IsComing seq period d all left others rest t start w less more → IsComing seq period d all left others rest t start w l m
+pub moved_on_coming : {seq : ℕ} {period : Periods} {d : Direction} {all left others : List Timed} {rest : List Flowed} {t : Table} {start w : ℕ} {less more l m : Energy} → l ≡ less → m ≡ more → IsComing seq period d all left others rest t start w less more → IsComing seq period d all left others rest t start w l m
 moved_on_coming {seq} {period} {d} {all} {left} {others} {rest} {t} {start} {w} {less} {more} {l} {m} e f h = subst (λ x. IsComing seq period d all left others rest t start w x m) (sym e) (subst (IsComing seq period d all left others rest t start w less) (sym f) h)
 
-pub moved_on_going : {seq period : ℕ} {d : Direction} {all left others : List Timed} {rest : List Flowed} {t : Table} {start w : ℕ} {less more l m : Energy} → l ≡ less → m ≡ more → IsGoing seq period d all left others rest t start w less more → IsGoing seq period d all left others rest t start w l m
+pub moved_on_going : {seq : ℕ} {period : Periods} {d : Direction} {all left others : List Timed} {rest : List Flowed} {t : Table} {start w : ℕ} {less more l m : Energy} → l ≡ less → m ≡ more → IsGoing seq period d all left others rest t start w less more → IsGoing seq period d all left others rest t start w l m
 moved_on_going {seq} {period} {d} {all} {left} {others} {rest} {t} {start} {w} {less} {more} {l} {m} e f h = subst (λ x. IsGoing seq period d all left others rest t start w x m) (sym e) (subst (IsGoing seq period d all left others rest t start w less) (sym f) h)
 
 -- What stands once all runs came, or went.
-module _ {o seq period : ℕ} {d : Direction} {all others : List Timed} {ps : List Pair} {base : Table} {rest : List Flowed} (a : AreApart o seq period d all others ps base rest) {left : List Timed} {t : Table} {start w : ℕ} {less more : Energy} where
+module _ {o seq : ℕ} {period : Periods} {d : Direction} {all others : List Timed} {ps : List Pair} {base : Table} {rest : List Flowed} (a : AreApart o seq period d all others ps base rest) {left : List Timed} {t : Table} {start w : ℕ} {less more : Energy} where
   module _ (h : IsComing seq period d all left others rest t start w less more) (none : left ≡ []) where
     all_done : h.done ≡ all
     all_done = sym (append-nil h.done) ∙ ap (λ l. h.done ++ l) (sym none) ∙ sym h.split

@@ -4,6 +4,7 @@ use Rattle.std.specs.List.{filter, flat_map, list_any, sum_by}
 use Rattle.std.specs.Str.{bytes_eq}
 use Rattle.std.proofs.lemmas.List.Sums.{sum_by-append, sum_by-cons}
 use Rattle.energy_flow.specs.Flow.{Energy, plus}
+use Rattle.ledger_model.specs.Periods.{Periods}
 use Rattle.ledger_model.specs.declared.order.Order.TheVariants.{Moment}
 use Rattle.ledger_model.specs.declared.reading.Direction.{Direction}
 use Rattle.ledger_model.specs.declared.reading.Direction.TheVariants.{Import, Export}
@@ -52,14 +53,14 @@ abbrev pub others_in : Direction → List ℕ → List Entry → List Pair
 others_in d tx es = flat_map (λ u. pairs_by Moment d u es) (filter (λ u. not (bytes_eq tx u)) (transactions_of (live es)))
 
 -- What stands in the quarters beside pairs of a direction: others of it, and those of the other direction.
-abbrev pub rest_of : ℕ → Direction → List Pair → List Pair → List Flowed
+abbrev pub rest_of : Periods → Direction → List Pair → List Pair → List Flowed
 rest_of period d ps others = quartered period d others ++ quartered period (other d) ps
 
 -- Some pairs add up as two parts do.
 abbrev IsSplit : List Pair → List Pair → List Pair → Type 0
 IsSplit all mine others = (f : Pair → ℕ) → sum_by f all ≡ sum_by f mine + sum_by f others
 
-split_quarters : (period : ℕ) (d : Direction) (all mine others : List Pair) → IsSplit all mine others
+split_quarters : (period : Periods) (d : Direction) (all mine others : List Pair) → IsSplit all mine others
     → (measure : Flowed → ℕ) → sum_by measure (quartered period d all) ≡ sum_by measure (quartered period d mine) + sum_by measure (quartered period d others)
 split_quarters period d all mine others split measure =
     let shown : Pair → Flowed = λ p. (quarter_of period p, flows_toward d (difference p)) in
@@ -69,11 +70,11 @@ split_quarters period d all mine others split measure =
     let parts = split (λ p. measure (shown p)) in
     omega (arith, whole, one, two, parts)
 
-beside : (period : ℕ) (d : Direction) (P : Direction → List Pair) (measure : Flowed → ℕ) → sum_by measure (both_quartered period P) ≡ sum_by measure (quartered period d (P d)) + sum_by measure (quartered period (other d) (P (other d)))
+beside : (period : Periods) (d : Direction) (P : Direction → List Pair) (measure : Flowed → ℕ) → sum_by measure (both_quartered period P) ≡ sum_by measure (quartered period d (P d)) + sum_by measure (quartered period (other d) (P (other d)))
 beside period Import P measure = sum_by-append measure (quartered period Import (P Import)) (quartered period Export (P Export))
 beside period Export P measure = let all = sum_by-append measure (quartered period Import (P Import)) (quartered period Export (P Export)) in omega (arith, all)
 
-both_alike : (period : ℕ) (d : Direction) (P : Direction → List Pair) (mine others : List Pair) → IsSplit (P d) mine others → rows_of (both_quartered period P) ≡ rows_of (quartered period d mine ++ rest_of period d (P (other d)) others)
+both_alike : (period : Periods) (d : Direction) (P : Direction → List Pair) (mine others : List Pair) → IsSplit (P d) mine others → rows_of (both_quartered period P) ≡ rows_of (quartered period d mine ++ rest_of period d (P (other d)) others)
 both_alike period d P mine others split =
     made_alike (both_quartered period P) (quartered period d mine ++ rest_of period d (P (other d)) others) (λ measure.
     let whole = beside period d P measure in
@@ -87,7 +88,7 @@ record IsUpTo (n : ℕ) (e : Energy) : Type 0 where
   up : e.up ≤ n
   down : e.down ≤ n
 
-few_beside : (period most : ℕ) (d : Direction) (mine others ps : List Pair) → (energy_over mine).up + (energy_over others).up ≤ greatest_reading * most → (energy_over mine).down + (energy_over others).down ≤ greatest_reading * most
+few_beside : (period : Periods) (most : ℕ) (d : Direction) (mine others ps : List Pair) → (energy_over mine).up + (energy_over others).up ≤ greatest_reading * most → (energy_over mine).down + (energy_over others).down ≤ greatest_reading * most
     → IsUpTo (greatest_reading * most) (energy_over ps) → AreFew most d (energy_over mine) (rest_of period d ps others)
 few_beside period most Import mine others ps up down small =
     let a = quartered period Import others in let b = quartered period Export ps in
@@ -223,7 +224,7 @@ module _ (slot : ℕ) (limits : Bounds) (less more : List Entry) (e : Entry) (on
   side_more : (d : Direction) → IsSide d (all d more)
   side_more d = record { count = omega arith; sum = record { up = omega (arith, few_up Moment d limits more large, large.most_readings_within); down = omega (arith, few_down Moment d limits more large, large.most_readings_within) } }
 
-  module _ (period : ℕ) where
+  module _ (period : Periods) where
     apart_with : (d : Direction) (P : Direction → List Pair) (t : Table) (mine : List Pair) → t.rows ≡ rows_of (both_quartered period P) → t.capacity ≡ limits.readings → IsSplit (P d) mine (others d) → IsSide d (P d) → IsSide (other d) (P (other d))
         → AreApart (owner slot d) e.0.seq period d (its d) (standing d) mine t (rest_of period d (P (other d)) (others d))
     apart_with d P t mine rows room split side beyond =

@@ -6,6 +6,7 @@ use Rattle.std.proofs.lemmas.List.{map-append, length-map}
 use Rattle.std.proofs.lemmas.List.Elements.{filter-append}
 use Rattle.std.proofs.lemmas.List.Sums.{sum_by-append}
 use Rattle.energy_flow.specs.Flow.{Energy}
+use Rattle.ledger_model.specs.Periods.{Periods}
 use Rattle.ledger_model.specs.Board.{Flowed}
 use Rattle.ledger_model.specs.Deltas.{across, pairs_between, first_reading, last_reading}
 use Rattle.ledger_model.specs.Energy.{Flows, Pair, energy_over, followed}
@@ -37,7 +38,7 @@ pub without_run : (front back : List Timed) → followed (bare (front ++ back)) 
 without_run front back = with_run front [] back
 
 -- Rows of pairs, some of which stand between others.
-pub moved_in : (period : ℕ) (d : Direction) (a x b : List Pair) (rest : List Flowed) → rows_of (quartered period d (a ++ (x ++ b)) ++ rest) ≡ rows_of (quartered period d x ++ (quartered period d (a ++ b) ++ rest))
+pub moved_in : (period : Periods) (d : Direction) (a x b : List Pair) (rest : List Flowed) → rows_of (quartered period d (a ++ (x ++ b)) ++ rest) ≡ rows_of (quartered period d x ++ (quartered period d (a ++ b) ++ rest))
 moved_in period d a x b rest =
     let q = quartered period d in
     made_alike (q (a ++ (x ++ b)) ++ rest) (q x ++ (q (a ++ b) ++ rest)) (λ measure.
@@ -76,7 +77,7 @@ few_more most more Export e f rest few up down = record {
 }
 
 -- There is room for pairs beside these.
-pub has_room : (period : ℕ) (d : Direction) (ps : List Pair) (rest : List Flowed) (n most : ℕ) (t : Table) → t.rows ≡ rows_of (quartered period d ps ++ rest) → length ps + length rest + n ≤ t.capacity → t.capacity ≤ most_readings
+pub has_room : (period : Periods) (d : Direction) (ps : List Pair) (rest : List Flowed) (n most : ℕ) (t : Table) → t.rows ≡ rows_of (quartered period d ps ++ rest) → length ps + length rest + n ≤ t.capacity → t.capacity ≤ most_readings
     → AreFew most d (energy_over ps) rest → most + n ≤ 2 * most_readings → HasRoom n t
 has_room period d ps rest n most t rows room few_rows few small =
     let mine = quartered period d ps in

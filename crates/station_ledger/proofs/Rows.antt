@@ -3,6 +3,7 @@ use Rattle.std.proofs.Common.{◌≡◌, ℕ, ◌+◌, ◌*◌, ◌<◌, ◌≤�
 use Rattle.std.proofs.lemmas.List.{length-map}
 use Rattle.std.proofs.lemmas.List.Sums.{sum_by-append}
 use Rattle.energy_flow.specs.Flow.{Energy, CanPlus, CanMinus}
+use Rattle.ledger_model.specs.Periods.{Periods}
 use Rattle.ledger_model.specs.Board.{Flowed}
 use Rattle.ledger_model.specs.Energy.{Flows, flows_toward, Pair, difference, energy_over, quarter_of}
 use Rattle.ledger_model.proofs.Callers.{sum_by-map}
@@ -31,7 +32,7 @@ at_most Import e n up down = record { up = up; down = down; export_up = omega ar
 at_most Export e n up down = record { up = omega arith; down = omega arith; export_up = up; export_down = down }
 
 -- what pairs of a direction add up to is what their differences do
-pub total_quartered : (period : ℕ) (d : Direction) (ps : List Pair) → total (quartered period d ps) ≡ flows_toward d (energy_over ps)
+pub total_quartered : (period : Periods) (d : Direction) (ps : List Pair) → total (quartered period d ps) ≡ flows_toward d (energy_over ps)
 total_quartered period Import ps =
     let shown : Pair → Flowed = λ p. (quarter_of period p, flows_toward Import (difference p)) in
     let up = sum_by-map (λ (f : Flowed). f.1.flow.up) shown ps in
@@ -47,7 +48,7 @@ total_quartered period Export ps =
     let down = sum_by-map (λ (f : Flowed). f.1.flow.down) shown ps ∙ sum_by-none ps in
     λ i. record { flow = record { up = up i; down = down i }; export = record { up = export_up i; down = export_down i } }
 
-pub long : (period : ℕ) (d : Direction) (ps : List Pair) → length (quartered period d ps) ≡ length ps
+pub long : (period : Periods) (d : Direction) (ps : List Pair) → length (quartered period d ps) ≡ length ps
 long period d ps = length-map {B = Flowed} ps (λ p. (quarter_of period p, flows_toward d (difference p)))
 
 module _ (t : Table) (more : ℕ) (has : HasRoom more t) where
@@ -97,7 +98,7 @@ module _ (q : ℕ) (flow : Flows) (others : List Flowed) (t : Table) (is : t.row
   last_of_export = subst (λ rows. (row_at q rows).pairs ≡ 1 → (row_at q rows).export ≡ flow.export) (sym is) (last_export [] q flow others)
 
 -- the rows with several pairs more
-pub rows_more : (period : ℕ) (d : Direction) {ps : List Pair} {e : Energy} {t new : Table} (others : List Flowed) (more less : ℕ) → AreRows others more t → length ps + less ≡ more
+pub rows_more : (period : Periods) (d : Direction) {ps : List Pair} {e : Energy} {t new : Table} (others : List Flowed) (more less : ℕ) → AreRows others more t → length ps + less ≡ more
     → IsSumOf ps e → IsWith (quartered period d ps) t new → AreRows (quartered period d ps ++ others) less new
 rows_more period d {ps = ps} {t = t} {new = new} others more less was n sum put =
     let mine = quartered period d ps in

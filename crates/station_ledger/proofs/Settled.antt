@@ -2,6 +2,7 @@
 use Rattle.std.proofs.Common.{◌≡◌, ℕ, Bool, List, Option, IfSome, sym, ap, subst, ◌∙◌, arith}
 use Rattle.std.specs.FinMap.{find}
 use Rattle.energy_flow.specs.Flow.{Energy, plus, minus}
+use Rattle.ledger_model.specs.Periods.{Periods}
 use Rattle.ledger_model.specs.ByDirection.{in_direction}
 use Rattle.ledger_model.specs.declared.by_direction.ByDirection.{ByDirection}
 use Rattle.ledger_model.specs.declared.order.Order.TheVariants.{Sequence}
@@ -30,7 +31,7 @@ use Rattle.station_ledger.proofs.Trades.{station_exchanged, own_exchanged, may_t
 -- by sequence
 module _ {limits : Bounds} {tx : List ℕ} {es new : List Entry} {gone came : Direction → List Pair} {most : ℕ} (ch : IsChange limits tx es new gone came most) where
   -- the pairs that go are in the table, and there is room for those that come
-  module _ {period : ℕ} {quarters : Table} (rows : AreQuarterRows Sequence limits es period quarters) where
+  module _ {period : Periods} {quarters : Table} (rows : AreQuarterRows Sequence limits es period quarters) where
     pub gone_held : HoldsBoth period gone quarters
     gone_held = holds limits tx es new gone came ch.kept ch.traded ch.before ch.after period quarters rows
 

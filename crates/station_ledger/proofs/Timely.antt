@@ -1,8 +1,11 @@
 -- Each reading of events in range is at a moment, and so the quarter of each pair begins at one.
-use Rattle.std.proofs.Common.{◌≡◌, ℕ, suc, not, true, false, cond, nat_lt, List, [], ◌∷◌, ◌++◌, map, sym, subst, arith, ⊎_elim}
+use Rattle.std.proofs.Common.{◌≡◌, ℕ, suc, ◌-◌, ◌<◌, ◌≤◌, max, not, true, false, cond, nat_lt, List, [], ◌∷◌, ◌++◌, map, sym, subst, arith, ⊎_elim}
 use Rattle.std.specs.List.{All, flat_map}
 use Rattle.std.specs.Str.{bytes_eq}
+use Rattle.std.proofs.Math.Nat.{max-eq_left, max-eq_right}
+use Rattle.std.proofs.lemmas.Bool.{cases_lt}
 use Rattle.std.proofs.lemmas.List.Elements.{All-nil, All-cons, All-append}
+use Rattle.ledger_model.specs.Periods.{Periods}
 use Rattle.ledger_model.specs.BoardLaws.{IsIn}
 use Rattle.ledger_model.specs.Content.{Entry, live, live_of, transactions_of}
 use Rattle.ledger_model.specs.Energy.{Pair, all_pairs_by, followed, pairs_by, quarter_of, readings_of}
@@ -11,7 +14,10 @@ use Rattle.ledger_model.specs.InTime.{in_order, in_time, put_in_time}
 use Rattle.ledger_model.specs.declared.order.Order.{Order}
 use Rattle.ledger_model.specs.declared.order.Order.TheVariants.{Sequence, Moment}
 use Rattle.ledger_model.specs.declared.reading.Direction.{Direction}
-use Rattle.ledger_model.specs.Moment.{IsMoment}
+use Rattle.ledger_model.specs.declared.settle.Settle.{Settle}
+use Rattle.ledger_model.specs.declared.settle.Settle.TheVariants.{Later, Closing}
+use Rattle.ledger_model.specs.Moment.{IsMoment, first_moment}
+use Rattle.ledger_model.specs.Settling.{settled_by}
 use Rattle.ledger_model.specs.Quarter.{IsPeriod, IsQuarterOf, quarter_at}
 use Rattle.ledger_model.proofs.Bounds.{AreEntries-filter}
 use Rattle.ledger_model.proofs.Callers.{AreEntries}
@@ -79,9 +85,21 @@ own_quarter period moment is at =
     short : (n : ℕ) → period ≡ n → IsQuarterOf n (quarter_at n moment) → IsQuarterOf period (quarter_at period moment)
     short n e h = subst (λ s. IsQuarterOf s (quarter_at s moment)) (sym e) h
 
--- each quarter of such pairs is one of the period's
-pub in_period : (period : ℕ) (ps : List Pair) (q : ℕ) → IsPeriod period → All (λ (p : Pair). IsMoment p.1.moment) ps → IsIn q (map (quarter_of period) ps) → IsQuarterOf period q
+-- the nanosecond before a moment is one, but for the first
+before : (moment : ℕ) → IsMoment moment → IsMoment (max (moment - 1) first_moment)
+before moment at =
+    ⊎_elim {C = IsMoment (max (moment - 1) first_moment)} (λ (below : moment - 1 < first_moment). subst IsMoment (sym (max-eq_right {n = moment - 1} (omega (arith, below)))) (omega arith, omega arith))
+    (λ (above : first_moment ≤ moment - 1). subst IsMoment (sym (max-eq_left above)) (above, omega (arith, at.1)))
+    (cases_lt (moment - 1) first_moment)
+
+-- whichever period a rule finds begins at a moment
+settled_quarter : (rule : Settle) (period moment : ℕ) → IsPeriod period → IsMoment moment → IsQuarterOf period (settled_by rule period moment)
+settled_quarter Later period moment is at = own_quarter period moment is at
+settled_quarter Closing period moment is at = own_quarter period (max (moment - 1) first_moment) is (before moment at)
+
+-- each quarter of such pairs is one of the periods
+pub in_period : (period : Periods) (ps : List Pair) (q : ℕ) → IsPeriod period.length → All (λ (p : Pair). IsMoment p.1.moment) ps → IsIn q (map (quarter_of period) ps) → IsQuarterOf period.length q
 in_period period [] q is at h = absurd h
 in_period period (p ∷ ps) q is at h =
-    ⊎_elim {C = IsQuarterOf period q} (λ (e : q ≡ quarter_of period p). subst (IsQuarterOf period) (sym e) (own_quarter period p.1.moment is (at 0 p (omega arith))))
+    ⊎_elim {C = IsQuarterOf period.length q} (λ (e : q ≡ quarter_of period p). subst (IsQuarterOf period.length) (sym e) (settled_quarter period.rule period.length p.1.moment is (at 0 p (omega arith))))
     (λ (there : IsIn q (map (quarter_of period) ps)). in_period period ps q is (λ k d lt. at (suc k) d (omega arith)) there) h

@@ -3,6 +3,7 @@ use Rattle.std.proofs.Common.{◌≡◌, ℕ, ◌+◌, ◌-◌, ◌*◌, ◌≤�
 use Rattle.std.specs.List.{sum_by}
 use Rattle.std.proofs.lemmas.List.Sums.{sum_by-append, sum_by-cons}
 use Rattle.energy_flow.specs.Flow.{Energy, plus, minus}
+use Rattle.ledger_model.specs.Periods.{Periods}
 use Rattle.ledger_model.specs.Board.{Flowed}
 use Rattle.ledger_model.specs.Content.{Entry}
 use Rattle.ledger_model.specs.Deltas.{IsOneMore, came_by, gone_by, kept_by}
@@ -95,7 +96,7 @@ module _ (order : Order) (d : Direction) (limits : Bounds) (es : List Entry) (be
       let down : (flow.down + more.down) - less.down ≡ is.down = omega (arith, down_was, downs) in
       λ i. record { up = up i; down = down i }
 
-total_both : (period : ℕ) (ps : Direction → List Pair) → total (both_quartered period ps) ≡ record { flow = energy_over (ps Import); export = energy_over (ps Export) }
+total_both : (period : Periods) (ps : Direction → List Pair) → total (both_quartered period ps) ≡ record { flow = energy_over (ps Import); export = energy_over (ps Export) }
 total_both period ps =
     let a = quartered period Import (ps Import) in let b = quartered period Export (ps Export) in
     let one = total_quartered period Import (ps Import) in let other = total_quartered period Export (ps Export) in
@@ -106,7 +107,7 @@ total_both period ps =
     λ i. record { flow = record { up = up i; down = down i }; export = record { up = export_up i; down = export_down i } }
 
 -- pairs of both directions that add up as those that go or come and those that are kept
-parted : (period : ℕ) (all some rest : Direction → List Pair) → ((d : Direction) (f : Pair → ℕ) → sum_by f (all d) ≡ sum_by f (some d ++ rest d)) → rows_of (both_quartered period all) ≡ rows_of (both_quartered period some ++ both_quartered period rest)
+parted : (period : Periods) (all some rest : Direction → List Pair) → ((d : Direction) (f : Pair → ℕ) → sum_by f (all d) ≡ sum_by f (some d ++ rest d)) → rows_of (both_quartered period all) ≡ rows_of (both_quartered period some ++ both_quartered period rest)
 parted period all some rest same =
     let side = λ (d : Direction). one_side period d (all d) (some d) (rest d) (same d) in
     made_alike (both_quartered period all) (both_quartered period some ++ both_quartered period rest) (λ measure.
@@ -122,7 +123,7 @@ module _ (limits : Bounds) (tx : List ℕ) (es new : List Entry) (gone came kept
   kept_down : (d : Direction) → (energy_over (kept d)).down ≤ greatest_reading * limits.readings
   kept_down d = let f = λ (p : Pair). (difference p).down in omega (arith, (traded d).old_sum f, sum_by-append f (gone d) (kept d), few_down Sequence d limits es before)
 
-  module _ (period : ℕ) (t : Table) (rows : AreQuarterRows Sequence limits es period t) where
+  module _ (period : Periods) (t : Table) (rows : AreQuarterRows Sequence limits es period t) where
     old_rows : t.rows ≡ rows_of (both_quartered period gone ++ both_quartered period kept)
     old_rows = rows.rows ∙ parted period (λ d. pairs d es) gone kept (λ d. (traded d).old_sum)
 

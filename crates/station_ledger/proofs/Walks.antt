@@ -3,6 +3,7 @@ use Rattle.std.proofs.Common.{◌≡◌, ℕ, ◌+◌, ◌*◌, ◌≤◌, true,
 use Rattle.std.proofs.lemmas.List.{map-append, append_assoc}
 use Rattle.std.proofs.lemmas.List.Sums.{sum_by-append}
 use Rattle.energy_flow.specs.Flow.{Energy, plus}
+use Rattle.ledger_model.specs.Periods.{Periods}
 use Rattle.ledger_model.specs.Board.{Flowed}
 use Rattle.ledger_model.specs.Energy.{Pair, difference, energy_over, flows_toward, quarter_of}
 use Rattle.ledger_model.specs.declared.reading.Direction.{Direction}
@@ -23,7 +24,7 @@ energy_over-append ps qs =
     let down = sum_by-append (λ p. (difference p).down) ps qs in
     λ i. record { up = up i; down = down i }
 
-pub quartered-append : (period : ℕ) (d : Direction) (ps qs : List Pair) → quartered period d (ps ++ qs) ≡ quartered period d ps ++ quartered period d qs
+pub quartered-append : (period : Periods) (d : Direction) (ps qs : List Pair) → quartered period d (ps ++ qs) ≡ quartered period d ps ++ quartered period d qs
 quartered-append period d ps qs = map-append (λ p. (quarter_of period p, flows_toward d (difference p))) ps qs
 
 pub rows_with-append : (fs gs : List Flowed) (rows : List QuarterRow) → rows_with (fs ++ gs) rows ≡ rows_with gs (rows_with fs rows)
@@ -63,7 +64,7 @@ pub toward_rest : (d : Direction) (left rest : List MeterReading) (r : MeterRead
 toward_rest d left rest r is other = ap (toward d) is ∙ ap (λ b. cond b (r ∷ toward d rest) (toward d rest)) (not_same d r.direction other)
 
 -- Pairs of a direction that are added one after the other, of which some are left.
-pub record IsAdding (period : ℕ) (d : Direction) (ps left : List Pair) (old t : Table) (before work : ℕ) (sum : Energy) : Type 0 where
+pub record IsAdding (period : Periods) (d : Direction) (ps left : List Pair) (old t : Table) (before work : ℕ) (sum : Energy) : Type 0 where
   pub room : HasRoom (length left) t
   pub flow : plus sum (energy_over left) ≡ energy_over ps
   pub up : sum.up + greatest_reading * length left ≤ greatest_reading * length ps
@@ -74,7 +75,7 @@ pub record IsAdding (period : ℕ) (d : Direction) (ps left : List Pair) (old t 
   pub grows : before ≤ work
 
 -- Pairs of a direction that are taken out one after the other, of which some are left.
-pub record IsTaking (period : ℕ) (d : Direction) (ps left : List Pair) (old t : Table) (before work : ℕ) (sum : Energy) : Type 0 where
+pub record IsTaking (period : Periods) (d : Direction) (ps left : List Pair) (old t : Table) (before work : ℕ) (sum : Energy) : Type 0 where
   pub holds : HoldsPairs period d left t
   pub flow : plus sum (energy_over left) ≡ energy_over ps
   pub up : sum.up + greatest_reading * length left ≤ greatest_reading * length ps
@@ -95,13 +96,13 @@ energy_is {left = left} one more sum flow next split is put =
     let down : (plus next (energy_over more)).down ≡ (plus sum (energy_over left)).down = omega (arith, ap (λ (e : Energy). e.down) all, ap (λ (e : Energy). e.down) is, ap (λ (e : Energy). e.down) put) in
     λ i. record { up = up i; down = down i }
 
-quartered_is : (period : ℕ) (d : Direction) {left : List Pair} (one more : List Pair) → left ≡ one ++ more → quartered period d left ≡ quartered period d one ++ quartered period d more
+quartered_is : (period : Periods) (d : Direction) {left : List Pair} (one more : List Pair) → left ≡ one ++ more → quartered period d left ≡ quartered period d one ++ quartered period d more
 quartered_is period d one more split = ap (quartered period d) split ∙ quartered-append period d one more
 
-regrouped : (period : ℕ) (d : Direction) {left : List Pair} (one more : List Pair) (others : List Flowed) → left ≡ one ++ more → rows_of (quartered period d left ++ others) ≡ rows_of (quartered period d one ++ (quartered period d more ++ others))
+regrouped : (period : Periods) (d : Direction) {left : List Pair} (one more : List Pair) (others : List Flowed) → left ≡ one ++ more → rows_of (quartered period d left ++ others) ≡ rows_of (quartered period d one ++ (quartered period d more ++ others))
 regrouped period d one more others split = ap (λ fs. rows_of (fs ++ others)) (quartered_is period d one more split) ∙ ap rows_of (append_assoc (quartered period d one) (quartered period d more) others)
 
-module _ {period : ℕ} {d : Direction} {ps left one more : List Pair} {old t new : Table} {before work after : ℕ} {sum flow next : Energy} where
+module _ {period : Periods} {d : Direction} {ps left one more : List Pair} {old t new : Table} {before work after : ℕ} {sum flow next : Energy} where
   pub adding_one : left ≡ one ++ more → IsAdding period d ps left old t before work sum → IsAdded period d one t new work after flow → next ≡ plus sum flow → IsAdding period d ps more old new before after next
   adding_one split a e put = record {
     room = (quartered period d one ++ a.room.0, rows_more period d a.room.0 (length left) (length more) a.room.1 (sym (length_is one more split)) e.sum e.quarters);

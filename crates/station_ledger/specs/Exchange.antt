@@ -1,5 +1,6 @@
 -- Readings by moment, and one live event that comes or goes.
 use Rattle.std.specs.Prelude.{◌≡◌, ℕ, ◌≤◌, List, length}
+use Rattle.ledger_model.specs.Periods.{Periods}
 use Rattle.ledger_model.specs.declared.order.Order.TheVariants.{Moment}
 use Rattle.ledger_model.specs.declared.reading.Direction.{Direction}
 use Rattle.ledger_model.specs.Content.{Entry, Stored}
@@ -15,7 +16,7 @@ use Rattle.station_ledger.specs.Quarters.{readings_at}
 use Rattle.station_ledger.specs.Sums.{AreAllowed, AreQuarterRows}
 
 -- One live event more stands in the chains than among these, of which the readings are held by moment and the quarters are those.
-pub record IsComing (es : List Entry) (chains : Chained) (key : KeyName) (b : ByMoment) (period : ℕ) (quarters : Table) : Type 0 where
+pub record IsComing (es : List Entry) (chains : Chained) (key : KeyName) (b : ByMoment) (period : Periods) (quarters : Table) : Type 0 where
   pub event : Stored
   pub one : IsOneMore es (stored chains) (before_key key es) (key, event) (behind_key key es)
   pub readings : (d : Direction) → readings_at d chains key ≡ toward d event.event.readings
@@ -26,7 +27,7 @@ pub record IsComing (es : List Entry) (chains : Chained) (key : KeyName) (b : By
   pub rows : AreQuarterRows Moment chains.limits es period quarters
 
 -- One live event of these stands in the chains no more.
-pub record IsGoing (es : List Entry) (chains : Chained) (key : KeyName) (b : ByMoment) (period : ℕ) (quarters : Table) : Type 0 where
+pub record IsGoing (es : List Entry) (chains : Chained) (key : KeyName) (b : ByMoment) (period : Periods) (quarters : Table) : Type 0 where
   pub event : Stored
   pub one : IsOneMore (stored chains) es (before_key key (stored chains)) (key, event) (behind_key key (stored chains))
   pub readings : (d : Direction) → readings_at d chains key ≡ toward d event.event.readings

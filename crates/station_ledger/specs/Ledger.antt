@@ -2,6 +2,7 @@ use Rattle.std.specs.Prelude.{ℕ, Bool, refl}
 use Rattle.std.specs.Coded.{Coded, code_by, coded×, coded_bool, coded_ℕ}
 use Rattle.std.specs.FinMap as finite
 use Rattle.std.specs.FinMap.{FinMap}
+use Rattle.ledger_model.specs.Periods.{Periods, periods_code}
 use Rattle.ledger_model.specs.contracts.event.Event.{the_row}
 use Rattle.ledger_model.specs.Event.{EventContent}
 use Rattle.ledger_model.specs.Key.{key_cmp, key_code}
@@ -10,10 +11,10 @@ use Rattle.ledger_model.specs.Content.{Content, Stored}
 use Rattle.ledger_model.specs.declared.order.Order.{Order}
 use Rattle.ledger_model.specs.contracts.order.Order as orders
 
--- A station's ledger: its limits, its settlement period in seconds, the order in which it takes the readings of a transaction, and what it holds.
+-- A station's ledger: its limits, its settlement periods, the order in which it takes the readings of a transaction, and what it holds.
 pub record Ledger : Type 0 where
   pub limits : Bounds
-  pub period : ℕ
+  pub period : Periods
   pub order : Order
   pub content : Content
 
@@ -31,4 +32,4 @@ bounds_code = code_by (ℕ × (ℕ × (ℕ × ℕ))) (coded× coded_ℕ (coded×
 
 -- A ledger is kept as the tuple of its parts.
 abbrev pub ledger_code : Coded Ledger
-ledger_code = code_by (Bounds × (ℕ × (Order × Content))) (coded× bounds_code (coded× coded_ℕ (coded× orders.the_row.coded content_code))) (λ l. (l.limits, (l.period, (l.order, l.content)))) (λ p. record { limits = p.0; period = p.1.0; order = p.1.1.0; content = p.1.1.1 }) (λ _. refl)
+ledger_code = code_by (Bounds × (Periods × (Order × Content))) (coded× bounds_code (coded× periods_code (coded× orders.the_row.coded content_code))) (λ l. (l.limits, (l.period, (l.order, l.content)))) (λ p. record { limits = p.0; period = p.1.0; order = p.1.1.0; content = p.1.1.1 }) (λ _. refl)

@@ -1,6 +1,7 @@
 -- What a board's lines can show.
 use Rattle.std.specs.Prelude.{ℕ, ◌*◌, ◌<◌, ◌≤◌, List, All}
 use Rattle.energy_flow.specs.Flow.{Energy}
+use Rattle.ledger_model.specs.Periods.{Periods}
 use Rattle.ledger_model.specs.Board.{Flowed}
 use Rattle.ledger_model.specs.Energy.{Flows}
 use Rattle.ledger_model.specs.Quarter.{IsQuarterOf}
@@ -23,8 +24,8 @@ pub record IsShown (first last : ℕ) (flow export : Energy) : Type 0 where
   pub flow_in_range : IsStationFlow flow
   pub export_in_range : IsStationFlow export
 
--- No line has more energy than the readings of one station can show, and each quarter is one of the period's.
-pub record AreStationLines (period : ℕ) (evses quarters : List Flowed) : Type 0 where
+-- No line has more energy than the readings of one station can show, and each quarter is one of the periods.
+pub record AreStationLines (period : Periods) (evses quarters : List Flowed) : Type 0 where
   pub evse_flows : All (λ line. AreStationFlows line.1) evses
   pub quarter_flows : All (λ line. AreStationFlows line.1) quarters
-  pub own_quarters : All (λ line. IsQuarterOf period line.0) quarters
+  pub own_quarters : All (λ line. IsQuarterOf period.length line.0) quarters

@@ -4,6 +4,7 @@ use Rattle.std.specs.FinMap as finite
 use Rattle.event_chain.specs.Chains.{Chained}
 use Rattle.event_chain.specs.Room.{readings_under}
 use Rattle.energy_flow.specs.Flow.{Energy}
+use Rattle.ledger_model.specs.Periods.{Periods}
 use Rattle.ledger_model.specs.ByDirection.{in_direction}
 use Rattle.ledger_model.specs.declared.by_direction.ByDirection.{ByDirection}
 use Rattle.ledger_model.specs.declared.reading.Direction.{Direction}
@@ -22,11 +23,11 @@ pub record IsDifference (flow : Energy) : Type 0 where
   pub down : flow.down ≤ greatest_reading
 
 -- Pairs of one direction by their quarters, of periods of so many seconds, and their differences.
-abbrev pub quartered : ℕ → Direction → List Pair → List Flowed
+abbrev pub quartered : Periods → Direction → List Pair → List Flowed
 quartered period d ps = flows_of period d ps
 
 -- The pairs of both directions by their quarters.
-abbrev pub both_quartered : ℕ → (Direction → List Pair) → List Flowed
+abbrev pub both_quartered : Periods → (Direction → List Pair) → List Flowed
 both_quartered period ps = quartered period Import (ps Import) ++ quartered period Export (ps Export)
 
 -- How many pairs both directions have.
@@ -48,11 +49,11 @@ abbrev pub HasRoom : ℕ → Table → Type 0
 HasRoom more t = (pairs : List Flowed) × AreRows pairs more t
 
 -- A table of pairs, these of one direction among them.
-abbrev pub HoldsPairs : ℕ → Direction → List Pair → Table → Type 0
+abbrev pub HoldsPairs : Periods → Direction → List Pair → Table → Type 0
 HoldsPairs period d ps t = (others : List Flowed) × (t.rows ≡ rows_of (quartered period d ps ++ others))
 
 -- A table of pairs, these of both directions among them.
-abbrev pub HoldsBoth : ℕ → (Direction → List Pair) → Table → Type 0
+abbrev pub HoldsBoth : Periods → (Direction → List Pair) → Table → Type 0
 HoldsBoth period ps t = (others : List Flowed) × (t.rows ≡ rows_of (both_quartered period ps ++ others))
 
 -- What pairs add up to: no more than so many differences can.
@@ -77,25 +78,25 @@ pub record IsWithout (pairs : List Flowed) (old new : Table) : Type 0 where
   pub capacity : new.capacity ≡ old.capacity
 
 -- Pairs of one direction were added: to a table, with their work, and to an energy.
-pub record IsAdded (period : ℕ) (d : Direction) (ps : List Pair) (old new : Table) (before after : ℕ) (flow : Energy) : Type 0 where
+pub record IsAdded (period : Periods) (d : Direction) (ps : List Pair) (old new : Table) (before after : ℕ) (flow : Energy) : Type 0 where
   pub sum : IsSumOf ps flow
   pub quarters : IsWith (quartered period d ps) old new
   pub work : IsWork (length ps) before after
 
 -- Pairs of one direction were taken out.
-pub record IsTaken (period : ℕ) (d : Direction) (ps : List Pair) (old new : Table) (before after : ℕ) (flow : Energy) : Type 0 where
+pub record IsTaken (period : Periods) (d : Direction) (ps : List Pair) (old new : Table) (before after : ℕ) (flow : Energy) : Type 0 where
   pub sum : IsSumOf ps flow
   pub quarters : IsWithout (quartered period d ps) old new
   pub work : IsWork (length ps) before after
 
 -- Pairs of both directions were added.
-pub record AreAdded (period : ℕ) (ps : Direction → List Pair) (old new : Table) (before after : ℕ) (flows : ByDirection Energy) : Type 0 where
+pub record AreAdded (period : Periods) (ps : Direction → List Pair) (old new : Table) (before after : ℕ) (flows : ByDirection Energy) : Type 0 where
   pub sums : (d : Direction) → IsSumOf (ps d) (in_direction d flows)
   pub quarters : IsWith (both_quartered period ps) old new
   pub work : IsWork (both_length ps) before after
 
 -- Pairs of both directions were taken out.
-pub record AreTaken (period : ℕ) (ps : Direction → List Pair) (old new : Table) (before after : ℕ) (flows : ByDirection Energy) : Type 0 where
+pub record AreTaken (period : Periods) (ps : Direction → List Pair) (old new : Table) (before after : ℕ) (flows : ByDirection Energy) : Type 0 where
   pub sums : (d : Direction) → IsSumOf (ps d) (in_direction d flows)
   pub quarters : IsWithout (both_quartered period ps) old new
   pub work : IsWork (both_length ps) before after

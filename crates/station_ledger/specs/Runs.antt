@@ -2,6 +2,7 @@
 use Rattle.std.specs.Prelude.{◌≡◌, ◌==◌, ℕ, ◌+◌, ◌*◌, ◌^◌, ◌<◌, ◌≤◌, Bool, List, ◌++◌, Option, length}
 use Rattle.std.specs.List.{AllByRecursion}
 use Rattle.energy_flow.specs.Flow.{Energy}
+use Rattle.ledger_model.specs.Periods.{Periods}
 use Rattle.ledger_model.specs.Board.{Flowed}
 use Rattle.ledger_model.specs.Deltas.{across, pairs_between}
 use Rattle.ledger_model.specs.declared.reading.Direction.{Direction}
@@ -35,7 +36,7 @@ abbrev pub pairs_among : List Timed → List Pair
 pairs_among ts = followed (bare ts)
 
 -- An event's readings by rank, none of which is among the others of their owner; and quarters of these pairs of the owner and the rest.
-pub record AreApart (o seq period : ℕ) (d : Direction) (readings others : List Timed) (ps : List Pair) (t : Table) (rest : List Flowed) : Type 0 where
+pub record AreApart (o seq : ℕ) (period : Periods) (d : Direction) (readings others : List Timed) (ps : List Pair) (t : Table) (rest : List Flowed) : Type 0 where
   pub owned_by : AllByRecursion (λ r. owner_of r.0 ≡ o) readings
   pub own : AreOwn (own_timed seq) readings
   pub foreign : AreForeign (own_timed seq) others
@@ -48,7 +49,7 @@ pub record AreApart (o seq period : ℕ) (d : Direction) (readings others : List
   pub few : AreFew most_readings d (energy_over ps) rest
 
 -- The quarters have other pairs of the owner in place of these, and what went and came tells the difference.
-pub record AreExchanged (period : ℕ) (d : Direction) (old new : List Pair) (rest : List Flowed) (next : Table) (m : Moved) : Type 0 where
+pub record AreExchanged (period : Periods) (d : Direction) (old new : List Pair) (rest : List Flowed) (next : Table) (m : Moved) : Type 0 where
   pub rows : next.rows ≡ rows_of (quartered period d new ++ rest)
   pub up : (energy_over new).up + m.less.up ≡ (energy_over old).up + m.more.up
   pub down : (energy_over new).down + m.less.down ≡ (energy_over old).down + m.more.down
@@ -56,7 +57,7 @@ pub record AreExchanged (period : ℕ) (d : Direction) (old new : List Pair) (re
   pub more_down : m.more.down ≤ greatest_reading * (2 * most_event_readings)
 
 -- Some pairs of a direction were taken out of the quarters, and then others added.
-pub record AreSwapped (period : ℕ) (d : Direction) (gone came : List Pair) (old new : Table) (before after : ℕ) (m : Moved) : Type 0 where
+pub record AreSwapped (period : Periods) (d : Direction) (gone came : List Pair) (old new : Table) (before after : ℕ) (m : Moved) : Type 0 where
   pub left : Table
   pub meanwhile : ℕ
   pub taken : IsTaken period d gone old left before meanwhile m.less
@@ -71,7 +72,7 @@ abbrev pub run_pairs : Option Timed → List Timed → Option Timed → List Pai
 run_pairs before run behind = pairs_between (bare_one before) (bare run) (bare_one behind)
 
 -- Once these pairs of a direction are taken out, the quarters have room for so many.
-abbrev pub HasRoomWithout : ℕ → Direction → List Pair → ℕ → Table → Type 0
+abbrev pub HasRoomWithout : Periods → Direction → List Pair → ℕ → Table → Type 0
 HasRoomWithout period d gone more t = (left : Table) → IsWithout (quartered period d gone) t left → HasRoom more left
 
 -- The readings of an owner in an index, with these.
@@ -79,29 +80,29 @@ abbrev pub with_readings : ℕ → List Timed → TimedReadings → List Timed
 with_readings o readings index = put_each readings (owned o index.entries)
 
 -- An event's readings are none of their owner's in an index, and the quarters have the pairs that these make, and the rest.
-abbrev pub AreToCome : ℕ → ℕ → ℕ → Direction → List Timed → TimedReadings → Table → List Flowed → Type 0
+abbrev pub AreToCome : ℕ → ℕ → Periods → Direction → List Timed → TimedReadings → Table → List Flowed → Type 0
 AreToCome o seq period d readings index t rest = AreApart o seq period d readings (owned o index.entries) (pairs_among (owned o index.entries)) t rest
 
 -- An event's readings are none of their owner's in an index, and the quarters have the pairs that these make with them, and the rest.
-abbrev pub AreToGo : ℕ → ℕ → ℕ → Direction → List Timed → TimedReadings → Table → List Flowed → Type 0
+abbrev pub AreToGo : ℕ → ℕ → Periods → Direction → List Timed → TimedReadings → Table → List Flowed → Type 0
 AreToGo o seq period d readings index t rest = AreApart o seq period d readings (owned o index.entries) (pairs_among (with_readings o readings index)) t rest
 
 -- The pairs that an owner's readings make with an event's came in place of those without them, for one difference a reading of the event, and two a run of them.
-pub record HaveCome (o seq period : ℕ) (d : Direction) (readings : List Timed) (index : TimedReadings) (rest : List Flowed) (next : Table) (w v : ℕ) (m : Moved) : Type 0 where
+pub record HaveCome (o seq : ℕ) (period : Periods) (d : Direction) (readings : List Timed) (index : TimedReadings) (rest : List Flowed) (next : Table) (w v : ℕ) (m : Moved) : Type 0 where
   pub moved : AreExchanged period d (pairs_among (owned o index.entries)) (pairs_among (with_readings o readings index)) rest next m
   pub work : IsWork (length readings + 2 * runs (own_timed seq) (with_readings o readings index)) w v
 
 -- They went, and those without them came.
-pub record HaveGone (o seq period : ℕ) (d : Direction) (readings : List Timed) (index : TimedReadings) (rest : List Flowed) (next : Table) (w v : ℕ) (m : Moved) : Type 0 where
+pub record HaveGone (o seq : ℕ) (period : Periods) (d : Direction) (readings : List Timed) (index : TimedReadings) (rest : List Flowed) (next : Table) (w v : ℕ) (m : Moved) : Type 0 where
   pub moved : AreExchanged period d (pairs_among (with_readings o readings index)) (pairs_among (owned o index.entries)) rest next m
   pub work : IsWork (length readings + 2 * runs (own_timed seq) (with_readings o readings index)) w v
 
 -- Of whichever event the readings are, and whatever the rest is: where they are to come, they have come.
-abbrev pub TheyCome : ℕ → Direction → List Timed → TimedReadings → Table → Table → ℕ → ℕ → Moved → Type 0
+abbrev pub TheyCome : Periods → Direction → List Timed → TimedReadings → Table → Table → ℕ → ℕ → Moved → Type 0
 TheyCome period d readings index t u w v m = (o seq : ℕ) (rest : List Flowed) → AreToCome o seq period d readings index t rest → HaveCome o seq period d readings index rest u w v m
 
 -- Of whichever event the readings are, and whatever the rest is: where they are to go, they have gone.
-abbrev pub TheyGo : ℕ → Direction → List Timed → TimedReadings → Table → Table → ℕ → ℕ → Moved → Type 0
+abbrev pub TheyGo : Periods → Direction → List Timed → TimedReadings → Table → Table → ℕ → ℕ → Moved → Type 0
 TheyGo period d readings index t u w v m = (o seq : ℕ) (rest : List Flowed) → AreToGo o seq period d readings index t rest → HaveGone o seq period d readings index rest u w v m
 
 -- The readings of a transaction's slot and a direction.
@@ -117,7 +118,7 @@ abbrev pub without_listed : ℕ → Direction → Chained → KeyName → TimedR
 without_listed slot d chains key index = record index { entries = take_each (listed_of slot d chains key) index.entries }
 
 -- An event's readings of a direction are none of a side, and the quarters have these pairs of the side and the rest.
-abbrev pub IsSide : ℕ → ℕ → Direction → Chained → KeyName → List Timed → List Pair → Table → List Flowed → Type 0
+abbrev pub IsSide : ℕ → Periods → Direction → Chained → KeyName → List Timed → List Pair → Table → List Flowed → Type 0
 IsSide slot period d chains key others ps t rest = AreApart (owner slot d) key.seq period d (listed_of slot d chains key) others ps t rest
 
 -- The most differences that they evaluate: one for each, and two for each run in which they stand.
@@ -125,7 +126,7 @@ abbrev pub most_listed : ℕ → Direction → Chained → KeyName → TimedRead
 most_listed slot d chains key index = length (listed_of slot d chains key) + 2 * runs (own_timed key.seq) (with_listed slot d chains key index)
 
 -- The readings of a direction of the event of a key were put in under a slot, and their pairs.
-pub record ArePutIn (slot period : ℕ) (d : Direction) (chains : Chained) (key : KeyName) (index next : TimedReadings) (t u : Table) (w v : ℕ) (m : Moved) : Type 0 where
+pub record ArePutIn (slot : ℕ) (period : Periods) (d : Direction) (chains : Chained) (key : KeyName) (index next : TimedReadings) (t u : Table) (w v : ℕ) (m : Moved) : Type 0 where
   pub entries : next.entries ≡ put_each (listed_of slot d chains key) index.entries
   pub capacity : next.capacity ≡ index.capacity
   pub room : u.capacity ≡ t.capacity
@@ -133,7 +134,7 @@ pub record ArePutIn (slot period : ℕ) (d : Direction) (chains : Chained) (key 
   pub work : (rest : List Flowed) → IsSide slot period d chains key (side slot d index) (pairs_among (side slot d index)) t rest → IsWork (most_listed slot d chains key index) w v
 
 -- They were taken out, and their pairs.
-pub record AreTakenOut (slot period : ℕ) (d : Direction) (chains : Chained) (key : KeyName) (index next : TimedReadings) (t u : Table) (w v : ℕ) (m : Moved) : Type 0 where
+pub record AreTakenOut (slot : ℕ) (period : Periods) (d : Direction) (chains : Chained) (key : KeyName) (index next : TimedReadings) (t u : Table) (w v : ℕ) (m : Moved) : Type 0 where
   pub entries : next.entries ≡ take_each (listed_of slot d chains key) index.entries
   pub capacity : next.capacity ≡ index.capacity
   pub room : u.capacity ≡ t.capacity
@@ -147,13 +148,13 @@ pub record CanList (slot : ℕ) (d : Direction) (chains : Chained) (key : KeyNam
   pub list_room : most_event_readings ≤ room
 
 -- They can be put in.
-pub record CanPutIn (slot period : ℕ) (d : Direction) (chains : Chained) (key : KeyName) (index : TimedReadings) (t : Table) : Type 0 where
+pub record CanPutIn (slot : ℕ) (period : Periods) (d : Direction) (chains : Chained) (key : KeyName) (index : TimedReadings) (t : Table) : Type 0 where
   pub rest : List Flowed
   pub apart : IsSide slot period d chains key (side slot d index) (pairs_among (side slot d index)) t rest
   pub room : length index.entries + length (listed_of slot d chains key) ≤ index.capacity
   pub puttable : ArePuttable (listed_of slot d chains key) index.entries
 
 -- They can be taken out.
-pub record CanTakeOut (slot period : ℕ) (d : Direction) (chains : Chained) (key : KeyName) (index : TimedReadings) (t : Table) : Type 0 where
+pub record CanTakeOut (slot : ℕ) (period : Periods) (d : Direction) (chains : Chained) (key : KeyName) (index : TimedReadings) (t : Table) : Type 0 where
   pub rest : List Flowed
   pub apart : let next = without_listed slot d chains key index in IsSide slot period d chains key (side slot d next) (pairs_among (with_listed slot d chains key next)) t rest

@@ -3,6 +3,7 @@ use Rattle.std.specs.Prelude.{◌≡◌, ℕ, ◌+◌, ◌<◌, ◌≤◌, Bool,
 use Rattle.std.specs.List.{filter}
 use Rattle.std.specs.Ordering.{eq_by_cmp}
 use Rattle.std.specs.FinMap.{find, put}
+use Rattle.ledger_model.specs.Periods.{Periods}
 use Rattle.ledger_model.specs.declared.figures.Figures.{Figures}
 use Rattle.ledger_model.specs.declared.order.Order.{Order}
 use Rattle.ledger_model.specs.Board.{figures_by}
@@ -54,7 +55,7 @@ pub record AreEvseSums (order : Order) (es : List Entry) (evses : List EvseSum) 
   pub each : (n : ℕ) → n ≤ greatest_evse → sum_at evses n ≡ evse_sum order n es
 
 -- The rows of the quarters, by periods of so many seconds.
-pub record AreQuarterRows (order : Order) (limits : Bounds) (es : List Entry) (period : ℕ) (quarters : Table) : Type 0 where
+pub record AreQuarterRows (order : Order) (limits : Bounds) (es : List Entry) (period : Periods) (quarters : Table) : Type 0 where
   pub rows : quarters.rows ≡ rows_of (station_flows_by order period es)
   pub room : quarters.capacity ≡ limits.readings
 

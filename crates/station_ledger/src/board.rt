@@ -4,7 +4,7 @@ ghost use Rattle.ledger_model.specs.Ranges.{sequence_end};
 ghost use Rattle.station_ledger.specs.Lines.{AreStationFlows, IsStationFlow};
 
 use energy_flow::Flow;
-use ledger_model::{EvseId, Figures, Listed, Period, Quarter, TxId};
+use ledger_model::{EvseId, Figures, Listed, Periods, Quarter, TxId};
 use std::marker::Model;
 
 /// An EVSE of a station, 0 where none was named, with the energies of its transactions.
@@ -225,7 +225,7 @@ impl TxLine {
 /// transactions with a live event, by the bytes of their ids.
 #[derive(Debug, Drop)]
 pub struct StationBoard {
-    pub(crate) period: Period,
+    pub(crate) period: Periods,
     pub(crate) figures: Figures,
     pub(crate) evses: Listed<EvseLine>,
     pub(crate) quarters: Listed<QuarterLine>,
@@ -244,8 +244,8 @@ impl Model for StationBoard {
 }
 
 impl StationBoard {
-    /// The settlement period that its quarters are counted by.
-    pub fn period(&self) -> Period
+    /// The settlement periods that its quarters are counted by.
+    pub fn period(&self) -> Periods
         ensures { result ≡ self.now.period }
     {
         self.period
@@ -267,12 +267,12 @@ impl StationBoard {
         self.evses.as_slice()
     }
 
-    /// The quarters that have a pair of readings, rising, each one of the board's period. None has
+    /// The quarters that have a pair of readings, rising, each of the length of the board's periods. None has
     /// more energy than the readings of one station can show.
     pub fn quarters(&self) -> &[QuarterLine]
         ensures value { result.now ≡ self.now.quarters }
         ensures range { All (λ line. AreStationFlows line.1) result.now }
-        ensures own { All (λ line. IsQuarterOf self.now.period line.0) result.now }
+        ensures own { All (λ line. IsQuarterOf self.now.period.length line.0) result.now }
     {
         self.quarters.as_slice()
     }

@@ -21,7 +21,7 @@ use crate::pairs::{Energies, add_across, take_across};
 use energy_flow::{Flow, Work};
 use event_chain::{Chains, TransactionTable};
 use ledger_model::{
-    ByDirection, Direction, Key, Limits, MAX_EVENT_READINGS, Period, Reading, TxId,
+    ByDirection, Direction, Key, Limits, MAX_EVENT_READINGS, Periods, Reading, TxId,
 };
 use quarter_table::QuarterTable;
 use reading_index::{MomentKey, ReadingIndex};
@@ -68,7 +68,7 @@ fn count_in_front(readings: &[KeyedReading], behind: &Option<KeyedReading>) -> u
 // what they add up to.
 pub(crate) fn add_row(
     quarters: &mut QuarterTable,
-    period: Period,
+    period: Periods,
     direction: Direction,
     before: Option<Reading>,
     readings: &[KeyedReading],
@@ -95,7 +95,7 @@ pub(crate) fn add_row(
 // Takes out the pairs that readings in a row make, and answers what they add up to.
 pub(crate) fn take_row(
     quarters: &mut QuarterTable,
-    period: Period,
+    period: Periods,
     direction: Direction,
     before: Option<Reading>,
     readings: &[KeyedReading],
@@ -216,7 +216,7 @@ pub(crate) struct Moved {
 // Takes the pair across a gap back, and adds those that a run of readings makes in it.
 fn fill_gap(
     quarters: &mut QuarterTable,
-    period: Period,
+    period: Periods,
     direction: Direction,
     before: &Option<KeyedReading>,
     run: &[KeyedReading],
@@ -250,7 +250,7 @@ fn fill_gap(
 // Takes out the pairs that a run of readings makes in a gap, and adds the one across it.
 fn clear_gap(
     quarters: &mut QuarterTable,
-    period: Period,
+    period: Periods,
     direction: Direction,
     before: &Option<KeyedReading>,
     run: &[KeyedReading],
@@ -287,7 +287,7 @@ fn clear_gap(
 fn come(
     index: &ReadingIndex,
     quarters: &mut QuarterTable,
-    period: Period,
+    period: Periods,
     direction: Direction,
     readings: &[KeyedReading],
     work: &mut Work,
@@ -317,7 +317,7 @@ fn come(
 fn go(
     index: &ReadingIndex,
     quarters: &mut QuarterTable,
-    period: Period,
+    period: Periods,
     direction: Direction,
     readings: &[KeyedReading],
     work: &mut Work,
@@ -348,7 +348,7 @@ fn put_side(
     index: &mut ReadingIndex,
     listed: &mut Vec<KeyedReading>,
     quarters: &mut QuarterTable,
-    period: Period,
+    period: Periods,
     slot: u32,
     direction: Direction,
     key: &Key,
@@ -371,7 +371,7 @@ fn take_side(
     index: &mut ReadingIndex,
     listed: &mut Vec<KeyedReading>,
     quarters: &mut QuarterTable,
-    period: Period,
+    period: Periods,
     slot: u32,
     direction: Direction,
     key: &Key,
@@ -450,7 +450,7 @@ pub(crate) fn put_event(
     chains: &Chains,
     by_moment: &mut ByMoment,
     quarters: &mut QuarterTable,
-    period: Period,
+    period: Periods,
     key: &Key,
     work: &mut Work,
 ) -> Exchange
@@ -491,7 +491,7 @@ pub(crate) fn take_event(
     chains: &Chains,
     by_moment: &mut ByMoment,
     quarters: &mut QuarterTable,
-    period: Period,
+    period: Periods,
     key: &Key,
     work: &mut Work,
 ) -> Exchange

@@ -22,7 +22,8 @@ use crate::used::UsedLimits;
 use energy_flow::{Flow, Work};
 use event_chain::{Chains, Found, Room};
 use ledger_model::{
-    Answer, Command, Event, EvseId, Figures, Key, Limits, Order, Period, Refusal, TxId,
+    Answer, Command, Event, EvseId, Figures, Key, Limits, Order, Period, Periods, Refusal, Settle,
+    TxId,
 };
 use std::alloc::{AllocError, Global};
 use std::marker::Model;
@@ -52,24 +53,27 @@ impl Model for StationLedger {
 }
 
 impl StationLedger {
-    /// A ledger without events, within these limits, whose board is by this settlement period and takes the
-    /// readings of a transaction in this order. It and [`StationLedger::board`] alone can run out of memory.
+    /// A ledger without events, within these limits, whose board is by settlement periods of this length, takes
+    /// the readings of a transaction in this order and counts their differences by this rule. Only it and
+    /// [`StationLedger::board`] can run out of memory.
     pub fn open(
         alloc: Global,
         limits: Limits,
         period: Period,
         order: Order,
+        settle: Settle,
     ) -> Result<Self, AllocError>
         ensures limits { IfOk result (λ l. l.limits ≡ limits) }
-        ensures period { IfOk result (λ l. l.period ≡ period) }
+        ensures period { IfOk result (λ l. l.period ≡ record { length = period; rule = settle }) }
         ensures order { IfOk result (λ l. l.order ≡ order) }
         ensures empty { IfOk result (λ l. l.content ≡ empty_content) }
         ensures reached { IfOk result (λ l. Reached l.limits l.content.changes l.content) }
     {
+        let periods = Periods::new(period, settle);
         Ok(StationLedger {
             limits,
             chains: Chains::open(alloc, &limits)?,
-            sums: Sums::open(alloc, &limits, period, order)?,
+            sums: Sums::open(alloc, &limits, periods, order)?,
             changes: 0,
         })
     }
@@ -288,8 +292,8 @@ impl StationLedger {
         &self.limits
     }
 
-    /// The settlement period that the ledger was opened with.
-    pub fn period(&self) -> Period
+    /// The settlement periods that the ledger was opened with.
+    pub fn period(&self) -> Periods
         ensures { result ≡ self.now.period }
     {
         self.sums.period

@@ -32,7 +32,7 @@
 //! figure is computed anew, and no call but `open` and `board` asks for memory.
 //!
 //! ```text
-//! let mut ledger = StationLedger::open(alloc, limits, period, order)?;
+//! let mut ledger = StationLedger::open(alloc, limits, period, order, settle)?;
 //! ledger.apply(Command::Deliver(key, event), &mut work); // Accepted(1)
 //! ledger.energy().up(); // milliwatt-hours
 //! for line in ledger.board(alloc)?.transactions() { .. } // line.tx(), line.missing(), line.gaps()

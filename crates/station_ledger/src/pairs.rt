@@ -9,9 +9,9 @@ ghost use Rattle.station_ledger.specs.Sides.{sides_across, sides_between};
 
 use energy_flow::{Flow, Work, difference};
 use event_chain::{Around, Chains};
-use ledger_model::{ByDirection, Direction, Key, Period, Reading};
+use ledger_model::{ByDirection, Direction, Key, Periods, Reading};
 use quarter_table::QuarterTable;
-use reading_decimal::quarter;
+use reading_decimal::settled_quarter;
 
 // What pairs of each direction add up to.
 pub(crate) type Energies = ByDirection<Flow>;
@@ -20,7 +20,7 @@ pub(crate) type Energies = ByDirection<Flow>;
 #[inline(never)]
 fn add_pair(
     quarters: &mut QuarterTable,
-    period: Period,
+    period: Periods,
     direction: Direction,
     earlier: Reading,
     later: Reading,
@@ -30,7 +30,7 @@ fn add_pair(
     ensures { IsAdded period direction (across (Some earlier) (Some later)) quarters.old quarters.new work.old work.new result }
 {
     let flow = difference(earlier.level(), later.level(), work);
-    quarters.add(quarter(later.moment(), period), direction, flow);
+    quarters.add(settled_quarter(later.moment(), period), direction, flow);
     flow
 }
 
@@ -38,7 +38,7 @@ fn add_pair(
 #[inline(never)]
 fn take_pair(
     quarters: &mut QuarterTable,
-    period: Period,
+    period: Periods,
     direction: Direction,
     earlier: Reading,
     later: Reading,
@@ -48,7 +48,7 @@ fn take_pair(
     ensures { IsTaken period direction (across (Some earlier) (Some later)) quarters.old quarters.new work.old work.new result }
 {
     let flow = difference(earlier.level(), later.level(), work);
-    quarters.remove(quarter(later.moment(), period), direction, flow);
+    quarters.remove(settled_quarter(later.moment(), period), direction, flow);
     flow
 }
 
@@ -56,7 +56,7 @@ fn take_pair(
 #[inline(always)]
 pub(crate) fn add_across(
     quarters: &mut QuarterTable,
-    period: Period,
+    period: Periods,
     direction: Direction,
     before: Option<Reading>,
     behind: Option<Reading>,
@@ -75,7 +75,7 @@ pub(crate) fn add_across(
 #[inline(always)]
 pub(crate) fn take_across(
     quarters: &mut QuarterTable,
-    period: Period,
+    period: Periods,
     direction: Direction,
     before: Option<Reading>,
     behind: Option<Reading>,
@@ -97,7 +97,7 @@ pub(crate) fn take_across(
 #[inline(never)]
 fn add_stored(
     quarters: &mut QuarterTable,
-    period: Period,
+    period: Periods,
     direction: Direction,
     before: Option<Reading>,
     chains: &Chains,
@@ -125,7 +125,7 @@ fn add_stored(
 #[inline(always)]
 fn add_listed(
     quarters: &mut QuarterTable,
-    period: Period,
+    period: Periods,
     direction: Direction,
     before: Option<Reading>,
     readings: &[Reading],
@@ -155,7 +155,7 @@ fn add_listed(
 #[inline(always)]
 fn add_pairs(
     quarters: &mut QuarterTable,
-    period: Period,
+    period: Periods,
     direction: Direction,
     before: Option<Reading>,
     chains: &Chains,
@@ -179,7 +179,7 @@ fn add_pairs(
 // Takes the pairs of the readings of the event of a key out, and answers what they add up to.
 fn take_pairs(
     quarters: &mut QuarterTable,
-    period: Period,
+    period: Periods,
     direction: Direction,
     before: Option<Reading>,
     chains: &Chains,
@@ -206,7 +206,7 @@ fn take_pairs(
 // Adds the pair across a place in each direction, and answers the differences.
 pub(crate) fn add_gap(
     quarters: &mut QuarterTable,
-    period: Period,
+    period: Periods,
     place: &Around,
     work: &mut Work,
 ) -> Energies
@@ -235,7 +235,7 @@ pub(crate) fn add_gap(
 // Takes the pair across a place out in each direction, and answers the differences.
 pub(crate) fn take_gap(
     quarters: &mut QuarterTable,
-    period: Period,
+    period: Periods,
     place: &Around,
     work: &mut Work,
 ) -> Energies
@@ -265,7 +265,7 @@ pub(crate) fn take_gap(
 // they add up to.
 pub(crate) fn add_own(
     quarters: &mut QuarterTable,
-    period: Period,
+    period: Periods,
     place: &Around,
     chains: &Chains,
     key: &Key,
@@ -304,7 +304,7 @@ pub(crate) fn add_own(
 // Takes the pairs of the readings of the event of a key out, and answers what they add up to.
 pub(crate) fn take_own(
     quarters: &mut QuarterTable,
-    period: Period,
+    period: Periods,
     place: &Around,
     chains: &Chains,
     key: &Key,

@@ -24,7 +24,7 @@ use crate::totals::{Change, EvseSum, move_at_evses, move_in_figures};
 use energy_flow::{Flow, Work};
 use event_chain::{Around, Chains};
 use ledger_model::{
-    ByDirection, Figures, GREATEST_EVSE, Key, Limits, Order, Period, Reading, TxId,
+    ByDirection, Figures, GREATEST_EVSE, Key, Limits, Order, Periods, Reading, TxId,
 };
 use quarter_table::QuarterTable;
 use std::alloc::{AllocError, Global};
@@ -36,7 +36,7 @@ use transaction_map::TransactionMap;
 pub(crate) struct Sums {
     pub(crate) kept: TransactionMap<Standing>,
     pub(crate) evses: Vec<EvseSum>,
-    pub(crate) period: Period,
+    pub(crate) period: Periods,
     pub(crate) quarters: QuarterTable,
     pub(crate) energies: Energies,
     pub(crate) figures: Figures,
@@ -80,7 +80,7 @@ impl Sums {
     pub(crate) fn open(
         alloc: Global,
         limits: &Limits,
-        period: Period,
+        period: Periods,
         order: Order,
     ) -> Result<Self, AllocError>
         ensures period { IfOk result (λ s. s.period ≡ period) }

@@ -6,7 +6,7 @@ mod scratch;
 
 use energy_flow::Work;
 use ledger_model::{
-    Command, Direction, Event, Key, Kind, Limits, Moment, Order, Period, Reading, TxId,
+    Command, Direction, Event, Key, Kind, Limits, Moment, Order, Period, Reading, Settle, TxId,
 };
 use station_ledger::StationLedger;
 use std::alloc::Global;
@@ -57,7 +57,14 @@ fn command(alloc: Global, asked: Asked) -> Option<Command> {
 
 fn opened(alloc: Global) -> Option<StationLedger> {
     let limits = Limits::new(4, 8, 8, 9)?;
-    StationLedger::open(alloc, limits, Period::default(), Order::Sequence).ok()
+    StationLedger::open(
+        alloc,
+        limits,
+        Period::default(),
+        Order::Sequence,
+        Settle::default(),
+    )
+    .ok()
 }
 
 const MIDDLE: Asked = Asked::Deliver("T1", 1, 14, Some(1_200));

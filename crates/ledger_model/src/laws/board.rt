@@ -4,7 +4,8 @@ ghost use Rattle.std.specs.List.Sorted.{IsStrictlySortedBy};
 ghost use Rattle.std.specs.Str.{bytes_eq};
 ghost use Rattle.std.specs.Ordering.{nat_cmp};
 ghost use Rattle.std.specs.Cmp.Lexicographic.{slice_cmp};
-ghost use Rattle.ledger_model.specs.BoardExamples.{first_run, first_run_board, first_run_site, late_event, late_event_board, void_and_restore, void_and_restore_board, quarter_boundary, readings_again_at_end, readings_again_counts, readings_again_quarters, evse_moves, evse_voided, start_voided, widest_gap, widest_gap_counts, exported, in_turn, rise, took, ten};
+ghost use Rattle.ledger_model.specs.Periods.{Periods};
+ghost use Rattle.ledger_model.specs.BoardExamples.{first_run, first_run_board, first_run_site, late_event, late_event_board, void_and_restore, void_and_restore_board, quarter_boundary, closing_periods, quarter_closed, at_first_moment, readings_again_at_end, readings_again_counts, readings_again_quarters, evse_moves, evse_voided, start_voided, widest_gap, widest_gap_counts, exported, in_turn, rise, took, ten};
 ghost use Rattle.ledger_model.specs.BoardLaws.{AreRising, AreGaps, AreComplete, AreSums, IsIn, flows_over, pairs_of_both, quarters_over, sum_of_energies};
 ghost use Rattle.ledger_model.specs.Board.{Board, board, board_by, figures, flows_under, last_or_zero, plus_figures, site_board, sum_of_figures};
 ghost use Rattle.ledger_model.specs.Complete.{is_complete, kinds_of};
@@ -12,7 +13,7 @@ ghost use Rattle.ledger_model.specs.Content.{Content, Entry, entries, has_transa
 ghost use Rattle.ledger_model.specs.Energy.{energy_by, energy_in_by, energy_of_by, flows_toward, quarter_of, quarters_by};
 ghost use Rattle.ledger_model.specs.Evse.{energy_at_by, evse_of, evses, first_or_zero};
 ghost use Rattle.ledger_model.specs.Gaps.{Gap, gaps, missing, numbers_of};
-ghost use Rattle.ledger_model.specs.Quarter.{default_period};
+ghost use Rattle.ledger_model.specs.Settling.{default_periods};
 ghost use Rattle.ledger_model.specs.Posts.{Post, row_after, totals_after};
 ghost use Rattle.ledger_model.specs.declared.figures.Figures.{Figures};
 ghost use Rattle.ledger_model.specs.declared.order.Order.{Order};
@@ -35,9 +36,10 @@ pub fn complete_is_four_conditions()
     ensures { (tx : List ℕ) (es : List Entry) → (is_complete tx es ≡ true) ↔ AreComplete (kinds_of tx es) (missing (numbers_of tx es)) }
 {}
 
-/// The energy of a station in a direction is the sum over its quarters, whatever the settlement period.
+/// The energy of a station in a direction is the sum over its quarters, whatever the settlement periods: so
+/// every rule by which differences count in them shows the same sum.
 pub fn energy_by_quarter()
-    ensures { (order : Order) (d : Direction) (period : ℕ) (es : List Entry) → energy_by order d es ≡ sum_of_energies (map (λ quarter. energy_in_by order d period quarter es) (quarters_by order period es)) }
+    ensures { (order : Order) (d : Direction) (period : Periods) (es : List Entry) → energy_by order d es ≡ sum_of_energies (map (λ quarter. energy_in_by order d period quarter es) (quarters_by order period es)) }
 {}
 
 /// The energy of a station in a direction is the sum over its EVSEs, of which 0 stands for none named.
@@ -54,8 +56,8 @@ pub fn energy_by_transaction()
 /// live event, and each such transaction: once, the numbers rising and the transactions in the order
 /// of their ids' bytes.
 pub fn shown_once_and_rising()
-    ensures quarters { (order : Order) (period : ℕ) (es : List Entry) (quarter : ℕ) → IsIn quarter (quarters_by order period es) ↔ IsIn quarter (map (quarter_of period) (pairs_of_both order es)) }
-    ensures quarters_rise { (order : Order) (period : ℕ) (es : List Entry) → AreRising (quarters_by order period es) }
+    ensures quarters { (order : Order) (period : Periods) (es : List Entry) (quarter : ℕ) → IsIn quarter (quarters_by order period es) ↔ IsIn quarter (map (quarter_of period) (pairs_of_both order es)) }
+    ensures quarters_rise { (order : Order) (period : Periods) (es : List Entry) → AreRising (quarters_by order period es) }
     ensures evses { (es : List Entry) (evse : ℕ) → IsIn evse (evses es) ↔ IsIn evse (map (λ tx. evse_of tx es) (transactions_of (live es))) }
     ensures evses_rise { (es : List Entry) → AreRising (evses es) }
     ensures transactions { (tx : List ℕ) (es : List Entry) → list_any (bytes_eq tx) (transactions_of (live es)) ≡ has_transaction tx (live es) }
@@ -64,13 +66,13 @@ pub fn shown_once_and_rising()
 
 /// The energy of a site's quarter is, in each direction, the sum over its stations, shown there or not.
 pub fn site_quarters_are_sums()
-    ensures { (order : Order) (period quarter : ℕ) (stations : List (List Entry)) → flows_under quarter (quarters_over order period stations) ≡ flows_over order period quarter stations }
+    ensures { (order : Order) (period : Periods) (quarter : ℕ) (stations : List (List Entry)) → flows_under quarter (quarters_over order period stations) ≡ flows_over order period quarter stations }
 {}
 
 /// Each figure of a site is the sum of that figure over its stations.
 pub fn site_figures_are_sums()
     ensures sums { (fs : List Figures) → AreSums (sum_of_figures fs) fs }
-    ensures site { (period : ℕ) (stations : List (List ℕ × Board)) → AreSums (site_board period stations).figures (map (λ s. s.1.figures) stations) }
+    ensures site { (period : Periods) (stations : List (List ℕ × Board)) → AreSums (site_board period stations).figures (map (λ s. s.1.figures) stations) }
 {}
 
 /// One post more gives its row the posted figures and leaves every other row; with the row's old
@@ -83,24 +85,28 @@ pub fn totals_after_a_post()
     ensures rows { (n : ℕ) (ps : List Post) → All (λ p. p.0 < n) ps → totals_after ps ≡ sum_of_figures (map (λ row. row_after row ps) (range_with_len 0 n)) }
 {}
 
-/// Boards, figures and quarters of a few short transactions, by periods of 900 seconds.
+/// Boards, figures and quarters of a few short transactions, by periods of 900 seconds, and by the later reading
+/// where nothing else is said.
 pub fn board_examples()
-    ensures first_run { board default_period first_run ≡ first_run_board }
-    ensures first_run_site { site_board default_period ((codes "A", board default_period first_run) ∷ []) ≡ first_run_site }
-    ensures late_event { board default_period late_event ≡ late_event_board }
-    ensures void_and_restore { board default_period void_and_restore ≡ void_and_restore_board }
-    ensures quarter_boundary { (board default_period quarter_boundary).quarters ≡ (ten + 1, took 100_000) ∷ [] }
-    ensures readings_again_at_end { (board default_period readings_again_at_end).quarters ≡ readings_again_quarters }
+    ensures first_run { board default_periods first_run ≡ first_run_board }
+    ensures first_run_site { site_board default_periods ((codes "A", board default_periods first_run) ∷ []) ≡ first_run_site }
+    ensures late_event { board default_periods late_event ≡ late_event_board }
+    ensures void_and_restore { board default_periods void_and_restore ≡ void_and_restore_board }
+    ensures quarter_boundary { (board default_periods quarter_boundary).quarters ≡ (ten + 1, took 100_000) ∷ [] }
+    ensures quarter_closed { (board closing_periods quarter_closed).quarters ≡ (ten, took 400_000) ∷ (ten + 1, took 200_000) ∷ (ten + 2, took 100_000) ∷ [] }
+    ensures quarter_not_closed { (board default_periods quarter_closed).quarters ≡ (ten + 1, took 400_000) ∷ (ten + 2, took 300_000) ∷ [] }
+    ensures first_moment { (board closing_periods at_first_moment).quarters ≡ (1_051_872, took 400_000) ∷ [] }
+    ensures readings_again_at_end { (board default_periods readings_again_at_end).quarters ≡ readings_again_quarters }
     ensures readings_again_figures { figures readings_again_at_end ≡ readings_again_counts }
-    ensures evse_moves { (board default_period evse_moves).evses ≡ (2, took 250_000) ∷ [] }
+    ensures evse_moves { (board default_periods evse_moves).evses ≡ (2, took 250_000) ∷ [] }
     ensures evse_moves_figures { figures evse_moves ≡ record { events = 3; voided = 0; transactions = 1; complete = 1; missing = 0; up = 250_000; down = 0; export_up = 0; export_down = 0 } }
-    ensures evse_voided { (board default_period evse_voided).evses ≡ (0, took 250_000) ∷ [] }
+    ensures evse_voided { (board default_periods evse_voided).evses ≡ (0, took 250_000) ∷ [] }
     ensures evse_voided_figures { figures evse_voided ≡ record { events = 2; voided = 1; transactions = 1; complete = 0; missing = 1; up = 250_000; down = 0; export_up = 0; export_down = 0 } }
-    ensures start_voided { (board default_period start_voided).evses ≡ (2, took 150_000) ∷ [] }
+    ensures start_voided { (board default_periods start_voided).evses ≡ (2, took 150_000) ∷ [] }
     ensures start_voided_figures { figures start_voided ≡ record { events = 2; voided = 1; transactions = 1; complete = 0; missing = 0; up = 150_000; down = 0; export_up = 0; export_down = 0 } }
     ensures widest_gap { gaps (numbers_of (codes "t1") widest_gap) ≡ (1, 2_147_483_646) ∷ [] }
     ensures widest_gap_figures { figures widest_gap ≡ widest_gap_counts }
-    ensures exported { (board default_period exported).quarters ≡ (ten, took 100_000) ∷ (ten + 1, flows_toward Export (rise 30_000)) ∷ [] }
+    ensures exported { (board default_periods exported).quarters ≡ (ten, took 100_000) ∷ (ten + 1, flows_toward Export (rise 30_000)) ∷ [] }
     ensures exported_figures { figures exported ≡ record { events = 3; voided = 0; transactions = 1; complete = 1; missing = 0; up = 100_000; down = 0; export_up = 30_000; export_down = 0 } }
-    ensures in_turn { (board default_period in_turn).quarters ≡ (ten, record { flow = rise 20_000; export = record { up = 0; down = 10_000 } }) ∷ [] }
+    ensures in_turn { (board default_periods in_turn).quarters ≡ (ten, record { flow = rise 20_000; export = record { up = 0; down = 10_000 } }) ∷ [] }
 {}

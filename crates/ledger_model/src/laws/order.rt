@@ -1,5 +1,6 @@
 //! Laws of the two orders of readings: by sequence, and by moment.
 ghost use Rattle.std.specs.Prelude.{◌≡◌, ℕ, Bool, ◌+◌, ◌≤◌, ◌==◌, not, List, [], ◌∷◌, filter, map, sum_by};
+ghost use Rattle.ledger_model.specs.Periods.{Periods};
 ghost use Rattle.ledger_model.specs.declared.order.Order.{Order};
 ghost use Rattle.ledger_model.specs.declared.order.Order.TheVariants.{Sequence, Moment};
 ghost use Rattle.ledger_model.specs.declared.reading.Direction.{Direction};
@@ -12,15 +13,15 @@ ghost use Rattle.ledger_model.specs.Event.{MeterReading};
 ghost use Rattle.ledger_model.specs.InTime.{in_order, AreInTime};
 ghost use Rattle.ledger_model.specs.Key.{KeyName};
 ghost use Rattle.ledger_model.specs.OrderLaws.{HaveSameEnergies, IsOneMoreInPlace, OtherPairsStay, ReadingsMove};
-ghost use Rattle.ledger_model.specs.Quarter.{default_period};
+ghost use Rattle.ledger_model.specs.Settling.{default_periods};
 ghost use Rattle.ledger_model.specs.ReadingOrder.{numbered_by, runs_of, taken_when, IsOneReadingMore, IsRepeat};
 
 /// The periods and energies of four short transactions, by moment and by sequence: one whose end tells
 /// its readings again, the same with an event of it voided, and one with two readings of one moment and
 /// a clock that goes back.
 pub fn order_examples()
-    ensures read_again_at_end { (board_by Moment default_period readings_again_at_end).quarters ≡ (ten, took 200_000) ∷ (ten + 2, took 400_000) ∷ (ten + 3, took 100_000) ∷ [] }
-    ensures read_again { (board_by Moment default_period read_again).quarters ≡ (ten, took 200_000) ∷ (ten + 2, took 400_000) ∷ (ten + 3, took 100_000) ∷ [] }
+    ensures read_again_at_end { (board_by Moment default_periods readings_again_at_end).quarters ≡ (ten, took 200_000) ∷ (ten + 2, took 400_000) ∷ (ten + 3, took 100_000) ∷ [] }
+    ensures read_again { (board_by Moment default_periods read_again).quarters ≡ (ten, took 200_000) ∷ (ten + 2, took 400_000) ∷ (ten + 3, took 100_000) ∷ [] }
     ensures end_voided { energy_by Moment Import end_voided ≡ rise 600_000 }
     ensures ties { energy_by Moment Import ties_and_clocks ≡ rise 300_000 }
     ensures ties_by_sequence { energy_by Sequence Import ties_and_clocks ≡ record { up = 300_000; down = 200_000 } }
@@ -41,7 +42,7 @@ pub fn readings_by_moment()
 /// Where no reading of a transaction is earlier than the one in front of it by sequence, the two orders
 /// give equal boards.
 pub fn orders_agree()
-    ensures { (period : ℕ) (es : List Entry) → ((d : Direction) (tx : List ℕ) → AreInTime taken_when (readings_of d tx es)) → board_by Moment period es ≡ board_by Sequence period es }
+    ensures { (period : Periods) (es : List Entry) → ((d : Direction) (tx : List ℕ) → AreInTime taken_when (readings_of d tx es)) → board_by Moment period es ≡ board_by Sequence period es }
 {}
 
 /// By moment, where some readings of a transaction and direction have a moment and all of these have one

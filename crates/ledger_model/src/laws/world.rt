@@ -1,6 +1,7 @@
 //! Laws of worlds: what runs leave, station by station, and what a board depends on.
 
 ghost use Rattle.std.specs.Prelude.{◌≡◌, ℕ, List, map};
+ghost use Rattle.ledger_model.specs.Periods.{Periods};
 ghost use Rattle.ledger_model.specs.declared.order.Order.{Order};
 ghost use Rattle.ledger_model.specs.Board.{board_by, figures_by};
 ghost use Rattle.ledger_model.specs.BoardLaws.{with_voided};
@@ -21,5 +22,5 @@ pub fn orders_of_runs()
 
 /// Contents with the same live events have boards that differ in the number of voided events alone.
 pub fn live_events_alone()
-    ensures { (order : Order) (period : ℕ) (es fs : List Entry) → live es ≡ live fs → board_by order period es ≡ with_voided (figures_by order es).voided (board_by order period fs) }
+    ensures { (order : Order) (period : Periods) (es fs : List Entry) → live es ≡ live fs → board_by order period es ≡ with_voided (figures_by order es).voided (board_by order period fs) }
 {}

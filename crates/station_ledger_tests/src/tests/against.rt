@@ -2,7 +2,7 @@
 use super::drawn::{Asked, Draws, id};
 use super::scratch::{Energy, Line, NO_ENERGY, Scratch, Sums};
 use energy_flow::{Flow, Work};
-use ledger_model::{Answer, EvseId, Figures, Limits, Order, Period};
+use ledger_model::{Answer, EvseId, Figures, Limits, Order, Period, Settle};
 use station_ledger::{EvseLine, StationBoard, StationLedger, TxLine};
 use std::alloc::Global;
 use std::test::Fail;
@@ -138,7 +138,13 @@ impl Pair {
         let (transactions, events, readings, changes) = limits;
         let bounds = Limits::new(transactions, events, readings, changes)?;
         Some(Pair {
-            ledger: StationLedger::open(alloc, bounds, Period::default(), order).ok()?,
+            ledger: StationLedger::open(
+                alloc,
+                bounds,
+                Period::default(),
+                order,
+                Settle::default(),
+            ).ok()?,
             scratch: Scratch::open(alloc, limits, order),
         })
     }

@@ -1,6 +1,6 @@
 ghost use Rattle.std.specs.Prelude.{◌≡◌, ◌≤◌, IfOk};
 ghost use Rattle.ledger_model.specs.Limits.{Bounds, default_limits};
-ghost use Rattle.ledger_model.specs.Quarter.{default_period};
+ghost use Rattle.ledger_model.specs.Settling.{default_periods};
 ghost use Rattle.board_report.specs.Plans.{IsBoardWithin};
 ghost use Rattle.board_report.specs.Sums.{station_quarters, AreOfPeriod, QuartersFit};
 
@@ -8,7 +8,7 @@ use board_report::{SiteBoard, energy_text, site_board, total_text, write_board};
 use energy_flow::{Flow, Level, Work, difference};
 use ledger_model::{
     Answer, Command, Direction, Event, Figures, Key, Kind, Limits, Moment, Name, Order, Period,
-    Reading, TxId,
+    Periods, Reading, Settle, TxId,
 };
 use station_ledger::{StationBoard, StationLedger};
 use std::alloc::{AllocError, AllocFailed, Global};
@@ -100,13 +100,14 @@ impl From<AllocFailed<(Name, StationBoard)>> for Refused {
 // The board of a station that took these commands.
 fn station(alloc: Global, work: &mut Work, asked: &[Asked]) -> Result<StationBoard, Refused>
     ensures within { IfOk result (λ b. IsBoardWithin default_limits b) }
-    ensures period { IfOk result (λ b. b.period ≡ default_period) }
+    ensures period { IfOk result (λ b. b.period ≡ default_periods) }
 {
     let mut ledger = StationLedger::open(
         alloc,
         Limits::default(),
         Period::default(),
         Order::Sequence,
+        Settle::default(),
     )?;
     for one in asked {
         if !is_taken(&mut ledger, command(alloc, *one), work) {
@@ -134,7 +135,7 @@ fn stations(
     told: &[(&'static str, &'static [Asked])],
 ) -> Result<Vec<(Name, StationBoard)>, Refused>
     ensures fit { IfOk result (λ boards. QuartersFit (station_quarters boards.items)) }
-    ensures periods { IfOk result (λ boards. AreOfPeriod default_period boards.items) }
+    ensures periods { IfOk result (λ boards. AreOfPeriod default_periods boards.items) }
 {
     if told.len() > 64 {
         return Err(Refused);
@@ -168,7 +169,7 @@ fn board_of(alloc: Global, work: &mut Work, site: &Site) -> Option<SiteBoard> {
     site_board(
         alloc,
         &name,
-        Period::default(),
+        Periods::default(),
         Order::Sequence,
         figures,
         boards,

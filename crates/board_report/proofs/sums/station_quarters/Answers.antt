@@ -14,6 +14,6 @@ loop-station-preserved c = record {
   own = λ period of.
       let same = ap (λ (s : List ℕ × Board). s.1.period) c.station-item.is ∙ of c.loop-station.station-index c.station-item.result c.loop-station-test.true in
       subst (AreQuartersOf period) (sym c.in_ok-extend_from_slice.ensures.items)
-      (All-append (λ (line : Flowed). IsQuarterOf period line.0) c.loop-station.lines.items c.quarters.result.now (c.loop-station.invariant.own period of)
+      (All-append (λ (line : Flowed). IsQuarterOf period.length line.0) c.loop-station.lines.items c.quarters.result.now (c.loop-station.invariant.own period of)
       (subst (λ p. AreQuartersOf p c.quarters.result.now) same c.quarters.ensures.own));
 }

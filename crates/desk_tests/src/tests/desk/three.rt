@@ -1,7 +1,7 @@
 ghost use Rattle.std.specs.Prelude.{◌≡◌, ◌≤◌, IfOk, IfSome, length};
 ghost use Rattle.board_report.specs.Plans.{IsBoardWithin};
 ghost use Rattle.board_report.specs.Sums.{station_quarters, AreOfPeriod, QuartersFit};
-ghost use Rattle.ledger_model.specs.Quarter.{default_period};
+ghost use Rattle.ledger_model.specs.Settling.{default_periods};
 ghost use Rattle.ledger_model.specs.Ranges.{most_readings};
 
 use super::scenes::{Scene, plays};
@@ -10,7 +10,7 @@ use super::{
     pass_of, tells,
 };
 use board_report::{SiteBoard, site_board, write_board};
-use ledger_model::{Answer, Command, Figures, Kind, Name, Order, Period, Refusal};
+use ledger_model::{Answer, Command, Figures, Kind, Name, Order, Periods, Refusal};
 use site_book::{Naming, Viewer};
 use site_desk::{Closed, Desk, NoGate};
 use station_cell::Pass;
@@ -261,11 +261,11 @@ fn boards_of<J: Naming>(
 ) -> Result<Option<Vec<(Name, StationBoard)>>, AllocError>
     requires { length closed.now.cells ≡ 2 }
     ensures fit { IfOk result (λ r. IfSome r (λ boards. QuartersFit (station_quarters boards.items))) }
-    ensures periods { IfOk result (λ r. IfSome r (λ boards. AreOfPeriod default_period boards.items)) }
+    ensures periods { IfOk result (λ r. IfSome r (λ boards. AreOfPeriod default_periods boards.items)) }
 {
     let a = board_within(alloc, closed.ledger(0))?;
     let b = board_within(alloc, closed.ledger(1))?;
-    if a.period() != Period::default() || b.period() != Period::default() {
+    if a.period() != Periods::default() || b.period() != Periods::default() {
         return Ok(None);
     }
     Ok(Some(vec![in alloc; (first, a), (second, b)]?))
@@ -281,7 +281,7 @@ fn board_of<J: Naming>(alloc: Global, closed: &Closed<J>) -> Option<SiteBoard> {
     site_board(
         alloc,
         &name,
-        Period::default(),
+        Periods::default(),
         Order::Sequence,
         closed.totals(0),
         stations,

@@ -3,7 +3,7 @@ use Rattle.std.specs.List.{position}
 use Rattle.std.specs.Str.{bytes_eq}
 use Rattle.ledger_model.specs.declared.order.Order.TheVariants.{Sequence}
 use Rattle.ledger_model.specs.Limits.{default_limits}
-use Rattle.ledger_model.specs.Quarter.{default_period}
+use Rattle.ledger_model.specs.Settling.{default_periods}
 use Rattle.site_desk.specs.declared.plan.SitePlan.{SitePlan}
 use Rattle.site_desk.specs.Plan.{is_past, site_number, sites_with}
 use Rattle.journal_server.specs.Simulated.{simulated_name, simulated_sites, simulated_stations}
@@ -26,7 +26,7 @@ loop-before-preserved c =
     let next : suc n ≡ n + 1 = omega arith in
     let site : c.copied.result ≡ codes "sim" = c.copied.ensures ∙ k.0 in
     let limits : c.default-in-loop-before.result ≡ default_limits = search rules in
-    let period : c.default.result ≡ default_period = search rules in
+    let period : c.default.result ≡ default_periods = search rules in
     let name : c.station_name-station.result ≡ simulated_name (suc n) = c.station_name-station.ensures ∙ ap simulated_name (sym next) in
     let number = (λ i. site_number (position (λ (s : SitePlan). bytes_eq c.copied.result s.name) (k.1 i)) (k.1 i)) ∙ number_next c.copied.result n site in (
       k.0,

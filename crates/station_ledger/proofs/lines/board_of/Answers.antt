@@ -16,7 +16,7 @@ invariant_of-result c =
     let sums = subst (AreEvseSums order es) (sym c.deref.ensures.value) c.requires.summed.at_evses in
     let evses = c.of.ensures ∙ c.in_ok-evses.ensures order es c.requires.numbered sums in
     let quarters = c.of-2.ensures ∙ c.in_ok-quarters.ensures ∙ ap (map line_of) c.requires.summed.by_quarter.rows ∙ lines_of_station order c.args.sums.now.period es in
-    let lines = lines_within order c.args.chains.now.limits es c.requires.within c.args.sums.now.period (subst IsPeriod c.copied.ensures.value c.copied.ensures.range) in
+    let lines = lines_within order c.args.chains.now.limits es c.requires.within c.args.sums.now.period (subst (λ p. IsPeriod p.length) c.copied.ensures.value c.copied.ensures.range) in
     subst (λ p. AreStationLines p c.of.result c.of-2.result) (sym c.copied.ensures.value)
     (subst (λ ls. AreStationLines c.args.sums.now.period ls c.of-2.result) (sym evses) (subst (AreStationLines c.args.sums.now.period (board_by order c.args.sums.now.period es).evses) (sym quarters) lines))
 

@@ -7,13 +7,13 @@ pub add-requires-clause-room : goal.add-requires-clause-room
 add-requires-clause-room c = λ none. room_for_row c.args.quarters.now 1 c.requires (omega arith)
 
 pub add-requires-clause-number : goal.add-requires-clause-number
-add-requires-clause-number c = room_for_pair c.args.quarters.now 1 c.requires c.quarter.result
+add-requires-clause-number c = room_for_pair c.args.quarters.now 1 c.requires c.settled_quarter.result
 
 pub add-requires-clause-import : goal.add-requires-clause-import
 add-requires-clause-import c =
     let up = ap (λ (e : Energy). e.up) c.difference-flow.ensures.flow in
     let down = ap (λ (e : Energy). e.down) c.difference-flow.ensures.flow in
-    room_for_flow c.args.quarters.now 1 c.requires c.quarter.result c.args.direction c.difference-flow.result (record {
+    room_for_flow c.args.quarters.now 1 c.requires c.settled_quarter.result c.args.direction c.difference-flow.result (record {
       up = omega (arith, up, c.level-2.ensures.range);
       down = omega (arith, down, c.level.ensures.range);
     })
@@ -22,7 +22,7 @@ pub add-requires-clause-export : goal.add-requires-clause-export
 add-requires-clause-export c =
     let up = ap (λ (e : Energy). e.up) c.difference-flow.ensures.flow in
     let down = ap (λ (e : Energy). e.down) c.difference-flow.ensures.flow in
-    room_for_export c.args.quarters.now 1 c.requires c.quarter.result c.args.direction c.difference-flow.result (record {
+    room_for_export c.args.quarters.now 1 c.requires c.settled_quarter.result c.args.direction c.difference-flow.result (record {
       up = omega (arith, up, c.level-2.ensures.range);
       down = omega (arith, down, c.level.ensures.range);
     })

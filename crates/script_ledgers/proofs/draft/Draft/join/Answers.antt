@@ -3,7 +3,7 @@ use Rattle.std.specs.List.{position}
 use Rattle.site_desk.specs.declared.plan.SitePlan.{SitePlan}
 use Rattle.site_desk.specs.Plan.{site_number, sites_with}
 use Rattle.ledger_model.specs.declared.order.Order.TheVariants.{Sequence}
-use Rattle.ledger_model.specs.Quarter.{default_period}
+use Rattle.ledger_model.specs.Settling.{default_periods}
 use Rattle.script_ledgers.specs.Drafts.{Drafted, IsPlan, planned}
 use Rattle.script_ledgers.specs.contracts.draft.Draft.{the_view}
 use Rattle.script_ledgers.proofs.Drafting.{joins, past_drafted, past_plan}
@@ -12,11 +12,11 @@ use Rattle.script_ledgers.proofs.draft.Draft.join.Goals as goal
 pub declare-requires : goal.declare-requires
 declare-requires c = record { room = past_drafted (the_view c.self.inside) c.args.self.now c.args.site c.self.view_is c.self.invariant ∙ c.requires.room }
 
-sites_are : (c : goal.After-declare) → c.declare.new.self.sites.items ≡ sites_with (position (λ (s : SitePlan). bytes_eq c.args.site s.name) c.args.self.now.sites) c.args.site 0 default_period Sequence c.args.self.now.sites
+sites_are : (c : goal.After-declare) → c.declare.new.self.sites.items ≡ sites_with (position (λ (s : SitePlan). bytes_eq c.args.site s.name) c.args.self.now.sites) c.args.site 0 default_periods Sequence c.args.self.now.sites
 sites_are c =
     c.declare.ensures.sites
     ∙ (λ i. sites_with (position (λ (s : SitePlan). bytes_eq c.args.site s.name) c.self.inside.plan.sites.items) c.args.site 0 (c.default.ensures i) (c.default-2.ensures i) c.self.inside.plan.sites.items)
-    ∙ ap (λ (x : Drafted). sites_with (position (λ (s : SitePlan). bytes_eq c.args.site s.name) x.sites) c.args.site 0 default_period Sequence x.sites) c.self.view_is
+    ∙ ap (λ (x : Drafted). sites_with (position (λ (s : SitePlan). bytes_eq c.args.site s.name) x.sites) c.args.site 0 default_periods Sequence x.sites) c.self.view_is
 
 stations_are : (c : goal.After-declare)
     → c.declare.new.self.stations.items ≡ c.args.self.now.stations ++ record { site = site_number (position (λ (s : SitePlan). bytes_eq c.args.site s.name) c.args.self.now.sites) c.args.self.now.sites; name = c.args.name; limits = c.args.self.now.limits } ∷ []

@@ -1,8 +1,8 @@
 use Rattle.std.proofs.Common.{◌≡◌}
 use Rattle.ledger_model.specs.Limits.{default_limits}
-use Rattle.ledger_model.specs.Quarter.{default_period}
+use Rattle.ledger_model.specs.Settling.{default_periods}
 use Rattle.station_ledger_tests.proofs.tests.report.station.Given as goal
 
 -- the limits and the period stay
 abbrev pub invariant-loop-one : goal.invariant-loop-one
-invariant-loop-one l = (l.ledger.limits ≡ default_limits) × (l.ledger.period ≡ default_period)
+invariant-loop-one l = (l.ledger.limits ≡ default_limits) × (l.ledger.period ≡ default_periods)

@@ -3,7 +3,7 @@ use Rattle.std.proofs.lemmas.List.Elements.{All-append, All-cons, All-nil}
 use Rattle.std.proofs.lemmas.List.Sums.{sum_by-append}
 use Rattle.ledger_model.specs.Board.{Board}
 use Rattle.ledger_model.specs.Limits.{Bounds, default_limits}
-use Rattle.ledger_model.specs.Quarter.{default_period}
+use Rattle.ledger_model.specs.Settling.{default_periods}
 use Rattle.board_report.specs.Plans.{AreBoardsWithin}
 use Rattle.board_report.specs.Sums.{AreOfPeriod}
 use Rattle.board_report.proofs.PlanLemmas.{plans_fit, AreBoardsWithin-more}
@@ -14,12 +14,12 @@ pub loop-name-preserved : goal.loop-name-preserved
 loop-name-preserved c =
     let k = c.loop-name.invariant in
     let plan = k.0 ++ default_limits ∷ [] in
-    let one : List ℕ × Board → Type 0 = λ s. s.1.period ≡ default_period in (
+    let one : List ℕ × Board → Type 0 = λ s. s.1.period ≡ default_periods in (
       plan,
       (
         omega (arith, k.1.0, sum_by-append (λ (limits : Bounds). limits.readings) k.0 (default_limits ∷ [])),
         subst (AreBoardsWithin plan) (sym c.in_ok-push.ensures.items) (AreBoardsWithin-more k.0 c.loop-name.boards.items default_limits _ k.1.1 c.in_ok-board.ensures.within),
-        subst (AreOfPeriod default_period) (sym c.in_ok-push.ensures.items) (All-append one c.loop-name.boards.items (_ ∷ []) k.1.2 (All-cons one _ [] c.in_ok-board.ensures.period (All-nil one))),
+        subst (AreOfPeriod default_periods) (sym c.in_ok-push.ensures.items) (All-append one c.loop-name.boards.items (_ ∷ []) k.1.2 (All-cons one _ [] c.in_ok-board.ensures.period (All-nil one))),
       ),
     )
 

@@ -1,0 +1,23 @@
+/// Which settlement period the difference of two readings counts in (MeterValueType, OCPP 2.0.1 Part 2,
+/// J02; the rules are this product's profile).
+#[derive(Clone, Copy, Debug, PartialEq, Eq)]
+pub enum Settle {
+    /// The period that the later reading lies in. A reading right at the start of a period brings its
+    /// difference into the period that starts there.
+    Later,
+    /// The period that the later reading closes. A reading at 10:15:00 closes the quarter of an hour that
+    /// began at 10:00:00, so its difference counts there.
+    Closing,
+}
+
+impl Default for Settle {
+    ghost use Rattle.std.specs.Prelude.{◌≡◌};
+    ghost use Rattle.ledger_model.specs.declared.settle.Settle.TheVariants.{Later};
+
+    ghost is_default = { λ rule. rule ≡ Later };
+
+    /// The rule of a site for which none is declared: by the later reading.
+    fn default() -> Self {
+        Settle::Later
+    }
+}
