@@ -10,8 +10,8 @@
 //! [`SiteBoard`] as lines of plain text, for people and for programs. [`total_text`], [`energy_text`] and [`export_text`]
 //! write the figures and an energy alone, without memory, so a live total and the total line of a board are one text.
 //!
-//! The crate's one contract: each text has exactly the bytes that a short definition gives for the values, one definition
-//! for each kind of line; and a site's board has each of the site's stations once, in the plan's order, its board from
+//! The crate's contract: each text has exactly the bytes that a short definition gives for the values, one definition for
+//! each kind of line; and a site's board has each of the site's stations once, in the plan's order, its board from
 //! scratch from its cell's content, and shows each quarter that one of them shows, once and rising, with the sum over
 //! them. Of a closed desk the totals are the sums over the site's stations. The quarters of a board are quarters of its
 //! settlement period. A caller of `site_board` sees to it that all boards are by the site's period, and that the sums of

@@ -109,7 +109,7 @@ front_of r es = map slot_in (places_before r es)
 abbrev pub back_of : ℕ → List EventPlace → List ℕ
 back_of r es = map slot_in (places_behind r es)
 
--- What stands on a side of a rank is a slot, where there is one.
+-- What stands on a side of a rank is a slot, if there is one.
 abbrev pub IsSide : Links → Option ℕ → Type 0
 IsSide l o = (x : ℕ) → o ≡ Some x → IsSlot l x
 

@@ -60,7 +60,7 @@ impl<'a> Iterator for AllReadings<'a> {
     }
 }
 
-// The first reading of a direction among those to come; those before it are passed over.
+// The first reading of a direction among those to come; those before it are skipped.
 fn next_toward(all: &mut AllReadings<'_>, direction: Direction) -> Option<Reading>
     ensures found { IfSome result (λ r. toward direction all.old ≡ r ∷ toward direction all.new) }
     ensures none { IfNone result ((toward direction all.old ≡ []) × (toward direction all.new ≡ [])) }
@@ -91,7 +91,7 @@ impl<'a> Model for Readings<'a> {
 }
 
 impl<'a> Readings<'a> {
-    // Those of this direction among all that are to come.
+    // The readings of this direction among all that are still to come.
     pub(crate) fn of(all: AllReadings<'a>, direction: Direction) -> Self
         ensures { result ≡ toward direction all.entry }
     {
@@ -111,7 +111,7 @@ impl<'a> Iterator for Readings<'a> {
     }
 }
 
-// Tells whether the readings of a chain are these.
+// Returns whether the readings of a chain are these.
 pub(crate) fn are_same(
     links: &SlotArena<ReadingLink>,
     first: u32,

@@ -5,7 +5,7 @@ use Rattle.std.proofs.lemmas.Bool.{eqb-true, false≢true}
 use Rattle.std.proofs.lemmas.Bool.Decides.{nat_tests}
 use Rattle.std.proofs.Math.Seq.{get_or-append_seam}
 
--- the last byte, or this one where there is none
+-- the last byte, or this one if there is none
 abbrev pub last : ℕ → List ℕ → ℕ
 last d [] = d
 last d (x ∷ xs) = last x xs

@@ -69,14 +69,14 @@ fn tell_number<T: Write>(told: &mut T, number: u64)
     let _ = write_bytes(told, number.as_bytes());
 }
 
-// Tells whether an answer is a fault, a refusal or a CALLERROR.
+// Returns whether an answer is a fault, a refusal or a CALLERROR.
 fn leaves_nothing(reply: &[u8]) -> bool
     ensures { result ≡ leaves_nothing reply.now }
 {
     reply.starts_with(b"fault ") || reply.starts_with(b"refused ") || reply.starts_with(b"[4,")
 }
 
-// Tells whether a line ends with `#`.
+// Returns whether a line ends with `#`.
 fn is_marked(line: Option<&[u8]>) -> bool
     ensures { result ≡ is_marked (line_bytes line.entry) }
 {
@@ -86,7 +86,7 @@ fn is_marked(line: Option<&[u8]>) -> bool
     }
 }
 
-// Tells whether a line ends as one does that a kill cut.
+// Returns whether a line ends as one does that a kill cut.
 fn is_cut(line: Option<&[u8]>) -> bool
     ensures { result ≡ is_cut (line_bytes line.entry) }
 {
@@ -96,7 +96,7 @@ fn is_cut(line: Option<&[u8]>) -> bool
     }
 }
 
-// Tells whether the bytes end with `#`.
+// Returns whether the bytes end with `#`.
 fn ends_with_mark(bytes: &[u8]) -> bool
     ensures { result ≡ ends_with_byte 35 bytes.now }
 {

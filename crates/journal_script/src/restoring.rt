@@ -41,7 +41,8 @@ pub fn restore<X: AllocGlobal + Threads, R: BufRead, T: Write>(
     Ok(restored)
 }
 
-// Restores a script over tables that J names, and tells whether the line before `listen` ends with `#`.
+// Restores a script over tables that J names, and returns whether the line before `listen` ends with
+// `#`.
 fn restore_script<J: Naming, X: AllocGlobal + Threads, R: BufRead, T: Write>(
     rt: &X,
     tables: Tables,

@@ -68,7 +68,7 @@ impl Source {
     }
 }
 
-// Tells whether the line is `listen`.
+// Returns whether the line is `listen`.
 fn is_listen(line: Option<&[u8]>) -> bool
     ensures { IsTrue result ↔ (line_bytes line.entry ≡ Some (codes "listen")) }
 {

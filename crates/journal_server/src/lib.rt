@@ -9,13 +9,12 @@
 //! connections by [`serve_counted`], and that of simulated stations by [`simulate`]) is the same, with a journal that is
 //! written nowhere.
 //!
-//! The crate's one contract ([`Served`], `IsItsScript` of `specs/Served.antt`): the boards that a server writes at its end
-//! are the answers to `board <site>` behind one script, which is what it read and wrote; behind its front that script is
-//! the text of one list of lines. Each line was accepted where the earlier lines of its station lead, each station's content
-//! is what its own lines leave, and its passes counted as many accepted answers as it has lines. The console took where the
-//! server listens and the answers to its operator's lines (`IsToldOf`): what was accepted is in that list, and a board is that
-//! of a front of it. That lines are out before their replies, and what a kill leaves,
-//! is shown by tests.
+//! The crate's contract ([`Served`], `IsItsScript` of `specs/Served.antt`): the boards that a server writes at its end are the
+//! answers to `board <site>` behind one script, which is what it read and wrote; behind its front that script is the text of
+//! one list of lines. Each line was accepted where the earlier lines of its station lead, each station's content is what its
+//! own lines leave, and its passes counted as many accepted answers as it has lines. The console took where the server listens
+//! and the answers to its operator's lines (`IsToldOf`): what was accepted is in that list, and a board is that of a front of
+//! it. That lines are out before their replies, and what a kill leaves, is shown by tests.
 //!
 //! ```text
 //! serve_journalled(rt, &plan, journalling, stdin, stdout, stderr, lines)?    // standard output is the journal

@@ -184,7 +184,7 @@ pub fn serve_restored<
     Ok(served)
 }
 
-// Tells whether a script is refused, by whether a line of it is lost and whether that is allowed.
+// Returns whether a script is refused, by whether a line of it is lost and whether that is allowed.
 fn is_refused(has_lost: bool, allows_left_out: bool) -> bool
     ensures { result ≡ (has_lost && not allows_left_out) }
 {
@@ -208,7 +208,8 @@ fn write_head<W: Write + Drop>(
     }
 }
 
-// Tells how many changes the stations hold that were restored. Whether that can be written does not matter.
+// Returns how many changes the stations hold that were restored. Whether that can be written does not
+// matter.
 fn tell_restored<T: Write>(console: &mut T, cells: &[StationCell])
     ensures { Grows (T.contents console.old) (T.contents console.new) }
 {

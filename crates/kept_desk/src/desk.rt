@@ -128,8 +128,8 @@ impl<J: Naming, K: Opening, W: Write + Drop> KeptDesk<J, K, W> {
         self.desk.site_boards_by(rt, alloc, site, &way)
     }
 
-    /// Tells whether the journal took no line to its end, and takes no more. It waits for nobody: while a
-    /// line is being written it tells that this is not so.
+    /// Returns whether the journal took no line to its end, and takes no more. It waits for nobody:
+    /// while a line is being written it tells that this is not so.
     pub fn is_broken(&self) -> bool {
         match self.log.try_lock() {
             Some(log) => log.is_broken(),

@@ -69,7 +69,7 @@ impl<K: Opening, W: Write + Drop> Journal<K, W> {
         self.shares
     }
 
-    /// Tells whether a write or a flush failed: then no more is taken.
+    /// Returns whether a write or a flush failed: then no more is taken.
     pub fn is_broken(&self) -> bool
         ensures { result ≡ self.now.broken }
     {

@@ -9,17 +9,15 @@
 //! the site. A journal that can't be written accepts nothing more. All that is read of a running desk is read of
 //! [`KeptDesk::desk`].
 //!
-//! The crate's one contract: what a station holds, whenever its lock is free, is what the commands of its
-//! own lines in the journal, each accepted, leave of what it held when the desk was opened; where a written
-//! line's change can't be settled, which no run meets, the station's cell leaves service, and nothing more
-//! is taken, shown or closed there. [`KeptDesk::close`] tells it of
-//! all stations at once: there is one list of entries, of which the writer took the text, and each
-//! station's ledger holds what just its own entries leave; each entry's line asks for its command on the
-//! station of its name, as a line of a script does (`specs/Speaking.antt`). The contract of `submit` is that of
-//! [`Desk::submit`](site_desk::Desk::submit), word for word, and that an accepted answer comes with a
-//! [`Moment`] of the journal: the entries that it had then, the last of them just this line's. The boards of a site come
-//! with the moment that they show ([`KeptDesk::site_boards`]). The entries of each moment begin those that `close` speaks
-//! of.
+//! The crate's contract: what a station holds, whenever its lock is free, is what the commands of its own lines in the
+//! journal, each accepted, leave of what it held when the desk was opened; where a written line's change can't be
+//! settled, which no run meets, the station's cell leaves service, and nothing more is taken, shown or closed there.
+//! [`KeptDesk::close`] tells it of all stations at once: there is one list of entries, of which the writer took the text,
+//! and each station's ledger holds what just its own entries leave; each entry's line asks for its command on the station
+//! of its name, as a line of a script does (`specs/Speaking.antt`). The contract of `submit` is that of
+//! [`Desk::submit`](site_desk::Desk::submit), word for word, and that an accepted answer comes with a [`Moment`] of the
+//! journal: the entries that it had then, the last of them just this line's. The boards of a site come with the moment
+//! that they show ([`KeptDesk::site_boards`]). The entries of each moment begin those that `close` speaks of.
 //!
 //! Below the desk stands the journal itself, which knows nothing of ledgers. A [`Journal`] writes lines for
 //! stations: [`Journal::add`] writes and flushes one line, and then notes it as an [`Entry`], with the command

@@ -59,7 +59,7 @@ module _ {X : Type 0} where
   cut_none key n [] above le = (refl, refl)
   cut_none key n (e ∷ es) above le = let end : key ≤ e.0 = omega (arith, above.0) in (below_end key e es end, from_end key e es end)
 
-  -- The last entry is that of the rest, where there is one.
+  -- The last entry is that of the rest, if there is one.
   pub last_cons : (e f : ℕ × X) (es : List (ℕ × X)) → last_of (e ∷ f ∷ es) ≡ last_of (f ∷ es)
   last_cons e f es =
       let a : suc (suc (length es)) - 1 ≡ suc (length es) = omega arith in let b : suc (length es) - 1 ≡ length es = omega arith in

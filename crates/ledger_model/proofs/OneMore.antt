@@ -145,7 +145,7 @@ pairs_more_kept d f es more front e back one =
     let many = sum_by-append f (pairs_more d front e back) (pairs_kept d es front e back) in
     omega (arith, less, many, station_sums d f es more front e back one)
 
--- What is so of the pair that goes and of those that come is so of none where there is no reading.
+-- What is so of the pair that goes and of those that come is so of none if there is no reading.
 if_moved : (f : Pair → ℕ) (rs : List MeterReading) (before after : Option MeterReading) (m n : ℕ) → m + sum_by f (across before after) ≡ n + sum_by f (pairs_between before rs after)
     → m + sum_by f (if_read rs (across before after)) ≡ n + sum_by f (if_read rs (pairs_between before rs after))
 if_moved f [] before after m n h = omega (arith, h)

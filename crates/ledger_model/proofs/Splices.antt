@@ -7,7 +7,7 @@ use Rattle.ledger_model.specs.Event.{MeterReading}
 use Rattle.ledger_model.specs.Energy.{Pair, followed}
 use Rattle.ledger_model.specs.Deltas.{across, pairs_between, first_reading, last_reading}
 
--- The last reading, or what came before where there is none.
+-- The last reading, or what came before if there is none.
 abbrev last_after : Option MeterReading → List MeterReading → Option MeterReading
 last_after before [] = before
 last_after before (r ∷ rs) = last_after (Some r) rs

@@ -80,7 +80,8 @@ void_and_restore_answers =
 abbrev pub falling_register : List Command
 falling_register = delivery Started 0 0 1_600 ∷ delivery Updated 1 5 100 ∷ delivery Updated 2 10 150 ∷ []
 
--- Two events, and a third that finds room neither at once nor when event 1 is voided, but when it is erased.
+-- Two events, and a third that finds no room at once, none after event 1 is voided, but room after event 1
+-- is erased.
 abbrev pub full_until_erased : List Command
 full_until_erased =
     delivery Started 0 0 1_000

@@ -10,7 +10,7 @@ is_same None (Some _) = false
 is_same (Some _) None = false
 is_same (Some a) (Some b) = eqb a b
 
--- Whether a worker serves a session of this station, or a handshake where there is none.
+-- Whether a worker serves a session of this station, or a handshake if there is none.
 abbrev pub is_at : Option ℕ → Option ServedConnection → Bool
 is_at station None = false
 is_at station (Some one) = is_same one.station station
@@ -35,7 +35,7 @@ abbrev pub IsOldestOf : ℕ → Option ℕ → List (Option ServedConnection) �
 IsOldestOf count station rows None = (k : ℕ) (one : ServedConnection) → k < count → slice_get rows k ≡ Some (Some one) → one.station ≢ station
 IsOldestOf count station rows (Some worker) = IsOldest count station rows worker
 
--- The oldest is told to end, and counts no more; where there is none, nothing changes.
+-- The oldest is told to end, and counts no more; if there is none, nothing changes.
 abbrev pub IsTold : Option ℕ → List (Option ServedConnection) → Option ℕ → List (Option ServedConnection) → Type 0
 IsTold station before None now = IsOldestOf (length before) station before None × (now ≡ before)
 IsTold station before (Some worker) now = IsOldestOf (length before) station before (Some worker) × (now ≡ slice_set before worker None)

@@ -85,7 +85,7 @@ impl<'a> Acceptor<'a> {
         unreachable!()
     }
 
-    // Notes that a thread was started, where it was, and tells whether.
+    // Notes that a thread was started, where it was, and returns whether.
     pub(crate) fn is_entered(&self, is_started: bool) -> bool {
         if is_started {
             self.entered.fetch_add(1, Ordering::SeqCst);

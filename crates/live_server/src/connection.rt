@@ -85,7 +85,7 @@ impl<'a, R: Clock> Connection<'a, R> {
         self.phase.set(Phase::Serving);
     }
 
-    // Tells whether it has been so many seconds since then, or the clock can't tell.
+    // Returns whether it has been so many seconds since then, or the clock can't tell.
     fn is_over(&self, since: Instant, seconds: u64) -> bool {
         match since.elapsed(self.rt) {
             Ok(elapsed) => elapsed >= Duration::from_secs(seconds),
@@ -93,7 +93,7 @@ impl<'a, R: Clock> Connection<'a, R> {
         }
     }
 
-    // Tells whether the write under way has to be given up.
+    // Returns whether the write under way has to be given up.
     fn is_write_over(&self) -> bool {
         let Some(since) = self.writing.get() else {
             return false;
@@ -112,7 +112,7 @@ impl<'a, R: Clock> Connection<'a, R> {
         Ok(())
     }
 
-    // Counts a tick without bytes, and tells whether it was one too many.
+    // Counts a tick without bytes, and returns whether it was one too many.
     fn is_silent(&self) -> bool {
         let ticks = self.silent.get().saturating_add(1);
         self.silent.set(ticks);
@@ -150,7 +150,7 @@ impl<R: Clock> Attendant for Connection<'_, R> {
     }
 }
 
-// Tells whether a read or a write gave up waiting, and may go on.
+// Returns whether a read or a write gave up waiting, and may go on.
 fn is_tick(moved: &io::Result<usize>) -> bool {
     match moved {
         Ok(_) => false,
@@ -158,7 +158,7 @@ fn is_tick(moved: &io::Result<usize>) -> bool {
     }
 }
 
-// Tells whether all of the bytes were written.
+// Returns whether all of the bytes were written.
 fn is_whole(written: &io::Result<usize>, bytes: &[u8]) -> bool {
     match written {
         Ok(count) => *count == bytes.len(),

@@ -42,7 +42,7 @@ impl<L: Write + Drop> Log<L> {
         }
     }
 
-    // Tells how a session ended.
+    // Returns how a session ended.
     pub(crate) fn tell_ended<R: Wait>(
         &self,
         rt: &R,

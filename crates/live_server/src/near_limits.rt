@@ -110,12 +110,12 @@ impl NearLimits {
     }
 }
 
-// Tells whether nine tenths of a limit are used, and that was not told yet.
+// Returns whether nine tenths of a limit are used, and that was not told yet.
 fn is_new(told: &AtomicBool, used: u64, limit: u64) -> bool {
     is_near(used, limit) && !told.swap(true, Ordering::SeqCst)
 }
 
-// Tells whether nine tenths of a limit are used.
+// Returns whether nine tenths of a limit are used.
 fn is_near(used: u64, limit: u64) -> bool
     ensures { IsTrue result ↔ (9 * limit ≤ 10 * used) }
 {

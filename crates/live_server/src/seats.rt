@@ -123,7 +123,7 @@ impl Seats {
     }
 }
 
-// Tells whether a worker has a session of this station, or a handshake where there is none.
+// Returns whether a worker has a session of this station, or a handshake if there is none.
 fn is_at(station: Option<u16>, row: &Option<ServedConnection>) -> bool
     ensures { result ≡ is_at station row.now }
 {

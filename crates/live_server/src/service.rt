@@ -277,7 +277,7 @@ fn answer_lines<
     }
 }
 
-// Starts the threads at both acceptors, and tells whether all could start.
+// Starts the threads at both acceptors, and returns whether all could start.
 fn start_all<
     's,
     E: 's,
@@ -303,7 +303,7 @@ fn start_all<
     }
 }
 
-// Starts a worker, and tells whether it could start.
+// Starts a worker, and returns whether it could start.
 fn start_worker<
     's,
     E: 's,
@@ -330,7 +330,7 @@ fn start_worker<
     acceptor.is_entered(started.is_ok())
 }
 
-// Starts the thread that answers browsers, and tells whether it could start.
+// Starts the thread that answers browsers, and returns whether it could start.
 fn start_boards<
     's,
     E: 's,

@@ -47,7 +47,7 @@ impl Workers {
         })
     }
 
-    // Counts a connection that came, and tells whether it is served.
+    // Counts a connection that came, and returns whether it is served.
     pub(crate) fn takes_one(&self) -> bool {
         self.came.fetch_add(1, Ordering::SeqCst) < self.most
     }

@@ -5,7 +5,7 @@ use Rattle.marked_json.specs.declared.fault.JsonFault.{JsonFault}
 use Rattle.marked_json.specs.declared.fault.JsonFault.TheVariants.{BadNumber, NumberAsKey}
 use Rattle.marked_json.specs.Number.{is_digit, is_number}
 
--- where in a text a byte stands
+-- where in a text a byte is
 pub data BytePlace : Type 0 where
   outside : BytePlace
   in_number : BytePlace
@@ -42,7 +42,7 @@ is_colon (Some c) = c == 58
 abbrev pub is_before_colon : List ℕ → Bool
 is_before_colon cs = is_colon (find (λ c. not (is_blank c)) cs)
 
--- a token as a string behind `#`, where it is a number and no key
+-- a token as a string behind `#`, if it is a number and no key
 abbrev pub marked_token : List ℕ → List ℕ → Marks → Marks
 marked_token token rest more =
     if not (is_number token) then Err BadNumber

@@ -10,7 +10,7 @@ use Rattle.message_ahead.specs.declared.found_event.FoundEvent.{FoundEvent}
 abbrev pub Asks : List ℕ → Delivery → Type 0
 Asks text d = HasShortId (asking d) × ((now : ℕ) → IsMeaningOf text now (asking d))
 
--- The text that a line of this meaning sends; none where it sends nothing.
+-- The text that a line of this meaning sends; none if it sends nothing.
 abbrev pub text_sent : LineMeaning → List ℕ
 text_sent (sends _ text) = text
 text_sent _ = []

@@ -179,7 +179,7 @@ impl Lookahead {
         Ok(())
     }
 
-    // Starts a thread of a window, and tells whether one could be started.
+    // Starts a thread of a window, and returns whether one could be started.
     fn start<X: Threads>(&mut self, rt: &X, window: &mut Window) -> Result<bool, AllocError> {
         let alloc = self.alloc;
         let work = window.work(alloc)?;

@@ -65,7 +65,7 @@ impl Pieces {
         }
     }
 
-    /// Where the piece of this number begins and ends, both at the lines' end where there is none.
+    /// Where the piece of this number begins and ends, both at the lines' end if there is none.
     pub fn bounds(&self, piece: usize) -> (usize, usize)
         ensures { (result.0 ≤ result.1) × (result.1 ≤ length self.now.bytes.items) }
     {

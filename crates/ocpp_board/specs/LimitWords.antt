@@ -13,7 +13,7 @@ SayLimits (transactions ∷ events ∷ readings ∷ changes ∷ []) l =
     Says transactions l.transactions × (Says events l.events × (Says readings l.readings × Says changes l.changes))
 SayLimits words l = ⊥
 
--- Words state the limits that they say; none where they say no limits, or limits out of their ranges.
+-- Words state the limits that they say; none if they say no limits, or limits out of their ranges.
 abbrev pub StateLimits : List (List ℕ) → Option Bounds → Type 0
 StateLimits words (Some l) = SayLimits words l
 StateLimits words None = (l : Bounds) → AreBounds l.transactions l.events l.readings l.changes → SayLimits words l → ⊥

@@ -20,7 +20,7 @@ pub data Frame : Type 0 where
   Silence : Frame
   Ready : List ℕ → Frame
 
--- The CALLERROR that tells of a fault; its id is `-1` where there is none.
+-- The CALLERROR that tells of a fault; its id is `-1` if there is none.
 abbrev pub refused : Option (List ℕ) → FrameFault → Frame
 refused id fault = Ready (error_bytes (unwrap_or id (codes "-1")) (fault_code fault) (fault_name fault))
 
@@ -73,6 +73,6 @@ frame_read (Ok tree) = frame_of (elements_of tree)
 abbrev pub frame : List ℕ → Frame
 frame text = if nat_lt longest_message (length text) then refused None TextTooLong else frame_read (marked_reading text)
 
--- The fourth element; `null` where there is none.
+-- The fourth element; `null` if there is none.
 abbrev pub payload_in : List Data → Data
 payload_in elements = unwrap_or (slice_get elements 3) null

@@ -22,7 +22,7 @@ Reads frame incoming.Silent = frame ≡ Silence
 Reads frame (incoming.Reply text false) = frame ≡ Ready text.bytes
 Reads frame (incoming.Reply text true) = text.bytes ≡ memory_bytes
 
--- `memory` is true exactly where the reply is the one that tells OutOfMemory.
+-- `memory` is true exactly if the reply is the one that tells OutOfMemory.
 abbrev pub IsMemoryTold : Incoming → Type 0
 IsMemoryTold (incoming.Call call) = ⊤
 IsMemoryTold incoming.Silent = ⊤

@@ -8,13 +8,13 @@ ghost use Rattle.ocppj_frame.specs.Frame.{frame, Called, Silence};
 ghost use Rattle.ocppj_frame.specs.Message.{IsCall, IsAnswer};
 ghost use Rattle.ocppj_frame.specs.Reply.{json_string};
 
-/// A text is taken as a call exactly where it is one (CALL, OCPP 2.0.1 Part 4), with its id, action and payload.
+/// A text is taken as a call exactly if it is one (CALL, OCPP 2.0.1 Part 4), with its id, action and payload.
 pub fn calls_are_taken()
     ensures { (text id : List ℕ) (action : Action) (payload : Data)
         → (frame text ≡ Called id action payload) ↔ IsCall text id action payload }
 {}
 
-/// A text gets no reply exactly where it is an answer (CALLRESULT, CALLERROR, OCPP 2.0.1 Part 4).
+/// A text gets no reply exactly if it is an answer (CALLRESULT, CALLERROR, OCPP 2.0.1 Part 4).
 pub fn answers_get_silence()
     ensures { (text : List ℕ) → (frame text ≡ Silence) ↔ IsAnswer text }
 {}

@@ -5,10 +5,10 @@
 //! failed; [`read_frame_into`] does the same with a reply that was lent. [`result_text`] and [`error_text`] write the
 //! replies to a call, without blanks.
 //!
-//! The crate's one contract: what a text asks for is the function `frame` of `specs/Frame.antt`, which names the
-//! checks in their order on the tree that the text is read into; `read_frame` gives that and nothing else, but
-//! for running out of memory, which is a reply of its own. A reply is, byte for byte, what `specs/Reply.antt` says, and
-//! always fits 512 bytes.
+//! The crate's contract: what a text asks for is the function `frame` of `specs/Frame.antt`, which names the checks in
+//! their order on the tree that the text is read into; `read_frame` gives that and nothing else, but for running out of
+//! memory, which is a reply of its own. A reply is, byte for byte, what `specs/Reply.antt` says, and always fits 512
+//! bytes.
 //!
 //! ```text
 //! read_frame(alloc, r#"[2,"a","Heartbeat",{}]"#)   // Call: id "a", Heartbeat, an object

@@ -18,7 +18,7 @@ pub(crate) enum Verdict<'a> {
     },
     // An answer gets none.
     Silent,
-    // The first check that failed, and the id, where there is one.
+    // The first check that failed, and the id, if there is one.
     Refused {
         id: Option<FrameId<'a>>,
         fault: FrameFault,

@@ -1,4 +1,4 @@
--- The scan of a token takes it whole exactly where the token is a number of RFC 8259.
+-- The scan of a token takes it whole exactly if the token is a number of RFC 8259.
 use Rattle.std.proofs.Common.{◌≡◌, ℕ, ◌+◌, ◌-◌, ◌<◌, ◌≤◌, Bool, true, false, cond, not, ◌&&◌, ◌||◌, eqb, ltb, List, [], ◌∷◌, ◌++◌, length, get_or, take, drop, slice_range, inl, inr, refl, sym, ap, ◌∙◌, subst, arith, true≢false, length-drop}
 use Rattle.std.proofs.Math.Bool.{or-true}
 use Rattle.std.proofs.Math.Nat.{sub-zero}

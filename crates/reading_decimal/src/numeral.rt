@@ -30,7 +30,7 @@ impl<'a> Numeral<'a> {
         Numeral::with_exponent(bytes, whole, true, &bytes[whole_end + 1..end], end)
     }
 
-    // The numeral whose exponent, if it has one, begins at an index.
+    // The numeral with an exponent, if it has one, that begins at an index.
     fn with_exponent(
         bytes: &'a [u8],
         whole: &'a [u8],
@@ -90,7 +90,7 @@ impl<'a> Numeral<'a> {
         value_after(0, self.exponent)
     }
 
-    // The digits before and after the point as one number.
+    // The digits before and after the point, read as one number.
     pub fn digits_value(&self) -> u128
         requires { IsShort (parts_of self.now) }
         ensures { result ≡ numeral_digits (parts_of self.now) }
@@ -151,7 +151,7 @@ fn exponent_start(bytes: &[u8], at: usize) -> usize
     }
 }
 
-// Whether an `e` or `E` stands at an index, with a digit after it or after its sign.
+// Whether an `e` or `E` is at an index, with a digit after it or after its sign.
 fn has_exponent(bytes: &[u8], at: usize) -> bool
     requires { at ≤ length bytes.now }
     ensures value { result ≡ has_exponent bytes.now at }
@@ -163,7 +163,7 @@ fn has_exponent(bytes: &[u8], at: usize) -> bool
     }
 }
 
-// The number that the digits write when they follow those of another.
+// The number that the digits make when they follow those of another number.
 fn value_after(front: u128, digits: &[u8]) -> u128
     requires all { AllDigits 10 digits.now }
     requires fits { (front + 1) * 10 ^ length digits.now ≤ 2 ^ 128 }

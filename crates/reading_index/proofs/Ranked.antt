@@ -50,7 +50,7 @@ none_behind : (r n : ℕ) (es : List E) → r ≤ n → AreAbove n es → has_ra
 none_behind r n [] le above = refl
 none_behind r n (e ∷ es) le above = or_from (eqb e.0 r) (has_rank r (map with_rank es)) (ne_eqb e.0 r (λ same. absurd (let up = above.0 in omega (arith, le, same, up)))) (none_behind r n es le above.1)
 
--- Something is filed under a rank exactly where a reading has it.
+-- Something is filed under a rank exactly if a reading has it.
 pub filed_rank : (r : ℕ) (es : List E) → AreRising es → is_some (filed_at r (from r es)) ≡ has_rank r (map with_rank es)
 filed_rank r [] rising = refl
 filed_rank r (e ∷ es) rising = ⊎_elim

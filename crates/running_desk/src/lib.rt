@@ -6,10 +6,9 @@
 //! desk, or one that keeps more. [`operate`] answers an operator's lines, one after the other, each answer out before the next
 //! line is read.
 //!
-//! The crate's one contract: [`operate`] writes the answers to the lines that come, in their order, up to a line `close`
-//! (`AddsReplies` of `specs/Replies.antt`). Where the bytes of the reader are known, these lines are its lines. Each answer is what a replay answers to the same line at contents that accepted commands reach
-//! (`IsReply` of `specs/Replied.antt`), and a command is answered by the desk's answer to that very command, with a pass of
-//! the station that the line names. A board is that of the site that was asked for.
+//! The crate's contract: [`operate`] writes the answers to the lines that come, in their order, up to a line `close` (`AddsReplies` of `specs/Replies.antt`). Where the bytes of the reader are known, these
+//! lines are its lines. Each answer is what a replay answers to the same line at contents that accepted commands reach (`IsReply` of `specs/Replied.antt`), and a command is answered by the desk's answer to
+//! that very command, with a pass of the station that the line names. A board is that of the site that was asked for.
 //!
 //! ```text
 //! let running = Running::open(&plan, &desk, passes);

@@ -96,7 +96,8 @@ fn keep<M: Drop>(seen: &mut Vec<M>, own: Option<M>) -> Result<(), AllocError>
     Ok(())
 }
 
-// Tells whether what came ends the server: a line that says `close`, or the end of the input and nothing else.
+// Returns whether what came ends the server: a line that says `close`, or the end of the input and
+// nothing else.
 fn is_last(came: Came, line: Option<&[u8]>) -> bool
     ensures { result ≡ ends came (line_bytes line.entry) }
 {
@@ -106,7 +107,7 @@ fn is_last(came: Came, line: Option<&[u8]>) -> bool
     }
 }
 
-// Tells whether a line says `close`.
+// Returns whether a line says `close`.
 fn says_close(line: Option<&[u8]>) -> bool
     ensures { result ≡ is_close (line_bytes line.entry) }
 {

@@ -13,7 +13,7 @@ use std::time::Clock;
 
 /// What may come to accept no change any more, whatever comes; a server then ends.
 pub trait MayBreak {
-    /// Tells whether it is so. It waits for nobody.
+    /// Returns whether it is so. It waits for nobody.
     fn is_broken(&self) -> bool;
 }
 

@@ -18,6 +18,6 @@ TakesMessage old new s (message.Reply text true) reply = ⊥
 TakesMessage old new s (message.Reply text false) reply = (new ≡ old) × (reply ≡ ended_line text.bytes)
 TakesMessage old new s message.Silent reply = (new ≡ old) × (reply ≡ ended_line (codes "silent"))
 
--- a message is taken so by the station of this number, where there is one
+-- a message is taken so by the station of this number, if there is one
 abbrev pub TakesMessageAt : ℕ → Script → Script → Message → List ℕ → Type 0
 TakesMessageAt number old new m reply = IfSome (slice_get old.world number) (λ s. TakesMessage old new s m reply)

@@ -59,7 +59,7 @@ pub record Settles (old new : Script) (s : Station) (command : Command) (a : Ans
   pub answer_is : a ≡ answer s.limits s.content command
   pub script_is : new ≡ record old { world = world_after old.world (s.name, command) }
 
--- A command was settled so on the station of this number, where there is one.
+-- A command was settled so on the station of this number, if there is one.
 abbrev pub SettlesAt : ℕ → Script → Script → Command → Answer → Type 0
 SettlesAt number old new command a = IfSome (slice_get old.world number) (λ s. Settles old new s command a)
 

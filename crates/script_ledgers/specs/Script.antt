@@ -111,7 +111,7 @@ abbrev pub period_of : Option ℕ → List ℕ → ℕ
 period_of None periods = default_period
 period_of (Some number) periods = get_or periods number default_period
 
--- another settlement period for the site of this number, where there is one
+-- another settlement period for the site of this number, if there is one
 abbrev pub settled_by : Option ℕ → Script → ℕ → Script × List ℕ
 settled_by None s seconds = (s, fault_line UnknownSite)
 settled_by (Some number) s seconds = (record s { periods = slice_set s.periods number seconds }, [])
@@ -125,7 +125,7 @@ abbrev pub order_of : Option ℕ → List Order → Order
 order_of None orders = Sequence
 order_of (Some number) orders = get_or orders number Sequence
 
--- another order of readings for the site of this number, where there is one
+-- another order of readings for the site of this number, if there is one
 abbrev pub ordered_by : Option ℕ → Script → Order → Script × List ℕ
 ordered_by None s order = (s, fault_line UnknownSite)
 ordered_by (Some number) s order = (record s { orders = slice_set s.orders number order }, [])

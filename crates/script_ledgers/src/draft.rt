@@ -84,7 +84,7 @@ impl Draft {
         }
     }
 
-    // Tells whether there is a station of this number, and it has this name. No other one has it.
+    // Returns whether there is a station of this number, and it has this name. No other one has it.
     fn is_station(&self, number: usize, name: &Name) -> bool
         ensures { IsTrue result → position (λ s. bytes_eq name.now s.name) self.now.stations ≡ Some number }
     {
@@ -222,7 +222,7 @@ impl Draft {
         Ok(())
     }
 
-    // Tells whether one station more, of this site, would be more than a plan may have.
+    // Returns whether one station more, of this site, would be more than a plan may have.
     fn is_past_plan(&self, site: &Name) -> bool
         ensures { result ≡ is_past_plan (planned self.now) site.now }
     {

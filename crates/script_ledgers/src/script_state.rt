@@ -186,7 +186,7 @@ impl<J: Naming> ScriptState<J> {
     }
 }
 
-// Tells whether a line that says this needs the ledgers.
+// Returns whether a line that says this needs the ledgers.
 fn needs_ledgers(asked: &ScriptLine<'_>) -> bool
     ensures { result ≡ opening (meaning_of asked.now) }
 {

@@ -5,8 +5,8 @@
 //! flushes what was written before it waits for more. [`read_line`] says what a line means, or which fault it
 //! has. [`put_line`], [`put_fault`] and [`put_answer`] make the lines that answer, and [`write_bytes`] writes them. Nothing here knows a ledger.
 //!
-//! The crate's one contract: a line that was read is one of those that the definition cuts the bytes into, and
-//! its meaning is that of the definition `line_meaning`.
+//! The crate's contract: a line that was read is one of those that the definition cuts the bytes into, and its
+//! meaning is that of the definition `line_meaning`.
 //!
 //! ```text
 //! read_line(Some(b"void CS-01 T1 1"))   // ScriptLine::Commands(CS-01, Command::Void(t1, 1))

@@ -178,14 +178,14 @@ fn parted(text: &str) -> Option<(&str, &str)>
     text.split_once(' ')
 }
 
-// Tells whether the bytes are digits.
+// Returns whether the bytes are digits.
 fn are_digits(bytes: &[u8]) -> bool
     ensures { result ≡ list_all is_ascii_digit bytes.now }
 {
     bytes.iter().all(|byte| byte.is_ascii_digit())
 }
 
-// Tells whether the word is `0`, or a digit 1 to 9 with digits after it.
+// Returns whether the word is `0`, or a digit 1 to 9 with digits after it.
 fn is_number(word: &str) -> bool
     ensures { result ≡ spec.is_number word.now }
 {

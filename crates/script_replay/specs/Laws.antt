@@ -80,12 +80,12 @@ asked_by (Event id request) station = (station.name, Deliver request.key request
 asked_by (Ready reply) station = []
 asked_by Silence station = []
 
--- the same of a message to the station of a name, where there is one
+-- the same of a message to the station of a name, if there is one
 abbrev pub sent_by : Option Station → List ℕ → ℕ → List Happens
 sent_by None text moment = []
 sent_by (Some station) text moment = asked_by (message text moment) station
 
--- the command on the station of a name, where there is one
+-- the command on the station of a name, if there is one
 abbrev pub commanded_by : Option Station → Command → List Happens
 commanded_by None command = []
 commanded_by (Some station) command = (station.name, command) ∷ []

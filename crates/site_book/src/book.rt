@@ -128,7 +128,7 @@ impl<J: Naming> SiteBook<J> {
         self.totals
     }
 
-    /// Tells whether the row is there and was opened with these limits.
+    /// Returns whether the row is there and was opened with these limits.
     pub fn holds(&self, row: u16, limits: &Limits) -> bool
         ensures { IsTrue result ↔ (slice_get self.now.limits row ≡ Some limits.now) }
     {
@@ -138,7 +138,7 @@ impl<J: Naming> SiteBook<J> {
         }
     }
 
-    /// Tells whether one more post can be made: fewer than 2^62 were.
+    /// Returns whether one more post can be made: fewer than 2^62 were.
     pub fn can_post(&self) -> bool
         ensures { IsTrue result ↔ (length self.now.posts < 2 ^ 62) }
     {

@@ -7,11 +7,11 @@
 //! version and the nine figures, which changes in single steps. [`Tables::make`] and
 //! [`SiteBook::open`] take all the memory.
 //!
-//! The crate's one contract: contracts see a book as the list of its posts, and a viewer and a `Told`
-//! as the posts that they know. Rows and totals are those of the definition of posts. A glance gives
-//! the totals after posts that begin with all that its viewer saw or learnt, and the viewer knows
-//! these posts from then on. So a viewer never goes back and never sees totals that are no post's; how
-//! many posts it lags behind, no contract says.
+//! The crate's contract: contracts see a book as the list of its posts, and a viewer and a `Told` as
+//! the posts that they know. Rows and totals are those of the definition of posts. A glance gives the
+//! totals after posts that begin with all that its viewer saw or learnt, and the viewer knows these
+//! posts from then on. So a viewer never goes back and never sees totals that are no post's; how many
+//! posts it lags behind, no contract says.
 //!
 //! The type parameter of the three types names the tables of one desk ([`Naming`]).
 //!

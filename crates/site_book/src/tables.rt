@@ -111,7 +111,7 @@ impl Tables {
         Ok(Tables { tables })
     }
 
-    /// Tells whether the site's table is there, and no book has taken it.
+    /// Returns whether the site's table is there, and no book has taken it.
     pub fn has(&self, site: u16) -> bool
         ensures { IsTrue result ↔ HasTable self.now site }
     {

@@ -39,7 +39,7 @@ fn changes_of(passes: &[Pass], number: usize) -> Option<u64>
     Some(changes)
 }
 
-// Tells whether all passes that the cells gave out are here.
+// Returns whether all passes that the cells gave out are here.
 pub(crate) fn are_all_passes<C: HasCell>(cells: &[C], passes: &[Pass]) -> bool
     ensures { IsTrue result → AreAllPasses (map C.cell cells.now) passes.now }
 {
@@ -51,7 +51,7 @@ pub(crate) fn are_all_passes<C: HasCell>(cells: &[C], passes: &[Pass]) -> bool
     true
 }
 
-// Tells whether the cell is where the plan has it.
+// Returns whether the cell is where the plan has it.
 fn is_placed(cell: &StationCell, number: usize, places: &[StationPlace]) -> bool
     ensures { IsTrue result → IsPlaced places.now number cell.now }
 {
@@ -61,7 +61,7 @@ fn is_placed(cell: &StationCell, number: usize, places: &[StationPlace]) -> bool
     }
 }
 
-// Tells whether the station's passes made as many changes as its ledger counts.
+// Returns whether the station's passes made as many changes as its ledger counts.
 fn is_counted(cell: &StationCell, number: usize, passes: &[Pass]) -> bool
     ensures { IsTrue result → IsCounted passes.now number cell.now }
 {
@@ -71,7 +71,7 @@ fn is_counted(cell: &StationCell, number: usize, passes: &[Pass]) -> bool
     }
 }
 
-// Tells whether the cell's row stands in its site's book and shows its figures.
+// Returns whether the cell's row stands in its site's book and shows its figures.
 fn is_tied<J: Naming>(cell: &StationCell, books: &[SiteBook<J>]) -> bool
     ensures { IsTrue result → IsTied books.now cell.now }
 {
@@ -81,7 +81,7 @@ fn is_tied<J: Naming>(cell: &StationCell, books: &[SiteBook<J>]) -> bool
     }
 }
 
-// Tells whether the cell is whole.
+// Returns whether the cell is whole.
 fn is_whole<J: Naming>(
     cell: &StationCell,
     number: usize,
@@ -94,7 +94,7 @@ fn is_whole<J: Naming>(
     is_placed(cell, number, places) && is_counted(cell, number, passes) && is_tied(cell, books)
 }
 
-// Tells whether each cell is whole.
+// Returns whether each cell is whole.
 pub(crate) fn are_whole<C: HasCell, J: Naming>(
     cells: &[C],
     places: &[StationPlace],
@@ -150,7 +150,7 @@ fn figures_at<C: HasCell>(cells: &[C], site: usize) -> Option<Figures>
     Some(sum)
 }
 
-// Tells whether the book is that of this site, and its totals the sums over the site's stations.
+// Returns whether the book is that of this site, and its totals the sums over the site's stations.
 fn is_summed<C: HasCell, J: Naming>(book: &SiteBook<J>, site: usize, cells: &[C]) -> bool
     ensures { IsTrue result → IsSummed (map C.cell cells.now) site book.now }
 {
@@ -160,7 +160,7 @@ fn is_summed<C: HasCell, J: Naming>(book: &SiteBook<J>, site: usize, cells: &[C]
     }
 }
 
-// Tells whether each book's totals are the sums over its site's stations.
+// Returns whether each book's totals are the sums over its site's stations.
 pub(crate) fn are_summed<C: HasCell, J: Naming>(books: &[SiteBook<J>], cells: &[C]) -> bool
     ensures { IsTrue result → AreSummed (map C.cell cells.now) books.now }
 {
@@ -172,7 +172,7 @@ pub(crate) fn are_summed<C: HasCell, J: Naming>(books: &[SiteBook<J>], cells: &[
     true
 }
 
-// Tells whether each viewer's site is one of so many.
+// Returns whether each viewer's site is one of so many.
 pub(crate) fn are_viewed<J: Naming>(viewers: &[Viewer<J>], sites: usize) -> bool
     ensures { IsTrue result → AreViewed sites viewers.now }
 {

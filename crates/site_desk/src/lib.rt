@@ -14,11 +14,11 @@
 //! ([`Desk::submit_by`]; [`can_judge`] and [`settle_at`] are its parts). A cell whose site's book is not
 //! as it should be leaves service there ([`StationCell::retire`]).
 //!
-//! The crate's one contract: what [`Desk::submit`] answers is the step's answer at some content that
-//! accepted commands leave, since nobody knows beforehand what lies behind a lock, and a command is accepted only where
-//! all that `settle` asks was found under both locks. Where `close` succeeds, all counts agree, all rows are tied, all
-//! totals are sums over stations, and what each viewer knew begins its site's posts. That a run settles at
-//! all, and on the latest content, the tests show.
+//! The crate's contract: what [`Desk::submit`] answers is the step's answer at some content that accepted commands
+//! leave, since nobody knows beforehand what lies behind a lock, and a command is accepted only where all that `settle`
+//! asks was found under both locks. Where `close` succeeds, all counts agree, all rows are tied, all totals are sums
+//! over stations, and what each viewer knew begins its site's posts. That a run settles at all, and on the latest
+//! content, the tests show.
 //!
 //! ```text
 //! let (desk, viewers) = Desk::open(alloc, Tables::make(alloc, sites)?, &plan)?;

@@ -71,8 +71,8 @@ impl Plan {
             .position(|station| *name == station.name)
     }
 
-    /// Tells whether one station more, of this site and with these limits, is more than a plan may have: of
-    /// stations, of readings, or of sites.
+    /// Returns whether one station more, of this site and with these limits, is more than a plan
+    /// may have: of stations, of readings, or of sites.
     pub fn is_past(&self, site: &Name, limits: &Limits) -> bool
         ensures { result ≡ is_past (position (λ s. bytes_eq site.now s.name) self.now.sites.items) self.now.sites.items self.now.stations.items limits.now }
     {
@@ -257,7 +257,7 @@ fn blank() -> Name
     Name::new("-").unwrap()
 }
 
-// Tells whether the plan keeps within all limits but those of its lists.
+// Returns whether the plan keeps within all limits but those of its lists.
 fn is_within_limits(sites: &[SitePlan], stations: &[StationPlan]) -> bool
     requires { length stations.now ≤ 64 }
     ensures { result ≡ is_within_limits sites.now stations.now }
@@ -268,14 +268,14 @@ fn is_within_limits(sites: &[SitePlan], stations: &[StationPlan]) -> bool
         && !are_sites_twice(sites)
 }
 
-// Tells whether no site has too many viewers.
+// Returns whether no site has too many viewers.
 fn are_viewers_few(sites: &[SitePlan]) -> bool
     ensures { result ≡ list_all (λ s. nat_le s.viewers most_viewers) sites.now }
 {
     sites.iter().all(|site| site.viewers <= MAX_VIEWERS)
 }
 
-// Tells whether each station is at one of so many sites.
+// Returns whether each station is at one of so many sites.
 fn are_sites_known(stations: &[StationPlan], sites: usize) -> bool
     ensures { result ≡ list_all (λ s. nat_lt s.site sites) stations.now }
 {
@@ -297,21 +297,21 @@ fn readings(stations: &[StationPlan]) -> u64
     sum
 }
 
-// Tells whether a site of this name stands here.
+// Returns whether a site of this name stands here.
 fn has_site(sites: &[SitePlan], name: &Name) -> bool
     ensures { result ≡ list_any (λ s. bytes_eq name.now s.name) sites.now }
 {
     sites.iter().any(|site| *name == site.name)
 }
 
-// Tells whether a station of this name stands here.
+// Returns whether a station of this name stands here.
 fn has_station(stations: &[StationPlan], name: &Name) -> bool
     ensures { result ≡ list_any (λ s. bytes_eq name.now s.name) stations.now }
 {
     stations.iter().any(|station| *name == station.name)
 }
 
-// Tells whether two sites have one name.
+// Returns whether two sites have one name.
 fn are_sites_twice(sites: &[SitePlan]) -> bool
     ensures { result ≡ has_twice (map (λ s. s.name) sites.now) }
 {

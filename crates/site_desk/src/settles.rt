@@ -21,8 +21,8 @@ pub trait Settles<J: Naming, C, N> {
 
     ghost gives: { Self → ℕ → StationPlace → Command → Answer → Option Known → Option N → Type 0 };
 
-    /// Takes a command of a pass at what is behind the lock of the station of this number, and answers
-    /// it as [`Desk::submit`](crate::Desk::submit) does. The lock of the site's book is taken where it has to be.
+    /// Takes a command of a pass at what is behind the lock of the station of this number, and returns it as
+    /// [`Desk::submit`](crate::Desk::submit) does. The lock of the site's book is taken where it has to be.
     ///
     /// Condition: what it asks of a command on this station.
     fn settle<R: Wait>(

@@ -15,7 +15,7 @@ use station_ledger::{Judgement, StationBoard};
 use std::alloc::{AllocError, Global};
 use std::sync::{Mutex, Wait};
 
-// Tells whether the cell is that of the station of this number and place.
+// Returns whether the cell is that of the station of this number and place.
 pub(crate) fn stands_at(cell: &StationCell, number: usize, place: &StationPlace) -> bool
     ensures { IsTrue result → StandsAt number place.now cell.now }
 {
@@ -27,15 +27,16 @@ pub(crate) fn stands_at(cell: &StationCell, number: usize, place: &StationPlace)
         && cell.ledger().order() == place.order
 }
 
-/// Tells whether all is so that judging a command of the pass asks, at the cell of the station of this number
-/// and place, whatever its site's book is.
+/// Returns whether all is so that judging a command of the pass asks, at the cell of the station of
+/// this number and place, whatever its site's book is.
 pub fn can_judge(cell: &StationCell, number: usize, place: &StationPlace, pass: &Pass) -> bool
     ensures { IsTrue result → CanJudge number place.now cell.now pass.now }
 {
     cell.is_in_service() && stands_at(cell, number, place) && cell.knows(pass)
 }
 
-// Tells whether all is so that settling a command of the pass asks, where all that judging asks is so.
+// Returns whether all is so that settling a command of the pass asks, where all that judging asks
+// is so.
 fn can_post<J: Naming>(
     cell: &StationCell,
     book: &SiteBook<J>,

@@ -110,7 +110,8 @@ impl StationCell {
         &self.ledger
     }
 
-    /// Tells whether the pass is one of this cell's, and made as many changes as the cell counts for it.
+    /// Returns whether the pass is one of this cell's, and made as many changes as the cell counts
+    /// for it.
     pub fn knows(&self, pass: &Pass) -> bool
         ensures known { IsTrue result ↔ Knows self.now pass.now }
         ensures reached { Reached self.now.limits self.now.content.changes self.now.content }
@@ -130,7 +131,7 @@ impl StationCell {
         self.station = NO_STATION;
     }
 
-    /// Tells whether it was not taken out of service.
+    /// Returns whether it was not taken out of service.
     pub fn is_in_service(&self) -> bool
         ensures { IsTrue result ↔ IsInService self.now }
     {

@@ -5,7 +5,7 @@
 //! ledger judged, at a cell: where it is accepted, it posts the station's new figures in the book, in one step.
 //! [`StationCell::open`] alone takes memory.
 //!
-//! The crate's one contract: a cell's content is always one that as many accepted commands as its passes made
+//! The crate's contract: a cell's content is always one that as many accepted commands as its passes made
 //! leave of the empty content, under its limits. `settle` takes the step of the ledger and posts the figures
 //! after it, no more and no less, and leaves the row tied to the content. Which number belongs to which
 //! station, and what lies behind which lock, is `site_desk`'s.

@@ -42,7 +42,7 @@ pub fn settle<J: Naming>(
     }
 }
 
-/// Tells whether the cell's row shows the figures of the cell's ledger.
+/// Returns whether the cell's row shows the figures of the cell's ledger.
 ///
 /// Condition: the book holds the cell's row ([`SiteBook::holds`] tells).
 pub fn tied<J: Naming>(cell: &StationCell, book: &SiteBook<J>) -> bool
@@ -52,7 +52,7 @@ pub fn tied<J: Naming>(cell: &StationCell, book: &SiteBook<J>) -> bool
     are_same(&book.row(cell.row()), &cell.ledger().figures())
 }
 
-/// Tells whether both are the same figures.
+/// Returns whether both are the same figures.
 pub fn are_same(figures: &Figures, others: &Figures) -> bool
     ensures { IsTrue result ↔ (figures.now ≡ others.now) }
 {

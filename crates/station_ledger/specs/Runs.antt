@@ -19,7 +19,7 @@ use Rattle.station_ledger.specs.declared.by_moment.Moved.{Moved}
 use Rattle.station_ledger.specs.ByMoment.{bare, bare_one, listed_of, put_each, take_each, ArePuttable}
 use Rattle.station_ledger.specs.Quarters.{HasRoom, IsAdded, IsTaken, IsWithout, IsWork, quartered, readings_at}
 
--- Tells whether a reading is of the event of a number.
+-- Whether a reading is of the event of a number.
 abbrev pub own_timed : ℕ → Timed → Bool
 own_timed seq t = number_of t.0 == seq
 

@@ -32,7 +32,7 @@ most_with rs = most_for (length (toward Import rs)) + most_for (length (toward E
 abbrev pub most_at : Chained → KeyName → ℕ
 most_at chains key = most_for (length (readings_at Import chains key)) + most_for (length (readings_at Export chains key))
 
--- The most differences that come and go with a stored event, 0 where there is none.
+-- The most differences that come and go with a stored event, 0 if there is none.
 abbrev pub most_under : Option Stored → ℕ
 most_under None = 0
 most_under (Some s) = most_with s.event.readings

@@ -36,16 +36,16 @@ standing_by order tx es = standing_with (energy_of_by order Import tx es) (energ
 abbrev pub kept_of : Order → List ℕ → List Entry → Option Standing
 kept_of order tx es = kept_with (energy_of_by order Import tx es) (energy_of_by order Export tx es) tx es
 
--- Tells whether the first kind is Started.
+-- Whether the first kind is Started.
 abbrev pub is_started : Option Kind → Bool
 is_started (Some Started) = true
 is_started _ = false
 
--- Tells whether the last kind is Ended.
+-- Whether the last kind is Ended.
 abbrev pub is_ended : Option Kind → Bool
 is_ended (Some Ended) = true
 is_ended _ = false
 
--- Tells whether events start and end, by the first kind, the last, and how many are either.
+-- Whether events start and end, by the first kind, the last, and how many are either.
 abbrev pub starts_and_ends_by : Option Kind → Option Kind → ℕ → Bool
 starts_and_ends_by first last ends = (ends == 2) && (is_started first && is_ended last)

@@ -175,8 +175,8 @@ impl TxLine {
         self.last
     }
 
-    /// Tells whether it is complete: its lowest live event alone is Started, its highest alone Ended,
-    /// and no number is missing.
+    /// Returns whether it is complete: its lowest live event alone is Started, its highest alone
+    /// Ended, and no number is missing.
     pub fn is_complete(&self) -> bool
         ensures { result ≡ self.now.complete }
     {

@@ -40,7 +40,7 @@ fn reading_of(entry: &Option<KeyedReading>) -> Option<Reading>
     }
 }
 
-// Tells whether a key comes in front of an entry, or there is none.
+// Returns whether a key comes in front of an entry, or there is none.
 fn is_in_front(reading: &KeyedReading, behind: &Option<KeyedReading>) -> bool
     ensures { result ≡ fits behind.now reading.now }
 {

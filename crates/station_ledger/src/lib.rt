@@ -14,13 +14,11 @@
 //! transaction that has a live event, with the numbers that are missing. None of these is lent a `Work`,
 //! so none compares readings.
 //!
-//! The crate's one contract: contracts see a ledger as its limits, its period, its order and its
-//! content, and know nothing of how these are kept. `apply` gives the answer of the ledger's step and
-//! leaves the step's content; whatever a ledger holds was left by as many accepted commands as it
-//! counts. Who has to know the answer before the change, as one that writes it down first, asks for the judgement and
-//! hands it on ([`StationLedger::judgement`], [`StationLedger::apply_judged`]). `energy`, `evse`, `export`, `evse_export`, `figures` and `board` are those that the
-//! definitions make, from scratch, of the present content. `open` and `board` alone can run out of
-//! memory; what the other calls promise has no exception for it.
+//! The crate's contract: contracts see a ledger as its limits, its period, its order and its content, and know nothing of how these are kept. `apply` gives the
+//! answer of the ledger's step and leaves the step's content; whatever a ledger holds was left by as many accepted commands as it counts. Who has to know the
+//! answer before the change, as one that writes it down first, asks for the judgement and hands it on ([`StationLedger::judgement`],
+//! [`StationLedger::apply_judged`]). `energy`, `evse`, `export`, `evse_export`, `figures` and `board` are those that the definitions make, from scratch, of the
+//! present content. `open` and `board` alone can run out of memory; what the other calls promise has no exception for it.
 //!
 //! A change moves only what one event moves. By sequence, in each direction of which the event has
 //! readings, the pair across its place is taken back, and those that its readings make are added, each

@@ -16,7 +16,7 @@ use reading_decimal::quarter;
 // What pairs of each direction add up to.
 pub(crate) type Energies = ByDirection<Flow>;
 
-// Adds the pair of two readings to the quarter of the later one, and answers its difference.
+// Adds the pair of two readings to the quarter of the later one, and returns its difference.
 #[inline(never)]
 fn add_pair(
     quarters: &mut QuarterTable,
@@ -34,7 +34,7 @@ fn add_pair(
     flow
 }
 
-// Takes the pair of two readings out of the quarter of the later one, and answers its difference.
+// Takes the pair of two readings out of the quarter of the later one, and returns its difference.
 #[inline(never)]
 fn take_pair(
     quarters: &mut QuarterTable,
@@ -52,7 +52,7 @@ fn take_pair(
     flow
 }
 
-// Adds the pair of two readings where there are both, and answers its difference.
+// Adds the pair of two readings where there are both, and returns its difference.
 #[inline(always)]
 pub(crate) fn add_across(
     quarters: &mut QuarterTable,
@@ -71,7 +71,7 @@ pub(crate) fn add_across(
     }
 }
 
-// Takes the pair of two readings out where there are both, and answers its difference.
+// Takes the pair of two readings out where there are both, and returns its difference.
 #[inline(always)]
 pub(crate) fn take_across(
     quarters: &mut QuarterTable,

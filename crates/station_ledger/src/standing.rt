@@ -30,8 +30,8 @@ pub struct Standing {
     pub export: Flow,
 }
 
-// Tells whether a transaction's lowest live event is Started, its highest is Ended, and no other is
-// either.
+// Returns whether a transaction's lowest live event is Started, its highest is Ended, and no other
+// is either.
 fn starts_and_ends(events: &event_chain::TxStanding) -> bool
     ensures { result ≡ starts_and_ends_by events.now.first_kind events.now.last_kind events.now.ends }
 {
@@ -40,7 +40,7 @@ fn starts_and_ends(events: &event_chain::TxStanding) -> bool
         && matches!(events.last_kind, Some(Kind::Ended))
 }
 
-// What stands of a transaction with these energies; none where it has no live event.
+// What stands of a transaction with these energies; none if it has no live event.
 #[inline(never)]
 pub(crate) fn standing_of(chains: &Chains, tx: &TxId, energies: Energies) -> Option<Standing>
     ensures { result ≡ kept_with energies.import energies.export tx.now (stored chains.now) }
@@ -66,7 +66,7 @@ pub(crate) fn standing_of(chains: &Chains, tx: &TxId, energies: Energies) -> Opt
 // No transaction has more live events.
 const MOST_LIVE: u32 = 65_536;
 
-// Tells whether a transaction's live events start and end as they are to.
+// Returns whether a transaction's live events start and end as they are to.
 #[inline(never)]
 fn has_ends(chains: &Chains, tx: &TxId) -> bool
     ensures { result ≡ start_and_end (kinds_of tx.now (stored chains.now)) }
@@ -77,7 +77,7 @@ fn has_ends(chains: &Chains, tx: &TxId) -> bool
     starts_and_ends(&chains.standing(tx))
 }
 
-// Tells whether a transaction is complete, where so many numbers are missing.
+// Returns whether a transaction is complete, where so many numbers are missing.
 fn is_whole(chains: &Chains, tx: &TxId, lacking: u32) -> bool
     requires { lacking ≡ missing (numbers_of tx.now (stored chains.now)) }
     ensures { result ≡ is_complete tx.now (stored chains.now) }

@@ -81,7 +81,7 @@ fn spent(ledger: &mut StationLedger, alloc: Global, asked: Asked, work: &mut Wor
     work.count().checked_sub(before)
 }
 
-// Tells whether each command takes its differences.
+// Returns whether each command takes its differences.
 fn takes(
     ledger: &mut StationLedger,
     alloc: Global,
@@ -105,7 +105,8 @@ fn shown(ledger: &StationLedger, alloc: Global) -> Option<u64> {
     Some(board.figures().up)
 }
 
-// Tells whether each command of a new ledger takes its differences, and what its board shows then.
+// Returns whether each command of a new ledger takes its differences, and what its board shows
+// then.
 fn after_all(alloc: Global, work: &mut Work) -> Option<(bool, u64)> {
     let mut ledger = opened(alloc)?;
     let are_taken = takes(&mut ledger, alloc, DIFFERENCES, work);

@@ -69,7 +69,7 @@ abbrev pub Answers : {M : Type 0} → (ℕ → StationPlace → Command → Answ
 Answers gives stations p words now text p' told seen true = TellsMemory words p text p' told
 Answers gives stations p words now text p' told seen false = AnswersMeaning gives stations p (message words now) text p' told seen
 
--- The reply in a text that was lent, where there is one.
+-- The reply in a text that was lent, if there is one.
 abbrev pub reply_of : Bool → List ℕ → Option (List ℕ)
 reply_of true text = Some text
 reply_of false text = None

@@ -15,7 +15,7 @@ pub trait Attendant {
         ensures known { IfSome result (dismisses self.now) }
         ensures unspent { IfSome result (λ why. why ≢ Why.MessagesSpent) };
 
-    /// Tells whether a read that gives up waiting is tried again. Else it ends the session.
+    /// Returns whether a read that gives up waiting is tried again. Else it ends the session.
     fn is_patient(&self) -> bool;
 
     /// The reason that the close frame of a session has which ended so.

@@ -33,7 +33,7 @@ pub trait Delivers<J: Naming, M> {
 
     ghost gives: { Self → ℕ → StationPlace → Command → Answer → Option Known → Option M → Type 0 };
 
-    /// Takes the delivery that a text asks for, with a pass, and answers it as
+    /// Takes the delivery that a text asks for, with a pass, and returns it as
     /// [`Desk::submit`](site_desk::Desk::submit) does. Where there is no memory, nothing changed.
     ///
     /// Condition: the text asks for this delivery.

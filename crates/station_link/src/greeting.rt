@@ -57,7 +57,7 @@ fn shown_text(text: &str) -> ArrayString<MAX_NAME> {
     shown
 }
 
-// Tells whether a name may have this character.
+// Returns whether a name may have this character.
 fn is_name_character(character: char) -> bool {
     character.is_ascii_alphanumeric() || "*-_=:+|@.".contains(character)
 }

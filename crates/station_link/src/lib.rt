@@ -9,13 +9,13 @@
 //! others from the last one down, as if they had been queued and come late, and the first once more, as if
 //! its reply had been lost, and keeps the replies.
 //!
-//! The crate's one contract is that of `answer_text`: what is answered is what the text means at the moment, a ready
-//! reply or silence; where it means an event, the reply to an answer that the desk can give to that event's delivery.
-//! What takes the delivery is a desk, or anything else that [`Delivers`]. All memory is taken before it takes the
-//! event, so that a message that found none changed nothing. A session gives back the pass that it was given, whatever
-//! ends it, with at most a million changes; whom it lets in is fixed by what the handshake saw. What a socket
-//! delivered, the paths and the close codes are shown by tests, and so is what a simulated station sends: its clauses
-//! count texts and replies.
+//! The crate's contract is that of `answer_text`: what is answered is what the text means at the moment, a ready reply
+//! or silence; where it means an event, the reply to an answer that the desk can give to that event's delivery. What
+//! takes the delivery is a desk, or anything else that [`Delivers`]. All memory is taken before it takes the event, so
+//! that a message that found none changed nothing. A session gives back the pass that it was given, whatever ends it,
+//! with at most a million changes; whom it lets in is fixed by what the handshake saw. What a socket delivered, the
+//! paths and the close codes are shown by tests, and so is what a simulated station sends: its clauses count texts and
+//! replies.
 //!
 //! ```text
 //! answer_text(&desk, rt, alloc, &mut pass, text, now, &NoGate);      // Answered { text, told, seen, memory }

@@ -89,7 +89,7 @@ pub(crate) fn station_text(path: &str) -> &str {
     }
 }
 
-// Tells whether one of the subprotocols that are offered is that of OCPP 2.0.1.
+// Returns whether one of the subprotocols that are offered is that of OCPP 2.0.1.
 fn is_offered(headers: &HeaderMap) -> bool {
     for value in headers.get_all("sec-websocket-protocol") {
         if let Ok(text) = value.to_str() {
@@ -101,7 +101,7 @@ fn is_offered(headers: &HeaderMap) -> bool {
     false
 }
 
-// Tells whether a list with commas names the subprotocol.
+// Returns whether a list with commas names the subprotocol.
 fn names_subprotocol(list: &str) -> bool {
     list.split(',').any(|part| part.trim() == SUBPROTOCOL)
 }

@@ -284,7 +284,7 @@ fn await_message<R: Wait, S: Read + Write + Drop, A: Attendant>(
     unreachable!()
 }
 
-// Tells whether a read gave up waiting, and may go on.
+// Returns whether a read gave up waiting, and may go on.
 fn is_tick(error: &Error) -> bool {
     match error {
         Error::Io(error) => error.kind() == ErrorKind::WouldBlock,
@@ -292,7 +292,7 @@ fn is_tick(error: &Error) -> bool {
     }
 }
 
-// Answers a message that came, with a text for the reply, and tells whether it was a text.
+// Answers a message that came, with a text for the reply, and returns whether it was a text.
 fn answer_message<
     J: Naming,
     M: Drop,

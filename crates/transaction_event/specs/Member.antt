@@ -1,4 +1,4 @@
--- The members of an object: absent where there is none of the name, or it is null.
+-- The members of an object: absent if there is none of the name, or it is null.
 use Rattle.std.specs.Prelude.{ℕ, List, Option, Some, None, Ok, if◌then◌else◌}
 use Rattle.std.specs.Option.{ok_or}
 use Rattle.serde_json.specs.Data.{Data}

@@ -45,13 +45,13 @@ IsMeaningOfFrame now frame message.Silent = meaning.meaning_of now frame ≡ mea
 abbrev pub IsMeaningOf : List ℕ → ℕ → Message → Type 0
 IsMeaningOf text now answer = IsMeaningOfFrame now (frame text) answer
 
--- `memory` is true exactly where the reply to a frame tells OutOfMemory.
+-- `memory` is true exactly if the reply to a frame tells OutOfMemory.
 abbrev pub IsMemoryToldOfFrame : Frame → Message → Type 0
 IsMemoryToldOfFrame frame (message.Event id key event token) = ⊤
 IsMemoryToldOfFrame frame (message.Reply text memory) = IsTrue memory ↔ IsMemoryReply frame text.bytes
 IsMemoryToldOfFrame frame message.Silent = ⊤
 
--- `memory` is true exactly where the reply to a text tells OutOfMemory.
+-- `memory` is true exactly if the reply to a text tells OutOfMemory.
 abbrev pub IsMemoryTold : List ℕ → Message → Type 0
 IsMemoryTold text answer = IsMemoryToldOfFrame (frame text) answer
 

@@ -33,7 +33,7 @@ fault_reply id fault = error_bytes id (fault_code fault) (fault_name fault)
 abbrev pub memory_reply : List ℕ → List ℕ
 memory_reply id = fault_reply id OutOfMemory
 
--- Tells whether a delivery can be refused so.
+-- Whether a delivery can be refused so.
 abbrev pub refuses_delivery : Refusal → Bool
 refuses_delivery ConflictingEvent = true
 refuses_delivery TooManyTransactions = true
@@ -44,7 +44,7 @@ refuses_delivery AlreadyVoided = false
 refuses_delivery NotVoided = false
 refuses_delivery ChangesExhausted = true
 
--- Tells whether a delivery can be answered so.
+-- Whether a delivery can be answered so.
 abbrev pub answers_delivery : Answer → Bool
 answers_delivery (Accepted changes) = true
 answers_delivery Repeat = true

@@ -20,7 +20,7 @@ abbrev pub absent_or : List ℕ → Option (List ℕ) → Bool
 absent_or text None = true
 absent_or text (Some given) = bytes_eq given text
 
--- The direction of the active energy register that a measurand names: import where it is absent.
+-- The direction of the active energy register that a measurand names: import if it is absent.
 abbrev pub direction_of : Option (List ℕ) → Option Direction
 direction_of measurand =
     if absent_or (codes "Energy.Active.Import.Register") measurand then Some Import

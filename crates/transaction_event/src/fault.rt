@@ -63,7 +63,7 @@ impl PayloadFault {
         }
     }
 
-    // Tells whether a growth of memory was refused.
+    // Returns whether a growth of memory was refused.
     pub(crate) fn is_out_of_memory(self) -> bool
         ensures { IsTrue result ↔ (self ≡ OutOfMemory) }
     {

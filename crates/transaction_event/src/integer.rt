@@ -67,7 +67,7 @@ pub fn required_integer(object: Node, name: &str, low: i64, high: i64) -> Result
     required_integer_of(object.field(name), low, high)
 }
 
-/// An integer from `low` to `high`, or none where the member is absent: `WrongType` or `Range`.
+/// An integer from `low` to `high`, or none if the member is absent: `WrongType` or `Range`.
 pub fn optional_integer(
     object: Node,
     name: &str,

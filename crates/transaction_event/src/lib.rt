@@ -7,10 +7,10 @@
 //! to an event by the ledger's answer.
 //! [`event_of`] reads a payload alone, and borrows from its tree; only the list of readings takes memory.
 //!
-//! The crate's one contract: what a text means at a moment is the function `message` of
-//! `specs/Message.antt`, on the frame that the text is. A payload means what `event_reading` of
-//! `specs/Request.antt` says, member by member in the order of the checks; the first fault answers. Both
-//! give that and nothing else, in both directions, but for running out of memory, which is a reply of its own.
+//! The crate's contract: what a text means at a moment is the function `message` of `specs/Message.antt`, on
+//! the frame that the text is. A payload means what `event_reading` of `specs/Request.antt` says, member by
+//! member in the order of the checks; the first fault answers. Both give that and nothing else, in both
+//! directions, but for running out of memory, which is a reply of its own.
 //!
 //! ```text
 //! message_of(alloc, r#"[2,"a","Heartbeat",{}]"#, now)

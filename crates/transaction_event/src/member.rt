@@ -28,7 +28,7 @@ pub fn required_text<'a>(object: Node<'a>, name: &str) -> Result<&'a str, Payloa
     required_text_of(object.field(name))
 }
 
-/// A text, or none where the member is absent: `WrongType`.
+/// A text, or none if the member is absent: `WrongType`.
 pub fn optional_text<'a>(object: Node<'a>, name: &str) -> Result<Option<&'a str>, PayloadFault>
     requires { length name.now ≤ 63 }
     ensures value { checked_map (option_map (λ s. s.now)) result
@@ -56,7 +56,7 @@ pub fn required_object_of<'a>(member: Option<Node<'a>>) -> Result<Node<'a>, Payl
     }
 }
 
-/// An object, or none where the member is absent: `WrongType`.
+/// An object, or none if the member is absent: `WrongType`.
 pub fn optional_object_of<'a>(member: Option<Node<'a>>) -> Result<Option<Node<'a>>, PayloadFault>
     ensures value { checked_map (option_map node) result ≡ if_there object_of (option_map node member.entry) }
     ensures memory { IfErr result (λ f. f ≢ OutOfMemory) }
@@ -90,7 +90,7 @@ pub fn required_items<'a>(object: Node<'a>, name: &str) -> Result<Items<'a>, Pay
     }
 }
 
-/// The items of an array, or none where the member is absent: `WrongType`.
+/// The items of an array, or none if the member is absent: `WrongType`.
 pub fn optional_items_of<'a>(member: Option<Node<'a>>) -> Result<Option<Items<'a>>, PayloadFault>
     ensures value { checked_map (option_map left_of) result ≡ if_there items_of (option_map node member.entry) }
     ensures memory { IfErr result (λ f. f ≢ OutOfMemory) }

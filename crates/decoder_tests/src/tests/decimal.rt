@@ -22,7 +22,7 @@ const DECIMALS: [(&str, i8, Unit, Result<u64, DecimalFault>); 9] = [
     ("1e100", 0, Unit::Wh, Err(DecimalFault::ExponentRange)),
 ];
 
-// Tells whether a token times a power of ten of a unit is read so.
+// Returns whether a token times a power of ten of a unit is read so.
 fn is_mwh(token: &str, multiplier: i8, unit: Unit, want: Result<u64, DecimalFault>) -> bool {
     multiplier_ok(multiplier) && mwh_of(token, multiplier, unit) == want
 }
@@ -111,7 +111,7 @@ const SECOND: u64 = 1_000_000_000;
 // Ten o'clock on the first of March 2026.
 const TEN: u64 = 1_772_359_200 * SECOND;
 
-// Tells whether a time is read as so many nanoseconds since 1970, or with this fault.
+// Returns whether a time is read as so many nanoseconds since 1970, or with this fault.
 fn is_moment(text: &str, want: Result<u64, MomentFault>) -> bool {
     match moment_of(text) {
         Ok(moment) => want == Ok(moment.nanos()),
@@ -268,7 +268,7 @@ const QUARTERS: [(&str, u16, u32, &str); 15] = [
     ),
 ];
 
-// Tells whether a time falls into the quarter of this number and beginning.
+// Returns whether a time falls into the quarter of this number and beginning.
 fn is_quarter(text: &str, seconds: u16, number: u32, start: &str) -> Option<bool> {
     let period = Period::new(seconds)?;
     let quarter = quarter(moment_of(text).ok()?, period);
@@ -300,7 +300,7 @@ const OWN: [(u32, u16, bool); 10] = [
     (13_674_815, 3_600, false),
 ];
 
-// Tells whether a period has a quarter of this number.
+// Returns whether a period has a quarter of this number.
 fn is_own(number: u32, seconds: u16) -> Option<bool> {
     Some(is_of(Quarter::new(number)?, Period::new(seconds)?))
 }

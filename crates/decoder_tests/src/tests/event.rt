@@ -24,8 +24,8 @@ fn ten() -> Result<Moment, Fail> {
     Ok(Moment::new(1_772_359_200_000_000_000).ok_or("ten o'clock")?)
 }
 
-// Tells whether the payload of a call is an event of number 0 with one reading and no token, and the call
-// itself is none.
+// Returns whether the payload of a call is an event of number 0 with one reading and no token, and
+// the call itself is none.
 fn has_event(alloc: Global, marked: &Marked) -> Option<bool> {
     let payload = marked.root().items()?.nth(3)?;
     let (key, event, token) = event_of(alloc, payload).ok()?;
@@ -39,7 +39,7 @@ const REPLIED: [&str; 3] = [
     r#"[2,"a","TransactionEvent",{}]"#,
 ];
 
-// Tells whether a text gets a reply that does not tell want of memory.
+// Returns whether a text gets a reply that does not tell want of memory.
 fn is_replied(alloc: Global, text: &str) -> Result<bool, Fail> {
     let message = message_of(alloc, text, ten()?);
     Ok(matches!(message, Message::Reply { memory: false, .. }))
@@ -75,7 +75,7 @@ fn told(alloc: Global, text: &str) -> Result<(ArrayString<512>, bool), Fail> {
     })
 }
 
-// Tells whether what is sent back is this text, or tells want of memory.
+// Returns whether what is sent back is this text, or tells want of memory.
 fn is_right_or_out(alloc: Global, text: &str, want: &str) -> Result<bool, Fail> {
     let (reply, memory) = told(alloc, text)?;
     let unread = reply.as_str() == r#"[4,"-1","InternalError","OutOfMemory",{}]"#;

@@ -16,7 +16,7 @@ const ANSWERS: [(&str, &str); 4] = [
 
 const OUT_OF_MEMORY: &str = r#"[4,"-1","InternalError","OutOfMemory",{}]"#;
 
-// Tells whether a text gets its answer, or the reply that tells want of memory.
+// Returns whether a text gets its answer, or the reply that tells want of memory.
 fn is_answered(alloc: Global, text: &str, answer: &str) -> bool {
     match read_frame(alloc, text) {
         Incoming::Call(_) => answer == "call",
@@ -52,7 +52,7 @@ const CALLS: [(&str, Action); 5] = [
     ),
 ];
 
-// Tells whether a text is a call of this action with id `a`, whose payload has 1 under `b`.
+// Returns whether a text is a call of this action with id `a`, whose payload has 1 under `b`.
 fn is_call(alloc: Global, text: &str, action: Action) -> bool {
     match read_frame(alloc, text) {
         Incoming::Call(call) => {

@@ -8,7 +8,7 @@ use std::alloc::Global;
 use std::process::Abort;
 use std::test::Fail;
 
-// Tells whether a text is refused with this fault.
+// Returns whether a text is refused with this fault.
 fn is_refused(alloc: Global, text: &str, fault: JsonFault) -> bool {
     matches!(read_marked(alloc, text), Err(told) if told == fault)
 }
@@ -70,7 +70,7 @@ fn faults(rt: HostRuntime) {
     }
 }
 
-// Tells whether a text is read as this number, and as nothing else.
+// Returns whether a text is read as this number, and as nothing else.
 fn is_number(alloc: Global, text: &str, token: &str) -> Result<bool, JsonFault> {
     let marked = read_marked(alloc, text)?;
     let root = marked.root();
@@ -92,7 +92,7 @@ fn numbers(rt: HostRuntime) {
     }
 }
 
-// Tells whether a text is read as this text, and as nothing else.
+// Returns whether a text is read as this text, and as nothing else.
 fn is_string(alloc: Global, text: &str, content: &str) -> Result<bool, JsonFault> {
     let marked = read_marked(alloc, text)?;
     let root = marked.root();
@@ -122,14 +122,14 @@ fn strings(rt: HostRuntime) {
 
 const FIELDS: &str = r#"{"a":null,"b":7,"c":1,"c":null,"d":{},"e":[null]}"#;
 
-// Tells whether a field stands there.
+// Returns whether a field stands there.
 fn has(marked: &Marked, name: &str) -> bool
     requires { length name.now ≤ 63 }
 {
     marked.root().field(name).is_some()
 }
 
-// Tells whether `b` is 7 and no object, `d` is an object, and `e` is a list of one.
+// Returns whether `b` is 7 and no object, `d` is an object, and `e` is a list of one.
 fn have_kinds(marked: &Marked) -> Option<bool> {
     let root = marked.root();
     let (number, list) = (root.field("b")?, root.field("e")?);

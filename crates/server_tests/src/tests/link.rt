@@ -53,7 +53,7 @@ enum Scene {
     EachText,
 }
 
-// The passes that a scene leaves, or none where something else was seen.
+// The passes that a scene leaves, or none if something else was seen.
 fn play<J: Naming, R: Threads + Wait + Clock>(
     rt: &R,
     alloc: Global,
@@ -107,7 +107,7 @@ impl EndedSession {
         Some(self.pass.as_ref()?.changes())
     }
 
-    // Tells whether it ended so, after so many changes, and these frames were answered.
+    // Returns whether it ended so, after so many changes, and these frames were answered.
     fn is(&self, why: Why, changes: u64, frames: &[u8]) -> bool {
         self.why == why && self.changes() == Some(changes) && self.frames() == frames
     }

@@ -188,7 +188,7 @@ fn text_of(alloc: Global, work: &mut Work, site: &Site) -> Option<Vec<u8>> {
     }
 }
 
-// Tells whether this is the text of a site's board.
+// Returns whether this is the text of a site's board.
 fn is_text(alloc: Global, work: &mut Work, site: &Site) -> bool {
     match text_of(alloc, work, site) {
         Some(text) => text.as_slice() == site.text.as_bytes(),
@@ -212,7 +212,7 @@ fn a_board_without_memory_is_made_again(rt: HostRuntime) {
 const GREATEST: &str =
     "total events=18446744073709551615 voided=18446744073709551615 transactions=18446744073709551615 complete=18446744073709551615 missing=18446744073709551615 up=18446744073709551615 down=18446744073709551615 export_up=18446744073709551615 export_down=18446744073709551615";
 
-// Tells whether the longest total line fits.
+// Returns whether the longest total line fits.
 fn is_greatest() -> bool {
     let figures = Figures {
         export_up: u64::MAX,
@@ -227,7 +227,8 @@ fn is_energy(flow: Flow, want: &str) -> bool {
     energy_text(flow).as_str() == want
 }
 
-// Tells whether the energies of the greatest rise, of the greatest fall and of both are written so.
+// Returns whether the energies of the greatest rise, of the greatest fall and of both are written
+// so.
 fn are_energies(rise: Flow, fall: Flow) -> bool {
     is_energy(Flow::zero(), "energy up=0 down=0")
         && is_energy(rise, "energy up=18446744073709551615 down=0")

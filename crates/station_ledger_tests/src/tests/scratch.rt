@@ -165,8 +165,8 @@ impl Scratch {
         Ok(readings)
     }
 
-    // The most differences that the live event of a number may cost, 0 where there is none: one for each
-    // of its readings, and two for each run in which they stand.
+    // The most differences that the live event of a number may cost, 0 if there is none: one for each of
+    // its readings, and two for each run in which they stand.
     pub(crate) fn most(&self, alloc: Global, tx: u8, seq: u32) -> Result<u64, AllocError> {
         let imported = self.readings(alloc, tx, false)?;
         let exported = self.readings(alloc, tx, true)?;
@@ -236,7 +236,7 @@ fn most_in_runs(readings: &[Placed], seq: u32) -> u64 {
     most
 }
 
-// Tells whether both events are the same; readings that do not count are not compared.
+// Returns whether both events are the same; readings that do not count are not compared.
 fn is_same(one: &Sent, other: &Sent) -> bool {
     let count = usize::from(one.count);
     (one.kind, one.minute, one.evse, one.count)
@@ -352,7 +352,7 @@ impl Sums {
         Ok(())
     }
 
-    // The energy of the transactions of an EVSE; none where there is no such transaction.
+    // The energy of the transactions of an EVSE; none if there is no such transaction.
     pub(crate) fn evse(&self, evse: u8) -> Option<Energy> {
         let mut energy = None;
         for line in &self.lines {

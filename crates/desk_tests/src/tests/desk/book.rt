@@ -76,7 +76,7 @@ fn is_blank<J: Naming>(viewer: &mut Viewer<J>) -> bool {
     viewer.site() == 1 && viewer.glance() == Figures::zero()
 }
 
-// Plays a scene; tells whether all was as it should be, `None` where a post is refused.
+// Plays a scene; returns whether all was as it should be, `None` where a post is refused.
 fn play<J: Naming + Send + Sync, R: Threads + Wait + Sync>(
     rt: &R,
     book: &mut SiteBook<J>,
@@ -198,7 +198,8 @@ fn numbered(post: u64) -> Figures {
     }
 }
 
-// Glances until it sees the last post; tells whether each glance was a post's totals, and none went back.
+// Glances until it sees the last post; returns whether each glance was a post's totals, and none went
+// back.
 fn sees_posts_alone<J: Naming, R: Wait>(rt: &R, viewer: &mut Viewer<J>) -> bool {
     let mut last = 0;
     for _ in rt.forever() {

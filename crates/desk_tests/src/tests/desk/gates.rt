@@ -74,7 +74,8 @@ fn gate_holds_one_station(rt: HostRuntime) -> Result<(), Fail> {
     plays(&rt, rt.alloc(), Scene::HeldStation)
 }
 
-// Delivers so many events, with each second number from this one on; tells whether all were accepted.
+// Delivers so many events, with each second number from this one on; returns whether all were
+// accepted.
 fn deliver_each_second<J: Naming, R: Wait + Clock>(
     rt: &R,
     alloc: Global,

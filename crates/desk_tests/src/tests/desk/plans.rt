@@ -77,14 +77,14 @@ fn three_events<J: Naming, R: Wait + Threads + Clock>(
     Some(pass)
 }
 
-// Tells whether A has its board of the three events.
+// Returns whether A has its board of the three events.
 fn shows_board<J: Naming, R: Wait>(rt: &R, alloc: Global, desk: &Desk<J>) -> Option<bool> {
     let board = desk.station_board(rt, alloc, &Name::new("A")?).ok()?;
     let is_summed = board.figures() == figures([3, 0, 1, 0, 0, 600_000, 0]);
     Some(board.quarters().len() == 2 && is_summed)
 }
 
-// Tells whether Z has no board, nor a pass.
+// Returns whether Z has no board, nor a pass.
 fn knows_no_z<J: Naming, R: Wait + Threads>(rt: &R, alloc: Global, desk: &Desk<J>) -> Option<bool> {
     let name = Name::new("Z")?;
     let none = desk.station_board(rt, alloc, &name).err()?;
@@ -145,7 +145,7 @@ pub fn changes<J: Naming, R: Wait + Threads + Clock>(
     one_of(alloc, two_changes(rt, alloc, desk)?)
 }
 
-// Tells whether the desk closed on the two changes.
+// Returns whether the desk closed on the two changes.
 pub fn has_changes<J: Naming>(closed: &Closed<J>) -> bool {
     let voided = figures([0, 1, 0, 0, 0, 0, 0]);
     has(closed, 1, 1)

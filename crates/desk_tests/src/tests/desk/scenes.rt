@@ -37,7 +37,7 @@ fn stations(scene: Scene) -> &'static [(u16, &'static str)] {
     }
 }
 
-// The passes that are left, or none where something else was seen.
+// The passes that are left, or none if something else was seen.
 fn play<J: Naming + Send + Sync, R: Threads + Wait + Clock + Sync>(
     rt: &R,
     alloc: Global,
@@ -56,7 +56,7 @@ fn play<J: Naming + Send + Sync, R: Threads + Wait + Clock + Sync>(
     }
 }
 
-// Tells whether the desk closed as the scene left it.
+// Returns whether the desk closed as the scene left it.
 fn is_left<J: Naming>(alloc: Global, closed: &Closed<J>, scene: Scene) -> bool {
     match scene {
         Scene::Changes => has_changes(closed),

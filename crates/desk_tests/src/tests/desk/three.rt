@@ -191,7 +191,7 @@ fn enlisted<J: Naming, R: Threads + Wait + Clock>(
     }
 }
 
-// Tells whether an event that differs in one part of its content is refused, for each part.
+// Returns whether an event that differs in one part of its content is refused, for each part.
 fn conflicts<J: Naming, R: Wait + Clock>(
     rt: &R,
     alloc: Global,
@@ -207,7 +207,7 @@ fn conflicts<J: Naming, R: Wait + Clock>(
     true
 }
 
-// Tells whether a repeat is one, and the erasure of what is not voided is refused.
+// Returns whether a repeat is one, and the erasure of what is not voided is refused.
 fn repeats<J: Naming, R: Wait + Clock>(
     rt: &R,
     alloc: Global,
@@ -230,7 +230,7 @@ fn second() -> Figures {
     figures([3, 0, 1, 0, 0, 50_000, 1_500_000])
 }
 
-// Tells whether the station's board has these figures, so many quarters, and one transaction.
+// Returns whether the station's board has these figures, so many quarters, and one transaction.
 fn has_board<J: Naming, R: Wait>(
     rt: &R,
     alloc: Global,
@@ -289,13 +289,13 @@ fn board_of<J: Naming>(alloc: Global, closed: &Closed<J>) -> Option<SiteBoard> {
     .ok()
 }
 
-// Tells whether the threads leave the board of their script.
+// Returns whether the threads leave the board of their script.
 fn is_board_of_script<J: Naming>(alloc: Global, closed: &Closed<J>) -> Option<bool> {
     let text = write_board(alloc, &board_of(alloc, closed)?).ok()?;
     Some(text.as_slice() == BOARD.as_bytes())
 }
 
-// Tells whether each station's board and the answers of A are right after the three sides.
+// Returns whether each station's board and the answers of A are right after the three sides.
 fn is_right<J: Naming, R: Wait + Clock>(
     rt: &R,
     alloc: Global,
@@ -334,7 +334,7 @@ pub fn three_sides<J: Naming + Send + Sync, R: Threads + Wait + Clock + Sync>(
     }
 }
 
-// Tells whether the desk closed on what the three sides did.
+// Returns whether the desk closed on what the three sides did.
 pub fn has_three<J: Naming>(alloc: Global, closed: &Closed<J>) -> bool {
     let both = figures([6, 0, 2, 0, 0, 650_000, 1_500_000]);
     has(closed, 2, 1)

@@ -28,13 +28,13 @@ const REPLIES: [&str; 4] = [
     "[3,\"4\",{}]",
 ];
 
-// Tells whether these are such strings.
+// Returns whether these are such strings.
 fn are(strings: &[String], expected: &[&str]) -> bool {
     let mut pairs = strings.iter().zip(expected);
     strings.len() == expected.len() && pairs.all(|(text, expected)| text.as_str() == *expected)
 }
 
-// Tells whether a text of the pass has this reply, and is told to the site's viewers or not.
+// Returns whether a text of the pass has this reply, and is told to the site's viewers or not.
 fn is_answered<J: Naming, R: Wait + Clock>(
     rt: &R,
     alloc: Global,
@@ -92,7 +92,7 @@ pub(super) fn each_text<J: Naming, R: Threads + Wait + Clock>(
     }
 }
 
-// Tells whether the simulated station sends these texts.
+// Returns whether the simulated station sends these texts.
 fn are_its_texts(alloc: Global) -> bool {
     match SimStation::new(7, 3).texts(alloc) {
         Ok(texts) => are(&texts, &TEXTS),
@@ -150,7 +150,7 @@ fn sent(alloc: Global) -> Option<Frames> {
     Some(frames)
 }
 
-// Tells whether the station asks, sends its texts and has its replies.
+// Returns whether the station asks, sends its texts and has its replies.
 fn plays_its_part(alloc: Global) -> Option<bool> {
     let answers = answers(alloc)?;
     let (replies, written) = run(alloc, Peer::of(ANSWER, answers.bytes()));
@@ -169,7 +169,8 @@ fn fault(alloc: Global, peer: Peer<'_>) -> Option<SimFault> {
     run(alloc, peer).0.err()
 }
 
-// Tells whether the station gives up where its stream ends in the handshake, fails, ends, and takes no more.
+// Returns whether the station gives up where its stream ends in the handshake, fails, ends, and
+// takes no more.
 fn gives_up(alloc: Global) -> Option<bool> {
     let answers = text_frames(alloc, false, &[REPLIES[0]])?;
     let peer = Peer::of(ANSWER, answers.bytes());

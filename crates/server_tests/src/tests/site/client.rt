@@ -20,7 +20,7 @@ const CLOSE: &[u8] = b"\x88\x82\0\0\0\0\x03\xe8";
 
 const CLOSED: &[u8] = b"\x88\x02\x03\xe8";
 
-// Sends bytes, and tells whether what comes then ends so before the stream does.
+// Sends bytes, and returns whether what comes then ends so before the stream does.
 fn is_answered(alloc: Global, stream: &mut TcpStream, sent: &[u8], end: &[u8]) -> Option<bool> {
     stream.write_all(sent).ok()?;
     let mut read = Vec::new(alloc);

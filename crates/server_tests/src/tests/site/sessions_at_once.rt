@@ -28,7 +28,7 @@ impl MomentSource for NoMoment {
     }
 }
 
-// Tells whether A is answered, and B, which connects once the gate holds A.
+// Returns whether A is answered, and B, which connects once the gate holds A.
 fn ask_both<R: Threads + Wait + Clock + Sync + Net<Listener = TcpListener, Stream = TcpStream>>(
     rt: &R,
     alloc: Global,

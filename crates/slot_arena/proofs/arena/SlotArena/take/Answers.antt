@@ -8,7 +8,7 @@ use Rattle.slot_arena.proofs.Rooms.{holding_within}
 use Rattle.slot_arena.proofs.Threads.{first_links, threaded-take, shown_at, shown_length, shown_set}
 use Rattle.slot_arena.proofs.arena.SlotArena.take.Goals as goal
 
--- No slot is free exactly where the arena is full.
+-- No slot is free exactly if the arena is full.
 none_free : {X : Type 0} (row : List (Option (Slot X))) (slots : List (Option X)) (first spare : ℕ) → values_in row ≡ slots → IsThreaded row first spare → (spare ≡ 0) ↔ IsFull slots
 none_free row slots first spare shows t =
     let held = ap held_count shows in let as_long = ap length shows in
