@@ -45,7 +45,7 @@ total_text f =
     ++ (field (codes " transactions=") f.transactions ++ (field (codes " complete=") f.complete
     ++ (field (codes " missing=") f.missing ++ flows_fields f.up f.down f.export_up f.export_down))))
 
--- The text of a quarter's first moment, by this settlement period.
+-- The text of the first moment of a period of this length.
 unfoldable pub start_text : ℕ → ℕ → List ℕ
 start_text period quarter = text_of (quarter_start period quarter)
 
@@ -83,7 +83,7 @@ gap_line gap = line (field (codes "gap ") gap.0 ++ field (codes "..") gap.1)
 unfoldable pub transaction_text : Shown → List ℕ
 transaction_text t = transaction_line t ++ flat_map gap_line t.gaps
 
--- The lines of a station: its name, its total, its EVSEs, its quarters, and its transactions, each with its gaps.
+-- The lines of a station: its name, its total, its EVSEs, its periods, and its transactions, each with its gaps.
 unfoldable pub station_text : List ℕ × Board → List ℕ
 station_text s =
     line (codes "station " ++ s.0) ++ (line (total_text s.1.figures) ++ (flat_map evse_line s.1.evses
@@ -94,11 +94,12 @@ abbrev pub order_field : Order → List ℕ
 order_field Sequence = []
 order_field Moment = codes " order=moment"
 
--- `board <name> period=<seconds>`, and the order of readings where it is not by sequence
+-- `board <name> period=<seconds>`, and the order of readings if it is not by sequence
 unfoldable pub heading : List ℕ → ℕ → Order → List ℕ
 heading name period order = line (codes "board " ++ (name ++ (field (codes " period=") period ++ order_field order)))
 
--- The text of a site's board: its name with its settlement period and order of readings, its total, its quarters, its stations, and `end`.
+-- The text of a site's board: its name with the length of its periods and its order of readings,
+-- its total, its periods, its stations, and `end`.
 abbrev pub board_text : NamedBoard → List ℕ
 board_text b =
     heading b.name b.period b.order ++ (line (total_text b.figures) ++ (flat_map (quarter_line b.period) b.quarters

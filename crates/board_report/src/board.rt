@@ -8,8 +8,8 @@ use station_ledger::{QuarterLine, StationBoard};
 use std::alloc::{AllocError, Global};
 use std::marker::Model;
 
-/// The board of a site: its name, its settlement period, the order of its readings, its figures, its quarters with
-/// their energies, rising, and its stations' boards by name, in the order of declaration.
+/// The board of a site: its name, the length of its settlement periods, the order of its readings, its figures,
+/// its periods with their energies in rising order, and its stations' boards by name, in the order of declaration.
 #[derive(Debug, Drop)]
 pub struct SiteBoard {
     pub(crate) name: Name,
@@ -39,7 +39,7 @@ impl SiteBoard {
         &self.name
     }
 
-    /// The settlement period that its quarters are counted by.
+    /// The length of its settlement periods.
     pub fn period(&self) -> Period
         ensures { result ≡ self.now.period }
     {
@@ -60,8 +60,8 @@ impl SiteBoard {
         self.figures
     }
 
-    /// The quarters that a station of the site shows, rising, each one of the site's period and with its
-    /// energies over all stations.
+    /// The settlement periods that a station of the site shows, in rising order, each of the site's
+    /// length and with its energies over all stations.
     pub fn quarters(&self) -> &[QuarterLine]
         ensures value { result.now ≡ self.now.quarters }
         ensures own { AreQuartersOf self.now.period result.now }
@@ -76,7 +76,7 @@ impl SiteBoard {
         self.stations.as_slice()
     }
 
-    /// The vectors of the quarters and of the stations' boards.
+    /// The vectors of the periods and of the stations' boards.
     pub fn into_lists(self) -> (Vec<QuarterLine>, Vec<(Name, StationBoard)>)
         ensures quarters { result.0.items ≡ self.quarters }
         ensures stations { result.1.items ≡ self.stations }
@@ -85,9 +85,10 @@ impl SiteBoard {
     }
 }
 
-/// The board of a site of this name, settlement period and order of readings, with these figures and these
-/// stations' boards: it adds up the stations' energies quarter by quarter, in milliwatt-hours. The boards have to
-/// be by that period ([`StationBoard::period`] tells), and the sums of each quarter to stay below 2^64.
+/// The board of a site of this name, length of settlement periods and order of readings, with these figures and
+/// these stations' boards. It adds up the stations' energies period by period, in milliwatt-hours. The boards
+/// must have periods of that length ([`StationBoard::period`] tests it), and the sums of each period must stay
+/// below 2^64. The error says that the allocator refused memory.
 pub fn site_board(
     alloc: Global,
     name: &Name,

@@ -1,21 +1,21 @@
 //! The boards of sites, and their text.
 //!
-//! A desk has one list of stations and one of cells, each station's cell in its place; a site's stations are those that
-//! name its number. [`site_text`] makes their boards, adds up their quarters and writes the text, `period` lines, stations
-//! and all. Whoever has the cells uses it: a replay, and [`closed_board`], which makes the board of a site of a desk that
-//! was closed. [`write_boards`] writes those of all its sites, and [`running_board`] makes that of a desk that runs.
+//! A desk has one list of stations and one of cells, with each station's cell in its place. The stations of a site are
+//! those that name its number. [`site_text`] makes their boards, adds up their periods and writes the whole text of the
+//! site's board. A replay uses it, and so does [`closed_board`], which makes the board of a site of a closed desk.
+//! [`write_boards`] writes those of all its sites, and [`running_board`] makes the board of a site of a running desk.
 //!
-//! Below it [`site_board`] puts the boards of a site's stations together under the site's name: it adds up their energies
-//! quarter by quarter, and keeps the figures and the stations' boards as they are handed in. [`write_board`] writes such a
+//! Below it, [`site_board`] puts the boards of a site's stations together under the site's name: it adds up their energies
+//! period by period, and keeps the figures and the stations' boards as they are. [`write_board`] writes such a
 //! [`SiteBoard`] as lines of plain text, for people and for programs. [`total_text`], [`energy_text`] and [`export_text`]
-//! write the figures and an energy alone, without memory, so a live total and the total line of a board are one text.
+//! write only the figures or an energy, without memory; the total line of a board has the same text as a live total.
 //!
-//! The crate's contract: each text has exactly the bytes that a short definition gives for the values, one definition for
-//! each kind of line; and a site's board has each of the site's stations once, in the plan's order, its board from
-//! scratch from its cell's content, and shows each quarter that one of them shows, once and rising, with the sum over
-//! them. Of a closed desk the totals are the sums over the site's stations. The quarters of a board are quarters of its
-//! settlement period. A caller of `site_board` sees to it that all boards are by the site's period, and that the sums of
-//! each quarter stay below 2^64, which the boards of one plan always do ([`plans_fit`]).
+//! The crate's contract: each text has exactly the bytes that a short definition gives for the values, with one
+//! definition for each kind of line. A site's board has each of the site's stations once, in the plan's order, with its
+//! board from scratch from its cell's content; and it shows each period that one of them shows, once and in rising order,
+//! with the sum over the stations. The totals of a closed desk are the sums over the site's stations. The periods of a
+//! board have the board's length. A caller of `site_board` makes sure that all boards have the site's length of periods,
+//! and that the sums of each period stay below 2^64, which the boards of one plan always do ([`plans_fit`]).
 //!
 //! ```text
 //! site_text(alloc, &plan, &cells, site, &name, book.totals())?

@@ -45,7 +45,7 @@ fn put_fields(text: &mut Vec<u8>, flow: Flow, export: Flow) -> Result<(), AllocE
     put_field(text, " export_down=", export.down())
 }
 
-// Puts the same fields, and a line feed behind them.
+// Appends the same fields and a line feed.
 fn put_flows(text: &mut Vec<u8>, flow: Flow, export: Flow) -> Result<(), AllocError>
     ensures { OnOk result (text.new.items ≡ text.old.items ++ line (flows_fields flow.up flow.down export.up export.down)) }
 {
@@ -63,7 +63,7 @@ fn put_total(text: &mut Vec<u8>, figures: &Figures) -> Result<(), AllocError>
     Ok(())
 }
 
-// The first moment of a quarter.
+// The first moment of a period.
 #[tactic(auto, unfolding(crate::specs::Texts::start_text))]
 fn start_text(quarter: Quarter, period: Period) -> ArrayString<20>
     requires { IsQuarterOf period quarter }
@@ -72,7 +72,7 @@ fn start_text(quarter: Quarter, period: Period) -> ArrayString<20>
     moment_text(quarter_start(quarter, period))
 }
 
-// Appends the line of a quarter.
+// Appends the line of a period.
 #[tactic(auto, unfolding(crate::specs::Texts::quarter_line))]
 fn put_quarter(text: &mut Vec<u8>, period: Period, shown: &QuarterLine) -> Result<(), AllocError>
     requires { IsQuarterOf period shown.now.0 }
@@ -162,7 +162,7 @@ fn put_with_gaps(text: &mut Vec<u8>, shown: &TxLine) -> Result<(), AllocError>
     put_gaps(text, shown.gaps())
 }
 
-// Appends the lines of quarters.
+// Appends the lines of periods.
 fn put_quarters(
     text: &mut Vec<u8>,
     period: Period,
@@ -230,7 +230,8 @@ fn order_field(order: Order) -> &'static str
     }
 }
 
-// Appends the name of a site, its settlement period, and the order of its readings where that is by moment.
+// Appends the name of a site, the length of its periods, and the order of its readings if that is by
+// moment.
 #[tactic(auto, unfolding(crate::specs::Texts::heading))]
 fn put_heading(text: &mut Vec<u8>, board: &SiteBoard) -> Result<(), AllocError>
     ensures { OnOk result (text.new.items ≡ text.old.items ++ heading board.now.name board.now.period board.now.order) }
@@ -243,9 +244,10 @@ fn put_heading(text: &mut Vec<u8>, board: &SiteBoard) -> Result<(), AllocError>
     Ok(())
 }
 
-/// The text of a site's board: its name with its settlement period and order of readings, its total and its
-/// quarters, then each station with its name, its total, its EVSEs, its quarters and its transactions, each of
-/// these with its gaps, and `end`. Each line ends with a line feed.
+/// The text of a site's board: its name with the length of its periods and its order of readings, its total
+/// and its periods; then each station with its name, its total, its EVSEs, its periods and its transactions,
+/// each of these with its gaps; then `end`. Each line ends with a line feed. The error says that the allocator
+/// refused memory.
 pub fn write_board(alloc: Global, board: &SiteBoard) -> Result<Vec<u8>, AllocError>
     ensures { IfOk result (λ text. text.items ≡ board_text board.now) }
 {

@@ -5,8 +5,8 @@ use crate::table::{EntryTable, TableSeat};
 use std::alloc::{AllocError, Global};
 use std::marker::Model;
 
-/// The table of a journal that is not open yet. To a contract it is what names the table. It takes a few
-/// words of memory; nothing else here takes any.
+/// The table of a journal that is not open yet. Contracts see its name. It takes a few words of memory;
+/// nothing else in this crate takes any.
 #[derive(Drop)]
 pub struct JournalTable {
     table: EntryTable,

@@ -19,7 +19,7 @@ pub fn answers_get_silence()
     ensures { (text : List ℕ) → (frame text ≡ Silence) ↔ IsAnswer text }
 {}
 
-/// A reader of JSON (RFC 8259) gives back the very text that was written as a JSON string.
+/// A reader of JSON (RFC 8259) gives back exactly the text that was written as a JSON string.
 pub fn a_json_string_reads_back()
     ensures { (text : List ℕ) → IsUtf8 text → read (json_string text) ≡ Some (string text) }
 {}

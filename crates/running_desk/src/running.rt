@@ -74,7 +74,7 @@ impl<'a, J: Naming, C: HasCell, M: Drop, S: Serves<J, C, M>> Running<'a, J, C, M
     /// The text of the board of the site of this number, from 0, with what was seen of the journal then. It waits for the
     /// locks of the site, and behind a write to the journal.
     ///
-    /// Condition: the plan has the site ([`site_of`] tells).
+    /// Condition: the plan has the site ([`site_of`] tests it).
     pub fn board<R: Wait>(
         &self,
         rt: &R,

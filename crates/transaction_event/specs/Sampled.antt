@@ -27,7 +27,8 @@ direction_of measurand =
     else (if absent_or (codes "Energy.Active.Export.Register") measurand then Some Export
     else None)
 
--- A value counts that is of one of the two active energy registers, of no single phase, and taken at the outlet: in the direction of its register.
+-- A value counts if it is of one of the two active energy registers, of no single phase, and taken
+-- at the outlet; it counts in the direction of its register.
 abbrev pub counted_toward : Option (List ℕ) → Option (List ℕ) → Option (List ℕ) → Option Direction
 counted_toward measurand phase location = if is_none phase && absent_or (codes "Outlet") location then direction_of measurand else None
 
@@ -39,7 +40,7 @@ counts sampled = do
   location ← optional text_of (codes "location") sampled
   Ok (counted_toward measurand phase location)
 
--- What is no reading of a register is refused.
+-- A value that is no reading of a register is refused.
 abbrev pub decimal : Result ℕ DecimalFault → Checked ℕ
 decimal (Ok mwh) = Ok mwh
 decimal (Err fault) = Err Decimal
@@ -58,7 +59,7 @@ if_counted moment so_far sampled None = Ok so_far
 if_counted moment so_far sampled (Some direction) =
     sampled_mwh sampled >>= (λ mwh. one_more so_far (record { moment = moment; mwh = mwh; direction = direction }))
 
--- The readings so far, and that of a sampled value where it counts.
+-- The readings so far, and that of a sampled value, if it counts.
 unfoldable pub sample : ℕ → List MeterReading → Data → Checked (List MeterReading)
 sample moment so_far value = do
   sampled ← ok_or (object_of value) WrongType

@@ -10,7 +10,7 @@ use Rattle.transaction_event.specs.Steps.{Checked, ◌>>=◌}
 use Rattle.transaction_event.specs.Member.{optional}
 use Rattle.transaction_event.specs.Integer.{optional_integer}
 
--- The unit of that name; watt-hours where none is named.
+-- The unit of that name; watt-hours if none is named.
 abbrev pub unit_named : Option (List ℕ) → Checked EnergyUnit
 unit_named None = Ok Wh
 unit_named (Some name) =

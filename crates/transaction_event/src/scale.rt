@@ -54,7 +54,7 @@ fn named_scale(measure: Node) -> Result<Scale, PayloadFault>
 }
 
 impl Scale {
-    /// The scale of a unit of measure; watt-hours as they stand if there is none.
+    /// The scale of a unit of measure; plain watt-hours if there is none.
     pub fn of(measure: Option<Node>) -> Result<Scale, PayloadFault>
         ensures value { result ≡ spec.scale_of (option_map node measure.entry) }
         ensures memory { IfErr result (λ f. f ≢ OutOfMemory) }

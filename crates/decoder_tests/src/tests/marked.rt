@@ -1,5 +1,5 @@
-//! What no clause says: that reads succeed while there is memory, and examples of the marked reading whose answers
-//! come from RFC 8259 and from this product's profile.
+//! No clause says that reads succeed while there is memory; these tests show it. They have examples of the marked
+//! reading, with answers from RFC 8259 and from this product's profile.
 
 ghost use Rattle.std.specs.Prelude.{◌≤◌, length};
 
@@ -122,7 +122,7 @@ fn strings(rt: HostRuntime) {
 
 const FIELDS: &str = r#"{"a":null,"b":7,"c":1,"c":null,"d":{},"e":[null]}"#;
 
-// Returns whether a field stands there.
+// Returns whether the field is there.
 fn has(marked: &Marked, name: &str) -> bool
     requires { length name.now ≤ 63 }
 {
@@ -152,7 +152,7 @@ fn fields(rt: HostRuntime) -> Result<(), Fail> {
     Ok(())
 }
 
-// So many times the character.
+// The character `count` times.
 fn repeated(alloc: Global, c: char, count: usize) -> Result<String, Fail> {
     let mut text = String::new(alloc);
     for _ in 0..count {
@@ -161,7 +161,7 @@ fn repeated(alloc: Global, c: char, count: usize) -> Result<String, Fail> {
     Ok(text)
 }
 
-// So many lists within one another.
+// `depth` lists, each in the next.
 fn nested(alloc: Global, depth: usize) -> Result<String, Fail> {
     let opened = repeated(alloc, '[', depth)?;
     let closed = repeated(alloc, ']', depth)?;
