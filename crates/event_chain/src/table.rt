@@ -35,8 +35,8 @@ impl TransactionTable {
     {
         let rows = TransactionMap::open(alloc, capacity)?;
         let mut spare = Vec::with_capacity(alloc, capacity as usize)?;
-        // The lowest free slot is given out first, so the keys of a new transaction are usually behind
-        // the others.
+        // The lowest slot is given out first, so the keys of a new transaction are usually behind the
+        // others.
         for handed in 0..capacity {
             spare.push_reserved(capacity - 1 - handed);
         }

@@ -9,7 +9,7 @@ use std::marker::Model;
 use std::thread::Threads;
 use std::{io, thread};
 
-// A read that gave at least this many bytes is followed by another: after less, the writer is no faster than the reader.
+// After a read of at least this many bytes, more may be ready; after less, the writer is no faster than the reader.
 const MUCH: usize = 32_768;
 
 // How often a read looks for more bytes before it ends without them.

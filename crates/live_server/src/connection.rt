@@ -1,4 +1,5 @@
-//! The time of one connection: how long its stream is waited for, and whether it is still wanted.
+//! The time of one connection: how long the server waits for its stream, and whether it is still
+//! wanted.
 ghost use Rattle.std.specs.Io.{ReadsAtMost, WritesAtMost};
 
 use station_link::{Attendant, Why};
@@ -12,21 +13,21 @@ use std::time::{Clock, Duration, Instant};
 // How long a read or a write of the stream waits before it looks at the time, and whether the connection is still wanted.
 const TICK_MILLIS: u64 = 250;
 
-// How many ticks a session waits for its station's next bytes, 600 seconds: twice the interval of heartbeats that a
-// BootNotification is answered with.
+// How many ticks a session waits for its station's next bytes, 600 seconds: twice the interval of heartbeats in the
+// reply to a BootNotification.
 const SILENT_TICKS: u64 = 4 * 600;
 
 // More ticks than any other limit has.
 const MOST_TICKS: u64 = 128;
 
-// How many bytes a write has at most whose time begins where it waits. Nearly none waits, and the clock is not asked
-// then.
+// The most bytes of a write for which the time begins only when it waits. Such a write hardly ever waits, and then
+// needs no clock.
 const SHORT_WRITE: usize = 1_024;
 
-// How long what the peer had sent is read after the last that it is told.
+// How long the server reads what the peer had sent, after its own last bytes.
 const LEAVING_SECONDS: u64 = 1;
 
-// How long a connection is waited for, in seconds.
+// How long the server waits for a connection, in seconds.
 #[derive(Clone, Copy)]
 pub(crate) struct Patience {
     // For its opening handshake, or its request.
@@ -35,28 +36,28 @@ pub(crate) struct Patience {
     pub(crate) writing: u64,
 }
 
-// Where a connection stands.
+// The phase of a connection.
 #[derive(Clone, Copy)]
 enum Phase {
-    // In its opening handshake, or its request, which began then.
+    // In its opening handshake or its request, which began at this time.
     Opening(Instant),
     // In its session, or its answer.
     Serving,
-    // Behind the last that it was told, which went then.
+    // After the server's last bytes, which went at this time.
     Leaving(Instant),
 }
 
-// One connection, as its stream and its session look at it.
+// The state of one connection, which its stream and its session share.
 #[derive(Drop)]
 pub(crate) struct Connection<'a, R: Clock> {
     rt: &'a R,
     closing: &'a AtomicBool,
-    // Whether it has to go.
+    // Whether the connection has to end.
     mark: &'a AtomicBool,
     patience: Patience,
     phase: Cell<Phase>,
     silent: Cell<u64>,
-    // Since when the write under way has its time.
+    // When the time of the write under way began.
     writing: Cell<Option<Instant>>,
 }
 
@@ -85,7 +86,7 @@ impl<'a, R: Clock> Connection<'a, R> {
         self.phase.set(Phase::Serving);
     }
 
-    // Returns whether it has been so many seconds since then, or the clock can't tell.
+    // Returns whether this many seconds have passed since then, or the clock fails.
     fn is_over(&self, since: Instant, seconds: u64) -> bool {
         match since.elapsed(self.rt) {
             Ok(elapsed) => elapsed >= Duration::from_secs(seconds),
@@ -104,7 +105,7 @@ impl<'a, R: Clock> Connection<'a, R> {
         }
     }
 
-    // From here on the write under way has its time, if it has not yet.
+    // Begins the time of the write under way, if it has not begun yet.
     fn times_write(&self) -> io::Result<()> {
         if self.writing.get().is_none() {
             self.writing.set(Some(Instant::now(self.rt)?));
@@ -166,8 +167,8 @@ fn is_whole(written: &io::Result<usize>, bytes: &[u8]) -> bool {
     }
 }
 
-// The stream of a connection. A read gives up with `WouldBlock` after a tick where a session may go on, and with another
-// error where the connection has to end.
+// The stream of a connection. A read gives up with `WouldBlock` after a tick if a session may go on, and with another
+// error if the connection has to end.
 #[derive(Drop)]
 pub(crate) struct ConnectionStream<'a, R: Clock> {
     connection: &'a Connection<'a, R>,
@@ -184,12 +185,12 @@ impl<'a, R: Clock> ConnectionStream<'a, R> {
         Ok(ConnectionStream { connection, stream })
     }
 
-    // Tells the peer that nothing more comes.
+    // Ends the output to the peer.
     pub(crate) fn shut(&self) -> io::Result<()> {
         self.stream.shutdown(Shutdown::Write)
     }
 
-    // A read of a handshake or a request, which ends where the connection is no longer wanted.
+    // A read of a handshake or a request, which ends if the connection is no longer wanted.
     fn read_opening(&mut self, since: Instant, buf: &mut [u8]) -> io::Result<usize>
         ensures { ReadsAtMost result buf.new }
     {
@@ -224,7 +225,7 @@ impl<'a, R: Clock> ConnectionStream<'a, R> {
         read
     }
 
-    // A read of what is left.
+    // A read of the bytes that are left.
     fn read_last(&mut self, since: Instant, buf: &mut [u8]) -> io::Result<usize>
         ensures { ReadsAtMost result buf.new }
     {

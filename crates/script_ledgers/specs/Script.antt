@@ -26,7 +26,10 @@ use Rattle.script_lines.specs.Lines.{Line, text_by}
 use Rattle.script_lines.specs.LineMeaning.{LineMeaning, nothing, fails, sets_limits, declares, sets_period, sets_order, tells, sends, commands, asks_energy, asks_export, asks_total, asks_board, line_meaning}
 use Rattle.script_lines.specs.Texts.{ended_line, fault_line, answer_text}
 
--- where a script stands: the limits of the stations that are declared next; the sites of the plan so far in the order of their first mention, the settlement period of each in seconds and the order of its readings; the world, whose stations are those of the plan and have empty contents until the ledgers are opened; whether they are; and the moment
+-- the state of a script: the limits of the stations that are declared next; the sites of the plan
+-- so far in the order of their first mention, each with the length of its settlement periods in
+-- seconds and the order of its readings; the world: the plan's stations, with empty contents until
+-- the ledgers are opened; whether the ledgers are opened; and the moment
 pub record Script : Type 0 where
   pub limits : Bounds
   pub sites : List (List ℕ)
@@ -36,7 +39,7 @@ pub record Script : Type 0 where
   pub opened : Bool
   pub moment : ℕ
 
--- the sites of a script stay, with their settlement periods and their orders of readings
+-- the sites of a script stay the same, with their lengths of periods and their orders of readings
 pub record KeepsSites (old new : Script) : Type 0 where
   pub sites : new.sites ≡ old.sites
   pub periods : new.periods ≡ old.periods
@@ -55,7 +58,7 @@ abbrev pub station_named : List ℕ → World → Option Station
 station_named name [] = None
 station_named name (s ∷ ss) = if bytes_eq name s.name then Some s else station_named name ss
 
--- whether the name stands among these
+-- whether the name is among these
 abbrev pub is_among : List ℕ → List (List ℕ) → Bool
 is_among name names = list_any (λ n. bytes_eq name n) names
 
@@ -71,7 +74,7 @@ energy_line flow = ended_line (energy_text flow)
 abbrev pub export_line : Energy → List ℕ
 export_line flow = ended_line (export_text flow)
 
--- each limit lies in its range
+-- each limit is in its range
 abbrev pub are_limits : ℕ → ℕ → ℕ → ℕ → Bool
 are_limits transactions events readings changes =
     (nat_le 1 transactions && nat_le transactions most_transactions)
@@ -86,19 +89,20 @@ limited_to s transactions events readings changes =
     then (record s { limits = record { transactions = transactions; events = events; readings = readings; changes = changes } }, [])
     else (s, fault_line PlanLimit)
 
--- the sites once this one is mentioned: one begins at its first mention
+-- the sites after this one is mentioned: a site begins at its first mention
 abbrev pub sites_with : List ℕ → List (List ℕ) → List (List ℕ)
 sites_with site sites = if is_among site sites then sites else sites ++ site ∷ []
 
--- the settlement periods of these sites, one for each, once this one is mentioned: one that begins has the default period
+-- the lengths of the settlement periods of these sites, one for each, after this site is mentioned: a new one has the
+-- default length
 abbrev pub periods_with : List ℕ → List (List ℕ) → List ℕ → List ℕ
 periods_with site sites periods = if is_among site sites then periods else periods ++ default_period ∷ []
 
--- the orders of readings of these sites, one for each, once this one is mentioned: one that begins goes by sequence
+-- the orders of readings of these sites, one for each, after this site is mentioned: a new one goes by sequence
 abbrev pub orders_with : List ℕ → List (List ℕ) → List Order → List Order
 orders_with site sites orders = if is_among site sites then orders else orders ++ Sequence ∷ []
 
--- one of the four settlement periods
+-- one of the four lengths of settlement periods
 abbrev pub is_period : ℕ → Bool
 is_period seconds = (seconds == 300) || ((seconds == 900) || ((seconds == 1_800) || (seconds == 3_600)))
 
@@ -106,17 +110,18 @@ is_period seconds = (seconds == 300) || ((seconds == 900) || ((seconds == 1_800)
 abbrev pub site_number : List ℕ → List (List ℕ) → Option ℕ
 site_number site sites = position (bytes_eq site) sites
 
--- the settlement period of the site of this number
+-- the length of the settlement periods of the site of this number
 abbrev pub period_of : Option ℕ → List ℕ → ℕ
 period_of None periods = default_period
 period_of (Some number) periods = get_or periods number default_period
 
--- another settlement period for the site of this number, if there is one
+-- another length of settlement periods for the site of this number, if there is one
 abbrev pub settled_by : Option ℕ → Script → ℕ → Script × List ℕ
 settled_by None s seconds = (s, fault_line UnknownSite)
 settled_by (Some number) s seconds = (record s { periods = slice_set s.periods number seconds }, [])
 
--- a settlement period before the ledgers are opened: it holds for all stations of the site, declared or not
+-- a length of settlement periods before the ledgers are opened: it holds for all stations of the site,
+-- declared or not
 abbrev pub period_to : Script → List ℕ → ℕ → Script × List ℕ
 period_to s site seconds = if is_period seconds then settled_by (site_number site s.sites) s seconds else (s, fault_line PlanLimit)
 
@@ -134,14 +139,15 @@ ordered_by (Some number) s order = (record s { orders = slice_set s.orders numbe
 abbrev pub order_to : Script → List ℕ → Order → Script × List ℕ
 order_to s site order = ordered_by (site_number site s.sites) s order
 
--- one station more, of this site, would be more than a plan may have: of stations, of readings, or of sites
+-- with one more station, of this site, a plan would have more than it may: of stations, of readings, or of
+-- sites
 abbrev pub is_past_plan : Script → List ℕ → Bool
 is_past_plan s site =
     nat_le most_stations (length s.world)
     || (nat_lt most_plan_readings (sum_by (λ station. station.limits.readings) s.world + s.limits.readings)
     || nat_lt most_sites (length (sites_with site s.sites)))
 
--- one station more, where no other has its name
+-- one more station, if no other has its name
 abbrev pub joined_by : Option Station → Script → List ℕ → List ℕ → Script × List ℕ
 joined_by None s site name = (record s { sites = sites_with site s.sites; periods = periods_with site s.sites s.periods; orders = orders_with site s.sites s.orders; world = s.world ++ new_station s.limits site name ∷ [] }, [])
 joined_by (Some _) s site name = (s, fault_line StationTwice)
@@ -156,12 +162,13 @@ commanded_to None s command = (record s { opened = true }, fault_line UnknownSta
 commanded_to (Some station) s command =
     (record s { opened = true; world = world_after s.world (station.name, command) }, ended_line (answer_text (answer station.limits station.content command)))
 
--- the energy that a station imported, computed from all its events; each site, by its name, has an order of readings
+-- the imported energy of a station, computed from all its events; the first argument gives each site's order of
+-- readings by the site's name
 abbrev pub energy_answer : (List ℕ → Order) → Option Station → List ℕ
 energy_answer order None = fault_line UnknownStation
 energy_answer order (Some station) = energy_line (energy_by (order station.site) Import (entries station.content))
 
--- the energy that a station exported, computed from all its events
+-- the exported energy of a station, computed from all its events
 abbrev pub export_answer : (List ℕ → Order) → Option Station → List ℕ
 export_answer order None = fault_line UnknownStation
 export_answer order (Some station) = export_line (energy_by (order station.site) Export (entries station.content))
@@ -171,17 +178,18 @@ abbrev pub total_answer : (List ℕ → Order) → Option Station → List ℕ
 total_answer order None = fault_line UnknownStation
 total_answer order (Some station) = ended_line (total_text (figures_by (order station.site) (entries station.content)))
 
--- the board of a station under its name by an order of readings and a settlement period, computed from all its events
+-- the board of a station under its name by an order of readings and a length of periods, computed from all its events
 abbrev pub shown_station : Order → ℕ → Station → List ℕ × Board
 shown_station order period station = (station.name, board_by order period (entries station.content))
 
--- the board of a site by its order and its settlement period over these stations: the sums of their figures and of their quarters, and their boards
+-- the board of a site by its order and its length of periods over these stations: the sums of their
+-- figures and of their periods, and their boards
 abbrev pub shown_site : List ℕ → Order → ℕ → World → NamedBoard
 shown_site site order period stations =
     let b = site_board period (map (shown_station order period) stations) in
     record { name = site; period = b.period; order = order; figures = b.figures; quarters = b.quarters; stations = b.stations }
 
--- the settlement period of the site of this name
+-- the length of the settlement periods of the site of this name
 abbrev pub period_named : Script → List ℕ → ℕ
 period_named s site = period_of (site_number site s.sites) s.periods
 
@@ -189,15 +197,15 @@ period_named s site = period_of (site_number site s.sites) s.periods
 abbrev pub order_named : Script → List ℕ → Order
 order_named s site = order_of (site_number site s.sites) s.orders
 
--- the board of the site of this name by its order and its settlement period, computed from all events of its stations
+-- the board of the site of this name by its order and its length of periods, computed from all events of its stations
 abbrev pub board_of_site : Script → List ℕ → NamedBoard
 board_of_site s site = shown_site site (order_named s site) (period_named s site) (stations_of site s.world)
 
--- the text of a site's board, where there is a site of this name
+-- the text of a site's board, if there is a site of this name
 abbrev pub board_answer : Script → List ℕ → List ℕ
 board_answer s site = if is_among site s.sites then board_text (board_of_site s site) else fault_line UnknownSite
 
--- a message of a station: an event is delivered, and all else is answered as it stands
+-- a message of a station: an event is delivered; any other message has its ready answer
 abbrev pub by_meaning : Meaning → Station → Script → Script × List ℕ
 by_meaning (Event id request) station s =
     let command = Deliver request.key request.event in
@@ -205,7 +213,7 @@ by_meaning (Event id request) station s =
 by_meaning (Ready reply) station s = (record s { opened = true }, ended_line reply)
 by_meaning Silence station s = (record s { opened = true }, ended_line (codes "silent"))
 
--- the text means what it means at the script's moment
+-- the text is read at the script's moment
 abbrev pub sent_to : Option Station → Script → List ℕ → Script × List ℕ
 sent_to None s text = (record s { opened = true }, fault_line UnknownStation)
 sent_to (Some station) s text = by_meaning (message text s.moment) station s
@@ -230,11 +238,11 @@ step_by s (asks_board site) = (record s { opened = true }, board_answer s site)
 abbrev pub line_step : Script → Line → Script × List ℕ
 line_step s line = step_by s (line_meaning line)
 
--- the text of lines from here on
+-- the text that answers lines from here on
 abbrev pub script_text : Script → List Line → List ℕ
 script_text = text_by line_step
 
--- where a script stands after these lines
+-- the state of a script after these lines
 abbrev pub script_after : Script → List Line → Script
 script_after s [] = s
 script_after s (line ∷ lines) = script_after (line_step s line).0 lines
@@ -255,10 +263,10 @@ opening (asks_export _) = true
 opening (asks_total _) = true
 opening (asks_board _) = true
 
--- with its ledgers opened
+-- the script with its ledgers opened
 abbrev pub opened_script : Script → Script
 opened_script s = record s { opened = true }
 
--- with its ledgers opened where a line of this meaning opens them
+-- the script with its ledgers opened, if a line of this meaning opens them
 abbrev pub opened_for : LineMeaning → Script → Script
 opened_for meaning s = if opening meaning then opened_script s else s

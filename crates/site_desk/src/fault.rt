@@ -26,7 +26,7 @@ pub enum BoardFault {
     /// No station of the desk has this name.
     UnknownStation,
     /// The cell behind the station's lock is another station's, or a site's cells and book don't
-    /// fit together; no run of these calls meets either.
+    /// fit together, which no run of these calls meets; or the desk doesn't have the site.
     Torn,
     /// There is no memory for it.
     OutOfMemory,

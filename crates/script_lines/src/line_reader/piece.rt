@@ -21,9 +21,9 @@ pub enum Piece {
     WholeLine(usize, bool),
 }
 
-/// Reads up to the next line feed, `room` bytes, or all bytes that the reader shows, whichever is
-/// least. Keeps the first `max_line_bytes + 1` bytes of the line in `held`. Faults: `ReadFault`,
-/// `OutOfMemory`.
+/// Reads up to the next line feed, but at most `room` bytes and at most the bytes that the reader
+/// shows. With no room left it reads one byte, which is `Beyond`. Keeps the first `max_line_bytes +
+/// 1` bytes of the line in `held`. Faults: `ReadFault`, `OutOfMemory`.
 pub fn read_piece<R: BufRead>(
     reader: &mut R,
     held: &mut Vec<u8>,

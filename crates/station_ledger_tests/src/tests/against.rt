@@ -7,7 +7,7 @@ use station_ledger::{EvseLine, StationBoard, StationLedger, TxLine};
 use std::alloc::Global;
 use std::test::Fail;
 
-// The quarter that begins at 10:00 on the day of the events.
+// The period that begins at 10:00 on the day of the events.
 const TEN: u32 = 1_969_288;
 
 // Returns whether the energies of both directions rise and fall by these.
@@ -49,7 +49,7 @@ fn are_lines(board: &StationBoard, want: &[Line]) -> bool {
             .all(|(shown, want)| is_line(shown, want))
 }
 
-// Returns whether the board shows these quarters, and no others.
+// Returns whether the board shows these periods, and no others.
 fn are_quarters(board: &StationBoard, want: &Sums) -> bool {
     let mut shown = board.quarters().iter();
     let mut number = TEN;
@@ -103,7 +103,7 @@ fn answers_evses(ledger: &StationLedger, want: &Sums) -> bool {
     true
 }
 
-// The first of the calls that answers something else.
+// The first call with another answer.
 fn apart(ledger: &StationLedger, scratch: &Scratch, want: &Sums) -> Option<&'static str> {
     if ledger.changes() != scratch.changes {
         Some("changes")
@@ -143,7 +143,7 @@ impl Pair {
         })
     }
 
-    // Gives both the command, compares what they answer, and tells the answer.
+    // Gives both the command, compares their answers, and returns the answer.
     fn apply(
         &mut self,
         alloc: Global,
@@ -161,14 +161,14 @@ impl Pair {
         }
     }
 
-    // The most differences that the event which is meant may cost as it stands.
+    // The most differences that the command's event may cost as it is now.
     fn most(&self, alloc: Global, asked: Asked) -> Result<u64, &'static str> {
         let most = self.scratch.most(alloc, asked.tx, asked.seq);
         most.ok().ok_or("no memory")
     }
 
     // The same, and compares how many differences were evaluated with the most that were allowed: those of
-    // the event where it stands live, before the command or behind it, and none if nothing changed.
+    // the event when it is live, before the command or after it; none if nothing changed.
     fn apply_within(
         &mut self,
         alloc: Global,
@@ -225,7 +225,7 @@ fn mark(seen: &mut [bool; 10], answer: Answer) {
     }
 }
 
-// Gives both a drawn command, compares, and tells the answer.
+// Gives both a drawn command, compares their answers, and returns the answer.
 fn step(
     pair: &mut Pair,
     alloc: Global,

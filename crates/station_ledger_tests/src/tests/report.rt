@@ -13,12 +13,12 @@ use ledger_model::{
 use station_ledger::{StationBoard, StationLedger};
 use std::alloc::{AllocError, AllocFailed, Global};
 
-// What is asked of transaction T1: to take an event with its kind, number, minute after ten o'clock and
-// reading in watt-hours.
+// A delivery for transaction T1: the event's kind, number, minute after ten o'clock and reading in
+// watt-hours.
 #[derive(Clone, Copy)]
 struct Asked(Kind, u32, u64, u64);
 
-// A site: the figures that are handed in, its stations with what is asked of each, and its text.
+// A site: the figures that are handed in, its stations with the deliveries to each, and its text.
 #[derive(Clone, Copy)]
 struct Site {
     figures: [u64; 7],
@@ -81,7 +81,7 @@ fn command(alloc: Global, asked: Asked) -> Option<Command> {
     Some(Command::Deliver(Key::new(TxId::new("T1")?, seq)?, event))
 }
 
-// Why there is no board: no memory, a command that is refused, or a name that is none.
+// Why there is no board: no memory, a command that is refused, or a text that is no name.
 #[derive(Drop)]
 struct Refused;
 
@@ -176,7 +176,7 @@ fn board_of(alloc: Global, work: &mut Work, site: &Site) -> Option<SiteBoard> {
     .ok()
 }
 
-// The text of a site's board. What found no memory is asked for once more.
+// The text of a site's board. If it found no memory, it is asked for once more.
 fn text_of(alloc: Global, work: &mut Work, site: &Site) -> Option<Vec<u8>> {
     let board = match board_of(alloc, work, site) {
         Some(board) => board,
@@ -228,7 +228,7 @@ fn is_energy(flow: Flow, want: &str) -> bool {
 }
 
 // Returns whether the energies of the greatest rise, of the greatest fall and of both are written
-// so.
+// as they should be.
 fn are_energies(rise: Flow, fall: Flow) -> bool {
     is_energy(Flow::zero(), "energy up=0 down=0")
         && is_energy(rise, "energy up=18446744073709551615 down=0")

@@ -74,7 +74,7 @@ fn gate_holds_one_station(rt: HostRuntime) -> Result<(), Fail> {
     plays(&rt, rt.alloc(), Scene::HeldStation)
 }
 
-// Delivers `count` events, with every second number from this one on; returns whether all were
+// Delivers 400 events, with every second number from 0 or 1 on; returns the pass if all were
 // accepted.
 fn deliver_each_second<J: Naming, R: Wait + Clock>(
     rt: &R,

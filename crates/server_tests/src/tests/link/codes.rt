@@ -36,7 +36,7 @@ fn takes_all<J: Naming, R: Threads + Wait + Clock>(rt: &R, desk: &Desk<J>) -> Op
     Some(true)
 }
 
-// A station that gave out all its passes, which are lost.
+// A station that gave out all its passes; they are lost.
 pub(super) fn all_taken<J: Naming, R: Threads + Wait + Clock>(
     rt: &R,
     alloc: Global,
