@@ -45,7 +45,7 @@ chosen test slots (Some s) = cond (test (stored_at slots s)) (Some s) None
 abbrev pub AreRanks : List EventPlace → Type 0
 AreRanks es = T (is_sorted nat_cmp es)
 
--- An index of those places whose events pass a test.
+-- An index of the places with events that pass a test.
 pub record IsSub (test : Stored → Bool) (es : List EventPlace) (slots : List (Option Held)) (sub : List EventPlace) : Type 0 where
   pub rising : AreRanks sub
   pub each : (r : ℕ) → place_of r sub ≡ chosen test slots (place_of r es)

@@ -304,8 +304,8 @@ impl Chains {
         leave(&mut self.table, &self.places, key.tx(), at.row);
     }
 
-    /// The readings of a direction of the event of a key, in the order in which they were sent; none
-    /// if the key is absent.
+    /// The readings of a direction of the event of a key, in the order sent; none if the key is
+    /// absent.
     pub fn readings(&self, key: &Key, direction: Direction) -> Readings<'_>
         ensures { result ≡ readings_under direction (finite.get self.now.events key.now) }
     {

@@ -88,7 +88,7 @@ impl<'a> EventRef<'a> {
         usize::from(self.slot.count)
     }
 
-    /// Its counted readings of a direction, in the order in which they were sent.
+    /// Its counted readings of a direction, in the order sent.
     pub fn readings(&self, direction: Direction) -> Readings<'a>
         ensures { result ≡ toward direction self.now.1.event.readings }
     {

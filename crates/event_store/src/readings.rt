@@ -8,7 +8,7 @@ use ledger_model::{Direction, Reading};
 use slot_arena::{SlotArena, SlotId};
 use std::marker::Model;
 
-/// The readings of an event that are still to come, in the order in which they were sent.
+/// The readings of an event that are still to come, in the order sent.
 #[derive(Drop)]
 pub struct AllReadings<'a> {
     links: &'a SlotArena<ReadingLink>,
@@ -73,8 +73,7 @@ fn next_toward(all: &mut AllReadings<'_>, direction: Direction) -> Option<Readin
     None
 }
 
-/// The readings of an event in one direction that are still to come, in the order in which they were
-/// sent.
+/// The readings of an event in one direction that are still to come, in the order sent.
 #[derive(Drop)]
 pub struct Readings<'a> {
     all: AllReadings<'a>,

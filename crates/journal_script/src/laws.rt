@@ -27,7 +27,8 @@ pub fn restored_files()
     ensures cut { RestoredCutsAreScripts }
 {}
 
-/// A script whose stations have the contents of a desk's cells answers `board` with that desk's boards.
+/// If a script's stations have the contents of a desk's cells, the script answers `board` with that
+/// desk's boards.
 pub fn boards()
     ensures { BoardsAreThoseOfCells }
 {}

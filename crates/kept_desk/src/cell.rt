@@ -167,9 +167,9 @@ fn with_moment<J: Naming, K: Opening>(
     }
 }
 
-// Settles a command whose line was written, under the lock of the site's book. If the book is not as it
-// should be, which no run with fewer than 2^62 accepted changes of a site meets, the cell leaves service:
-// its lines no longer lead to what it holds.
+// Settles a command after its line was written, under the lock of the site's book. If the book is not as
+// it should be, which no run with fewer than 2^62 accepted changes of a site meets, the cell leaves
+// service: its lines no longer lead to what it holds.
 fn settle_written<J: Naming, R: Wait>(
     rt: &R,
     cell: &mut StationCell,

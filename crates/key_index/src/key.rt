@@ -12,7 +12,7 @@ pub trait Ranked: Copy {
 
     ghost back: { (key : Self) → key_of (rank key) ≡ key };
 
-    /// Returns whether this key stands before the other.
+    /// Returns whether this key is before the other.
     fn is_before(self, other: Self) -> bool
         ensures { result ≡ nat_lt (rank self) (rank other) };
 }

@@ -1,4 +1,4 @@
--- What one live event more changes: in its transaction alone.
+-- What one more live event changes: only in its transaction.
 use Rattle.std.proofs.Common.{◌≡◌, ℕ, ◌+◌, ◌==◌, ◌≤◌, Bool, true, false, cond, not, ◌||◌, List, [], ◌∷◌, ◌++◌, Option, length, map, refl, sym, ap, ◌∙◌, bytes_eq, arith}
 use Rattle.std.specs.List.{filter, filter_map, flat_map, list_any, sum_by}
 use Rattle.std.proofs.lemmas.List.Elements.{filter-append}
@@ -38,7 +38,7 @@ own_else u e front back apart =
     ∙ ap (λ b. own_events u front ++ cond b (e ∷ own_events u back) (own_events u back)) apart
     ∙ sym (filter-append (λ (x : Entry). bytes_eq u x.0.tx) front back)
 
--- A transaction whose id stands nowhere has no events.
+-- A transaction whose id is nowhere has no events.
 none_own : (t : List ℕ) (es : List Entry) → list_any (bytes_eq t) (ids es) ≡ false → own_events t es ≡ []
 none_own t [] none = refl
 none_own t (e ∷ es) none =

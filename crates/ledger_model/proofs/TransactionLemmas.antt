@@ -40,7 +40,7 @@ pub any-map : (tx : List ℕ) (es : List Entry) → list_any (bytes_eq tx) (map 
 any-map tx [] = refl
 any-map tx (e ∷ es) = ap (λ b. bytes_eq tx e.0.tx || b) (any-map tx es)
 
--- a transaction is listed exactly if an event of it stands
+-- a transaction is listed exactly if it has an event
 pub transactions-any : (tx : List ℕ) (es : List Entry) → list_any (bytes_eq tx) (transactions_of es) ≡ has_transaction tx es
 transactions-any tx es = distinct-any tx (map (λ e. e.0.tx) es) ∙ any-map tx es
 

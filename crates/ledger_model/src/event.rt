@@ -10,7 +10,7 @@ use std::marker::Model;
 pub const MAX_EVENT_READINGS: usize = 1_024;
 
 /// A transaction event: its kind, its moment, the EVSE that it names, and its counted readings in the
-/// order in which they were sent (TransactionEventRequest, OCPP 2.0.1 Part 2, block E).
+/// order sent (TransactionEventRequest, OCPP 2.0.1 Part 2, block E).
 #[derive(Debug, Drop)]
 pub struct Event {
     kind: Kind,
@@ -117,7 +117,7 @@ impl Event {
         self.evse
     }
 
-    /// The counted readings, at most 1,024, in the order in which they were sent.
+    /// The counted readings, at most 1,024, in the order sent.
     pub fn readings(&self) -> &[Reading]
         ensures value { result.now ≡ self.now.readings }
         ensures few { length result.now ≤ most_event_readings }

@@ -137,7 +137,7 @@ pub fn cause_of(alloc: Global, plan: &Plan, port: u16, ended: Result<(), Journal
     cause
 }
 
-/// Ends a run whose words make no plan.
+/// Ends a run with words that make no plan.
 pub fn refuse_plan<R: Drop, W: Drop, C: Drop, E: Write, L: Drop>(
     alloc: Global,
     fault: WordFault<'_>,

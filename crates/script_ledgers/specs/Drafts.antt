@@ -23,7 +23,7 @@ site_name sites site = get_or (map (λ s. s.name) sites) site []
 abbrev pub planned_world : List SitePlan → List StationPlan → World
 planned_world sites stations = map (λ s. new_station s.limits (site_name sites s.site) s.name) stations
 
--- A script whose ledgers are not opened.
+-- A script with its ledgers not opened yet.
 abbrev pub planned : Drafted → Script
 planned d = record { limits = d.limits; sites = map (λ s. s.name) d.sites; periods = map (λ s. s.period) d.sites; orders = map (λ s. s.order) d.sites; world = planned_world d.sites d.stations; opened = false; moment = d.moment }
 

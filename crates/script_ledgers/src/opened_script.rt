@@ -33,7 +33,7 @@ use std::io::BufRead;
 use std::thread::Threads;
 use transaction_event::{Asked, Delivery, put_event_reply, read_message};
 
-// A script whose ledgers are opened: its plan, its stations' cells, its sites' books, and its moment.
+// A script with its ledgers opened: its plan, its stations' cells, its sites' books, and its moment.
 #[derive(Drop)]
 pub(crate) struct OpenedScript<J: Naming> {
     // The plan, and the last moment that the script gave.

@@ -55,7 +55,7 @@ site_but_voided site order period bs =
       stations = map but_voided bs;
     }
 
--- Live events alone make a board, but for how many events are voided.
+-- Only live events make a board, except for how many events are voided.
 same_board : (order : Order) (period : ℕ) (a b : Station) → live (entries a.content) ≡ live (entries b.content)
     → with_voided 0 (board_by order period (entries a.content)) ≡ with_voided 0 (board_by order period (entries b.content))
 same_board order period a b same = ap (with_voided 0) (live_alone order period (entries a.content) (entries b.content) same)
@@ -212,7 +212,7 @@ other_station name one other m =
       live_events = found.2;
     }
 
--- Live events alone make energies.
+-- Only live events make energies.
 same_energy : (order : Order) (d : Direction) (a b : Station) → live (entries a.content) ≡ live (entries b.content) → energy_by order d (entries a.content) ≡ energy_by order d (entries b.content)
 same_energy order Import a b same = let board = same_board order 0 a b same in λ i. record { up = (board i).figures.up; down = (board i).figures.down }
 same_energy order Export a b same = let board = same_board order 0 a b same in λ i. record { up = (board i).figures.export_up; down = (board i).figures.export_down }

@@ -24,7 +24,8 @@ use Rattle.script_lines.specs.LineMeaning.{LineMeaning, nothing, fails, sets_lim
 abbrev pub AnEmptyScriptWritesNothing : Type 0
 AnEmptyScriptWritesNothing = (max_line_bytes : ℕ) → script_text start (lines_of max_line_bytes []) ≡ []
 
--- after a line whose text is a fault, the plan, all contents and the moment are as they were; it may have opened the ledgers
+-- after a line with a fault as its text, the plan, all contents and the moment are as they were; it may have opened the
+-- ledgers
 abbrev pub FaultsChangeNothing : Type 0
 FaultsChangeNothing = (s : Script) (line : Line) (fault : LineFault) → (line_step s line).1 ≡ fault_line fault
     → (line_step s line).0 ≡ record s { opened = (line_step s line).0.opened }

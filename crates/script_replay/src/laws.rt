@@ -7,7 +7,7 @@ pub fn empty_script()
     ensures { AnEmptyScriptWritesNothing }
 {}
 
-/// A line whose text is a fault changes no plan, content or moment.
+/// A line with a fault as its text changes no plan, content or moment.
 pub fn faults()
     ensures { FaultsChangeNothing }
 {}

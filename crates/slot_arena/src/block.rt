@@ -93,7 +93,7 @@ pub(crate) fn reserve<T, A: Allocator>(
     }
 }
 
-/// Gives a block whose places are all empty back to the allocator that it came from.
+/// Gives a block back to its allocator. All its places must be empty.
 pub(crate) fn release<T, A: Allocator>(
     alloc: &A,
     start: Start<T>,

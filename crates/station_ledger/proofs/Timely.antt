@@ -1,4 +1,4 @@
--- Each reading of events in range is at a moment, and so the quarter of each pair begins at one.
+-- Each reading of events in range is at a moment, and so the period of each pair begins at one.
 use Rattle.std.proofs.Common.{◌≡◌, ℕ, suc, not, true, false, cond, nat_lt, List, [], ◌∷◌, ◌++◌, map, sym, subst, arith, ⊎_elim}
 use Rattle.std.specs.List.{All, flat_map}
 use Rattle.std.specs.Str.{bytes_eq}
@@ -68,7 +68,7 @@ of_each order d es (tx ∷ txs) h = All-append (λ (p : Pair). IsMoment p.1.mome
 pub pairs_in_time : (order : Order) (d : Direction) (es : List Entry) → AreEntries es → All (λ (p : Pair). IsMoment p.1.moment) (all_pairs_by order d es)
 pairs_in_time order d es h = of_each order d es (transactions_of (live es)) (AreEntries-filter (λ e. not e.1.voided) es h)
 
--- the quarter of a moment begins at one
+-- the period of a moment begins at one
 own_quarter : (period moment : ℕ) → IsPeriod period → IsMoment moment → IsQuarterOf period (quarter_at period moment)
 own_quarter period moment is at =
     ⊎_elim {C = IsQuarterOf period (quarter_at period moment)} (λ (e : period ≡ 300). short 300 e (omega (arith, at.0), omega (arith, at.1)))
@@ -79,7 +79,7 @@ own_quarter period moment is at =
     short : (n : ℕ) → period ≡ n → IsQuarterOf n (quarter_at n moment) → IsQuarterOf period (quarter_at period moment)
     short n e h = subst (λ s. IsQuarterOf s (quarter_at s moment)) (sym e) h
 
--- each quarter of such pairs is one of the period's
+-- each period of such pairs has the given length
 pub in_period : (period : ℕ) (ps : List Pair) (q : ℕ) → IsPeriod period → All (λ (p : Pair). IsMoment p.1.moment) ps → IsIn q (map (quarter_of period) ps) → IsQuarterOf period q
 in_period period [] q is at h = absurd h
 in_period period (p ∷ ps) q is at h =

@@ -17,8 +17,8 @@ use Rattle.reading_index.specs.Timed.{Timed, AreRising, has_rank, owned, without
 use Rattle.station_ledger.specs.declared.by_moment.ByMoment.{ByMoment}
 use Rattle.station_ledger.specs.Quarters.{readings_at}
 
--- Readings of an event in one direction, in the order in which they were sent, each with its rank:
--- by owner, moment, the event's number, and place, beginning at the given place.
+-- Readings of an event in one direction, in the order sent, each with its rank: by owner, moment,
+-- the event's number, and place, beginning at the given place.
 abbrev pub ranked_from : ℕ → ℕ → ℕ → List MeterReading → List Timed
 ranked_from o number place [] = []
 ranked_from o number place (r ∷ rs) = (rank o r.moment number place, r) ∷ ranked_from o number (place + 1) rs

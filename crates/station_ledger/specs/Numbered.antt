@@ -1,4 +1,4 @@
--- Entries whose numbers are in range.
+-- Entries with numbers in range.
 use Rattle.std.specs.Prelude.{◌<◌, ◌≤◌, List, [], ◌∷◌, IfSome}
 use Rattle.ledger_model.specs.Content.{Entry}
 use Rattle.ledger_model.specs.Ranges.{greatest_evse, sequence_end}
