@@ -19,13 +19,13 @@ made=$(mktemp -d) || exit
 trap 'rm -r "$made"' EXIT
 different=0
 
-# differs NAME: tells that it is not as stored.
+# differs NAME: reports that it is not as stored.
 differs() {
     echo "$1: differs"
     different=$((different + 1))
 }
 
-# made_by COMMAND..: runs it; what it tells on standard error is shown where it fails.
+# made_by COMMAND..: runs it; shows its standard error if it fails.
 made_by() {
     "$@" 2> "$made/told" || { cat "$made/told" >&2; differs "$1"; }
 }
@@ -35,8 +35,8 @@ as_stored() {
     diff --label stored --label made -u "$1" "$2" && echo "$1: as stored" || differs "$1"
 }
 
-# gives STATUS NAME COMMAND..: the command ends with this status, writes the stored text NAME and tells NAME.told, where
-# one of them may not be stored; else what it tells is shown where its status is another. A NAME of - stands for neither.
+# gives STATUS NAME COMMAND..: the command ends with this status, writes the stored text NAME, and NAME.told to its standard
+# error; one of the two may not be stored. If its status is another, that is shown. A NAME of - means neither.
 gives() {
     local status=$1 name=$2
     shift 2
@@ -48,7 +48,7 @@ gives() {
     [ $ended = "$status" ] || { cat "$made/told"; differs "the status of $*: $ended, not $status,"; }
 }
 
-# tells STATUS LINE COMMAND..: the command ends with this status, and LINE stands in what it tells.
+# tells STATUS LINE COMMAND..: the command ends with this status, and its standard error has LINE.
 tells() {
     local status=$1 line=$2
     shift 2
@@ -62,7 +62,7 @@ tells() {
     fi
 }
 
-# holds LIST: each line of LIST, a file that was made, a tab and a text, tells a text that stands in that file.
+# holds LIST: each line of LIST has a file that was made, a tab and a text that is in that file.
 holds() {
     while IFS=$'\t' read -r name text; do
         grep -qF -- "$text" "$made/$name" || differs "$1, where $name has no '$text',"
@@ -108,7 +108,7 @@ with_program() {
     tells 2 "No such file or directory" "$board" explain --program ./nowhere "$days/day.script"
     tells 2 "No space left on device" bash -c '"$board" explain --program "$1" explain/mistakes.script > /dev/full' _ "$program"
 
-    # The ledgers stand by the time that the operator's lines come.
+    # The ledgers are open by the time that the operator's lines come.
     gives 0 live/answers bash -c '{ sleep 2; cat live/operator; } | "$board" live --program "$1" --out "$2" --every 0.2 \
         --tz Europe/Berlin <(cat forms/ocpp.script; sleep 4)' _ "$program" "$made/live"
     as_stored live/north.transactions.csv "$made/live/north.transactions.csv"

@@ -1,4 +1,4 @@
-"""Tries the read API of a fleet of its own: what it tells is what tables, boards and replays have.
+"""Tries the read API of a fleet of its own: what it answers is what tables, boards and replays have.
 
     tests/one fleet.api_demo ocpp_board
 
@@ -92,7 +92,7 @@ class Demo(Trial):
         for place in PLACES:
             await self.owner.execute("select add_station($1, $2, $3)", *place)
         await self.owner.execute("update own_site set zone = 'Europe/Berlin' where site = 'north'")
-        # What is told of each line, by its token.
+        # What is known of each line, by its token.
         self.told: dict[int, str] = {}
         self.sent: dict[int, str] = {}
         self.listening = await connect(self.fleet.dsn("owner"))
@@ -189,7 +189,7 @@ class Demo(Trial):
             self.check(True, f"{name}: {status}")
         answer = self.client.api("/sites", None)
         self.check(
-            "Bearer" in answer.headers["www-authenticate"], "a program is told what is asked for"
+            "Bearer" in answer.headers["www-authenticate"], "a program learns what is asked for"
         )
         for name, token in (
             ("an operator's", self.south),
@@ -198,7 +198,7 @@ class Demo(Trial):
             ("a role too many", more),
         ):
             sites = [row["site"] for row in self.client.api("/sites", token).json["sites"]]
-            self.check(sites == ["south"], f"{name} sites alone: {sites}")
+            self.check(sites == ["south"], f"{name} only its sites: {sites}")
             for path, none in (
                 ("/sites/north/board", "/sites/nowhere/board"),
                 ("/sites/north/periods", "/sites/nowhere/periods"),
@@ -452,7 +452,7 @@ class Demo(Trial):
         site = next(row for row in self.get("/sites").json["sites"] if row["site"] == "north")
         self.check(
             site["settled_to"] == "2026-03-02" and site["state"] == "provisional",
-            "the site tells up to when",
+            "the site says up to when",
         )
         # A session of the log names an archived one beside its own id.
         text = event("T-9", 0, "Started", "2026-03-03T16:00:00Z", 1000)

@@ -25,7 +25,7 @@ if [ ${#missing[@]} != 0 ]; then
     [ "$(id -u)" = 0 ] || skip "no ${missing[*]}, which root can install: apt-get install ${missing[*]}"
     echo "check.sh: installs ${missing[*]}" >&2
     told=$(mktemp) || exit 1
-    # While this file stands Debian's package makes no cluster; one that is there is left alone.
+    # While this file is there Debian's package makes no cluster; one that is there already is not touched.
     settings=/etc/postgresql-common/createcluster.d
     leave() {
         rm -f "$told" "$settings/ocpp_board.conf"

@@ -245,7 +245,7 @@ class Demo(ClosingTrial):
         )
         if row:
             await self.came(f"void {row['station']} {row['transaction']} 1")
-            # As an earlier version left it, which had its lines in the file alone.
+            # As an earlier version left it, which had its lines only in the file.
             await self.owner.execute("delete from own_archived_lines where shard = 0")
             await self.owner.execute("update own_closing set packed = false")
             status, said = await self.close_day("2026-11-05")

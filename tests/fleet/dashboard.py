@@ -14,7 +14,7 @@ from dataclasses import dataclass, field
 from html import escape
 from typing import Any, NamedTuple
 
-# Grafana's: pixels of a row and between panels, columns, and the width below which panels stand one below the other.
+# Grafana's: pixels of a row and between panels, columns, and the width below which panels are one below the other.
 ROW, GAP, COLUMNS, PHONE = 30, 8, 24, 769
 COLORS = (
     "#73bf69",

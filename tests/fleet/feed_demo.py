@@ -480,7 +480,7 @@ class Demo(Trial):
             database.start()
 
     async def waits(self, name: str, words: tuple[object, ...]) -> None:
-        """A broker that is not there is told once, and waited for."""
+        """A broker that is not there is reported once, and waited for."""
         log = self.fleet.folder / f"{name}.told"
         with open(log, "wb") as file:
             process = self.fleet.start(
@@ -494,7 +494,7 @@ class Demo(Trial):
         said = log.read_text().splitlines()
         self.check(
             status == 0 and len(said) == 2 and "tried again and again" in said[0],
-            f"{name}: a broker that is not there is told once and waited for: {said[0][:120] if said else ''}",
+            f"{name}: a broker that is not there is reported once and waited for: {said[0][:120] if said else ''}",
         )
 
     # Bad input --------------------------------------------------------------------------------------------------------

@@ -413,7 +413,7 @@ class Fleet:
     async def come(
         self, owner: Any, shard: int, lines: list[str], channel: str | None = None, first: int = 0
     ) -> None:
-        """Lines of a shard come, whose answers are told on a channel with tokens from this one on."""
+        """Lines of a shard come; their answers come on a channel, with tokens from this one on."""
         tokens = list(range(first, first + len(lines)))
         await owner.execute(COME, [shard] * len(lines), channel, tokens, lines)
 

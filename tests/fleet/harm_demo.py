@@ -3,7 +3,7 @@
     tests/one fleet.harm_demo ocpp_board
     tests/one fleet.harm_demo ocpp_board --big      with a log of more than 1 GiB, for which it takes 4 GiB of memory
 
-It starts PostgreSQL 15 in a temporary folder, workers and gateways. Then come: workers that all stand still; a host of
+It starts PostgreSQL 15 in a temporary folder, workers and gateways. Then come: workers that all stop; a host of
 the list that lets nobody in; a server that would lose or spoil what is answered; a dump that a younger server takes;
 strangers by the hundred; connections that never end their handshake; a gateway's own replay that hangs, and a clock of
 1972; a station that changes its shard; zones; a snapshot that stays open; a station that sends one event again and
@@ -161,13 +161,13 @@ class Demo(Trial):
         after = await self.sessions()
         self.check(
             are_all and before == after,
-            f"a channel that can't be told on costs its own answers alone: {self.answers}, sessions of workers "
+            f"a channel that can't be notified costs only its own answers: {self.answers}, sessions of workers "
             f"{'stay' if before == after else 'were lost'}",
         )
         await self.answered("after that")
 
     def told(self, _session: Any, _pid: int, _channel: str, payload: str) -> None:
-        """A worker told answers."""
+        """A worker notified answers."""
         for line in payload.split("\n"):
             token, _, answer = line.partition(" ")
             self.answers[int(token)] = answer
@@ -178,7 +178,7 @@ class Demo(Trial):
         return [row["pid"] for row in await self.owner.fetch(query)]
 
     async def starved(self) -> None:
-        """All workers stand still for longer than one may hang, as where the machine has too much to do, and one of
+        """All workers stop for longer than one may hang, as where the machine has too much to do, and one of
         them for somewhat longer."""
         await self.answered("before all workers are stopped")
         before = await self.sessions()
@@ -201,7 +201,7 @@ class Demo(Trial):
         async def is_ended() -> bool:
             return len(await self.sessions()) == len(before) // 2
 
-        self.check(await self.until(is_ended), "and one that alone is stopped is ended")
+        self.check(await self.until(is_ended), "and one that is stopped by itself is ended")
         self.workers[0].send_signal(signal.SIGCONT)
         await self.answered("and once it is woken")
 
@@ -407,7 +407,7 @@ class Demo(Trial):
         after = [row["plan"] for row in await self.owner.fetch(query)]
         self.check(
             all(new > old for new, old in zip(after, before)),
-            f"a station that changes its shard tells both: plans {before}, then {after}",
+            f"a station that changes its shard notifies both: plans {before}, then {after}",
         )
         await self.answered("in its new shard", "NEW")
         names = {

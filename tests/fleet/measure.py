@@ -465,7 +465,7 @@ def main() -> int:
     parser.add_argument(
         "--sessions", type=int, default=2, help="of a station and day, for lists (default: 2)"
     )
-    parser.add_argument("--processors", help="run on these alone, such as 0,1 (default: all)")
+    parser.add_argument("--processors", help="run only on these, such as 0,1 (default: all)")
     words = parsed(parser)
     resource.setrlimit(resource.RLIMIT_NOFILE, (resource.getrlimit(resource.RLIMIT_NOFILE)[1],) * 2)
     if words.processors:

@@ -157,7 +157,7 @@ class Demo(Trial):
         )
         self.check(
             {answer.told for answer in answers} == {one.login("nobody", "a wrong one").told},
-            "nobody is told that it is locked",
+            "nobody learns that it is locked",
         )
         self.check(other.login("sue").status == 303, "another operator signs in meanwhile")
         elsewhere = [
@@ -172,7 +172,7 @@ class Demo(Trial):
         await self.owner.execute("delete from sign_in")
 
     async def watched(self) -> None:
-        """What a page tells who watches it."""
+        """What a page reports to whoever watches it."""
         port = free_port()
         _, url = start_page(self.fleet, "--metrics", port)
         one, figures = Client(url), Client(f"http://127.0.0.1:{port}")
@@ -264,11 +264,11 @@ class Demo(Trial):
     # What who may -----------------------------------------------------------------------------------------------------
 
     async def sites(self) -> None:
-        """An operator of one site sees no other one, and can't tell that it is there."""
+        """An operator of one site sees no other one, and can't find out that it is there."""
         sue = Client(self.url)
         sue.login("sue")
         text = sue.get("/").text
-        self.check("south" in text and "north" not in text, "sue's page has her site alone")
+        self.check("south" in text and "north" not in text, "sue's page has only her site")
         for path, none in (
             ("/site/north/", "/site/nowhere/"),
             ("/site/north/board.2026-03-01.html", "/site/nowhere/board.2026-03-01.html"),
@@ -673,7 +673,7 @@ class Demo(Trial):
             await session.close()
 
     async def proxied(self) -> None:
-        """Where somebody comes from is what a proxy of ours tells last, and nothing that others tell."""
+        """Where somebody comes from is what a proxy of ours says last, and nothing that others say."""
         ann = Client(self.url)
         ann.login("ann")
         ann.heads = {"X-Forwarded-For": "192.0.2.9"}

@@ -29,7 +29,7 @@ WRONG = "wrong-0123-4567-89ab"
 # For how many seconds a stranger sends, bytes a second, and the longest wait of a true station.
 SECONDS, RATE, MOST = 5, 1_000_000, 1.0
 STRANGERS = 400
-# What a reader tells: shards whose plan changed, shards with lines, answers; and what stays in the queue while a
+# What a reader reports: shards whose plan changed, shards with lines, answers; and what stays in the queue while a
 # session that listens is in a transaction.
 NOTIFY = """
 select count(pg_notify(channel, n::text))

@@ -7,7 +7,7 @@ At each moment a station sends conflicting events of 32 kB, another one two even
 20 a second, and a third one pongs, pings, empty parts of a message or heartbeats without end; a stranger sends pongs
 before the verdict on its password, others guess the password of a station, each from an address of its own, and 260
 hold the page with half a request. Each minute come 400 strangers at 400 addresses, and a reader notifies 300,000 times;
-each five minutes a session that listens stands still while a hundredth of the server's queue of notifications fills.
+each five minutes a session that listens stops while a hundredth of the server's queue of notifications fills.
 What the ledger took is recorded. At the end it prints how often each of these was done, how long an operator waited for
 the page, and how long the station whose password is guessed waited until it was let in.
 """
@@ -244,7 +244,7 @@ class Strangers:
             reader.terminate()
 
     async def fills(self) -> None:
-        """A listener stands still in a transaction, and the queue fills."""
+        """A listener stops in a transaction, and the queue fills."""
         await asyncio.sleep(5 * MINUTE)
         sessions = [await connect(self.words.reader)]
         try:

@@ -237,7 +237,7 @@ def test_what_a_fault_says() -> None:
 
 
 def left_behind(ended: Exception) -> Exception:
-    """What a session tells that ended within a transaction, once that is left."""
+    """What a session shows that ended within a transaction, once that is left."""
     fault: Exception = asyncpg.InterfaceError("cannot call Transaction.__aexit__()")
     fault.__context__ = ended
     return fault

@@ -258,7 +258,7 @@ def station(name: str, sessions: list[Session], voided: int = 0) -> Part:
 def test_problems_are_counted_the_gravest_first() -> None:
     doubtful = session([], complete=True)
     doubtful.findings = [Finding(Kind.CLOCK_BACK, 2), Finding(Kind.REPEATED, 3)]
-    # The fall of a session that has a finding of it is told by that.
+    # The fall of a session that has a finding of it is reported by that.
     doubtful.flow = Flow(5, 1)
     fell = session([], complete=True)
     fell.flow = Flow(5, 1)

@@ -19,7 +19,7 @@ ALERTS = (FOLDER / "alerts.yml").read_text()
 NAMES = re.findall(r"- alert: (\w+)", ALERTS)
 TESTS = (FOLDER / "alerts.test.yml").read_text()
 DASHBOARD = json.loads((FOLDER / "dashboard.json").read_text())
-# What Prometheus and its client tell by themselves.
+# What Prometheus and its client report by themselves.
 OTHERS = {
     "up",
     "process_start_time_seconds",

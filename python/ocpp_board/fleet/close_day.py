@@ -633,7 +633,7 @@ def differences(new: Flows, old: Flows) -> Flows:
 
 
 def totals(share: Share, moved: Flows) -> list[tuple[Any, ...]]:
-    """By how much an archive changes the total lines of stations, as far as these tell of sessions and energies, and
+    """By how much an archive changes the total lines of stations, as far as these have sessions and energies, and
     which numbers of sessions that were archived before it corrects."""
     rows, flows = list[tuple[Any, ...]](), dict[str, Flow]()
     for (station, _), flow in moved.items():

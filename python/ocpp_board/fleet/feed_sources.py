@@ -313,7 +313,7 @@ class RabbitSource(BrokerSource):
                 if time.monotonic() > looked + LOOK and not lost.done():
                     await channel.get_queue(
                         self.words.queue, ensure=True
-                    )  # Were it deleted, nobody would tell.
+                    )  # If it were deleted, nobody would report it.
                     looked = time.monotonic()
         except aiormq.exceptions.ChannelNotFoundEntity:
             raise Fault(f"{self.where} has no queue {self.words.queue!r}") from None

@@ -638,7 +638,7 @@ class StationLink(Link):
         """The station has a newer connection, here or at another gateway."""
         if not self.is_lost:
             self.gateway.replaced.add(self.name)
-            log.info("station %s connected again while its older connection stood", self.name)
+            log.info("station %s connected again while its older connection was open", self.name)
         self.close(1000, "the station connected again")
 
     def text(self, data: bytes) -> None:
