@@ -28,6 +28,7 @@ impl From<AllocError> for BoardsFault {
 
 /// The text of the board of the site of this number: computed from scratch from the contents of its stations'
 /// ledgers, by the site's length of periods and order of readings, with the sums over the stations as its totals.
+/// The error says that the allocator refused memory.
 ///
 /// Condition: the closed desk was opened for this plan, and the plan has the site.
 pub fn closed_board<J: Naming>(
@@ -48,7 +49,7 @@ pub fn closed_board<J: Naming>(
 }
 
 /// Writes the board of each site, in the plan's order, as [`closed_board`] makes it. Each is written and flushed
-/// before the next is made.
+/// before the next is made. Errors: `OutOfMemory`, `WriteFault`.
 ///
 /// Condition: the closed desk was opened for this plan.
 pub fn write_boards<J: Naming, W: Write>(

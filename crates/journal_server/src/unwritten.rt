@@ -76,9 +76,9 @@ pub fn serve_live<
     serve_unwritten(rt, plan, live, clients, input, console, lines)
 }
 
-/// Serves a number of connections of a plan's stations as [`serve_live`] does, two sessions of each station at once, and
-/// ends when all have ended. It glances at the totals as often as the options say, also if the connections end before
-/// that.
+/// Serves a number of connections of a plan's stations as [`serve_live`] does, up to two sessions of each station at
+/// once, and ends when all have ended. It glances at the totals as often as the options say, also if the connections end
+/// before that.
 pub fn serve_counted<R: AllocGlobal + Host, T: Write + Drop, L: Write + Send + Drop>(
     rt: &R,
     plan: &Plan,

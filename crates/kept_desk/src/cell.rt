@@ -85,7 +85,7 @@ impl<K: Opening> KeptCell<K> {
         log.compare(&mut self.share);
     }
 
-    // Both parts, once the journal has no lock any more.
+    // Both parts, after the journal is out of its lock.
     pub(crate) fn into_parts(self) -> (StationCell, Share<K>)
         ensures cell { result.0 ≡ self }
         ensures left { KeepsCell K.first self result.1 }

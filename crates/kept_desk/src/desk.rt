@@ -59,7 +59,8 @@ impl<J: Naming, K: Opening, W: Write + Drop> Model for KeptDesk<J, K, W> {
 
 impl<J: Naming, K: Opening, W: Write + Drop> KeptDesk<J, K, W> {
     /// The desk of a plan over these parts, with a journal without entries that writes behind what its
-    /// writer has already, and the viewers, each with its site's number.
+    /// writer has already, and the viewers, each with its site's number. The error says that the
+    /// allocator refused memory.
     ///
     /// Conditions: K names this table, the bytes that the writer behind the buffer has, and the stations' contents and
     /// names; nothing is left in the buffer; the plan has no fault ([`Plan::fault`] tests it), and the parts are a cell
@@ -111,7 +112,8 @@ impl<J: Naming, K: Opening, W: Write + Drop> KeptDesk<J, K, W> {
 
     /// The boards of a site as [`Desk::site_boards`] gives them, and the moment of the journal that they show: each board
     /// is that of the content that its station's entries at that moment lead to. The call takes the journal's lock while
-    /// it holds those of the site, and gives it back before it makes the boards.
+    /// it holds those of the site, and gives it back before it makes the boards. Errors are those of
+    /// [`Desk::site_boards`].
     pub fn site_boards<R: Wait>(
         &self,
         rt: &R,
@@ -169,7 +171,8 @@ impl<J: Naming, K: Opening, W: Write + Drop> KeptDesk<J, K, W> {
     }
 
     /// Closes the desk as [`Desk::close`] does, and then compares each station's share, and each moment that
-    /// is handed in, with the journal. It takes no memory.
+    /// is handed in, with the journal. It takes no memory. The error gives all back as it was, with the
+    /// fault.
     pub fn close(
         self,
         passes: Vec<Pass>,

@@ -27,7 +27,7 @@ impl Model for JournalTable {
 }
 
 impl JournalTable {
-    /// The table of one journal.
+    /// The table of one journal. The error says that the allocator refused memory.
     pub fn new(alloc: Global) -> Result<Self, AllocError> {
         let (table, seat) = EntryTable::of_words(alloc, &[0; 1], &())?;
         Ok(JournalTable { table, seat })

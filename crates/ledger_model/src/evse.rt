@@ -27,7 +27,7 @@ impl Model for EvseId {
 }
 
 impl EvseId {
-    /// The EVSE of this number; `None` above 64.
+    /// The EVSE of this number, 0 to 64 (0 names none); `None` above 64.
     pub fn new(number: u8) -> Option<Self>
         ensures valid { IsSome result ↔ (number ≤ greatest_evse) }
         ensures value { IfSome result (λ e. e ≡ number) }

@@ -46,7 +46,7 @@ pub fn multiplier_ok(multiplier: i8) -> bool
 
 /// The milliwatt-hours of a decimal of RFC 8259 in a unit, times the power of ten that the multiplier
 /// names; rounded down to a whole number, 0 to 10^13. Minus zero is 0. The multiplier must be from -12
-/// to 12 (`multiplier_ok` tests it).
+/// to 12 (`multiplier_ok` tests it). The error is the first [`DecimalFault`] that applies.
 pub fn mwh_of(token: &str, multiplier: i8, unit: Unit) -> Result<u64, DecimalFault>
     requires low { negsuc 11 ≤ℤ multiplier }
     requires high { multiplier ≤ℤ pos 12 }

@@ -17,7 +17,8 @@ pub enum MomentFault {
 
 /// The instant of a time with its offset, as RFC 3339 writes it. It reads what `jiff` reads as a
 /// `Timestamp`, so also wider forms of ISO 8601. An annotation in brackets doesn't move the
-/// instant, and second 60 is read as 59.
+/// instant, and second 60 is read as 59. Errors: `NotATime`, and `MomentRange` outside the years
+/// 2000 to 2099.
 pub fn moment_of(text: &str) -> Result<Moment, MomentFault>
     ensures { result ≡ spec.moment_reading text.now }
 {

@@ -3,7 +3,7 @@ ghost use Rattle.std.specs.Prelude.{◌≡◌, ◌+◌, ◌≤◌, ◌<◌, ◌*
 ghost use Rattle.std.specs.Float.Numeral.{scan_numeral, has_exponent, exponent_start, digits_end, numeral_digits, tens_up, tens_down};
 ghost use Rattle.std.specs.Str.Parse.{AllDigits, digits_value, digits_value_after};
 
-// The longest run of digits, point and exponent at the front of a text.
+/// The longest run of digits, point and exponent at the front of a text, in its parts.
 #[derive(Drop)]
 pub struct Numeral<'a> {
     pub whole: &'a [u8],
@@ -18,6 +18,7 @@ impl<'a> Numeral<'a> {
     ghost use Rattle.reading_decimal.specs.Numeral.{parts_of, IsShort};
     ghost use Rattle.reading_decimal.specs.Decimal.{is_decimal_of};
 
+    /// The numeral at the front of these bytes; its digits may be none.
     pub fn scan(bytes: &'a [u8]) -> Numeral<'a>
         ensures { parts_of result ≡ scan_numeral bytes.now }
     {
@@ -74,7 +75,7 @@ impl<'a> Numeral<'a> {
         }
     }
 
-    // Whether the whole text, of a length in bytes, is a number of RFC 8259.
+    /// Whether the whole text, of a length in bytes, is a number of RFC 8259, its sign apart.
     pub fn is_decimal(&self, len: usize) -> bool
         ensures { result ≡ is_decimal_of (parts_of self.now) len }
     {
@@ -83,6 +84,7 @@ impl<'a> Numeral<'a> {
         whole && fraction && self.len == len
     }
 
+    /// The number in the exponent, without its sign; 0 if there is no exponent.
     pub fn exponent_value(&self) -> u128
         requires { IsShort (parts_of self.now) }
         ensures { result ≡ digits_value 10 self.now.exponent.now }
@@ -90,7 +92,7 @@ impl<'a> Numeral<'a> {
         value_after(0, self.exponent)
     }
 
-    // The digits before and after the point, read as one number.
+    /// The digits before and after the point, read as one number.
     pub fn digits_value(&self) -> u128
         requires { IsShort (parts_of self.now) }
         ensures { result ≡ numeral_digits (parts_of self.now) }
@@ -98,6 +100,7 @@ impl<'a> Numeral<'a> {
         value_after(value_after(0, self.whole), self.fraction)
     }
 
+    /// The power of ten that the numeral multiplies its digits by, given its exponent without sign.
     pub fn tens_up(&self, exponent: u32) -> u32
         requires { exponent ≡ digits_value 10 self.now.exponent.now }
         ensures { result ≡ tens_up (parts_of self.now) }
@@ -105,6 +108,7 @@ impl<'a> Numeral<'a> {
         if self.exponent_negative { 0 } else { exponent }
     }
 
+    /// The power of ten that the numeral divides its digits by, given its exponent without sign, at most 99.
     pub fn tens_down(&self, exponent: u32) -> u32
         requires value { exponent ≡ digits_value 10 self.now.exponent.now }
         requires few { exponent ≤ 99 }

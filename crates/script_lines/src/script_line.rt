@@ -207,7 +207,7 @@ fn number(word: &str) -> Option<u64>
     }
 }
 
-/// The order of readings that a word names: `sequence` or `moment`.
+/// The order of readings that a word names: `sequence` or `moment`; `None` for any other word.
 pub fn order_of(word: &str) -> Option<Order>
     ensures { result ≡ spec.order_word word.now }
 {

@@ -142,7 +142,7 @@ impl<J: Naming> Desk<J, StationCell> {
 
 impl<J: Naming, C: HasCell> Desk<J, C> {
     /// The desk of a plan over the values for its locks, in the plan's order; `viewers` viewers were
-    /// given out. It takes memory for the locks.
+    /// given out. It takes memory for the locks; the error says that there is none.
     ///
     /// Conditions: the plan has no fault ([`Plan::fault`] tests it), and each station has its cell and
     /// each site its book, as [`Parts::open`] gives them.
@@ -182,7 +182,8 @@ impl<J: Naming, C: HasCell> Desk<J, C> {
         self.places.len()
     }
 
-    /// A new pass of the station of this name. The call waits for the station's lock.
+    /// A new pass of the station of this name. The call waits for the station's lock. Errors:
+    /// `UnknownStation`, `TooManyPasses`.
     pub fn enlist<R: Wait + Threads>(&self, rt: &R, name: &Name) -> Result<Pass, EnlistFault>
         ensures unknown { (result ≡ Err EnlistFault.UnknownStation) ↔ (list_any (λ p. bytes_eq name.now p.name) self.now.stations ≡ false) }
         ensures station { IfOk result (λ p. IsNamed self.now.stations name.now p.station) }
@@ -239,8 +240,9 @@ impl<J: Naming, C: HasCell> Desk<J, C> {
         )
     }
 
-    /// The board of the station of this name. It waits for the station's lock. `Torn` means that
-    /// another station's cell is there, which no run of these calls meets.
+    /// The board of the station of this name. It waits for the station's lock. Errors:
+    /// `UnknownStation`, `OutOfMemory`, `Torn`. `Torn` means that another station's cell is there,
+    /// which no run of these calls meets.
     pub fn station_board<R: Wait>(
         &self,
         rt: &R,
@@ -265,7 +267,7 @@ impl<J: Naming, C: HasCell> Desk<J, C> {
         }
     }
 
-    /// The number of the station of this name in the plan.
+    /// The number of the station of this name in the plan, if there is the station.
     pub fn number(&self, name: &Name) -> Option<u16>
         ensures known { is_some result ≡ list_any (λ p. bytes_eq name.now p.name) self.now.stations }
         ensures named { IfSome result (IsNamed self.now.stations name.now) }
@@ -288,7 +290,8 @@ impl<J: Naming, C: HasCell> Desk<J, C> {
     }
 
     /// The figures of the station of this name, and its imported and exported energy, all of one moment. It waits for
-    /// the station's lock. `Torn` means that another station's cell is there, which no run of these calls meets.
+    /// the station's lock. Errors: `UnknownStation`, `Torn`. `Torn` means that another station's cell is there, which
+    /// no run of these calls meets.
     pub fn station_totals<R: Wait>(
         &self,
         rt: &R,
@@ -309,8 +312,9 @@ impl<J: Naming, C: HasCell> Desk<J, C> {
         Ok(totals_of(own))
     }
 
-    /// How much of each limit the station of this number uses. It waits for the station's lock. `Torn` means that
-    /// another station's cell is there, which no run of these calls meets.
+    /// How much of each limit the station of this number uses. It waits for the station's lock. Errors:
+    /// `UnknownStation`, `Torn`. `Torn` means that another station's cell is there, which no run of these calls
+    /// meets.
     pub fn used_limits<R: Wait>(&self, rt: &R, station: u16) -> Result<UsedLimits, BoardFault>
         ensures unknown { (result ≡ Err BoardFault.UnknownStation) ↔ (nat_lt station (length self.now.stations) ≡ false) }
         ensures used { IfOk result (IsUsedAt self.now.stations station) }
@@ -330,9 +334,9 @@ impl<J: Naming, C: HasCell> Desk<J, C> {
 
     /// The boards of the stations of the site of this number, in the plan's order and each with the
     /// station's name, and the sums of their figures, all of one moment. It waits for the locks of these
-    /// stations in the plan's order, then for that of the site's book, and holds them all. It answers
-    /// `Torn` for a site that the desk doesn't have, and if cells and book don't fit together, which no
-    /// run of these calls meets.
+    /// stations in the plan's order, then for that of the site's book, and holds them all. Errors:
+    /// `OutOfMemory`, `Torn`. It answers `Torn` for a site that the desk doesn't have, and if cells and
+    /// book don't fit together, which no run of these calls meets.
     pub fn site_boards<R: Wait>(
         &self,
         rt: &R,
@@ -359,7 +363,7 @@ impl<J: Naming, C: HasCell> Desk<J, C> {
     }
 
     /// The boards of a site as [`Desk::site_boards`] gives them, and a note of the cells that they show, made at that one
-    /// moment, while all locks of the site are held.
+    /// moment, while all locks of the site are held. Errors are those of [`Desk::site_boards`].
     pub fn site_boards_by<S: Notes<C, N>, N: Drop, R: Wait>(
         &self,
         rt: &R,
@@ -389,7 +393,7 @@ impl<J: Naming, C: HasCell> Desk<J, C> {
 
     /// Moves all values out of their locks and compares them as [`Desk::close`] does, and only then gives
     /// anything up. It returns what was behind the stations' locks and the books, both in the plan's order, and
-    /// the passes.
+    /// the passes. The error gives all back as it was, with the fault.
     pub fn take_apart(
         self,
         passes: Vec<Pass>,

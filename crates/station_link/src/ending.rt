@@ -56,7 +56,7 @@ impl Why {
     }
 }
 
-// How a session ends: why, and the code of its close frame, if it sends one (RFC 6455).
+/// How a session ends: why, and the code of its close frame, if it sends one (RFC 6455).
 #[derive(Clone, Copy)]
 pub struct Ending {
     pub(crate) why: Why,

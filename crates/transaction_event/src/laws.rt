@@ -9,7 +9,6 @@ pub fn deliveries_are_answered()
 
 /// Each event that a text means can be delivered to a ledger: its key, its moment, its EVSE and its readings
 /// are in their ranges.
-
 pub fn deliveries_are_admissible()
     ensures { EachDeliveryIsAdmissible }
 {}

@@ -125,7 +125,8 @@ impl<'a> RequestMembers<'a> {
         required_text_of(self.trigger_reason)
     }
 
-    /// The key of the event: `seqNo`, and the `transactionId` of `transactionInfo`.
+    /// The key of the event: `seqNo`, 0 to 2,147,483,647, and the `transactionId` of
+    /// `transactionInfo`. Faults: `Missing`, `WrongType`, `Range`.
     #[tactic(auto, unfolding(crate::specs::Request::key_of))]
     pub fn key(&self) -> Result<Key, PayloadFault>
         requires { AreFound self.now }
@@ -138,7 +139,8 @@ impl<'a> RequestMembers<'a> {
         Ok(Key::new(tx, seq.unsigned_abs() as u32).unwrap())
     }
 
-    /// The EVSE of the event, if it names one: `evse` with its `id`.
+    /// The EVSE of the event, if it names one: `evse` with its `id`, 1 to 64. Faults: `Missing` (an
+    /// `evse` without `id`), `WrongType`, `Range`.
     #[tactic(auto, unfolding(crate::specs::Request::evse_of))]
     pub fn evse(&self) -> Result<Option<EvseId>, PayloadFault>
         requires { AreFound self.now }
@@ -149,7 +151,7 @@ impl<'a> RequestMembers<'a> {
         evse_number(optional_object_of(self.evse)?)
     }
 
-    /// Whether an `idToken` is there; nothing in it is looked at.
+    /// Whether an `idToken` is there; its members are not read. Fault: `WrongType`.
     #[tactic(auto, unfolding(crate::specs::Request::has_token))]
     pub fn has_token(&self) -> Result<bool, PayloadFault>
         requires { AreFound self.now }

@@ -89,7 +89,8 @@ fn add_counted(
 }
 
 /// Adds the reading of a sampled value, if it counts: one of an active energy register, of no
-/// single phase, taken at the outlet (SampledValueType, OCPP 2.0.1 Part 2, J02).
+/// single phase, taken at the outlet (SampledValueType, OCPP 2.0.1 Part 2, J02). Faults:
+/// `WrongType`, `Range`, `Missing`, `Decimal`, `TooManyReadings`, `OutOfMemory`.
 #[tactic(auto, unfolding(crate::specs::Sampled::sample))]
 pub fn sample(
     moment: Moment,
