@@ -41,8 +41,8 @@ pub record HasWhole (log : List Entry) (front : List ℕ) (k : ℕ) : Type 0 whe
 
 -- Take a script that ends with a plan's stations in these contents, and behind it the front of a
 -- journal's text, cut anywhere, and a mark. The longer script ends with the contents to which the
--- entries lead that have whole lines in that front. So a journal that was cut at any byte loses no
--- whole line and gains none.
+-- entries with whole lines in that front lead. So a journal that was cut at any byte loses no whole
+-- line and gains none.
 abbrev pub CutsAreScripts : Type 0
 CutsAreScripts = (read : List ℕ) (sites : List SitePlan) (stations : List StationPlan) (firsts : List Cell) (log : List Entry) (front rest mark : List ℕ)
     → EndsWhole read → HasOnce sites stations → Shows (script_after start (lines_of longest_line read)) sites stations firsts

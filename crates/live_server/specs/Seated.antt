@@ -57,7 +57,8 @@ pub record HasBegun (worker station number : ℕ) (before : List (Option ServedC
   pub few : count_at (Some station) (serving worker (Some station) number before) ≤ 2 → (told ≡ None) × (now ≡ serving worker (Some station) number before)
   pub many : 2 < count_at (Some station) (serving worker (Some station) number before) → IsTold (Some station) (serving worker (Some station) number before) told now
 
--- The first of two workers, unless its connection's number is greater than this one, which is that of the second.
+-- The first of two workers, unless it serves nobody or its connection's number is greater than this one, the
+-- second worker's.
 abbrev pub older_by : Option (Option ServedConnection) → ℕ → ℕ → ℕ → Option ℕ
 older_by None first second number = Some second
 older_by (Some None) first second number = Some second

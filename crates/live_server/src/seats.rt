@@ -158,8 +158,8 @@ fn older_of(
     }
 }
 
-// The first of these workers, unless its number is greater than this one, which is the second
-// worker's.
+// The first of these workers, unless it serves nobody or its number is greater than this one, the
+// second worker's.
 fn oldest_of_two(
     rows: &[Option<ServedConnection>],
     first: usize,

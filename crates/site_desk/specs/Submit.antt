@@ -23,7 +23,8 @@ pub record IsTakenAt (at : StationPlace) (before : Content) (command : Command) 
   pub tied : row_after at.row posts ≡ figures_by at.order (entries before)
   pub posted : told ≡ Some (known at.site (posts ++ (at.row, figures_by at.order (entries (step at.limits before command).0)) ∷ []))
 
--- If this answer to the command is Accepted, the command was accepted at this content.
+-- If this answer to the command is Accepted, the command was accepted at this content; any other
+-- answer comes without a `Told`.
 abbrev pub TellsOf : StationPlace → Content → Command → Answer → Option Known → Type 0
 TellsOf at before command (Accepted n) told = IsTakenAt at before command n told
 TellsOf at before command Repeat told = told ≡ None
