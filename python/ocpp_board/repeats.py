@@ -23,11 +23,11 @@ Payload = dict[str, Any]
 
 
 class Kind(NamedTuple):
-    """A station: its name, when its sessions begin behind the others', what it lists again, and of which registers."""
+    """A station: its name, when its sessions begin after the others', what it lists again, and its registers."""
 
     name: str
     after: timedelta
-    # Events of a session, from the first one on, whose readings its end lists again.
+    # How many events of a session, from the first on, have readings that its end lists again.
     again: int
     measurands: tuple[str, ...] = (IMPORT,)
 

@@ -326,7 +326,7 @@ class RabbitSource(BrokerSource):
             self.tell_once(f"{self.where}: the connection ended; tried again and again")
 
     def batch(self, messages: list[Any]) -> Batch:
-        """The events of these messages, the last of which is acknowledged with all before it."""
+        """The events of these messages; the last is acknowledged with all before it."""
         where = f"a message of {self.words.queue}"
         events = [self.take(where, lambda: self.read(message)) for message in messages]
         return Batch(

@@ -71,7 +71,7 @@ class Spool:
 
 
 class Texts(Sequence[str]):
-    """The texts of lines, each of which is read when it is asked for."""
+    """The texts of lines; each is read when it is asked for."""
 
     def __init__(self, lines: Iterable[Stored]) -> None:
         self.lines = list(lines)
