@@ -12,8 +12,8 @@
 //!
 //! A desk may keep more than a cell behind a station's lock, as one with a journal does: any type that [`HasCell`]
 //! ([`Desk::over`], [`Desk::take_apart`]). It then takes commands in a way of its own that [`Settles`]
-//! ([`Desk::submit_by`]; its parts are [`can_judge`] and [`settle_at`]). If a written change finds its site's book
-//! not as it should be, the cell leaves service ([`StationCell::retire`]).
+//! ([`Desk::submit_by`]; its parts are [`can_judge`] and [`settle_at`]). If a change that was already written can't be
+//! settled, the cell leaves service ([`StationCell::retire`]).
 //!
 //! The crate's contract: the answer of [`Desk::submit`] is the step's answer at some content that accepted commands
 //! lead to, since nobody knows beforehand what is behind a lock. A command is accepted only if all that `settle` asks
