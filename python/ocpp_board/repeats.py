@@ -12,7 +12,7 @@ SITE = "north"
 # Sessions of a station, of the 1,024 transactions that it may have without a line `limits`.
 MOST_SESSIONS = 1_000
 FIRST = datetime(2026, 3, 1, 8, tzinfo=timezone.utc)
-# Events of a session, from one to the next, and from one session to the next. The second event of a session lies in the
+# Events of a session, from one to the next, and from one session to the next. The second event of a session is in the
 # quarter of an hour in which it begins, so that a first reading that is listed again brings no period more.
 EVENTS, STEP, PAUSE = 6, timedelta(minutes=5), timedelta(hours=3)
 # What a register reads first, and rises by from event to event at least and at most, in Wh.

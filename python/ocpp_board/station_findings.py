@@ -1,4 +1,4 @@
-"""What is doubtful in a station's sessions beside each other: what lies between them, and what none of them has."""
+"""What is doubtful in a station's sessions beside each other: what is between them, and what none of them has."""
 
 from collections import defaultdict
 from collections.abc import Iterable, Iterator, Mapping, Sequence

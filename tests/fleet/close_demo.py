@@ -37,7 +37,7 @@ class Demo(ClosingTrial):
     # What is tried ----------------------------------------------------------------------------------------------------
 
     async def days(self) -> None:
-        # An event and its void, the places of which are not in the order of their texts.
+        # An event and its void; their places are not in the order of their texts.
         early = session("B", "Early", local("2026-03-01 06:00"), 3)
         await self.came(*early, *6 * early[:1], "void B Early 1")
         first = session("A", "TX-1", local("2026-03-01 08:00"), 5)

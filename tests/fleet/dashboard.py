@@ -59,7 +59,7 @@ class Line(NamedTuple):
 
 @dataclass
 class Target:
-    """An expression of a panel, its legend, its unit, at which side its axis is, and what it gave."""
+    """An expression of a panel, its legend, its unit, the side of its axis, and what it gave."""
 
     expression: str
     legend: str

@@ -87,7 +87,7 @@ NUMBERING = """
 select count(pg_terminate_backend(pid)) from pg_stat_activity
 where application_name like 'worker_%' and query like '%numbered%' and state = 'active'
 """
-# Shards whose places have a gap or are no more than their lines, and lines that have none.
+# Shards where the places of lines are not 1, 2, 3 and so on, and lines that have none.
 UNEVEN = """
 select count(*) from (
     select shard from own_log group by shard having count(*) <> max(place) or min(place) <> 1
@@ -624,7 +624,7 @@ class Demo(Trial):
         await self.under_load("primary", promoted)
 
     async def disk(self) -> None:
-        """A database whose file system is full for some seconds."""
+        """The database's file system is full for some seconds."""
         small = self.fleet.folder / "small"
         small.mkdir()
         made = subprocess.run(

@@ -603,7 +603,7 @@ class Demo(Trial):
         process.wait()
 
     async def cells(self) -> None:
-        """Stations of two cells, one shard of which moves, from one file, with kills."""
+        """Stations of two cells, from one file, with kills, while one shard moves."""
         self.fleet.databases[0].fill(2, "second")
         second = f"{self.fleet.dsn('ledger_feed').removesuffix('ledger')}second"
         owners = [

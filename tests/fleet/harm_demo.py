@@ -71,7 +71,7 @@ class Demo(Trial):
         self.url = ""
 
     async def open(self) -> None:
-        """Workers and a gateway whose list has a second host, which knows none of their roles."""
+        """Workers and a gateway with a second host in their list, which knows none of their roles."""
         await self.one_cell()
         self.other = self.fleet.database("other")
         self.other.make()
@@ -322,7 +322,7 @@ class Demo(Trial):
         await self.looked_for()
 
     async def looked_for(self) -> None:
-        """Strangers for whose names the database takes 4 seconds: they wait, and nobody else does."""
+        """The database takes 4 seconds for the names of strangers: they wait, and nobody else does."""
         most = 1.5 + await self.slack()
         await (await Client.open(self.url, "NOBODY")).said()
         pid = await self.owner.fetchval(LOOKING)
@@ -341,7 +341,7 @@ class Demo(Trial):
         )
 
     async def handshakes(self) -> None:
-        """A handshake of which a byte comes each second."""
+        """A handshake that comes at one byte a second."""
         most = LIMIT + 4 + await self.slack()
         host, port = self.url.removeprefix("ws://").removesuffix("/ocpp").split(":")
         reader, writer = await asyncio.open_connection(host, int(port))
@@ -373,7 +373,7 @@ class Demo(Trial):
         self.check(heard.startswith('[3,"1",'), f"its replay hangs: {heard} after {took:.0f} s")
 
     async def clock(self) -> None:
-        """A gateway whose clock is before 2000."""
+        """A gateway with a clock before 2000."""
         process = self.fleet.patched(
             "import time; real = time.time; time.time = lambda: real() - 1_700_000_000",
             "gateway", "--db", self.fleet.dsn("ledger_gateway"), "--program", self.fleet.program,
@@ -487,14 +487,14 @@ class Demo(Trial):
         await self.answered("once it is no longer waited for")
 
     async def set(self, name: str, value: str) -> None:
-        """Changes a setting of the server, whose commits do not wait for that."""
+        """Changes a setting of the server; commits do not wait for that."""
         await self.owner.execute("set synchronous_commit = local")
         await self.owner.execute(f"alter system set {name} = '{value}'")
         await self.owner.execute("select pg_reload_conf()")
         await asyncio.sleep(0.5)
 
     async def crash(self) -> None:
-        """Servers whose file has synchronous_commit off are killed behind answers."""
+        """Servers with synchronous_commit off in their file are killed behind answers."""
         database: Database = self.fleet.databases[0]
         await self.set("synchronous_commit", "off")
         await self.set("wal_writer_delay", "10000")

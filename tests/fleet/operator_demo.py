@@ -508,7 +508,7 @@ class Demo(Trial):
             await self.slow_forms(what, addresses)
 
     async def slow_forms(self, what: str, addresses: int) -> None:
-        """Forms whose bodies don't come."""
+        """Forms with bodies that don't come to their end."""
         host, port = self.url.removeprefix("http://").split(":")
         head = (
             b"POST /login HTTP/1.1\r\nHost: a\r\nContent-Length: 100\r\n"
@@ -688,7 +688,7 @@ class Demo(Trial):
         self.check(await asyncio.to_thread(process.wait, 20) == 0, "a page ends by SIGTERM")
 
     async def cells(self) -> None:
-        """A site with stations in two cells, of which the first one has the operators."""
+        """A site with stations in two cells; the first one has the operators."""
         self.fleet.databases[0].fill(2, "second")
         second = await connect(self.fleet.dsn("owner", database="second"))
         await second.execute("select add_station(9, 'north', 'CS-90')")

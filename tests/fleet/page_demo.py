@@ -57,7 +57,7 @@ return found;
 
 
 def session(transaction: str, day: str, numbers: list[int], last: int) -> list[str]:
-    """The events of these numbers, of which `last` is the end, each a quarter of an hour after the one before."""
+    """The events of these numbers, each a quarter of an hour after the one before; `last` is the end."""
     return [
         event(
             transaction,
@@ -215,7 +215,7 @@ class Demo(Trial):
         return str(self.browser.find_element(By.ID, "answer").text)
 
     def told(self) -> str:
-        """How the figures of a page are told."""
+        """What a page says about its figures."""
         return str(self.browser.find_element(By.ID, "about").text)
 
     def figure(self, path: str, name: str) -> str:

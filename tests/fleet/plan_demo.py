@@ -199,7 +199,7 @@ class Demo(Trial):
         )
 
     async def moved(self) -> None:
-        """A move is told in both cells."""
+        """A move is reported in both cells."""
         self.fleet.databases[0].fill(2, "second")
         second = await connect(self.fleet.dsn("owner", database="second"))
         status, said = await ended(

@@ -32,7 +32,7 @@ from ocpp_board.fleet.parts import use_uvloop
 from tests.fleet.client import Client, handshake
 from tests.fleet.trials import event
 
-# The stations that do harm, by what they do, and the one whose password is guessed.
+# The stations that do harm, by what they do, and the one with the password that is guessed.
 CONFLICTS, TURNS, FRAMES, GUESSED = "ODD-CONFLICTS", "ODD-TURNS", "ODD-FRAMES", "ODD-GUESSED"
 ODD = (CONFLICTS, TURNS, FRAMES, GUESSED)
 WRONG = "wrong-0123-4567-89ab"

@@ -222,7 +222,7 @@ class WatchedTrial(Trial):
         await self.held.execute("set idle_in_transaction_session_timeout = 0; begin; select 1")
 
     async def queue(self) -> None:
-        """A session that listens is in an open transaction, and 64 MB are told."""
+        """A session that listens is in an open transaction, and 64 MB of notifications wait."""
         self.held = await connect(self.fleet.dsn("owner"))
         for statement in (
             "set idle_in_transaction_session_timeout = 0",

@@ -148,7 +148,7 @@ def replayed(program: str, script: bytes, *sites: str) -> tuple[list[str], str]:
 
 
 def is_the_boards(program: str, journal: Path, wanted: str) -> None:
-    """The journal is a script of which each line is accepted, and that ends in these boards."""
+    """The journal is a script that ends in these boards; each of its lines is accepted."""
     answers, found = replayed(program, journal.read_bytes(), "north", "south")
     if left := [answer for answer in answers if not answer.startswith(("[3,", "accepted "))]:
         raise Differs(f"a replay of the journal answers {left[:3]}")
@@ -163,7 +163,7 @@ def sends(station: Station, text: bytes, reply: bytes) -> None:
 
 
 def rising(number: int) -> bytes:
-    """An event of a transaction whose register rises by one with each."""
+    """An event of a transaction; the register rises by one with each."""
     return event(number, "Updated", "2026-03-01T10:00:00Z", number)
 
 
@@ -200,7 +200,7 @@ def reply_before_line(program: str) -> None:
         station.leaves()
 
 
-# Limits and a station, in front of a journal of which each front is restored.
+# Limits and a station, in front of a journal; each front of it is restored.
 SMALL = b"limits 4 8 8 9\nstation north A\n"
 
 

@@ -1,4 +1,4 @@
-"""Plays a server that lives with clients of its own and an operator's lines, and compares what is answered and told.
+"""Plays a server that lives with clients of its own and an operator's lines, and compares what it answers and reports.
 
     tests/one scenes.living PROGRAM
 
@@ -102,7 +102,7 @@ def silent_station_comes_again(program: str) -> None:
 
 
 def end_while_clients_are_silent(program: str) -> None:
-    """64 clients say nothing, of which 20 are in their handshake and one in the middle of a message."""
+    """64 clients say nothing: 20 are in their handshake and one in the middle of a message."""
     names = [f"S{number}" for number in range(22)]
     with Live(
         program, "--watch", "600", stations=tuple(f"north/{name}" for name in names)
@@ -120,7 +120,7 @@ def end_while_clients_are_silent(program: str) -> None:
 
 
 def half_open_connections_hold_no_station(program: str) -> None:
-    """60 connections of which none finishes its handshake; a station is answered within two seconds all the same."""
+    """None of 60 connections finishes its handshake; a station is answered within two seconds all the same."""
     with Live(program, stations=("north/A",)) as server:
         open_ = [Client(server) for _ in range(60)]
         for client in open_[::2]:

@@ -140,7 +140,7 @@ def test_a_worker_whose_session_is_ended_beats_until_it_is_told() -> None:
 
 
 class Slow:
-    """A session with the database whose commit takes so many seconds, and waits for a standby or does not."""
+    """A session with the database. Its commit takes so many seconds, and waits for a standby or does not."""
 
     def __init__(self, seconds: float, waits: bool) -> None:
         self.seconds, self.rows = seconds, [object()] if waits else []

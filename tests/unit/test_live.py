@@ -40,7 +40,7 @@ def board(*ups: int) -> bytes:
 
 
 def changed(before: bytes, after: bytes) -> list[int]:
-    """The days of March whose pages are others."""
+    """The days of March that have other pages."""
     calendar = Calendar(timezone.utc)
     old, new = digests(before, calendar), digests(after, calendar)
     return [day.day for day in new if old.get(day) != new[day]]

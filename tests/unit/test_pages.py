@@ -396,7 +396,7 @@ def test_stations_with_troubles_and_the_last_day_come_first_on_a_page(tmp_path: 
 
 
 def test_no_page_is_larger_than_300_kb(tmp_path: Path) -> None:
-    """Sixty stations whose sessions have many gaps, on four years of days with periods of five minutes on the last."""
+    """Sixty stations with many gaps in their sessions, on four years of days; the last has periods of five minutes."""
     gaps = [(1 + 2 * number, 1 + 2 * number) for number in range(199)]
     one = board(60)
     one.site.periods = [

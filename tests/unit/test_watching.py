@@ -1,4 +1,4 @@
-"""Alerts and dashboard of a fleet: what they ask for is told, each alert fires in a test, and each has its remedy."""
+"""Alerts and dashboard of a fleet: each metric in them exists, each alert fires in a test, and each has its remedy."""
 
 import json
 import re

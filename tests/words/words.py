@@ -126,7 +126,7 @@ class Run:
         return line
 
     def ended(self, given: dict[str, str]) -> tuple[int, str, str]:
-        """Runs the command: its status, and what it wrote and told."""
+        """Runs the command: its status, and what it wrote to its two outputs."""
         with (
             tempfile.TemporaryFile() as told,
             subprocess.Popen(

@@ -502,7 +502,7 @@ class Session:
                     self.behind.add(shard.number)
 
     def loaded(self, shard: Shard) -> None:
-        """The shard's log was read to its end; what lies in its inboxes comes next."""
+        """The shard's log was read to its end; what is in its inboxes comes next."""
         self.behind.discard(shard.number)
         shard.is_loaded, shard.read = True, shard.last
         took = asyncio.get_running_loop().time() - shard.began
