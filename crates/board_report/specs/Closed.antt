@@ -10,7 +10,8 @@ use Rattle.site_desk.specs.Plan.{order_at, period_at}
 use Rattle.site_desk.specs.Close.{AreSummed, Ended}
 use Rattle.board_report.specs.Boards.{AreOpenedFor, site_boards}
 
--- A closed desk of these sites and stations: each site has its book, each station its cell at its site, and each book's totals are the sums over its site's cells.
+-- A closed desk of these sites and stations: each site has its book, each station its cell at its site, and each book's
+-- totals are the sums over its site's cells.
 pub record IsClosedOf (sites : List SitePlan) (stations : List StationPlan) (closed : Ended) : Type 0 where
   pub books : length closed.books ≡ length sites
   pub cells : AreOpenedFor sites stations closed.cells

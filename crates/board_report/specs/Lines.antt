@@ -26,7 +26,8 @@ pub record CanPlusFlows (a b : Flows) : Type 0 where
   pub flow : CanPlus a.flow b.flow
   pub export : CanPlus a.export b.export
 
--- A line can be added before rising lines: its number is not above the first, and if both are equal, their energies can be added.
+-- A line can be added before rising lines: its number is not above the first, and if both are equal, their energies can
+-- be added.
 abbrev pub CanLead : Flowed → List Flowed → Type 0
 CanLead new [] = Unit {0}
 CanLead new (line ∷ lines) = (new.0 ≤ line.0) × (new.0 ≡ line.0 → CanPlusFlows new.1 line.1)

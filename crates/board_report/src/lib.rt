@@ -5,17 +5,19 @@
 //! site's board. A replay uses it, and so does [`closed_board`], which makes the board of a site of a closed desk.
 //! [`write_boards`] writes those of all its sites, and [`running_board`] makes the board of a site of a running desk.
 //!
-//! Below it, [`site_board`] puts the boards of a site's stations together under the site's name: it adds up their energies
-//! period by period, and keeps the figures and the stations' boards as they are. [`write_board`] writes such a
-//! [`SiteBoard`] as lines of plain text, for people and for programs. [`total_text`], [`energy_text`] and [`export_text`]
-//! write only the figures or an energy, without memory; the total line of a board has the same text as a live total.
+//! Below it, [`site_board`] puts the boards of a site's stations together under the site's name: it adds up their
+//! energies period by period, and keeps the figures and the stations' boards as they are. [`write_board`] writes such a
+//! [`SiteBoard`] as lines of plain text, for people and for programs. [`total_text`], [`energy_text`] and
+//! [`export_text`] write only the figures or an energy, without memory; the total line of a board has the same text as
+//! a live total.
 //!
 //! The crate's contract: each text has exactly the bytes that a short definition gives for the values, with one
 //! definition for each kind of line. A site's board has each of the site's stations once, in the plan's order, with its
-//! board from scratch from its cell's content; and it shows each period that one of them shows, once and in rising order,
-//! with the sum over the stations. The totals of a closed desk are the sums over the site's stations. The periods of a
-//! board have the board's length. A caller of `site_board` makes sure that all boards have the site's length of periods,
-//! and that the sums of each period stay below 2^64, which the boards of one plan always do ([`plans_fit`]).
+//! board from scratch from its cell's content; and it shows each period that one of them shows, once and in rising
+//! order, with the sum over the stations. The totals of a closed desk are the sums over the site's stations. The
+//! periods of a board have the board's length. A caller of `site_board` makes sure that all boards have the site's
+//! length of periods, and that the sums of each period stay below 2^64, which the boards of one plan always do
+//! ([`plans_fit`]).
 //!
 //! ```text
 //! site_text(alloc, &plan, &cells, site, &name, book.totals())?

@@ -90,9 +90,9 @@ impl<R: Read, L: Readiness> Readiness for GatheredInput<R, L> {
     }
 }
 
-// Reads on behind the first bytes while each read gives much and more is ready. Returns how many bytes there are then, and
-// what a read gave in place of more. It ends after a read that gave little, since a writer that waits for answers may write
-// one line at a time.
+// Reads on behind the first bytes while each read gives much and more is ready. Returns how many bytes there are then,
+// and what a read gave in place of more. It ends after a read that gave little, since a writer that waits for answers
+// may write one line at a time.
 fn gather<R: Read, L: Readiness>(
     input: &mut R,
     readiness: &L,

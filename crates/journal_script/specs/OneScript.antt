@@ -19,7 +19,8 @@ ends_in bytes = script_after start (lines_of longest_line bytes)
 abbrev pub CommentsChangeNothing : Type 0
 CommentsChangeNothing = (front note back : List ℕ) → EndsWhole front → IsNote note → ends_in (front ++ (note ++ back)) ≡ ends_in (front ++ back)
 
--- A server read a journal in whole lines with the mark of a restore behind it, and went on in the journal's file, which has no mark. A replay of what the server read and wrote ends as a replay of the file ends.
+-- A server read a journal in whole lines with the mark of a restore behind it, and went on in the journal's file, which
+-- has no mark. A replay of what the server read and wrote ends as a replay of the file ends.
 abbrev pub RestoredFilesAreScripts : Type 0
 RestoredFilesAreScripts = (journal written : List ℕ) → EndsWhole journal → ends_in (journal ++ (restore_mark ++ (run_begins ++ written))) ≡ ends_in (journal ++ (run_begins ++ written))
 

@@ -82,8 +82,8 @@ place script source = record { standing = standing script source.left_out; lines
 abbrev pub read_on : Place → Place
 read_on p = record { standing = read_line p.standing (held_line p.lines); lines = p.lines }
 
--- The result of a script that was read so far: the restored contents, whether a line is lost, and whether the last one ends with
--- `#`.
+-- The result of a script that was read so far: the restored contents, whether a line is lost, and whether the last one
+-- ends with `#`.
 pub record IsLeft (s : Standing) (r : Restored) (marked : Bool) : Type 0 where
   pub shows : Shows s.script r.draft.sites r.draft.stations r.cells.items
   pub loses : r.has_lost ≡ s.lost

@@ -52,11 +52,12 @@ pub struct Restoring {
 
 /// Serves a plan's stations until the operator's lines end or say `close`, or the journal can't be written. It writes
 /// `listening 127.0.0.1:<port>` to the console, and serves connections, up to two sessions of each station at once.
-/// Meanwhile it answers the lines of the input on the console; each answer is out before the next line is read. The journal
-/// takes a comment, the plan's declarations, and the line of each accepted change, with the time of its receipt in front if
-/// that is asked for. The writer behind the buffer took a line before its change is answered. At the end it ends all
-/// sessions, and returns the board of each site as a value. If the journal can't be written, nothing more is accepted, and
-/// the server ends with `WriteFault`; it returns its boards all the same. It reports sessions and totals to `lines`.
+/// Meanwhile it answers the lines of the input on the console; each answer is out before the next line is read. The
+/// journal takes a comment, the plan's declarations, and the line of each accepted change, with the time of its receipt
+/// in front if that is asked for. The writer behind the buffer took a line before its change is answered. At the end it
+/// ends all sessions, and returns the board of each site as a value. If the journal can't be written, nothing more is
+/// accepted, and the server ends with `WriteFault`; it returns its boards all the same. It reports sessions and totals
+/// to `lines`.
 ///
 /// It reports a plan with a fault before it writes anything.
 pub fn serve_journalled<

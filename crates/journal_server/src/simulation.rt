@@ -40,8 +40,8 @@ const QUIET: Live = Live {
 type Played = JoinHandle<Result<(), SimFault>>;
 
 /// Plays `stations` simulated stations, each with a transaction of `events` events, against a server of their own on a
-/// port of 127.0.0.1 that the system chooses. After all have ended it returns the server's result, with the board of their
-/// site, `sim`. The console comes back as it was.
+/// port of 127.0.0.1 that the system chooses. After all have ended it returns the server's result, with the board of
+/// their site, `sim`. The console comes back as it was.
 ///
 /// Condition: 1 to 64 stations, and 2 to 64 events.
 pub fn simulate<R: AllocGlobal + Host + RandomSource, T: Write + Drop>(

@@ -52,7 +52,8 @@ impl Readiness for NoLines {
     }
 }
 
-/// Serves a plan's stations as [`serve_journalled`](crate::serve_journalled) does, with a journal that is written nowhere.
+/// Serves a plan's stations as [`serve_journalled`](crate::serve_journalled) does, with a journal that is written
+/// nowhere.
 pub fn serve_live<
     R: AllocGlobal + Host,
     I: BufRead + Readiness,
@@ -77,8 +78,8 @@ pub fn serve_live<
 }
 
 /// Serves a number of connections of a plan's stations as [`serve_live`] does, up to two sessions of each station at
-/// once, and ends when all have ended. It glances at the totals as often as the options say, also if the connections end
-/// before that.
+/// once, and ends when all have ended. It glances at the totals as often as the options say, also if the connections
+/// end before that.
 pub fn serve_counted<R: AllocGlobal + Host, T: Write + Drop, L: Write + Send + Drop>(
     rt: &R,
     plan: &Plan,

@@ -16,7 +16,8 @@ of_station station entries = filter (λ e. e.station == station) entries
 abbrev pub line_text : List ℕ → List ℕ
 line_text line = line ++ 10 ∷ []
 
--- These bytes are one comment line, no longer than a line may be: `#`, the bytes behind it, and the line feed that ends it.
+-- These bytes are one comment line, no longer than a line may be: `#`, the bytes behind it, and the line feed that ends
+-- it.
 pub record IsComment (bytes : List ℕ) : Type 0 where
   pub said : List ℕ
   pub feedless : HasNoFeed said

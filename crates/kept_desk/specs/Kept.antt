@@ -23,8 +23,8 @@ use Rattle.station_cell.specs.Cell.{Cell, IsInService}
 abbrev pub commands_of : List Entry → List Command
 commands_of entries = map (λ e. e.command) entries
 
--- These commands, each admissible and each accepted under these limits, lead from the first content to this one; each is
--- counted.
+-- These commands, each admissible and each accepted under these limits, lead from the first content to this one; each
+-- is counted.
 pub record IsLeftFrom (limits : Bounds) (first c : Content) (commands : List Command) : Type 0 where
   pub admissible : All IsAdmissible commands
   pub accepted : AreAccepted limits first commands
@@ -54,20 +54,22 @@ pub record IsBoardBehind (at : StationPlace) (first : Content) (own : List Entry
   pub name : b.0 ≡ at.name
   pub shown : b.1 ≡ board_by at.order at.period (entries content)
 
--- The boards of the stations of the site of this number, in the plan's order, are those behind this one list of entries.
+-- The boards of the stations of the site of this number, in the plan's order, are those behind this one list of
+-- entries.
 abbrev pub AreBoardsBehind : (ℕ → Content) → List StationPlace → ℕ → List (List ℕ × Board) → List Entry → Type 0
 AreBoardsBehind first places site boards log = (k : ℕ) (p : StationPlace) → slice_get places k ≡ Some p → p.site ≡ site
     → (b : List ℕ × Board) × (slice_get boards (before_at places site k) ≡ Some b) × IsBoardBehind p (first k) (of_station k log) b
 
--- What a desk with a journal keeps: the names are those of its stations, there is room for their cells, and they are few.
+-- What a desk with a journal keeps: the names are those of its stations, there is room for their cells, and they are
+-- few.
 pub record IsKeptDesk (name : ℕ → List ℕ) (places : List StationPlace) (cells room : ℕ) : Type 0 where
   pub names : (k : ℕ) (p : StationPlace) → slice_get places k ≡ Some p → name k ≡ p.name
   pub none : cells ≡ 0
   pub room_for_all : length places ≤ room
   pub few : length places ≤ 64
 
--- The command is accepted, as change n, at the content to which the commands of these entries, each accepted, lead from the first
--- one.
+-- The command is accepted, as change n, at the content to which the commands of these entries, each accepted, lead from
+-- the first one.
 pub record IsAcceptedBehind (limits : Bounds) (first : Content) (entries : List Entry) (command : Command) : Type 0 where
   pub before : Content
   pub n : ℕ

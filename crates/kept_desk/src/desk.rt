@@ -110,9 +110,9 @@ impl<J: Naming, K: Opening, W: Write + Drop> KeptDesk<J, K, W> {
         &self.desk
     }
 
-    /// The boards of a site as [`Desk::site_boards`] gives them, and the moment of the journal that they show: each board
-    /// is that of the content that its station's entries at that moment lead to. The call takes the journal's lock while
-    /// it holds those of the site, and gives it back before it makes the boards. Errors are those of
+    /// The boards of a site as [`Desk::site_boards`] gives them, and the moment of the journal that they show: each
+    /// board is that of the content that its station's entries at that moment lead to. The call takes the journal's
+    /// lock while it holds those of the site, and gives it back before it makes the boards. Errors are those of
     /// [`Desk::site_boards`].
     pub fn site_boards<R: Wait>(
         &self,

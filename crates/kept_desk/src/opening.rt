@@ -4,8 +4,8 @@ use std::marker::Brand;
 /// stations' contents and names, by their numbers in the plan.
 ///
 /// One function opens, uses and closes a desk with a journal. It is generic in this trait and is called with [`Brand`],
-/// after the table was made; the call picks the members, such as `contents_of` of the cells and `names_of` of the plan's
-/// stations (`specs/Opened.antt`). So a station's share reaches no journal but its own.
+/// after the table was made; the call picks the members, such as `contents_of` of the cells and `names_of` of the
+/// plan's stations (`specs/Opened.antt`). So a station's share reaches no journal but its own.
 pub trait Opening {
     ghost use Rattle.std.specs.Prelude.{ℕ, List, Option};
     ghost use Rattle.atomic_table.specs.Seated.{TableId};

@@ -52,7 +52,8 @@ module _ {V : Type 0} where
     pub rising : AreRising (all_of leaves)
     pub empty : AreEmpty spare
 
-  -- Leaves with the entries of the old ones, and with room in the leaf where a key belongs; the other leaves are filled.
+  -- Leaves with the entries of the old ones, and with room in the leaf where a key belongs; the other leaves are
+  -- filled.
   pub record IsReady (old leaves : List (List (Entry V))) (key at : ℕ) : Type 0 where
     pub same : all_of leaves ≡ all_of old
     pub belongs : Belongs key leaves at

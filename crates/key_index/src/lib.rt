@@ -1,9 +1,10 @@
 //! An ordered index from keys to values with marks. It takes all its memory when it is opened.
 //!
-//! A key may have any type that is [`Ranked`], as [`IndexKey`] is: a transaction's slot and a sequence number, ordered by transaction
-//! first. The entries are in leaves of up to 128. A full leaf is split into a spare leaf; if none is left, two neighbours that fit one
-//! are joined first, and there are always two such. So only [`KeyIndex::open`] takes memory. Beside its value an entry has [`Marks`].
-//! Each leaf counts how many of its entries have each mark, so a search for the nearest marked entry skips a leaf without one.
+//! A key may have any type that is [`Ranked`], as [`IndexKey`] is: a transaction's slot and a sequence number, ordered
+//! by transaction first. The entries are in leaves of up to 128. A full leaf is split into a spare leaf; if none is
+//! left, two neighbours that fit one are joined first, and there are always two such. So only [`KeyIndex::open`] takes
+//! memory. Beside its value an entry has [`Marks`]. Each leaf counts how many of its entries have each mark, so a
+//! search for the nearest marked entry skips a leaf without one.
 //!
 //! The crate's contract: an index is a list of entries by rising rank of their keys. [`KeyIndex::get`]
 //! finds an entry, [`KeyIndex::before`] and [`KeyIndex::at_or_after`] its neighbours,

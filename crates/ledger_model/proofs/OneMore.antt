@@ -100,7 +100,8 @@ transaction_sums d f es more front e back one =
 turned_apart : (t u : List ℕ) → bytes_eq t u ≡ false → bytes_eq u t ≡ false
 turned_apart t u apart = nat_list_eq_equiv.symm u t ∙ apart
 
--- A sum over the transactions with a live event, of a measure that is nothing where a transaction has none, changes by what the event's transaction counts.
+-- A sum over the transactions with a live event, of a measure that is nothing where a transaction has none, changes by
+-- what the event's transaction counts.
 pub by_transaction_sums : (g h : List ℕ → ℕ) (es more front : List Entry) (e : Entry) (back : List Entry) → IsOneMore es more front e back
     → ((u : List ℕ) → bytes_eq u e.0.tx ≡ false → h u ≡ g u) → (live_of e.0.tx es ≡ [] → g e.0.tx ≡ 0) → (live_of e.0.tx more ≡ [] → h e.0.tx ≡ 0)
     → sum_by h (transactions_of (live more)) + g e.0.tx ≡ sum_by g (transactions_of (live es)) + h e.0.tx

@@ -1,4 +1,5 @@
--- The transactions of a station, each listed once, and in the order of their ids where the events are in the order of their keys.
+-- The transactions of a station, each listed once, and in the order of their ids where the events are in the order of
+-- their keys.
 use Rattle.std.proofs.Common.{◌≡◌, ◌⊎◌, Bool, true, false, cond, not, ◌||◌, T, List, [], ◌∷◌, ℕ, refl, ap, sym, ◌∙◌, subst, ⊎_elim, inl, inr, map}
 use Rattle.std.specs.Prelude.{filter}
 use Rattle.std.specs.List.{list_any, AllByRecursion}

@@ -75,8 +75,8 @@ late_event_board = record {
   transactions = record { tx = codes "t1"; evse = 0; events = 3; first = 0; last = 2; complete = false; missing = 0; flow = rise 600_000; export = no_energy; gaps = [] } ∷ [];
 }
 
--- Then that one is voided: the board is that of the first run except for the voided event. After a restoration the events
--- are those before.
+-- Then that one is voided: the board is that of the first run except for the voided event. After a restoration the
+-- events are those before.
 abbrev pub void_and_restore : List Entry
 void_and_restore = metered Started 0 0 1_000 ∷ voided (metered Updated 1 14 1_200) ∷ metered Updated 2 31 1_600 ∷ []
 

@@ -11,7 +11,8 @@ pub record Stored : Type 0 where
   pub event : EventContent
   pub voided : Bool
 
--- What a station's ledger holds: its events by their keys, each voided or not, and the number of changes accepted so far.
+-- What a station's ledger holds: its events by their keys, each voided or not, and the number of changes accepted so
+-- far.
 pub record Content : Type 0 where
   pub events : FinMap key_cmp Stored
   pub changes : ℕ

@@ -88,8 +88,8 @@ read_or (r ∷ rs) ps qs = ps
 abbrev pub gone_by : Direction → List Entry → Entry → List Entry → List Pair
 gone_by d front e back = if_read (toward d e.1.event.readings) (pairs_less d front e back)
 
--- The pairs of one direction that the event brings: those with a reading of its own. If it has no reading of that direction, it
--- brings none.
+-- The pairs of one direction that the event brings: those with a reading of its own. If it has no reading of that
+-- direction, it brings none.
 abbrev pub came_by : Direction → List Entry → Entry → List Entry → List Pair
 came_by d front e back = if_read (toward d e.1.event.readings) (pairs_more d front e back)
 

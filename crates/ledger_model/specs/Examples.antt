@@ -23,7 +23,8 @@ numbered seq = record { tx = codes "t1"; seq = seq }
 abbrev pub after_ten : ℕ → ℕ
 after_ten minutes = (1_772_359_200 + 60 * minutes) * 1_000_000_000
 
--- The delivery of an event of t1: its kind, its number, its moment in minutes after ten, and one reading of that moment in watt-hours.
+-- The delivery of an event of t1: its kind, its number, its moment in minutes after ten, and one reading of that moment
+-- in watt-hours.
 abbrev pub delivery : Kind → ℕ → ℕ → ℕ → Command
 delivery kind seq minutes wh = Deliver (numbered seq) (record {
   kind = kind;
@@ -57,7 +58,8 @@ late_event = first_run ++ delivery Updated 1 14 1_200 ∷ []
 abbrev pub conflict : List Command
 conflict = late_event ++ delivery Updated 1 14 1_200 ∷ delivery Updated 1 14 1_201 ∷ []
 
--- Then event 1 is voided, comes once more, is voided again; a missing one is voided, a live one erased; event 1 is restored, and restored again.
+-- Then event 1 is voided, comes once more, is voided again; a missing one is voided, a live one erased; event 1 is
+-- restored, and restored again.
 abbrev pub void_and_restore : List Command
 void_and_restore =
     conflict

@@ -43,7 +43,8 @@ abbrev pub joined : {X : Type 0} → Option X → X → List (X × X)
 joined None y = []
 joined (Some x) y = (x, y) ∷ []
 
--- The pair across each run: of the element in front of the run, which does not pass the test, and the one behind it. The first arguments are the last element so far that does not pass, and whether one that passes came since.
+-- The pair across each run: of the element in front of the run, which does not pass the test, and the one behind it.
+-- The first arguments are the last element so far that does not pass, and whether one that passes came since.
 abbrev pub across_behind : {X : Type 0} → Option X → Bool → (X → Bool) → List X → List (X × X)
 across_behind front since own [] = []
 across_behind front since own (x ∷ xs) = if own x then across_behind front true own xs else (if since then joined front x else []) ++ across_behind (Some x) false own xs

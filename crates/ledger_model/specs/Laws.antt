@@ -44,8 +44,8 @@ abbrev pub readings_at : Direction → Option Stored → List MeterReading
 readings_at d None = []
 readings_at d (Some stored) = if stored.voided then [] else toward d stored.event.readings
 
--- The readings of a transaction in one direction that are found by looking at the numbers below a number, one by one from 0
--- on.
+-- The readings of a transaction in one direction that are found by looking at the numbers below a number, one by one
+-- from 0 on.
 abbrev pub by_number : Direction → List ℕ → Content → ℕ → List MeterReading
 by_number d tx c n = flat_map (λ seq. readings_at d (finite.get c.events (record { tx = tx; seq = seq }))) (upto n)
 

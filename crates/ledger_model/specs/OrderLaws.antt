@@ -11,8 +11,8 @@ use Rattle.ledger_model.specs.Event.{toward}
 use Rattle.ledger_model.specs.Evse.{energy_at_by}
 use Rattle.ledger_model.specs.ReadingOrder.{is_own, numbered_by, pairs_across, pairs_with, runs_of}
 
--- The second entries have the same energies by moment as the first: of each transaction, each EVSE and each period, and of the
--- station.
+-- The second entries have the same energies by moment as the first: of each transaction, each EVSE and each period, and
+-- of the station.
 pub record HaveSameEnergies (d : Direction) (es more : List Entry) : Type 0 where
   pub transaction : (tx : List ℕ) → energy_of_by Moment d tx more ≡ energy_of_by Moment d tx es
   pub evse : (evse : ℕ) → energy_at_by Moment d evse more ≡ energy_at_by Moment d evse es

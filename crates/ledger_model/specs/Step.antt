@@ -62,7 +62,8 @@ events_after events (Void key) = marked events key true
 events_after events (Restore key) = marked events key false
 events_after events (Erase key) = finite.remove events key
 
--- The content that an answer leaves: an accepted command changes the events and is counted, any other answer changes nothing.
+-- The content that an answer leaves: an accepted command changes the events and is counted, any other answer changes
+-- nothing.
 abbrev pub content_after : Content → Command → Answer → Content
 content_after c command (Accepted n) = record { events = events_after c.events command; changes = n }
 content_after c command Repeat = c

@@ -30,7 +30,8 @@ pub record IsOldest (count : ℕ) (station : Option ℕ) (rows : List (Option Se
   pub its : one.station ≡ station
   pub oldest : (k : ℕ) (other : ServedConnection) → k < count → slice_get rows k ≡ Some (Some other) → other.station ≡ station → one.number ≤ other.number
 
--- This is the worker of the oldest session of a station among the first so many workers, or of the oldest handshake, if there is one.
+-- This is the worker of the oldest session of a station among the first so many workers, or of the oldest handshake, if
+-- there is one.
 abbrev pub IsOldestOf : ℕ → Option ℕ → List (Option ServedConnection) → Option ℕ → Type 0
 IsOldestOf count station rows None = (k : ℕ) (one : ServedConnection) → k < count → slice_get rows k ≡ Some (Some one) → one.station ≢ station
 IsOldestOf count station rows (Some worker) = IsOldest count station rows worker

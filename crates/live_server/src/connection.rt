@@ -10,7 +10,8 @@ use std::net::{Shutdown, TcpStream};
 use std::sync::atomic::{AtomicBool, Ordering};
 use std::time::{Clock, Duration, Instant};
 
-// How long a read or a write of the stream waits before it looks at the time, and whether the connection is still wanted.
+// How long a read or a write of the stream waits before it looks at the time, and whether the connection is still
+// wanted.
 const TICK_MILLIS: u64 = 250;
 
 // How many ticks a session waits for its station's next bytes, 600 seconds: twice the interval of heartbeats in the

@@ -87,12 +87,12 @@ pub struct Ran<J: Naming, M, W: Write + Drop> {
     pub output: W,
 }
 
-/// Listens, writes `listening 127.0.0.1:<port>` to `output`, and serves connections at the desk that is handed in, up to
-/// two sessions of each station at once. It goes on until the operator's lines end or say `close`, or until the desk
+/// Listens, writes `listening 127.0.0.1:<port>` to `output`, and serves connections at the desk that is handed in, up
+/// to two sessions of each station at once. It goes on until the operator's lines end or say `close`, or until the desk
 /// accepts no change any more, which is a `WriteFault`. Meanwhile it answers the lines of `input`; each answer is out
-/// before the next line is read. At the end it ends all sessions. If it has to serve a number of connections, it reads no
-/// line, and ends when so many have ended. It reports sessions and totals to `lines`. The passes that were given out before
-/// are in the desk's pool.
+/// before the next line is read. At the end it ends all sessions. If it has to serve a number of connections, it reads
+/// no line, and ends when so many have ended. It reports sessions and totals to `lines`. The passes that were given out
+/// before are in the desk's pool.
 ///
 /// Condition: the desk was opened for this plan, and the plan's limits allow no more than 1,048,576
 /// readings in all.
@@ -219,8 +219,8 @@ fn serve_beside<
     )
 }
 
-// Starts the threads at both acceptors, answers the operator's lines or waits until as many connections have ended as it
-// serves, and then waits until the threads have left.
+// Starts the threads at both acceptors, answers the operator's lines or waits until as many connections have ended as
+// it serves, and then waits until the threads have left.
 fn serve_until_end<
     's,
     E: 's,

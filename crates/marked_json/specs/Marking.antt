@@ -1,4 +1,5 @@
--- The marked text of a text. Both are bytes of UTF-8: all that is looked for is ASCII, and no byte of another character is.
+-- The marked text of a text. Both are bytes of UTF-8: all that is looked for is ASCII, and no byte of another character
+-- is.
 use Rattle.std.specs.Prelude.{◌||◌, ◌==◌, ℕ, List, [], ◌∷◌, ◌++◌, drop, Bool, false, not, Option, Some, None, if◌then◌else◌, Result, Ok, Err}
 use Rattle.std.specs.List.{prefix_len, take_while, find}
 use Rattle.marked_json.specs.declared.fault.JsonFault.{JsonFault}
@@ -49,7 +50,8 @@ marked_token token rest more =
     else (if is_before_colon rest then Err NumberAsKey
     else with_front (34 ∷ 35 ∷ (token ++ 34 ∷ [])) more)
 
--- the byte c outside strings and numbers: `$` goes behind an opening quote, a number is the longest run, all else is copied
+-- the byte c outside strings and numbers: `$` goes behind an opening quote, a number is the longest run, all else is
+-- copied
 abbrev pub marked_outside : ℕ → List ℕ → (BytePlace → Marks) → Marks
 marked_outside c cs more =
     if c == 34 then with_front (34 ∷ 36 ∷ []) (more in_string)

@@ -18,8 +18,8 @@ abbrev pub IsWithinRoom : ℕ → List ℕ → ℕ → Type 0
 IsWithinRoom len text at =
     (2 * len ≤ 5 * at + 3) × (at < length text → begins_number (slice_index text at) ≡ true → 2 * len ≤ 5 * at)
 
--- a step from a place, with `len` bytes put, to the number of bytes put then and the next place: it puts what it should,
--- goes on within the text, and leaves room for all to come
+-- a step from a place, with `len` bytes put, to the number of bytes put then and the next place: it puts what it
+-- should, goes on within the text, and leaves room for all to come
 pub record IsStep (text before after : List ℕ) (len at : ℕ) (next : ℕ × ℕ) : Type 0 where
   pub same : completed (take next.0 after) (drop next.1 text) ≡ completed (take len before) (drop at text)
   pub forward : at < next.1

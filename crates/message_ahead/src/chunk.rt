@@ -63,8 +63,8 @@ impl Chunk {
         self.is_short
     }
 
-    /// The event of the line that begins where `room` bytes may still be read, if it was found and not taken, and if its
-    /// line has these bytes. Events of earlier lines are dropped.
+    /// The event of the line that begins where `room` bytes may still be read, if it was found and not taken, and if
+    /// its line has these bytes. Events of earlier lines are dropped.
     pub fn take(&mut self, room: usize, line: &[u8]) -> Option<SentEvent>
         ensures { IfSome result (λ s. Sends line.now s.station s.delivery) }
     {

@@ -17,8 +17,8 @@ pub struct Pieces {
 }
 
 impl Pieces {
-    /// Cuts lines, the last of them ended by a line feed, into pieces of about `size` bytes each, or of one line if that
-    /// is longer. It keeps them in the given buffer.
+    /// Cuts lines, the last of them ended by a line feed, into pieces of about `size` bytes each, or of one line if
+    /// that is longer. It keeps them in the given buffer.
     ///
     /// Condition: `size` is not 0.
     pub fn cut(

@@ -40,8 +40,8 @@ pub(crate) struct Work {
 }
 
 impl Window {
-    /// These lines, in pieces of about `size` bytes; `room` bytes may still be read before the first line. They are kept
-    /// in the given buffer.
+    /// These lines, in pieces of about `size` bytes; `room` bytes may still be read before the first line. They are
+    /// kept in the given buffer.
     pub(crate) fn open(
         alloc: Global,
         place: Vec<u8>,

@@ -142,7 +142,8 @@ Runs contents consoles reports (Simulate stations events) input output console e
 abbrev pub IsHelp : ErrorKind → Type 0
 IsHelp kind = (kind ≡ DisplayHelp) ⊎ (kind ≡ DisplayVersion)
 
--- A run of words that the program's options don't take, for this reason: there was no memory; or the text of help or of the version is written; or the mistake is written to standard error, and the exit status is 2.
+-- A run of words that the program's options don't take, for this reason: there was no memory; or the text of help or of
+-- the version is written; or the mistake is written to standard error, and the exit status is 2.
 abbrev pub IsRefusal : {W E : Type 0} → (W → Option (List ℕ)) → (E → Option (List ℕ)) → ErrorKind → W → E → Ended W E → Type 0
 IsRefusal contents reports kind output errors run =
     IsReported reports errors run (Err replay.OutOfMemory)

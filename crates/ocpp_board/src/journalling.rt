@@ -213,8 +213,8 @@ fn restored_through<
     }
 }
 
-/// Serves the stations of the script that the input begins with, without a journal. Its output takes what the console of
-/// a server with a journal takes.
+/// Serves the stations of the script that the input begins with, without a journal. Its output takes what the console
+/// of a server with a journal takes.
 pub fn restored_live<
     X: AllocGlobal + Host,
     R: Read + Readiness + Drop,

@@ -118,8 +118,8 @@ fn restore_line(fault: RestoreFault) -> &'static [u8]
     }
 }
 
-/// The line that gives the cause of a fault of a server with this plan at this port: which station is there twice, or the
-/// system's words for the port. It is empty if there is nothing more to say, or no memory for it.
+/// The line that gives the cause of a fault of a server with this plan at this port: which station is there twice, or
+/// the system's words for the port. It is empty if there is nothing more to say, or no memory for it.
 pub fn cause_of(alloc: Global, plan: &Plan, port: u16, ended: Result<(), JournalFault>) -> Vec<u8> {
     let mut cause = Vec::new(alloc);
     match ended {

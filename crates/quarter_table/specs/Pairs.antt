@@ -73,8 +73,8 @@ abbrev pub rows_without : List Flowed → List QuarterRow → List QuarterRow
 rows_without [] rows = rows
 rows_without (f ∷ fs) rows = rows_without fs (rows_minus f rows)
 
--- A row has a pair of this difference: it counts the pair, its sums include the difference in each direction, and are just that
--- difference if it counts no other pair.
+-- A row has a pair of this difference: it counts the pair, its sums include the difference in each direction, and are
+-- just that difference if it counts no other pair.
 pub record HasPair (flows : Flows) (row : QuarterRow) : Type 0 where
   pub there : 0 < row.pairs
   pub within : CanMinus row.flow flows.flow

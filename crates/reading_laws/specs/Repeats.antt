@@ -11,7 +11,8 @@ use Rattle.ledger_model.specs.Event.{EventContent, MeterReading}
 use Rattle.ledger_model.specs.Key.{key_cmp, KeyName}
 use Rattle.ledger_model.specs.ReadingOrder.{IsRepeat}
 
--- Each of these readings repeats live readings of the transaction in its direction: some have its moment, and all that have it show its level.
+-- Each of these readings repeats live readings of the transaction in its direction: some have its moment, and all that
+-- have it show its level.
 abbrev pub AreRepeats : List ℕ → List Entry → List MeterReading → Type 0
 AreRepeats tx es rs = All (λ r. IsRepeat r (readings_by Moment r.direction tx es)) rs
 

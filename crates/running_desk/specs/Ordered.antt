@@ -18,7 +18,8 @@ came_of Input (b ∷ bs) = came.LastLine
 abbrev pub lines_in : Option (List ℕ) → Option (List Line)
 lines_in bytes = option_map (lines_of longest_line) bytes
 
--- What comes next: the first of the lines to come, the last of them, or nothing more; and the lines still to come after it.
+-- What comes next: the first of the lines to come, the last of them, or nothing more; and the lines still to come after
+-- it.
 abbrev pub Gives : List Line → Came → Line → List Line → Type 0
 Gives lines came.Line line rest = lines ≡ line ∷ rest
 Gives lines came.LastLine line rest = (lines ≡ line ∷ []) × (rest ≡ [])

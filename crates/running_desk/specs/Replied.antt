@@ -114,7 +114,8 @@ pub record IsCommandLine {M : Type 0} (gives : Command → Answer → Option Kno
   pub given : gives command answer told seen
   pub is : line ≡ ended_line (answer_text answer)
 
--- The command was submitted with a pass of the station of this name, and the text is the desk's answer to it; or there is no such station, and the text says so.
+-- The command was submitted with a pass of the station of this name, and the text is the desk's answer to it; or there
+-- is no such station, and the text says so.
 abbrev pub IsSubmitted : {M : Type 0} → (ℕ → StationPlace → Command → Answer → Option Known → Option M → Type 0) → List StationPlace → List ℕ → Command → List ℕ → Option M → Type 0
 IsSubmitted gives places name command text seen =
     ((p p' : Held) × (named : IsNamed places name p.station) × IsCommandLine (gives p.station named.place) named.place p command p' text seen)

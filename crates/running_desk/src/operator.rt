@@ -48,8 +48,8 @@ const MOST_ANSWER: usize = 513;
 // meets.
 const TORN: &str = "fault Torn";
 
-/// Answers line after line of the input until it ends, a line says `close`, or no change is accepted any more, which is a
-/// `WriteFault`. An answer is out before the next line is read. While there is no line, it looks ten times a second
+/// Answers line after line of the input until it ends, a line says `close`, or no change is accepted any more, which is
+/// a `WriteFault`. An answer is out before the next line is read. While there is no line, it looks ten times a second
 /// whether changes are still accepted. It returns what was seen of the desk's journal with the answers, in their order.
 pub fn operate<
     J: Naming,

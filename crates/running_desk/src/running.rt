@@ -72,8 +72,8 @@ impl<'a, J: Naming, C: HasCell, M: Drop, S: Serves<J, C, M>> Running<'a, J, C, M
         }
     }
 
-    /// The text of the board of the site of this number, counted from 0, with what was seen of the journal then. It waits
-    /// for the locks of the site, and for a write to the journal that is under way.
+    /// The text of the board of the site of this number, counted from 0, with what was seen of the journal then. It
+    /// waits for the locks of the site, and for a write to the journal that is under way.
     ///
     /// Condition: the plan has the site ([`site_of`] tests it).
     pub fn board<R: Wait>(

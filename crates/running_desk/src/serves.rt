@@ -61,8 +61,8 @@ pub trait Serves<J: Naming, C: HasCell, M>: Delivers<J, M> + MayBreak {
         ensures settled { (at : StationPlace) → slice_get (roster self.now).stations pass.old.station ≡ Some at → Submitted at pass.old what result.0 pass.new result.1 }
         ensures given { IsGivenAt (Self.gives self.now) (roster self.now).stations pass.old.station what result.0 result.1 result.2 };
 
-    /// The boards of the stations of the site of this number, as [`Desk::site_boards`](site_desk::Desk::site_boards) gives
-    /// them.
+    /// The boards of the stations of the site of this number, as [`Desk::site_boards`](site_desk::Desk::site_boards)
+    /// gives them.
     fn boards<R: Wait>(&self, rt: &R, alloc: Global, site: u16) -> Result<Seen<M>, BoardFault>
         ensures boards { IfOk result (λ r. AreBoardsAt (roster self.now).stations site r.0.items) }
         ensures totals { IfOk result (λ r. r.1 ≡ sum_of_figures (map (λ s. s.1.figures) r.0.items)) }

@@ -8,7 +8,8 @@ use Rattle.site_desk.specs.declared.plan.SitePlan.{SitePlan}
 use Rattle.site_desk.specs.declared.plan.StationPlan.{StationPlan}
 use Rattle.script_ledgers.specs.Script.{Script, new_station}
 
--- The declarations so far: the limits of the stations that follow, the sites and the stations of the plan, and the moment.
+-- The declarations so far: the limits of the stations that follow, the sites and the stations of the plan, and the
+-- moment.
 pub record Drafted : Type 0 where
   pub limits : Bounds
   pub sites : List SitePlan

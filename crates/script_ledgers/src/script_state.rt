@@ -73,8 +73,8 @@ impl<J: Naming> ScriptState<J> {
         }
     }
 
-    /// Puts the text that answers one line, which may be too long, into the reply. The first line that needs the ledgers
-    /// opens them. The error is a lack of memory; after it the caller answers no further line.
+    /// Puts the text that answers one line, which may be too long, into the reply. The first line that needs the
+    /// ledgers opens them. The error is a lack of memory; after it the caller answers no further line.
     pub fn answer<X: AllocGlobal + Threads>(
         &mut self,
         rt: &X,
@@ -118,8 +118,8 @@ impl<J: Naming> ScriptState<J> {
         }
     }
 
-    /// Lets threads read the lines to come that the reader shows, if that is due. It consumes none of them and waits for
-    /// none. If the reader fails to show them, it returns the reader's error.
+    /// Lets threads read the lines to come that the reader shows, if that is due. It consumes none of them and waits
+    /// for none. If the reader fails to show them, it returns the reader's error.
     pub fn look<X: Threads, R: BufRead>(
         &mut self,
         rt: &X,
@@ -135,9 +135,9 @@ impl<J: Naming> ScriptState<J> {
         }
     }
 
-    /// The plan and the moment, and for each station, in the plan's order, its cell and the pass of all its changes. The
-    /// plan has no fault, and each cell is at its station's place in the plan. If no line opened the ledgers, this call
-    /// opens them first; the error is a lack of memory for them.
+    /// The plan and the moment, and for each station, in the plan's order, its cell and the pass of all its changes.
+    /// The plan has no fault, and each cell is at its station's place in the plan. If no line opened the ledgers, this
+    /// call opens them first; the error is a lack of memory for them.
     pub fn into_parts<X: AllocGlobal + Threads>(
         self,
         rt: &X,

@@ -38,7 +38,8 @@ pub struct LineReader {
 }
 
 impl LineReader {
-    /// A reader of lines of at most `max_line_bytes` bytes; it reads at most `room` bytes in all. It takes no memory yet.
+    /// A reader of lines of at most `max_line_bytes` bytes; it reads at most `room` bytes in all. It takes no memory
+    /// yet.
     pub fn open(alloc: Global, max_line_bytes: usize, room: usize) -> LineReader
         ensures held { result.held.items ≡ [] }
         ensures max_line_bytes { result.max_line_bytes ≡ max_line_bytes }

@@ -142,7 +142,8 @@ module _ (site name : List ℕ) where
       (λ (apart : bytes_eq name s.name ≡ false). other_first s ss apart ∙ at_its_site ss a (sym (skipped s ss apart) ∙ is) there)
       (cases_Bool (bytes_eq name s.name))
 
-  -- The one that is found among the site's is at the site, and where no two have one name it is the one that is found among all.
+  -- The one that is found among the site's is at the site, and where no two have one name it is the one that is found
+  -- among all.
   found_at : (w : World) (a : Station) → station_named name (stations_of site w) ≡ Some a → bytes_eq site a.site ≡ true
   found_at [] a is = cc is
   found_at (s ∷ ss) a is = ⊎_elim

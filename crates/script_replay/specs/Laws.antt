@@ -36,7 +36,8 @@ abbrev pub StationsAreReached : Type 0
 StationsAreReached = (lines : List Line) (name : List ℕ) (station : Station) → station_named name (script_after start lines).world ≡ Some station
     → Reached station.limits station.content.changes station.content
 
--- after any lines, the answer to a question for a station's energy is the imported energy of its events that are accepted and not voided, computed from all of them in its site's order of readings
+-- after any lines, the answer to a question for a station's energy is the imported energy of its events that are
+-- accepted and not voided, computed from all of them in its site's order of readings
 abbrev pub EnergyIsFromScratch : Type 0
 EnergyIsFromScratch = (lines : List Line) (line : Line) (name : List ℕ) (station : Station) → line_meaning line ≡ asks_energy name
     → station_named name (script_after start lines).world ≡ Some station
@@ -49,7 +50,8 @@ ExportIsFromScratch = (lines : List Line) (line : Line) (name : List ℕ) (stati
     → station_named name (script_after start lines).world ≡ Some station
     → (line_step (script_after start lines) line).1 ≡ export_line (energy_by (order_named (script_after start lines) station.site) Export (entries station.content))
 
--- after any lines, the answer to a question for a station's total is its figures, computed from all its events in its site's order of readings
+-- after any lines, the answer to a question for a station's total is its figures, computed from all its events in its
+-- site's order of readings
 abbrev pub TotalsAreFromScratch : Type 0
 TotalsAreFromScratch = (lines : List Line) (line : Line) (name : List ℕ) (station : Station) → line_meaning line ≡ asks_total name
     → station_named name (script_after start lines).world ≡ Some station

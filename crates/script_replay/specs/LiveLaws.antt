@@ -33,8 +33,8 @@ figures_but_voided f = record f { voided = 0 }
 abbrev pub board_but_voided : NamedBoard → NamedBoard
 board_but_voided b = record b { figures = figures_but_voided b.figures; stations = map (λ s. (s.0, with_voided 0 s.1)) b.stations }
 
--- the answers to a question for the site's board are the texts of two boards, which are equal except for the numbers of voided
--- events
+-- the answers to a question for the site's board are the texts of two boards, which are equal except for the numbers of
+-- voided events
 pub record ShowAlike (site : List ℕ) (line : Line) (one other : List Line) : Type 0 where
   pub one_answers : (line_step (after one) line).1 ≡ board_text (board_of_site (after one) site)
   pub other_answers : (line_step (after other) line).1 ≡ board_text (board_of_site (after other) site)

@@ -11,7 +11,8 @@ use Rattle.script_lines.specs.Writing.{WritesFront}
 use Rattle.script_replay.specs.Outcome.{IsReplay}
 use Rattle.script_replay.specs.declared.whole.Ended.{Ended}
 
--- The output took the text of a replay of this input, except for bytes that a buffer kept. After Ok the input is at its end and the buffer kept nothing.
+-- The output took the text of a replay of this input, except for bytes that a buffer kept. After Ok the input is at its
+-- end and the buffer kept nothing.
 abbrev pub IsReplayOf : Option (List ℕ) → Option (List ℕ) → Option (List ℕ) → Result (Unit {0}) ReplayFault → Type 0
 IsReplayOf input before after ended =
     (unread : Option (List ℕ)) × (kept : List ℕ) × IsReplay input unread before (append_known after kept) ended
@@ -51,7 +52,8 @@ Writes before after reported bytes = (written : List ℕ) × Appends before afte
 abbrev pub IsReported : {W E : Type 0} → (E → Option (List ℕ)) → E → Ended W E → Result (Unit {0}) ReplayFault → Type 0
 IsReported contents errors run ended = (run.status ≡ exit_status ended) × Writes (contents errors) (contents run.errors) run.reported (report ended)
 
--- A replay as a whole run: from the bytes of its input to those of its output and of standard error, and its exit status.
+-- A replay as a whole run: from the bytes of its input to those of its output and of standard error, and its exit
+-- status.
 abbrev pub IsReplayRun : {W E : Type 0} → (W → Option (List ℕ)) → (E → Option (List ℕ)) → Option (List ℕ) → W → E → Ended W E → Type 0
 IsReplayRun contents reports input output errors run =
     (ended : Result (Unit {0}) ReplayFault) × IsWholeReplay contents input (contents output) run.output ended × IsReported reports errors run ended

@@ -20,8 +20,8 @@ pub struct Replayed<W> {
     pub ended: Result<(), ReplayFault>,
 }
 
-/// Replays an input to its end and writes the text to an output, each through a buffer. Bytes that a failed write left in
-/// the buffer are not written later.
+/// Replays an input to its end and writes the text to an output, each through a buffer. Bytes that a failed write left
+/// in the buffer are not written later.
 pub fn replay_whole<X: AllocGlobal + Threads, R: Read + Drop, W: Write + Drop>(
     rt: &X,
     input: R,

@@ -101,8 +101,8 @@ Recalled step v n w = (w ≡ (writing v.0.log [] [] 0, v.1)) × IsPrefix v.0.old
 abbrev pub Loaded : At → Sat → ℕ → Sat → Type 0
 Loaded step v n w = w ≡ (looking v.0.log v.0.version (v.0.read ++ n ∷ []), v.1)
 
--- A seat loads the version again. If it is still the same, the seat knows the posts of the totals that it read; else it knows what
--- it knew.
+-- A seat loads the version again. If it is still the same, the seat knows the posts of the totals that it read; else it
+-- knows what it knew.
 abbrev pub Checked : At → Sat → ℕ → Sat → Type 0
 Checked step v n w = MatchBool (n == v.0.version)
     ((w ≡ (seeing w.0.log [], v.1)) × IsPrefix v.0.log w.0.log × (v.0.read ≡ shown w.0.log) × (n ≡ 2 * length w.0.log))

@@ -14,7 +14,8 @@ use Rattle.station_cell.specs.Cell.{Cell, Held, cell_code}
 use Rattle.site_desk.specs.Parts.{IsTied}
 use Rattle.site_desk.specs.Roster.{StandsAt}
 
--- A closed desk: the cells of all stations and the books of all sites, in the plan's order, and the passes that were given out.
+-- A closed desk: the cells of all stations and the books of all sites, in the plan's order, and the passes that were
+-- given out.
 pub record Ended : Type 0 where
   pub cells : List Cell
   pub books : List Book

@@ -87,7 +87,7 @@ pub record IsNotedBoard (Is : Cell → Type 0) (k : ℕ) (p : StationPlace) (boa
   pub there : slice_get boards i ≡ Some board
   pub is : IsBoardOfCell k p cell board
 
--- The boards are those of the stations of the site of this number, in the plan's order; each shows a cell for which this
--- holds.
+-- The boards are those of the stations of the site of this number, in the plan's order; each shows a cell for which
+-- this holds.
 abbrev pub AreNotedBoards : (Cell → Type 0) → List StationPlace → ℕ → List (List ℕ × Board) → Type 0
 AreNotedBoards Is places site boards = (k : ℕ) (p : StationPlace) → slice_get places k ≡ Some p → p.site ≡ site → IsNotedBoard Is k p boards (before_at places site k)

@@ -40,7 +40,8 @@ abbrev pub viewed_by : Option ℕ → List SitePlan → List SitePlan
 viewed_by None sites = sites
 viewed_by (Some viewers) sites = map {A = SitePlan} (λ s. record s { viewers = viewers }) sites
 
--- The books of a plan: one for each site, in the plan's order, with a row for each of its stations, opened with that station's limits.
+-- The books of a plan: one for each site, in the plan's order, with a row for each of its stations, opened with that
+-- station's limits.
 pub record AreBooksOf (stations : List StationPlan) (sites : ℕ) (books : List Book) : Type 0 where
   pub count : length books ≡ sites
   pub each : (site : ℕ) (b : Book) → slice_get books site ≡ Some b → (b.site ≡ site) × (b.limits ≡ limits_at stations site)

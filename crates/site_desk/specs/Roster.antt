@@ -36,7 +36,8 @@ pub record StandsAt (k : ℕ) (at : StationPlace) (c : Cell) : Type 0 where
   pub period : c.period ≡ at.period
   pub order : c.order ≡ at.order
 
--- What a desk keeps: a cell for each station, and a book for each site that a station is at; both are no more than a plan may have.
+-- What a desk keeps: a cell for each station, and a book for each site that a station is at; both are no more than a
+-- plan may have.
 pub record IsDesk (places : List StationPlace) (cells books : ℕ) : Type 0 where
   pub each_cell : cells ≡ length places
   pub few_cells : cells ≤ 64

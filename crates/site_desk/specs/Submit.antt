@@ -16,7 +16,8 @@ use Rattle.site_desk.specs.Roster.{IsNamed, StandsAt}
 use Rattle.station_cell.specs.Settle.{Holds, Tied}
 use Rattle.station_ledger.specs.Spent.{most_spent}
 
--- The command is accepted as change n at this content. The station's row showed the figures of this content, and those of the content after it were posted last.
+-- The command is accepted as change n at this content. The station's row showed the figures of this content, and those
+-- of the content after it were posted last.
 pub record IsTakenAt (at : StationPlace) (before : Content) (command : Command) (n : ℕ) (told : Option Known) : Type 0 where
   pub answered : answer at.limits before command ≡ Accepted n
   pub posts : List Post

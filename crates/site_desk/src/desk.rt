@@ -362,8 +362,8 @@ impl<J: Naming, C: HasCell> Desk<J, C> {
         }
     }
 
-    /// The boards of a site as [`Desk::site_boards`] gives them, and a note of the cells that they show, made at that one
-    /// moment, while all locks of the site are held. Errors are those of [`Desk::site_boards`].
+    /// The boards of a site as [`Desk::site_boards`] gives them, and a note of the cells that they show, made at that
+    /// one moment, while all locks of the site are held. Errors are those of [`Desk::site_boards`].
     pub fn site_boards_by<S: Notes<C, N>, N: Drop, R: Wait>(
         &self,
         rt: &R,

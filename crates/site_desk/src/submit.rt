@@ -98,8 +98,8 @@ pub(crate) fn try_settle<J: Naming, R: Wait>(
     }
 }
 
-/// Settles a judged command ([`settle`]) under the lock of the site's book, for which it waits. If the book is not as it
-/// should be, which no run with fewer than 2^62 accepted changes of a site meets, nothing changes, and there is no
+/// Settles a judged command ([`settle`]) under the lock of the site's book, for which it waits. If the book is not as
+/// it should be, which no run with fewer than 2^62 accepted changes of a site meets, nothing changes, and there is no
 /// answer.
 ///
 /// Conditions: the command may be judged ([`can_judge`] tests it), and this is the judgement of the command by the

@@ -1,4 +1,5 @@
--- What the walks of the six pointer functions share: words and marks read and made, and one place taken out of a row and put back.
+-- What the walks of the six pointer functions share: words and marks read and made, and one place taken out of a row
+-- and put back.
 use mathlib.Core.Path.{◌≡◌, refl, sym, subst}
 use Prim.Native.Nat.{ℕ, zero, suc, ◌+◌, ◌*◌, ◌<◌}
 use native.Mathlib.Omega.{arith}

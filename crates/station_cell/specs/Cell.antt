@@ -24,7 +24,8 @@ pub record Cell : Type 0 where
   pub content : Content
   pub counts : List ℕ
 
--- A pass: its station's number, its place among that station's passes, how many changes it made, and how many differences of readings were evaluated for it.
+-- A pass: its station's number, its place among that station's passes, how many changes it made, and how many
+-- differences of readings were evaluated for it.
 pub record Held : Type 0 where
   pub station : ℕ
   pub slot : ℕ

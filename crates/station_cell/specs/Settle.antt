@@ -18,7 +18,8 @@ Holds c b = slice_get b.limits c.row ≡ Some c.limits
 abbrev pub Tied : Cell → Book → Type 0
 Tied c b = row_after c.row b.posts ≡ figures_by c.order (entries c.content)
 
--- The pass after this answer, with so much work: an accepted command is one change more, and any other answer is no work.
+-- The pass after this answer, with so much work: an accepted command is one change more, and any other answer is no
+-- work.
 abbrev pub pass_after : Held → Answer → ℕ → Held
 pass_after p (Accepted n) work = record p { changes = p.changes + 1; work = work }
 pass_after p Repeat work = p
@@ -30,7 +31,8 @@ counts_after counts p (Accepted n) = slice_set counts p.slot (p.changes + 1)
 counts_after counts p Repeat = counts
 counts_after counts p (Refused why) = counts
 
--- The cell after a command of a pass: its content is the step's, and its count for the pass rises if the command was accepted.
+-- The cell after a command of a pass: its content is the step's, and its count for the pass rises if the command was
+-- accepted.
 abbrev pub cell_after : Cell → Held → Command → Cell
 cell_after c p command = record c { content = (step c.limits c.content command).0; counts = counts_after c.counts p (answer c.limits c.content command) }
 

@@ -1,4 +1,5 @@
--- What an event that comes or goes changes: the pairs of each direction that go and come, and what its transaction counts for.
+-- What an event that comes or goes changes: the pairs of each direction that go and come, and what its transaction
+-- counts for.
 use Rattle.std.proofs.Common.{◌≡◌, ℕ, ◌+◌, ◌≤◌, Bool, zero, suc, List, [], ◌∷◌, Option, length, refl, sym, ap, subst, ◌∙◌, arith}
 use Rattle.ledger_model.specs.declared.order.Order.{Order}
 use Rattle.ledger_model.specs.declared.order.Order.TheVariants.{Sequence}

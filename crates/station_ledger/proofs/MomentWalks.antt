@@ -180,7 +180,8 @@ fitting-front (u ∷ us) (x ∷ xs) up = ⊎_elim
     (λ (ge : u.0 ≤ x.0). subst (λ b. AreInFront (cond b (x ∷ fitting (Some u) xs) []) (u ∷ us)) (sym (le-ltb x.0 u.0 ge)) tt)
     (cases_lt x.0 u.0)
 
--- A run in the gap between a front and a back: the front's last reading and the back's first do not pass a test that the run does.
+-- A run in the gap between a front and a back: the front's last reading and the back's first do not pass a test that
+-- the run does.
 abbrev pub LastFails : (Timed → Bool) → List Timed → Type 0
 LastFails own [] = Unit {0}
 LastFails own (x ∷ []) = own x ≡ false

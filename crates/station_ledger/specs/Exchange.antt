@@ -14,7 +14,8 @@ use Rattle.station_ledger.specs.ByMoment.{AreByMoment}
 use Rattle.station_ledger.specs.Quarters.{readings_at}
 use Rattle.station_ledger.specs.Sums.{AreAllowed, AreQuarterRows}
 
--- The chains have one more live event than these events. The readings by moment and the periods are those of these events.
+-- The chains have one more live event than these events. The readings by moment and the periods are those of these
+-- events.
 pub record IsComing (es : List Entry) (chains : Chained) (key : KeyName) (b : ByMoment) (period : ℕ) (quarters : Table) : Type 0 where
   pub event : Stored
   pub one : IsOneMore es (stored chains) (before_key key es) (key, event) (behind_key key es)

@@ -40,7 +40,8 @@ IsReady c (Void key) = found_of (finite.get c.events key) ≡ Some Live
 IsReady c (Restore key) = found_of (finite.get c.events key) ≡ Some Voided
 IsReady c (Erase key) = found_of (finite.get c.events key) ≡ Some Voided
 
--- The command may be carried out: its key is as it has to be, the limits allow the events before it and after it, and the sums are those of the events before it.
+-- The command may be carried out: its key is as it has to be, the limits allow the events before it and after it, and
+-- the sums are those of the events before it.
 pub record CanDo (command : Command) (chains : Chained) (sums : Sums) : Type 0 where
   pub ready : IsReady chains command
   pub before : AreAllowed (order_in sums) chains.limits (stored chains)

@@ -80,7 +80,8 @@ HasRoomWithout period d gone more t = (left : Table) → IsWithout (quartered pe
 abbrev pub with_readings : ℕ → List Timed → TimedReadings → List Timed
 with_readings o readings index = put_each readings (owned o index.entries)
 
--- An event's readings are not among their owner's in an index; the rows have the pairs that the owner's make, and the rest.
+-- An event's readings are not among their owner's in an index; the rows have the pairs that the owner's make, and the
+-- rest.
 abbrev pub AreToCome : ℕ → ℕ → ℕ → Direction → List Timed → TimedReadings → Table → List Flowed → Type 0
 AreToCome o seq period d readings index t rest = AreApart o seq period d readings (owned o index.entries) (pairs_among (owned o index.entries)) t rest
 

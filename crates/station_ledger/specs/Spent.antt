@@ -57,7 +57,8 @@ abbrev pub most_less : Order → Chained → KeyName → List Entry → ℕ
 most_less Sequence chains key es = most_at chains key
 most_less Moment chains key es = most_in_runs key es
 
--- The most differences that a command may evaluate: those of the event that it delivers, voids or restores, and none for an erasure.
+-- The most differences that a command may evaluate: those of the event that it delivers, voids or restores, and none
+-- for an erasure.
 unfoldable pub most_spent : Order → FinMap key_cmp Stored → Command → ℕ
 most_spent Sequence events (Deliver key event) = most_with event.readings
 most_spent Sequence events (Void key) = most_under (finite.get events key)

@@ -222,8 +222,8 @@ impl TxLine {
     }
 }
 
-/// The board of a station: the length of its settlement periods; its figures; its EVSEs and its periods with their energies,
-/// in rising order; and its transactions with a live event, by the bytes of their ids.
+/// The board of a station: the length of its settlement periods; its figures; its EVSEs and its periods with their
+/// energies, in rising order; and its transactions with a live event, by the bytes of their ids.
 #[derive(Debug, Drop)]
 pub struct StationBoard {
     pub(crate) period: Period,

@@ -13,11 +13,13 @@
 //! transaction with a live event and its missing numbers. None of these calls is lent a `Work`, so none
 //! compares readings.
 //!
-//! The crate's contract: contracts see a ledger as its limits, its period, its order and its content, and not how these are kept. `apply` gives the answer of
-//! the ledger's step and leaves the step's content. As many accepted commands as a ledger counts lead from the empty content to its own. A caller that needs
-//! the answer before the change, because it writes the change down first, asks for the judgement and hands it on ([`StationLedger::judgement`],
-//! [`StationLedger::apply_judged`]). `energy`, `evse`, `export`, `evse_export`, `figures` and `board` are what the definitions compute from scratch from the
-//! present content. Only `open` and `board` can run out of memory; the other calls have no such exception.
+//! The crate's contract: contracts see a ledger as its limits, its period, its order and its content, and not how these
+//! are kept. `apply` gives the answer of the ledger's step and leaves the step's content. As many accepted commands as
+//! a ledger counts lead from the empty content to its own. A caller that needs the answer before the change, because it
+//! writes the change down first, asks for the judgement and hands it on ([`StationLedger::judgement`],
+//! [`StationLedger::apply_judged`]). `energy`, `evse`, `export`, `evse_export`, `figures` and `board` are what the
+//! definitions compute from scratch from the present content. Only `open` and `board` can run out of memory; the other
+//! calls have no such exception.
 //!
 //! A change costs only what one event changes. By sequence, in each direction in which the event has
 //! readings, the pair across its place is taken back and the pairs that its readings make are added.

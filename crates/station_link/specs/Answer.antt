@@ -32,7 +32,8 @@ pub record IsSubmitted (stations : List StationPlace) (p : Held) (command : Comm
   pub settled : (at : StationPlace) → slice_get stations p.station ≡ Some at → Submitted at p command answer p' told
   pub stranger : slice_get stations p.station ≡ None → (answer ≡ Refused ChangesExhausted) × IsUnchanged p p' told
 
--- What comes with the answer to a command with a pass of the station of this number: what is known of it at the station's place.
+-- What comes with the answer to a command with a pass of the station of this number: what is known of it at the
+-- station's place.
 abbrev pub IsGivenAt : {M : Type 0} → (ℕ → StationPlace → Command → Answer → Option Known → Option M → Type 0) → List StationPlace → ℕ → Command → Answer → Option Known → Option M → Type 0
 IsGivenAt gives stations number command answer told seen = (at : StationPlace) → slice_get stations number ≡ Some at → gives number at command answer told seen
 
@@ -41,8 +42,8 @@ pub record IsNextPass (p p' : Held) : Type 0 where
   pub station : p'.station ≡ p.station
   pub changes : p'.changes ≤ p.changes + 1
 
--- The reply to an event is the reply to an answer that the desk can give to its delivery, and what comes with it belongs to
--- that answer.
+-- The reply to an event is the reply to an answer that the desk can give to its delivery, and what comes with it
+-- belongs to that answer.
 pub record IsDelivered {M : Type 0} (gives : ℕ → StationPlace → Command → Answer → Option Known → Option M → Type 0) (stations : List StationPlace) (p : Held) (id : List ℕ) (request : Request) (text : Option (List ℕ)) (p' : Held) (told : Option Known) (seen : Option M) : Type 0 where
   pub answer : Answer
   pub submitted : IsSubmitted stations p (Deliver request.key request.event) answer p' told

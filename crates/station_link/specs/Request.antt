@@ -18,7 +18,8 @@ abbrev pub IsPathOf : List ℕ → Option (List ℕ) → Type 0
 IsPathOf path (Some name) = path ≡ codes "/ocpp/" ++ name
 IsPathOf path None = (name : List ℕ) → is_name name ≡ true → path ≢ codes "/ocpp/" ++ name
 
--- Why a request is refused, whatever passes were given out: no request was seen, the subprotocol was not offered, the path names no station, in this order.
+-- Why a request is refused, whatever passes were given out: no request was seen, the subprotocol was not offered, the
+-- path names no station, in this order.
 abbrev pub refusal : List StationPlace → Seen → Option Why
 refusal stations Nothing = Some HandshakeFailed
 refusal stations NoMemory = Some OutOfMemory

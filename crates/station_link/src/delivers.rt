@@ -18,8 +18,9 @@ pub struct Ordered<'a> {
     pub event: Event,
 }
 
-/// Takes the events that the texts of sessions ask to deliver: a desk, or one with a journal. With an answer it may return
-/// what it saw of its journal then (M); `gives` is what that says of the command on the station of this number and place.
+/// Takes the events that the texts of sessions ask to deliver: a desk, or one with a journal. With an answer it may
+/// return what it saw of its journal then (M); `gives` is what that says of the command on the station of this number
+/// and place.
 pub trait Delivers<J: Naming, M> {
     ghost use Rattle.std.specs.Prelude.{◌≡◌, ℕ, List, Option, IfOk, OnErr};
     ghost use Rattle.ledger_model.specs.declared.answer.Answer.{Answer};

@@ -118,10 +118,10 @@ pub fn serve_connection<
 
 /// Serves a session that was let in with a pass, until it ends or is no longer wanted: up to a million messages. It
 /// answers each text as [`answer_text`](crate::answer_text) does, at the clock's moment. After it sent the reply, or
-/// decided that there is none, it calls `gate.after` with the text's number, counted from 1. Ping and Pong count only as
-/// messages. A reply that reports OutOfMemory does not end the session. What was accepted stays accepted if its reply
-/// can't be sent. At the end it calls the attendant's `leaves`, and then sends the close frame. It gives the pass back
-/// whatever ends the session, also a lack of memory.
+/// decided that there is none, it calls `gate.after` with the text's number, counted from 1. Ping and Pong count only
+/// as messages. A reply that reports OutOfMemory does not end the session. What was accepted stays accepted if its
+/// reply can't be sent. At the end it calls the attendant's `leaves`, and then sends the close frame. It gives the pass
+/// back whatever ends the session, also a lack of memory.
 pub fn serve_session<
     J: Naming,
     M: Drop,

@@ -1,4 +1,5 @@
--- Sampled values of energy registers (SampledValueType of OCPP 2.0.1 Part 2, J02); which of them count is this product's profile.
+-- Sampled values of energy registers (SampledValueType of OCPP 2.0.1 Part 2, J02); which of them count is this
+-- product's profile.
 use Rattle.std.specs.Prelude.{ℕ, Bool, true, ◌&&◌, List, is_none, if◌then◌else◌, Option, Some, None, Result, Ok, Err, codes}
 use Rattle.std.specs.Option.{ok_or}
 use Rattle.std.specs.Str.{bytes_eq}
