@@ -9,7 +9,7 @@ set -u
 program=${1:+$(realpath "$1")}
 replay=${2:+$(realpath "$2")}
 top=$(cd "$(dirname "$0")/.." && pwd) && cd "$top/tests/tools" || exit
-# What is compared lies in this folder, and the days of traffic in:
+# What is compared is in this folder, and the days of traffic are in:
 export days=../../examples
 export board=$top/python/ocpp-board
 one=$top/tests/one
@@ -19,13 +19,13 @@ made=$(mktemp -d) || exit
 trap 'rm -r "$made"' EXIT
 different=0
 
-# differs NAME: tells that it is not as stored.
+# differs NAME: reports that it is not as stored.
 differs() {
     echo "$1: differs"
     different=$((different + 1))
 }
 
-# made_by COMMAND..: runs it; what it tells on standard error is shown where it fails.
+# made_by COMMAND..: runs it; shows its standard error if it fails.
 made_by() {
     "$@" 2> "$made/told" || { cat "$made/told" >&2; differs "$1"; }
 }
@@ -35,8 +35,8 @@ as_stored() {
     diff --label stored --label made -u "$1" "$2" && echo "$1: as stored" || differs "$1"
 }
 
-# gives STATUS NAME COMMAND..: the command ends with this status, writes the stored text NAME and tells NAME.told, where
-# one of them may not be stored; else what it tells is shown where its status is another. A NAME of - stands for neither.
+# gives STATUS NAME COMMAND..: the command ends with this status, writes the stored text NAME, and NAME.told to its standard
+# error; one of the two may not be stored. If its status is another, that is shown. A NAME of - means neither.
 gives() {
     local status=$1 name=$2
     shift 2
@@ -48,7 +48,7 @@ gives() {
     [ $ended = "$status" ] || { cat "$made/told"; differs "the status of $*: $ended, not $status,"; }
 }
 
-# tells STATUS LINE COMMAND..: the command ends with this status, and LINE stands in what it tells.
+# tells STATUS LINE COMMAND..: the command ends with this status, and its standard error has LINE.
 tells() {
     local status=$1 line=$2
     shift 2
@@ -62,7 +62,7 @@ tells() {
     fi
 }
 
-# holds LIST: each line of LIST, a file that was made, a tab and a text, tells a text that stands in that file.
+# holds LIST: each line of LIST has a file that was made, a tab and a text that is in that file.
 holds() {
     while IFS=$'\t' read -r name text; do
         grep -qF -- "$text" "$made/$name" || differs "$1, where $name has no '$text',"
@@ -108,7 +108,7 @@ with_program() {
     tells 2 "No such file or directory" "$board" explain --program ./nowhere "$days/day.script"
     tells 2 "No space left on device" bash -c '"$board" explain --program "$1" explain/mistakes.script > /dev/full' _ "$program"
 
-    # The ledgers stand by the time that the operator's lines come.
+    # The ledgers are open by the time that the operator's lines come.
     gives 0 live/answers bash -c '{ sleep 2; cat live/operator; } | "$board" live --program "$1" --out "$2" --every 0.2 \
         --tz Europe/Berlin <(cat forms/ocpp.script; sleep 4)' _ "$program" "$made/live"
     as_stored live/north.transactions.csv "$made/live/north.transactions.csv"
@@ -148,8 +148,8 @@ with_program() {
         --program "$1" --out "$2" "$2.text"' _ "$program" "$made/untaken"
     holds tables/untaken.said
 
-    # A day whose stations list readings again, which are taken by moment, has the periods of the same day without; taken
-    # by sequence it has others.
+    # A day on which stations list readings again has, by moment, the periods of the same day without them; by sequence
+    # it has others.
     "$board" traffic 3 sessions | "$program" replay | grep '^period' > "$made/once.lines"
     "$board" traffic 3 repeats | "$program" replay | grep '^period' > "$made/again.lines"
     "$board" traffic 3 repeats | grep -v '^order' | "$program" replay | grep '^period' > "$made/sequence.lines"
@@ -179,7 +179,7 @@ with_program() {
         echo "examples/clients/README.md: not tried, since python3-websockets is not installed"
     fi
 
-    # 50 events of each of two stations: a session of 48 and one of 2, in each of which all but the first rise by 250 Wh.
+    # 50 events of each of two stations: a session of 48 and one of 2. In each all but the first rise by 250 Wh.
     gives 0 forms/traffic.text bash -c '"$board" traffic 100 --stations 2 | "$1" replay | grep -v "^.3,"' _ "$program"
 }
 
@@ -223,7 +223,7 @@ gives 0 forms/regex.script "$board" log-to-script --received --incoming up \
 gives 0 forms/nested.script "$board" log-to-script --time-field meta.at --site-field charger.site --station-field charger.id \
     --protocol-field charger.version --message-field frame.raw --json-message forms/nested.jsonl
 
-# Logs that were compressed, one of which is cut short, and words and lines that can't be taken.
+# Compressed logs, one of them cut short, and words and lines that can't be taken.
 gzip -c "$days/day.jsonl" > "$made/day.jsonl.gz"
 gives 0 "$days/day.jsonl.script" "${day_of_log[@]}" "$made/day.jsonl.gz"
 head -c -100 "$made/day.jsonl.gz" > "$made/cut.gz"
@@ -292,7 +292,7 @@ if [ -n "$replay" ]; then
     gives 1 explain/mistakes.told "$board" explain --program "$replay" explain/mistakes.script
 fi
 
-# The boards become tables and pages, in UTC and in a zone whose days have 23 and 25 hours.
+# The boards become tables and pages, in UTC and in a zone that has days of 23 and 25 hours.
 for day in day site_day; do
     made_by "$board" tables --written $written --out "$made/$day" "$days/$day.expected"
     for stored in "$days/$day".*.csv "$days/$day.html" "$days/$day".*.html; do

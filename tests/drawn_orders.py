@@ -32,7 +32,7 @@ class Drawn:
         self.listed: dict[int, list[dict[str, Any]]] = {}
 
     def reading(self) -> dict[str, Any]:
-        """A meter value, whose moment is often that of another one and may lie within a minute."""
+        """A meter value. Its moment is often that of another one and may be within a minute."""
         draws = self.draws
         at = FIRST + timedelta(minutes=draws.randrange(MINUTES))
         if draws.randrange(4) == 0:
@@ -61,7 +61,7 @@ class Drawn:
         }
 
     def command(self) -> str:
-        """A command for a station, whose name is put in the place of `<>`."""
+        """A command for a station: its name replaces `<>`."""
         draws = self.draws
         if draws.randrange(5) < 2:
             text = json.dumps([2, "1", "TransactionEvent", self.event()], separators=(",", ":"))

@@ -97,7 +97,7 @@ def script_of(seed: int, least: int, most: int) -> bytes:
 
 
 def drawn(draws: random.Random, stations: list[str], size: int, share: float) -> Iterator[str]:
-    """Its lines, of which this share is of new events."""
+    """Its lines; this share of them is of new events."""
     made = 0
     for number, station in enumerate(stations):
         yield f"station {'north' if number % 3 else 'south'} {station}\n"

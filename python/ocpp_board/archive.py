@@ -92,8 +92,8 @@ def grouped(lines: Iterable[bytes]) -> Iterator[tuple[list[bytes], bytes]]:
 
 
 class Correction(NamedTuple):
-    """What came for a session that was closed before: when, whose, what it is, its answer, and the net energy of the
-    session before and after."""
+    """What came for a session that was closed before: when, from which station, what it is, its answer, and the net
+    energy of the session before and after."""
 
     received: str
     site: str
@@ -187,7 +187,7 @@ class Archive:
         return found
 
     def take_line(self, closed: Closed, numbers: dict[int, int], line: bytes, at: int) -> None:
-        """Takes a line of a script at a start: whose it is, and comments."""
+        """Takes a line of a script at a start: its station, and comments."""
         number = numbers[at] = self.script.passed_in(closed.path, at)
         if key := session_of(line):
             self.of[key] = closed.label

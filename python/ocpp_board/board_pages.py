@@ -47,7 +47,7 @@ from ocpp_board.pages import (
 from ocpp_board.pictures import Scale
 from ocpp_board.powers import peak_cell, peak_said
 
-# Bytes of a page's body from which on it goes on on the next.
+# A page's body with more bytes than this goes on on the next page.
 PAGE_BYTES = 250_000
 # Stations that a row of the table of problems links to, and boards in that of the sites.
 MOST_LINKS, MOST_BOARDS = 5, 100
@@ -140,11 +140,11 @@ class Layout:
     marks: dict[date, int] = field(default_factory=dict)
 
     def index(self, number: int = 1) -> str:
-        """The path of the page of all boards, and of those on which it goes on."""
+        """The path of the page of all boards, and of the pages after it."""
         return f"{self.out}{'' if number == 1 else f'.{number}'}.html"
 
     def day(self, day: date, number: int = 1) -> str:
-        """The path of the page of a day, and of those on which it goes on."""
+        """The path of the page of a day, and of the pages after it."""
         return f"{self.out}.{day}{'' if number == 1 else f'.{number}'}.html"
 
     def head(self, title: str, said: str, links: str, is_one: bool, whole: str = "") -> str:
@@ -220,7 +220,7 @@ class Layout:
 
 
 class Page:
-    """A page whose body grows in its file, and which gets its frame at the end."""
+    """A page that grows in its file, and gets its frame at the end."""
 
     def __init__(self, path: str) -> None:
         self.path, self.size = path, 0
@@ -242,7 +242,7 @@ class Page:
 
 
 class Series:
-    """A page and those on which it goes on. `path_of`: the path of the page of a number, from 1 on."""
+    """A page and the pages after it. `path_of`: the path of the page of a number, from 1 on."""
 
     def __init__(self, path_of: Callable[[int], str]) -> None:
         self.path_of = path_of
@@ -310,7 +310,7 @@ def weekday(day: date) -> str:
 
 
 class Names:
-    """The names of the sites whose boards a page has, for its title."""
+    """The names of the sites with boards on a page, for its title."""
 
     def __init__(self) -> None:
         self.boards = 0
@@ -369,7 +369,7 @@ class DayPages:
         return day not in self.standing
 
     def marked(self, board: Board) -> set[date]:
-        """The days whose doubts or sessions are others than those that their pages have."""
+        """The days with other doubts or sessions than their pages have."""
         found: dict[date, list[object]] = {}
         for number, part in enumerate((board.site, *board.stations)):
             for start, doubt in part.known.doubts.items() if part.known else ():

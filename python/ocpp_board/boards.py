@@ -22,7 +22,7 @@ log = logging.getLogger(__name__)
 LONGEST_LINE = 4_096
 # Complaints that are reported; the others are counted.
 MOST_COMPLAINTS = 20
-# Moments whose texts are kept, since all stations share them.
+# How many moments have their texts kept, since all stations share them.
 KEPT_MOMENTS = 131_072
 
 # The numbers of the lines, in the order in which they are there.
@@ -278,7 +278,7 @@ class Sink(Protocol):
     """Takes the parts of boards: board, part, .., end."""
 
     def board(self, number: int, site: str, line: int) -> None:
-        """A board begins: which of the text it is, of which site, and in which line."""
+        """A board begins: its number in the text, its site, and its line."""
 
     def part(self, part: Part) -> None:
         """What it says of its site, and then of each station."""

@@ -9,7 +9,7 @@ from ocpp_board.boards import KEPT_MOMENTS, Period
 from ocpp_board.limits import MOMENT
 
 
-# Days without a period in a row, after which their rows are left out: a clock that was set wrong lies far away.
+# The rows of more days in a row without a period are left out: a clock that was set wrong may be years away.
 LONGEST_PAUSE = 62
 
 

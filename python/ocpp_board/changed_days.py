@@ -11,7 +11,7 @@ from ocpp_board.pictures import Scale
 
 PERIOD = re.compile(rb"period (\S+) up=(\d+) down=(\d+) export_up=(\d+) export_down=(\d+)")
 PART = (b"board ", b"station ")
-# A total line of which nothing was exported.
+# A total line without exported energy.
 NO_EXPORT = re.compile(rb"total .* export_up=0 export_down=0")
 
 
@@ -48,7 +48,7 @@ def exports(board: bytes) -> bool:
 
 
 def periods_of(board: bytes) -> Iterator[tuple[bytes, bytes, tuple[bytes, ...]]]:
-    """Each period of a board: whose it is, its line, and what the line says."""
+    """Each period of a board: its site or station, its line, and what the line says."""
     part = b""
     for line in board.splitlines():
         if line.startswith(PART):

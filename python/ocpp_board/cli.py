@@ -20,7 +20,7 @@ COMMAND = "ocpp-board"
 
 
 class Tool(NamedTuple):
-    """A tool: the module whose `main` it is, and what it does in one line."""
+    """A tool: the module with its `main`, and what it does in one line."""
 
     module: str
     about: str

@@ -8,7 +8,7 @@ from typing import Any, NamedTuple
 FLOW = ("up", "down", "export_up", "export_down")
 MWH_OF_A_KWH = 1_000_000
 MINUS = "\N{MINUS SIGN}"
-# Energies whose texts are kept, since pages have many of them again.
+# How many energies have their texts kept, since pages have many of them again.
 KEPT_TEXTS = 65_536
 
 

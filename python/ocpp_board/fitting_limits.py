@@ -8,7 +8,7 @@ from ocpp_board.near_limits import Counts, SentByStations
 
 # How many times what a station sent it has room for, and the least room for readings.
 TIMES, LEAST = 2, 1_024
-# Readings for each of which a station has room for a transaction.
+# For so many readings a station has room for one transaction.
 OF_TRANSACTION = 16
 Limits = tuple[int, int, int, int]
 

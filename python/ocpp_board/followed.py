@@ -28,7 +28,7 @@ PACKED = (".bz2", ".xz", ".zst")
 
 
 def front_of(file: IO[bytes], place: int) -> str:
-    """By what a file is known again of which so many bytes were taken."""
+    """How a file is recognised after so many of its bytes were taken."""
     count = min(FRONT, place)
     if isinstance(file, gzip.GzipFile):
         packed = os.pread(file.fileno(), PACKED_FRONT, 0)
@@ -54,7 +54,7 @@ def is_cut_short(file: IO[bytes], place: int) -> bool:
 
 
 def beside(path: Path) -> list[Path]:
-    """The files that a rotation leaves: those whose names begin as this one's, and go on, or have a date in it."""
+    """The files that a rotation leaves: names that begin as this one's and go on, or that have a date in them."""
     found = {*path.parent.glob(f"{path.name}?*"), *filter(rotated(path), path.parent.iterdir())}
     return [one for one in sorted(found) if one.is_file() and one.suffix not in PACKED]
 
@@ -100,7 +100,7 @@ def has(file: IO[bytes], place: int) -> bool:
 
 
 def known(path: Path, taken: Iterable[tuple[int, str]]) -> IO[bytes] | None:
-    """The file of which so many bytes were taken, each time with its front: the one of this name, or one beside it.
+    """The file that so many bytes were taken from, each time with its front: the one of this name, or one beside it.
 
     Where nothing was taken it is the one of this name. None where it is none of them. Raises OSError.
     """

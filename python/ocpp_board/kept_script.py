@@ -26,7 +26,7 @@ class KeptScript:
     """The files `script`, `read` and `lock` of a folder, which one process at a time keeps."""
 
     def __init__(self, folder: Path, declarations: bytes) -> None:
-        """Begins the script, or goes on with the one that is there, whose declarations become these.
+        """Begins the script, or goes on with the one that is there; its declarations become these.
 
         Raises OSError, and Mistaken where another process keeps it or the file is another's.
         """

@@ -11,7 +11,7 @@ GREATEST_SEQ_NO = 2_147_483_647
 LONGEST_LINE = 262_400
 LONGEST_MESSAGE = 262_144
 LONGEST_SCRIPT = 1_073_741_824
-# Bytes of a line of a log: room for a message of which each byte is escaped, and for other fields.
+# Bytes of a line of a log: room for a message with each byte escaped, and for other fields.
 LONGEST_LOG_LINE = 4_194_304
 # Sites and stations of a script, and the readings of all its stations together.
 MOST_SITES = 16

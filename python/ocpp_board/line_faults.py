@@ -39,7 +39,7 @@ BYTE_ORDER_MARK = b"\xef\xbb\xbf"
 UTF_16 = (b"\xff\xfe", b"\xfe\xff")
 GREATEST = 2**64 - 1
 NAMES = "names have 1 to 48 of A-Z a-z 0-9 * - _ = : + | @ ."
-# What is said of a time whose year no message may have.
+# What is said of a time of a year that no message may have.
 OUT_OF_RANGE = "is not from 2000 to 2099"
 # What is said of a time without an offset.
 NO_OFFSET = "has no offset from UTC, such as Z"

@@ -111,7 +111,7 @@ class Pages:
         )
 
     def make(self, name: Path, board: bytes, refused: int, standing: frozenset[date]) -> Layout:
-        """Makes the files of a board, whose names begin so, but for the pages of days that are there already."""
+        """Makes the files of a board, with names that begin so, except the pages of days that are there already."""
         more = ["--tz", str(self.words.tz)] if self.words.tz else []
         more += ["--tokens", getattr(self.words, "tokens", "none")]
         more += ["--log-json"] if self.words.log_json else []

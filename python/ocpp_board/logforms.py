@@ -127,7 +127,7 @@ def is_old(protocol: Any) -> bool:
 
 
 class JsonForm:
-    """JSON objects whose fields are named."""
+    """JSON objects with named fields."""
 
     def __init__(self, fields: JsonFields) -> None:
         self.fields = fields
@@ -160,7 +160,7 @@ class JsonForm:
 
 
 class RegexForm:
-    """Lines in which a regular expression is found, whose groups are named as the fields."""
+    """Lines that a regular expression finds; its groups have the names of the fields."""
 
     def __init__(self, pattern: re.Pattern[str], incoming: str) -> None:
         self.pattern, self.incoming = pattern, incoming
@@ -264,7 +264,7 @@ class CitrineForm:
 
 
 class CitrineCsvForm:
-    """The same rows as CSV, the first line of which names the columns."""
+    """The same rows as CSV; the first line names the columns."""
 
     COLUMNS = {"stationId", "origin", "timestamp", "message"}
 
@@ -292,7 +292,7 @@ class CitrineCsvForm:
 
 
 class MaeveForm:
-    """MaEVe's MQTT messages, a topic and an object a line, of which the frame is made."""
+    """MaEVe's MQTT messages: lines of a topic and an object; the frame is made from them."""
 
     LINE = re.compile(
         r"(?:\S*/)?cs/(?P<way>in|out)/(?P<protocol>[^/ ]+)/(?P<station>[^/ ]+) (?P<object>.*)",

@@ -83,7 +83,7 @@ def is_reading(token: str, unit: dict[str, Any]) -> bool:
 
 
 class Checks:
-    """The checks of a TransactionEvent's payload, in their order. Each that fails is noted; those of what lies in a
+    """The checks of a TransactionEvent's payload, in their order. Each that fails is noted; those of what is in a
     member of the wrong kind are passed over."""
 
     def __init__(self, payload: Any) -> None:

@@ -8,7 +8,7 @@ from functools import lru_cache
 from typing import Any, NamedTuple
 
 IMPORT, EXPORT = "Energy.Active.Import.Register", "Energy.Active.Export.Register"
-# Moments whose texts are kept, since an event and its readings often have the same.
+# How many moments have their texts kept, since an event and its readings often have the same.
 KEPT_MOMENTS = 1_024
 ANNOTATION = re.compile(r"\[.*\]$")
 # Digits for a reading's value, however its exponent is written.

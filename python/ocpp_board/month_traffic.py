@@ -33,7 +33,7 @@ class Station(NamedTuple):
 
 
 class Row(NamedTuple):
-    """A line of the log: when it was received, whose it is, and the message."""
+    """A line of the log: when it was received, its station, and the message."""
 
     at: datetime
     station: Station

@@ -44,7 +44,7 @@ PROBLEMS = {"voided by": "voided by an operator"}
 
 @dataclass
 class Problem:
-    """What is wrong: in how many sessions, how often, and at which stations."""
+    """What is wrong: in how many sessions, how often, and its stations."""
 
     name: str
     meaning: str
@@ -168,7 +168,7 @@ def periods_of(
     has_export: bool,
     known: KnownPeriods | None,
 ) -> Iterator[str]:
-    """The table of a day's periods, whose rows leave out what HTML lets be left out: pages have many."""
+    """The table of a day's periods; its rows leave out what HTML lets be left out, since pages have many."""
     zone = "UTC" if calendar.is_utc else calendar.name
     beside = "" if calendar.is_utc else '<th scope="col">From (UTC)'
     yield f'<table class="plain periods"><caption>{kept(str(day))}, kWh</caption>\n'

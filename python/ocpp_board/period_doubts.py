@@ -118,7 +118,7 @@ def doubts_of(events: Sequence[Event], seconds: int, gaps: Sequence[tuple[int, i
 
 
 def unmeasured(begin: float, end: float, seconds: int, read: Sequence[float]) -> Iterator[int]:
-    """The ends of periods within a session at which it has no reading."""
+    """The ends of periods within a session where it has no reading."""
     first = (int(begin // seconds) + 1) * seconds
     for at in range(first, first + MOST_PERIODS * seconds, seconds):
         if at >= end:

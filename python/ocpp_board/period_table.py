@@ -72,7 +72,7 @@ class PeriodTable:
                 )
 
     def starts(self, day: date, seconds: int) -> list[datetime]:
-        """The beginnings of a day's periods, whose cells of times are known then."""
+        """The beginnings of a day's periods; their cells of times are known then."""
         starts = self.calendar.starts(day, seconds)
         for start in starts:
             if (start, seconds) not in self.times:

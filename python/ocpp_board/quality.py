@@ -242,7 +242,7 @@ class Fall(NamedTuple):
 
 
 def told_falls(falls: Sequence[Fall], readings: Sequence[Reading]) -> Iterator[Finding]:
-    """Falls of registers of a session, whose readings these are: those of meters that were reset, and the others."""
+    """Falls of registers of a session with these readings: those of meters that were reset, and the others."""
     if not falls:
         return
     starts = {
@@ -263,7 +263,7 @@ def told_falls(falls: Sequence[Fall], readings: Sequence[Reading]) -> Iterator[F
 
 
 def said_of_falls(falls: Sequence[Fall]) -> str:
-    """What was lost by falls, and from which reading to which."""
+    """What was lost by falls, with the reading before and after each."""
     lost = sum(fall.had.mwh - fall.one.mwh for fall in falls)
     each = ", ".join(
         f"from {kwh(fall.had.mwh)} to {kwh(fall.one.mwh)} kWh" for fall in falls[:MOST_SEEN]

@@ -233,7 +233,7 @@ class Refusals:
         return found
 
     def settle(self, is_taken: Callable[[Refusal], bool]) -> None:
-        """Takes away rows of lines that could not be taken, whose messages were taken by now."""
+        """Takes away rows of lines that could not be taken, if their messages were taken by now."""
         for key, row in [*self.rows.items()]:
             if key.cause == UNTAKEN and is_taken(key):
                 del self.rows[key]
@@ -248,13 +248,13 @@ class Refusals:
             log.warning("refused: %s messages by now: %s", f"{count:,}", refusal.cause)
 
     def count(self, site: str | None = None) -> int:
-        """How many messages of a site were refused, those included whose site is not known; without a site of all."""
+        """How many messages of a site were refused, with those of an unknown site; without a site of all."""
         if site is None:
             return sum(self.of_site.values())
         return self.of_site[site] + (self.of_site[""] if site else 0)
 
     def write(self, path: Path, site: str | None = None) -> None:
-        """Writes the rows of a site, and those whose site is not known, as CSV; without a site all.
+        """Writes the rows of a site, and those of an unknown site, as CSV; without a site all.
 
         The file is there whole or not at all. Raises OSError.
         """

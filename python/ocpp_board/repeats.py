@@ -12,7 +12,7 @@ SITE = "north"
 # Sessions of a station, of the 1,024 transactions that it may have without a line `limits`.
 MOST_SESSIONS = 1_000
 FIRST = datetime(2026, 3, 1, 8, tzinfo=timezone.utc)
-# Events of a session, from one to the next, and from one session to the next. The second event of a session lies in the
+# Events of a session, from one to the next, and from one session to the next. The second event of a session is in the
 # quarter of an hour in which it begins, so that a first reading that is listed again brings no period more.
 EVENTS, STEP, PAUSE = 6, timedelta(minutes=5), timedelta(hours=3)
 # What a register reads first, and rises by from event to event at least and at most, in Wh.
@@ -23,11 +23,11 @@ Payload = dict[str, Any]
 
 
 class Kind(NamedTuple):
-    """A station: its name, when its sessions begin behind the others', what it lists again, and of which registers."""
+    """A station: its name, when its sessions begin after the others', what it lists again, and its registers."""
 
     name: str
     after: timedelta
-    # Events of a session, from the first one on, whose readings its end lists again.
+    # How many events of a session, from the first on, have readings that its end lists again.
     again: int
     measurands: tuple[str, ...] = (IMPORT,)
 

@@ -59,7 +59,7 @@ def why_no_names(line: str, names: list[str]) -> str:
 
 
 def known(name: str, sites: Iterable[str]) -> str:
-    """Which sites there are, for a reader, those first whose names are near to this one."""
+    """The sites, for a reader; those with names near to this one come first."""
     names = list(sites)
     near = difflib.get_close_matches(name, names, 1, 0.5)
     names = near + [one for one in names if one not in near]

@@ -1,4 +1,4 @@
-"""What is doubtful in a station's sessions beside each other: what lies between them, and what none of them has."""
+"""What is doubtful in a station's sessions beside each other: what is between them, and what none of them has."""
 
 from collections import defaultdict
 from collections.abc import Iterable, Iterator, Mapping, Sequence
@@ -78,7 +78,7 @@ def not_ended(sessions: Sequence[Lived]) -> Found:
 
 
 def one_counter(sessions: Sequence[Lived]) -> Found:
-    """Sessions whose missing numbers all came in sessions of other EVSEs at the same time."""
+    """Sessions with missing numbers that all came in sessions of other EVSEs at the same time."""
     numbers = {id(one): {event.number for event in one.events} for one in sessions}
     for session in sessions:
         others = [

@@ -275,7 +275,7 @@ class Findings(CsvSink):
 
 
 def add_days(parser: argparse.ArgumentParser) -> None:
-    """The options that say which days are shown, and in which zone."""
+    """The options for the days that are shown, and their zone."""
     parser.add_argument(
         "--tz",
         metavar="ZONE",

@@ -63,7 +63,7 @@ def message(number: int, kind: str, time: datetime, seq: int, transaction: str, 
 
 
 def kind_of(seq: int, last: int) -> str:
-    """The kind of an event of a session whose last event has this number."""
+    """The kind of an event of a session; its last event has this number."""
     return "Started" if seq == 0 else "Ended" if seq == last else "Updated"
 
 

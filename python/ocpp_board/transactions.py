@@ -39,7 +39,7 @@ class Reading(NamedTuple):
 
 class Event(NamedTuple):
     """An event as its message has it. `others`: what it has of energy that doesn't count; `is_far`: whether its time
-    lies far from its receipt; `evse`: 0 where it names none; `unlike`: signed values that differ from their plain ones.
+    is far from its receipt; `evse`: 0 where it names none; `unlike`: signed values that differ from their plain ones.
     """
 
     number: int
@@ -160,7 +160,7 @@ def evse_of(payload: dict[str, Any]) -> int:
 
 
 def is_far(at: float | None, receipt: float | None, is_offline: bool) -> bool:
-    """Whether an event's time lies too long after its receipt, or too long before it and it was not offline."""
+    """Whether an event's time is too long after its receipt, or too long before it and it was not offline."""
     if at is None or receipt is None:
         return False
     late = receipt - at

@@ -21,7 +21,7 @@ class Parser(argparse.ArgumentParser):
 
 
 def parser_of(prog: str, about: str | None, ending: str = "") -> argparse.ArgumentParser:
-    """A parser whose help has these texts as they are laid out, with the options of all tools."""
+    """A parser with these texts as its help, as they are laid out, and with the options of all tools."""
     parser = Parser(
         prog=prog,
         description=about,

@@ -1,4 +1,4 @@
-"""Tries the read API of a fleet of its own: what it tells is what tables, boards and replays have.
+"""Tries the read API of a fleet of its own: what it answers is what tables, boards and replays have.
 
     tests/one fleet.api_demo ocpp_board
 
@@ -39,7 +39,7 @@ PLACES = (
 )
 # An id that is a path, a query and HTML.
 ODD = 'a/b?c=%41&"<b>#'
-# Sessions of the station whose lists go over pages.
+# Sessions of the station that has lists of several pages.
 MANY = 23
 TRANSACTION = """
 select up, missing, complete from own_board_transaction where (station, transaction) = ($1, $2) union all
@@ -92,7 +92,7 @@ class Demo(Trial):
         for place in PLACES:
             await self.owner.execute("select add_station($1, $2, $3)", *place)
         await self.owner.execute("update own_site set zone = 'Europe/Berlin' where site = 'north'")
-        # What is told of each line, by its token.
+        # What is known of each line, by its token.
         self.told: dict[int, str] = {}
         self.sent: dict[int, str] = {}
         self.listening = await connect(self.fleet.dsn("owner"))
@@ -189,7 +189,7 @@ class Demo(Trial):
             self.check(True, f"{name}: {status}")
         answer = self.client.api("/sites", None)
         self.check(
-            "Bearer" in answer.headers["www-authenticate"], "a program is told what is asked for"
+            "Bearer" in answer.headers["www-authenticate"], "a program learns what is asked for"
         )
         for name, token in (
             ("an operator's", self.south),
@@ -198,7 +198,7 @@ class Demo(Trial):
             ("a role too many", more),
         ):
             sites = [row["site"] for row in self.client.api("/sites", token).json["sites"]]
-            self.check(sites == ["south"], f"{name} sites alone: {sites}")
+            self.check(sites == ["south"], f"{name} only its sites: {sites}")
             for path, none in (
                 ("/sites/north/board", "/sites/nowhere/board"),
                 ("/sites/north/periods", "/sites/nowhere/periods"),
@@ -422,7 +422,7 @@ class Demo(Trial):
         await self.owner.execute(TIMES)
 
     def listed(self, name: str, station: str = "CS-00") -> str:
-        """How a session is told in the list of its station."""
+        """How the list of a station gives a session."""
         rows = self.get(f"/stations/{station}/transactions").json["transactions"]
         return str(next(row["state"] for row in rows if row["transaction"] == name))
 
@@ -452,7 +452,7 @@ class Demo(Trial):
         site = next(row for row in self.get("/sites").json["sites"] if row["site"] == "north")
         self.check(
             site["settled_to"] == "2026-03-02" and site["state"] == "provisional",
-            "the site tells up to when",
+            "the site says up to when",
         )
         # A session of the log names an archived one beside its own id.
         text = event("T-9", 0, "Started", "2026-03-03T16:00:00Z", 1000)
@@ -462,7 +462,7 @@ class Demo(Trial):
         )
         await self.answered()
         self.check(self.listed("t-1") == "settled", f"an id in other data: {self.listed('t-1')}")
-        # An event comes late for a session of the log, whose day is settled; and for an archived one a void.
+        # An event comes late for a session of the log on a settled day, and a void for an archived one.
         await self.come("CS-01", [events("T-3", quarters("2026-03-01", 12, 4))[1]])
         await self.come("CS-00", ["void CS-00 T-1 3"])
         await self.answered()
@@ -497,7 +497,7 @@ class Demo(Trial):
             for row in self.get("/stations/CS-00/transactions").json["transactions"]
         }
         self.check(listed["t-1"]["state"] == "provisional", "and so it is in the list")
-        # A late event whose names are written with escapes.
+        # A late event; its names are written with escapes.
         late = events("T-4", ["2026-02-28T23:30:00Z"])[0].replace(
             "transactionId", r"transaction\u0049d"
         )
@@ -529,7 +529,7 @@ class Demo(Trial):
         )
 
     async def counted(self) -> None:
-        """Numbers of sessions, energies and events of a station whose sessions are archived, and corrected."""
+        """Numbers of sessions, energies and events of a station; its sessions are archived, and corrected."""
         sessions, rest = ("transactions", "complete", "missing"), ("events", "voided")
 
         async def is_told(what: str, numbers: tuple[int, ...], **wanted: str) -> None:

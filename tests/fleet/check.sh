@@ -1,6 +1,6 @@
 #!/usr/bin/env bash
 # Installs what is missing and runs demo.py here: a fleet on a database of its own, with faults, and each board compared.
-# Beside it order_demo.py, of a site whose readings are taken by moment, and surplus_demo.py, of what changes nothing and
+# Beside it order_demo.py, of a site by moment, and surplus_demo.py, of what changes nothing and
 # comes without end. stranger_demo.py measures waits and wants the machine for itself, so it is run by hand.
 #     tests/fleet/check.sh PROGRAM [WORD..]      such as crates/ocpp_board/out/ocpp_board; further words are demo.py's
 # Status: 0 where all is right, 1 where something is wrong, 2 for wrong words, and 77 where packages are missing and can't
@@ -25,7 +25,7 @@ if [ ${#missing[@]} != 0 ]; then
     [ "$(id -u)" = 0 ] || skip "no ${missing[*]}, which root can install: apt-get install ${missing[*]}"
     echo "check.sh: installs ${missing[*]}" >&2
     told=$(mktemp) || exit 1
-    # While this file stands Debian's package makes no cluster; one that is there is left alone.
+    # While this file is there Debian's package makes no cluster; one that is there already is not touched.
     settings=/etc/postgresql-common/createcluster.d
     leave() {
         rm -f "$told" "$settings/ocpp_board.conf"

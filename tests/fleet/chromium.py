@@ -34,7 +34,7 @@ def is_installed() -> bool:
 
 
 def opened(profile: Path) -> Any:
-    """A browser, whose profile is kept in this folder."""
+    """A browser that keeps its profile in this folder."""
     options: Any = ChromeOptions()
     options.binary_location = PROGRAM
     for word in (*OPTIONS, f"--user-data-dir={profile}"):

@@ -1,4 +1,4 @@
-"""A station that sends to a gateway what it is told to."""
+"""A station that sends to a gateway what its test asks for."""
 
 import asyncio
 import base64
@@ -24,7 +24,7 @@ def handshake(station: str, password: str) -> bytes:
 
 
 class Client(ClientLink):
-    """A station that sends what it is told to."""
+    """A station that sends what its test asks for."""
 
     def __init__(self, url: str) -> None:
         super().__init__(url)

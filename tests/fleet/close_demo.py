@@ -37,7 +37,7 @@ class Demo(ClosingTrial):
     # What is tried ----------------------------------------------------------------------------------------------------
 
     async def days(self) -> None:
-        # An event and its void, the places of which are not in the order of their texts.
+        # An event and its void; their places are not in the order of their texts.
         early = session("B", "Early", local("2026-03-01 06:00"), 3)
         await self.came(*early, *6 * early[:1], "void B Early 1")
         first = session("A", "TX-1", local("2026-03-01 08:00"), 5)
@@ -245,7 +245,7 @@ class Demo(ClosingTrial):
         )
         if row:
             await self.came(f"void {row['station']} {row['transaction']} 1")
-            # As an earlier version left it, which had its lines in the file alone.
+            # As an earlier version left it, which had its lines only in the file.
             await self.owner.execute("delete from own_archived_lines where shard = 0")
             await self.owner.execute("update own_closing set packed = false")
             status, said = await self.close_day("2026-11-05")

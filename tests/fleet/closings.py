@@ -16,7 +16,7 @@ from tests.fleet.fleet import PATIENCE, ended
 from tests.fleet.trials import Trial, event
 
 ZONE = ZoneInfo("Europe/Berlin")
-# The channel on which answers are told here.
+# The channel on which answers are notified here.
 CHANNEL = "closings"
 BLOCKED = """
 select count(*) from pg_stat_activity where wait_event_type = 'Lock' and application_name like 'ocpp-board %'
@@ -79,7 +79,7 @@ class ClosingTrial(Trial):
         await self.owner.add_listener(CHANNEL, self.told)
 
     def told(self, _session: Any, _pid: int, _channel: str, payload: str) -> None:
-        """A worker told answers."""
+        """A worker notified answers."""
         for text in payload.split("\n"):
             token, _, answer = text.partition(" ")
             self.answers[int(token)] = answer
@@ -164,7 +164,7 @@ class ClosingTrial(Trial):
         )
 
     async def closed(self, text: str, day: str, *wanted: str) -> None:
-        """Closes the day, which has to tell what is wanted, and compares."""
+        """Closes the day, which has to report what is wanted, and compares."""
         status, said = await self.close_day(day)
         missing = [part for part in wanted if part not in said]
         self.check(

@@ -14,7 +14,7 @@ from dataclasses import dataclass, field
 from html import escape
 from typing import Any, NamedTuple
 
-# Grafana's: pixels of a row and between panels, columns, and the width below which panels stand one below the other.
+# Grafana's: pixels of a row and between panels, columns, and the width below which panels are one below the other.
 ROW, GAP, COLUMNS, PHONE = 30, 8, 24, 769
 COLORS = (
     "#73bf69",
@@ -59,7 +59,7 @@ class Line(NamedTuple):
 
 @dataclass
 class Target:
-    """An expression of a panel, its legend, its unit, at which side its axis is, and what it gave."""
+    """An expression of a panel, its legend, its unit, the side of its axis, and what it gave."""
 
     expression: str
     legend: str

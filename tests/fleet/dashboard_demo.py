@@ -51,7 +51,7 @@ SHOWN_BY = {
     "hang": "max(ocpp_board_gateway_oldest_wait_seconds)",
     "table": "max(ocpp_board_shard_oldest_line_age_seconds)",
 }
-# The panels each of whose expressions has to have been more than 0 then.
+# Each expression of these panels has to have been more than 0 then.
 SEEN = (
     "Faults that were mended, in 5 minutes",
     "Lines without a place, by shard",

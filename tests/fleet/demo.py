@@ -1,7 +1,7 @@
 """Runs a fleet of its own on this machine, lets parts of it fail, and compares every board with a replay from scratch.
 
     tests/one fleet.demo P                           the faults that take no root and no second server
-    tests/one fleet.demo P --faults primary disk     these alone
+    tests/one fleet.demo P --faults primary disk     only these
     tests/one fleet.demo P --faults open stopped --open 60 --stop 60
 
 It starts PostgreSQL 15 in a temporary folder as a user that is not root, 3 workers, of which the clocks of two are
@@ -69,7 +69,7 @@ HANG, SHORT_HANG = 30, 3
 EACH = 20
 # Days by which the clocks of the first workers are wrong, and stations that come to another gateway as well.
 CLOCKS, TWICE = (0, 3, -400), 20
-# A worker that tells answers late.
+# A worker that gives answers late.
 LATE = """
 import asyncio
 from ocpp_board.fleet.worker import Session
@@ -87,7 +87,7 @@ NUMBERING = """
 select count(pg_terminate_backend(pid)) from pg_stat_activity
 where application_name like 'worker_%' and query like '%numbered%' and state = 'active'
 """
-# Shards whose places have a gap or are no more than their lines, and lines that have none.
+# Shards where the places of lines are not 1, 2, 3 and so on, and lines that have none.
 UNEVEN = """
 select count(*) from (
     select shard from own_log group by shard having count(*) <> max(place) or min(place) <> 1
@@ -372,7 +372,7 @@ class Demo(Trial):
         await self.owner.execute(begin, shard, "sequence")
 
     async def is_told(self, fault: str, what: str) -> None:
-        """Whether a worker tells what the program does not know."""
+        """Whether a worker reports what the program does not know."""
         log, end = self.fleet.folder / "parts.log", time.monotonic() + PATIENCE
         while fault not in log.read_text() and time.monotonic() < end:
             await asyncio.sleep(0.1)
@@ -624,7 +624,7 @@ class Demo(Trial):
         await self.under_load("primary", promoted)
 
     async def disk(self) -> None:
-        """A database whose file system is full for some seconds."""
+        """The database's file system is full for some seconds."""
         small = self.fleet.folder / "small"
         small.mkdir()
         made = subprocess.run(

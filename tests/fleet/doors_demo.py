@@ -215,7 +215,7 @@ class Demo(Trial):
         station.send(b'[2,"still","Heartbeat",{}]')
         heard = await station.said()
         self.check(
-            heard.startswith('[3,"still",'), f"the station's connection stands: {heard[:60]}"
+            heard.startswith('[3,"still",'), f"the station's connection is open: {heard[:60]}"
         )
         gateway = await connect(self.fleet.dsn("ledger_gateway"))
         await gateway.execute(SERVED, "A")

@@ -480,7 +480,7 @@ class Demo(Trial):
             database.start()
 
     async def waits(self, name: str, words: tuple[object, ...]) -> None:
-        """A broker that is not there is told once, and waited for."""
+        """A broker that is not there is reported once, and waited for."""
         log = self.fleet.folder / f"{name}.told"
         with open(log, "wb") as file:
             process = self.fleet.start(
@@ -494,7 +494,7 @@ class Demo(Trial):
         said = log.read_text().splitlines()
         self.check(
             status == 0 and len(said) == 2 and "tried again and again" in said[0],
-            f"{name}: a broker that is not there is told once and waited for: {said[0][:120] if said else ''}",
+            f"{name}: a broker that is not there is reported once and waited for: {said[0][:120] if said else ''}",
         )
 
     # Bad input --------------------------------------------------------------------------------------------------------
@@ -603,7 +603,7 @@ class Demo(Trial):
         process.wait()
 
     async def cells(self) -> None:
-        """Stations of two cells, one shard of which moves, from one file, with kills."""
+        """Stations of two cells, from one file, with kills, while one shard moves."""
         self.fleet.databases[0].fill(2, "second")
         second = f"{self.fleet.dsn('ledger_feed').removesuffix('ledger')}second"
         owners = [

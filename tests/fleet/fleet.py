@@ -31,7 +31,7 @@ PATIENCE = 60
 SCHEMA = TOP / "python/ocpp_board/fleet/schema.sql"
 # As it was before stations could be retired, for trying that such a database is migrated.
 OLD_SCHEMA = TOP / "tests/fleet/old-schema.sql"
-# Lines whose answers are not noted as told.
+# Lines that are not noted as answered.
 UNTOLD = """
 select (select count(*) from inbox) + (select count(*) from inbox_kept) + count(*)
 from own_log l join numbering n using (shard) where l.place > n.told
@@ -45,13 +45,13 @@ with added as (
     order by w.place returning shard, id)
 select count(tell('wake_kept', shard || ':' || id)) from added
 """
-# Lines of a log, of which nobody is told.
+# Lines of a log; nobody is notified of them.
 FILL = """
 insert into own_log (shard, place, line)
 select $1, coalesce((select max(place) from own_log where shard = $1), 0) + w.place, w.line
 from unnest($2::text[]) with ordinality as w (line, place)
 """
-# Stations of which what closings archived is not summed up as it is.
+# Stations with sums that are not those of what closings archived.
 UNSUMMED = """
 select station from (
     select station, sum(transactions) as transactions, sum(complete) as complete, sum(missing) as missing,
@@ -77,7 +77,7 @@ create or replace function hold_shard(shard_number integer) returns boolean lang
 create or replace function living_workers() returns bigint language sql as 'select 1::bigint'
 """
 BIN = Path("/usr/lib/postgresql/15/bin")
-# The roles of the schema's tools, each of which has a password of its own.
+# The roles of the schema's tools; each has a password of its own.
 ROLES = ["GATEWAY", "FEED", "WORKER", "READER", "OPERATOR", "PROVISIONER", "ADMINISTRATOR"]
 ROLES += ["CLOSER", "COMPACTOR", "MOVER", "KEEPER", "BACKUP"]
 # Why the plan of a fleet is changed here.
@@ -86,7 +86,7 @@ REASON = "a trial"
 # for which the server ends all others and begins again.
 CRASHES = ("all", "one", "all", "one", "all")
 BACKEND = "select pid from pg_stat_activity where application_name ~ '^(worker|gateway)_' order by random() limit 1"
-# A part whose clock is wrong by so many days.
+# A part with a clock that is wrong by so many days.
 CLOCK = "import time; real = time.time; time.time = lambda: real() + 86400 * {}"
 
 
@@ -413,7 +413,7 @@ class Fleet:
     async def come(
         self, owner: Any, shard: int, lines: list[str], channel: str | None = None, first: int = 0
     ) -> None:
-        """Lines of a shard come, whose answers are told on a channel with tokens from this one on."""
+        """Lines of a shard come; their answers come on a channel, with tokens from this one on."""
         tokens = list(range(first, first + len(lines)))
         await owner.execute(COME, [shard] * len(lines), channel, tokens, lines)
 

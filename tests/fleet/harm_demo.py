@@ -3,7 +3,7 @@
     tests/one fleet.harm_demo ocpp_board
     tests/one fleet.harm_demo ocpp_board --big      with a log of more than 1 GiB, for which it takes 4 GiB of memory
 
-It starts PostgreSQL 15 in a temporary folder, workers and gateways. Then come: workers that all stand still; a host of
+It starts PostgreSQL 15 in a temporary folder, workers and gateways. Then come: workers that all stop; a host of
 the list that lets nobody in; a server that would lose or spoil what is answered; a dump that a younger server takes;
 strangers by the hundred; connections that never end their handshake; a gateway's own replay that hangs, and a clock of
 1972; a station that changes its shard; zones; a snapshot that stays open; a station that sends one event again and
@@ -71,7 +71,7 @@ class Demo(Trial):
         self.url = ""
 
     async def open(self) -> None:
-        """Workers and a gateway whose list has a second host, which knows none of their roles."""
+        """Workers and a gateway with a second host in their list, which knows none of their roles."""
         await self.one_cell()
         self.other = self.fleet.database("other")
         self.other.make()
@@ -161,13 +161,13 @@ class Demo(Trial):
         after = await self.sessions()
         self.check(
             are_all and before == after,
-            f"a channel that can't be told on costs its own answers alone: {self.answers}, sessions of workers "
+            f"a channel that can't be notified costs only its own answers: {self.answers}, sessions of workers "
             f"{'stay' if before == after else 'were lost'}",
         )
         await self.answered("after that")
 
     def told(self, _session: Any, _pid: int, _channel: str, payload: str) -> None:
-        """A worker told answers."""
+        """A worker notified answers."""
         for line in payload.split("\n"):
             token, _, answer = line.partition(" ")
             self.answers[int(token)] = answer
@@ -178,7 +178,7 @@ class Demo(Trial):
         return [row["pid"] for row in await self.owner.fetch(query)]
 
     async def starved(self) -> None:
-        """All workers stand still for longer than one may hang, as where the machine has too much to do, and one of
+        """All workers stop for longer than one may hang, as where the machine has too much to do, and one of
         them for somewhat longer."""
         await self.answered("before all workers are stopped")
         before = await self.sessions()
@@ -201,7 +201,7 @@ class Demo(Trial):
         async def is_ended() -> bool:
             return len(await self.sessions()) == len(before) // 2
 
-        self.check(await self.until(is_ended), "and one that alone is stopped is ended")
+        self.check(await self.until(is_ended), "and one that is stopped by itself is ended")
         self.workers[0].send_signal(signal.SIGCONT)
         await self.answered("and once it is woken")
 
@@ -322,7 +322,7 @@ class Demo(Trial):
         await self.looked_for()
 
     async def looked_for(self) -> None:
-        """Strangers for whose names the database takes 4 seconds: they wait, and nobody else does."""
+        """The database takes 4 seconds for the names of strangers: they wait, and nobody else does."""
         most = 1.5 + await self.slack()
         await (await Client.open(self.url, "NOBODY")).said()
         pid = await self.owner.fetchval(LOOKING)
@@ -341,7 +341,7 @@ class Demo(Trial):
         )
 
     async def handshakes(self) -> None:
-        """A handshake of which a byte comes each second."""
+        """A handshake that comes at one byte a second."""
         most = LIMIT + 4 + await self.slack()
         host, port = self.url.removeprefix("ws://").removesuffix("/ocpp").split(":")
         reader, writer = await asyncio.open_connection(host, int(port))
@@ -373,7 +373,7 @@ class Demo(Trial):
         self.check(heard.startswith('[3,"1",'), f"its replay hangs: {heard} after {took:.0f} s")
 
     async def clock(self) -> None:
-        """A gateway whose clock is before 2000."""
+        """A gateway with a clock before 2000."""
         process = self.fleet.patched(
             "import time; real = time.time; time.time = lambda: real() - 1_700_000_000",
             "gateway", "--db", self.fleet.dsn("ledger_gateway"), "--program", self.fleet.program,
@@ -407,7 +407,7 @@ class Demo(Trial):
         after = [row["plan"] for row in await self.owner.fetch(query)]
         self.check(
             all(new > old for new, old in zip(after, before)),
-            f"a station that changes its shard tells both: plans {before}, then {after}",
+            f"a station that changes its shard notifies both: plans {before}, then {after}",
         )
         await self.answered("in its new shard", "NEW")
         names = {
@@ -487,14 +487,14 @@ class Demo(Trial):
         await self.answered("once it is no longer waited for")
 
     async def set(self, name: str, value: str) -> None:
-        """Changes a setting of the server, whose commits do not wait for that."""
+        """Changes a setting of the server; commits do not wait for that."""
         await self.owner.execute("set synchronous_commit = local")
         await self.owner.execute(f"alter system set {name} = '{value}'")
         await self.owner.execute("select pg_reload_conf()")
         await asyncio.sleep(0.5)
 
     async def crash(self) -> None:
-        """Servers whose file has synchronous_commit off are killed behind answers."""
+        """Servers with synchronous_commit off in their file are killed behind answers."""
         database: Database = self.fleet.databases[0]
         await self.set("synchronous_commit", "off")
         await self.set("wal_writer_delay", "10000")

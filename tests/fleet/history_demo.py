@@ -123,7 +123,7 @@ class Demo(ClosingTrial):
         )
 
     async def rows_read(self) -> int:
-        """Rows of periods that were read by now; a session tells its own once it ends or is idle for a second."""
+        """Rows of periods that were read by now; a session reports its own once it ends or is idle for a second."""
         await asyncio.sleep(1.5)
         await self.owner.execute("select pg_stat_clear_snapshot()")
         return int(await self.owner.fetchval(READ))

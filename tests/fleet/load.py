@@ -6,7 +6,7 @@ Station k is CS-0000k; its events come in sessions of eight, shuffled, one in fi
 message after the answer to the last one, and with --rate when it is due: who waited for longer than that catches up.
 Where its connection ends it connects to the next gateway and sends again.
 With --password all come with this one, and with --ca by TLS. With --together all are connected, so many at a time,
-before the first one sends: how many a second that were is told.
+before the first one sends; it reports how many connected a second.
 Each message is recorded once its answer is there, as a line of a script. A message's wait is from when it was first
 sent to its answer, whatever happened in between. The status is 1 where an answer was not the one of an event that
 is taken, or where not all were answered in time.
@@ -33,7 +33,7 @@ from tests.fleet.trials import messages
 
 log = logging.getLogger(__name__)
 
-# Seconds until a station that got no answer connects anew, and after which one whose connection ended does so.
+# Seconds until a station that got no answer connects anew, and until one that lost its connection does so.
 PATIENCE, PAUSE = 40.0, 0.1
 # The head of a text of a station that is masked by zeros, so that it is sent as it is.
 ZEROS = b"\0\0\0\0"

@@ -10,7 +10,7 @@
 `load` gives messages a second, waits (median, 99th, longest) and processor time a message by part, and compares
 every board at the end; with --kill a worker, a gateway and a replay are killed on the way; with --password and --tls
 stations come so, and with --together N all connect, N at a time, before the first one sends, and at the end once
-more, when their gateway knows their passwords: how many a second that are is told. `recovery` fills the log
+more, when their gateway knows their passwords; it gives how many did so a second. `recovery` fills the log
 of some shards and times a worker that takes them. `memory` gives what a replay of 64 stations takes, empty, by its
 limits. `lists` writes rows of so many closed days, with so many archived sessions a station and day, and times the
 page and the API that list sites and the stations of one. `years` writes what closings of so many days leave, with a
@@ -62,7 +62,7 @@ insert into own_archived_transaction (shard, site, closing, station, transaction
     select shard, site, n, station, 'tx-' || n || '-' || m, true, 0, 7500000, 0
     from own_station, generate_series(1, $1::int) n, generate_series(1, $2::int) m where shard = $3
 """
-# The same of years: each station has a session of nine periods every other day, of which closings write all of this.
+# The same of years: each station has a session of nine periods every other day, and closings write all of this.
 YEARS = (
     """
     insert into own_closing (shard, site, closing, day, period, plan, packed)
@@ -302,7 +302,7 @@ async def recovery(fleet: Fleet, words: argparse.Namespace) -> int:
 
 
 async def memory(fleet: Fleet, words: argparse.Namespace) -> int:
-    """Memory that is the process's own, of which pages that it never touched take none."""
+    """Memory that is the process's own; pages that it never touched take none."""
     print("transactions events readings   MB of 64 stations")
     for limits in ((1024, 16384, 16384), (256, 2048, 2048), (64, 512, 512), (32, 256, 256)):
         row = dict(zip(("transactions", "events", "readings"), limits)) | {
@@ -465,7 +465,7 @@ def main() -> int:
     parser.add_argument(
         "--sessions", type=int, default=2, help="of a station and day, for lists (default: 2)"
     )
-    parser.add_argument("--processors", help="run on these alone, such as 0,1 (default: all)")
+    parser.add_argument("--processors", help="run only on these, such as 0,1 (default: all)")
     words = parsed(parser)
     resource.setrlimit(resource.RLIMIT_NOFILE, (resource.getrlimit(resource.RLIMIT_NOFILE)[1],) * 2)
     if words.processors:

@@ -64,7 +64,7 @@ insert into own_archived_total (shard, site, closing, station, transactions, com
 values (0, 'north', 1, 'A', 1, 1, 0, 750000, 0, 0, 0, false, false, false)
 """
 ARCHIVE = "north.shard-0.1.script"
-# Answers were told up to the first line.
+# Answers were given up to the first line.
 MARK = "update own_shard set (xid, id) = (select xid, id from own_log order by xid, id limit 1)"
 CLOSED_PERIOD = """
 insert into own_closed_period (shard, site, closing, station, starts, day, up, down)
@@ -198,7 +198,7 @@ class Demo(ClosingTrial):
         self.check(
             [tuple(row) for row in rows] == [(self.lines[0][4], 1), (self.lines[0][5], 2)]
             and told == 1,
-            f"the lines of the log have their places, and answers were told up to {told}",
+            f"the lines of the log have their places, and answers were given up to {told}",
         )
         settled = [tuple(row) for row in await self.owner.fetch(SETTLED)]
         self.check(

@@ -48,7 +48,7 @@ TOKENS = {
 
 
 def signed(name: str, at: datetime) -> list[str]:
-    """A session whose four events have signed values; the last one's is a kWh more than its plain one."""
+    """A session of four events with signed values; the last one's is a kWh more than its plain one."""
     events = signed_differs(name, at)
     events[0].payload["transactionInfo"]["remoteStartId"] = 77
     events[1].payload["idToken"] = {"idToken": "Ab12", "type": "ISO14443"}
@@ -98,7 +98,7 @@ class Demo(ClosingTrial):
     async def close_site(
         self, text: str, day: str, *wanted: str, status: int = 0, **more: Any
     ) -> str:
-        """Closes a day, which has to end so and tell what is wanted, and gives what it told."""
+        """Closes a day, which has to end so and report what is wanted, and gives its report."""
         ended, said = await self.close_day(day, **more)
         missing = [part for part in wanted if part not in said]
         self.check(
@@ -340,7 +340,7 @@ class Demo(ClosingTrial):
         )
 
     async def full(self) -> None:
-        """A station at its limit of transactions, of which two never end."""
+        """A station at its limit of transactions; two of them never end."""
         await self.owner.execute("update own_station set transactions = 3 where station = 'F1'")
         sessions = [
             session("F1", f"TX-{number}", local(f"2026-03-01 {8 + 2 * number:02}:00"), 4)

@@ -157,7 +157,7 @@ class Demo(Trial):
         )
         self.check(
             {answer.told for answer in answers} == {one.login("nobody", "a wrong one").told},
-            "nobody is told that it is locked",
+            "nobody learns that it is locked",
         )
         self.check(other.login("sue").status == 303, "another operator signs in meanwhile")
         elsewhere = [
@@ -172,7 +172,7 @@ class Demo(Trial):
         await self.owner.execute("delete from sign_in")
 
     async def watched(self) -> None:
-        """What a page tells who watches it."""
+        """What a page reports to whoever watches it."""
         port = free_port()
         _, url = start_page(self.fleet, "--metrics", port)
         one, figures = Client(url), Client(f"http://127.0.0.1:{port}")
@@ -264,11 +264,11 @@ class Demo(Trial):
     # What who may -----------------------------------------------------------------------------------------------------
 
     async def sites(self) -> None:
-        """An operator of one site sees no other one, and can't tell that it is there."""
+        """An operator of one site sees no other one, and can't find out that it is there."""
         sue = Client(self.url)
         sue.login("sue")
         text = sue.get("/").text
-        self.check("south" in text and "north" not in text, "sue's page has her site alone")
+        self.check("south" in text and "north" not in text, "sue's page has only her site")
         for path, none in (
             ("/site/north/", "/site/nowhere/"),
             ("/site/north/board.2026-03-01.html", "/site/nowhere/board.2026-03-01.html"),
@@ -508,7 +508,7 @@ class Demo(Trial):
             await self.slow_forms(what, addresses)
 
     async def slow_forms(self, what: str, addresses: int) -> None:
-        """Forms whose bodies don't come."""
+        """Forms with bodies that don't come to their end."""
         host, port = self.url.removeprefix("http://").split(":")
         head = (
             b"POST /login HTTP/1.1\r\nHost: a\r\nContent-Length: 100\r\n"
@@ -673,7 +673,7 @@ class Demo(Trial):
             await session.close()
 
     async def proxied(self) -> None:
-        """Where somebody comes from is what a proxy of ours tells last, and nothing that others tell."""
+        """Where somebody comes from is what a proxy of ours says last, and nothing that others say."""
         ann = Client(self.url)
         ann.login("ann")
         ann.heads = {"X-Forwarded-For": "192.0.2.9"}
@@ -688,7 +688,7 @@ class Demo(Trial):
         self.check(await asyncio.to_thread(process.wait, 20) == 0, "a page ends by SIGTERM")
 
     async def cells(self) -> None:
-        """A site with stations in two cells, of which the first one has the operators."""
+        """A site with stations in two cells; the first one has the operators."""
         self.fleet.databases[0].fill(2, "second")
         second = await connect(self.fleet.dsn("owner", database="second"))
         await second.execute("select add_station(9, 'north', 'CS-90')")

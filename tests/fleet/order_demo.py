@@ -33,7 +33,7 @@ WRITTEN = "select min(b.plan - s.plan) from own_board b join own_shard s using (
 
 
 def repeating(station: str, name: str, at: datetime, count: int) -> list[str]:
-    """A transaction whose end lists all readings again."""
+    """A transaction; its end lists all readings again."""
     lines = session(station, name, at, count)
     frames = [json.loads(line.split(" ", 2)[2]) for line in lines]
     frames[-1][3]["meterValue"] = [one for frame in frames for one in frame[3]["meterValue"]]

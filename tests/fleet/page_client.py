@@ -31,7 +31,7 @@ class Answer(NamedTuple):
 
     @property
     def told(self) -> str:
-        """What the page tells of a fault, or of what was done."""
+        """What the page says of a fault, or of what was done."""
         found = re.search(r'id="answer">([^<]*)<', self.text)
         return unescape(found[1]) if found else ""
 

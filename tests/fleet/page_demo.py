@@ -57,7 +57,7 @@ return found;
 
 
 def session(transaction: str, day: str, numbers: list[int], last: int) -> list[str]:
-    """The events of these numbers, of which `last` is the end, each a quarter of an hour after the one before."""
+    """The events of these numbers, each a quarter of an hour after the one before; `last` is the end."""
     return [
         event(
             transaction,
@@ -215,7 +215,7 @@ class Demo(Trial):
         return str(self.browser.find_element(By.ID, "answer").text)
 
     def told(self) -> str:
-        """How the figures of a page are told."""
+        """What a page says about its figures."""
         return str(self.browser.find_element(By.ID, "about").text)
 
     def figure(self, path: str, name: str) -> str:
@@ -330,7 +330,7 @@ class Demo(Trial):
         said = self.text()
         self.check(
             "the meter was read twice" in said and "127.0.0.1" in said,
-            "the history tells who and why",
+            "the history shows who and why",
         )
         self.shot("session-voided")
         await self.shown_soon(north, "Voided events", "1")
@@ -355,7 +355,7 @@ class Demo(Trial):
         self.check(answer == "refused NoSuchEvent", f"an event that is not there: {answer}")
         answer = self.operate("void", "CS-99", "T-1", 1)
         self.check(
-            "no station 'CS-99'" in answer, "a station that is not there is told on the form"
+            "no station 'CS-99'" in answer, "a station that is not there is reported on the form"
         )
         lines = await self.owner.fetchval("select count(*) from own_log where line !~ '^msg '")
         self.check(lines == 7, f"operators' lines in the log: {lines}")
@@ -386,7 +386,7 @@ class Demo(Trial):
         text = self.text()
         self.check(
             "Sessions in the archives of closed days: 1." in text,
-            "the page tells what archives have",
+            "the page shows what archives have",
         )
         self.shot("site-closed")
         for field, word in (("station", "CS-00"), ("transaction", "T-1")):
@@ -422,8 +422,8 @@ class Demo(Trial):
         self.check(self.told() == "The energy of this day is settled.", f"a day: {self.told()}")
         self.go("/")
         heads = [one.text for one in self.browser.find_elements(By.CSS_SELECTOR, "thead th")]
-        self.check("Sessions are" in heads, f"all sites tell how numbers of sessions are: {heads}")
-        self.check("to 2026-03-03" in self.text(), "all sites tell up to when they are settled")
+        self.check("Sessions are" in heads, f"all sites say how numbers of sessions are: {heads}")
+        self.check("to 2026-03-03" in self.text(), "all sites say up to when they are settled")
         self.shot("all-sites-closed")
         answer = self.operate("void", "CS-00", "T-1", 3)
         self.check(answer == "accepted at the next closing", f"a void in an archive: {answer}")
@@ -468,7 +468,7 @@ class Demo(Trial):
         self.check(made.returncode == 0, f"page_check of {len(pages)} pages: {said[-8:]}")
 
     async def idle(self) -> None:
-        """Workers that are gone: the pages tell that boards are older than they should be."""
+        """Workers that are gone: the pages say that boards are older than they should be."""
         self.worker.kill()
         self.worker.wait()
         # A beat of its that is still under way would come behind this.
@@ -477,7 +477,7 @@ class Demo(Trial):
         await self.owner.execute("update worker set beat = now() - interval '60 seconds'")
         for path in ("/", "/site/north/", "/lacking"):
             self.check(
-                "older than it should be" in self.go(path), f"{path} tells that no worker works"
+                "older than it should be" in self.go(path), f"{path} says that no worker works"
             )
         self.go("/")
         self.shot("all-sites-late")

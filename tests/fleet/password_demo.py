@@ -31,7 +31,7 @@ A, B, C, D, E, UNKNOWN = "CS-00000", "CS-00001", "CS-00002", "CS-00003", "CS-000
 # What each station has at first, and what some have later.
 FIRST = {name: f"first-{name}-0123" for name in (A, B, C, D, E)}
 SECOND, THIRD, WRONG = "second-4567-89ab-cdef", "third-89ab-cdef-0123", "wrong-0123-4567-89ab"
-# Tries at once whose hashes may hold up nobody.
+# Tries at once; their hashes may hold up nobody.
 BESIDE = 150
 # Seconds in which a gateway hears of what was changed.
 HEARD = 0.3
@@ -90,7 +90,7 @@ class Demo(Trial):
         return made.returncode, made.stdout.decode().strip()
 
     async def sets(self, station: str, password: str, at_once: bool = False) -> None:
-        """Sets a password as the tool does, of which the gateway hears."""
+        """Sets a password as the tool does; the gateway hears of it."""
         salt = secrets.token_bytes(SALT)
         values = (station, hashed(password.encode(), salt), salt, at_once)
         await self.provisioner.execute("select set_password($1, $2, $3, $4)", *values)
@@ -133,7 +133,7 @@ class Demo(Trial):
         self.check(found == right, f"hashes that roles see: {found}")
 
     async def strangers(self) -> None:
-        """Who is not let in, and what they are told."""
+        """Who is not let in, and what they are answered."""
         link = await Client.open(self.url, A, "", self.address())
         heard = await link.said()
         self.check(heard.startswith("401 "), f"no password: {heard}")
@@ -303,7 +303,7 @@ class Demo(Trial):
         other.kill()
 
     async def log(self) -> None:
-        """What is told."""
+        """What the log says."""
         text = (self.fleet.folder / "parts.log").read_text()
         words = [*FIRST.values(), SECOND, THIRD, WRONG]
         pairs = [f"{name}:{word}" for name in (*FIRST, UNKNOWN) for word in words]

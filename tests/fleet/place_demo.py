@@ -76,7 +76,7 @@ class Demo(Trial):
             self.check(status == 2, f"place {' '.join(words)}: {said.splitlines()[-1:]}")
 
     async def moves(self, second: Any) -> None:
-        """Lines that come to one cell alone."""
+        """Lines that come to only one cell."""
         status, said = await self.place("--moves")
         self.check(status == 0 and said.startswith("# no move"), f"no lines: {said}")
         for shard, station, count in ((0, "N-00", 60), (2, "N-56", 50), (2, "N-57", 20)):

@@ -199,7 +199,7 @@ class Demo(Trial):
         )
 
     async def moved(self) -> None:
-        """A move is told in both cells."""
+        """A move is reported in both cells."""
         self.fleet.databases[0].fill(2, "second")
         second = await connect(self.fleet.dsn("owner", database="second"))
         status, said = await ended(
@@ -238,7 +238,7 @@ class Demo(Trial):
         text = eve.get("/changes").text
         self.check(
             "a longer period" in text and "a new key" not in text and "CS-00" not in text,
-            "who sees a site sees its changes alone",
+            "who sees a site sees only its changes",
         )
         none = await self.owner.fetchval(f"{COUNT} where reason is null")
         self.check(none == 0, f"changes without a reason: {none}")

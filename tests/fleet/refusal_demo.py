@@ -4,7 +4,7 @@
 
 It starts PostgreSQL 15 in a temporary folder and a worker, and has stations send messages that are refused: no JSON, a
 conflict, one again and again, more than a station may keep. Workers are killed and read the log again, limits rise, a
-day is closed and the shard moves. And a station that comes near its limits is told once. The status is 1 where
+day is closed and the shard moves. And a station that comes near its limits is reported once. The status is 1 where
 something is not as it must be.
 """
 

@@ -23,13 +23,13 @@ from ocpp_board.fleet.passwords import FREE, SALT, hashed
 from tests.fleet.client import Client, handshake
 from tests.fleet.trials import Trial, event, parsed, parser_of, tried
 
-# The station that is looked at, one that does harm, and one whose password strangers guess.
+# The station that is looked at, one that does harm, and one with a password that strangers guess.
 TRUE, ODD, GUESSED = "CS-00000", "CS-00001", "CS-00002"
 WRONG = "wrong-0123-4567-89ab"
 # For how many seconds a stranger sends, bytes a second, and the longest wait of a true station.
 SECONDS, RATE, MOST = 5, 1_000_000, 1.0
 STRANGERS = 400
-# What a reader tells: shards whose plan changed, shards with lines, answers; and what stays in the queue while a
+# What a reader reports: shards with a changed plan, shards with lines, answers; and what stays in the queue while a
 # session that listens is in a transaction.
 NOTIFY = """
 select count(pg_notify(channel, n::text))

@@ -7,7 +7,7 @@ At each moment a station sends conflicting events of 32 kB, another one two even
 20 a second, and a third one pongs, pings, empty parts of a message or heartbeats without end; a stranger sends pongs
 before the verdict on its password, others guess the password of a station, each from an address of its own, and 260
 hold the page with half a request. Each minute come 400 strangers at 400 addresses, and a reader notifies 300,000 times;
-each five minutes a session that listens stands still while a hundredth of the server's queue of notifications fills.
+each five minutes a session that listens stops while a hundredth of the server's queue of notifications fills.
 What the ledger took is recorded. At the end it prints how often each of these was done, how long an operator waited for
 the page, and how long the station whose password is guessed waited until it was let in.
 """
@@ -32,7 +32,7 @@ from ocpp_board.fleet.parts import use_uvloop
 from tests.fleet.client import Client, handshake
 from tests.fleet.trials import event
 
-# The stations that do harm, by what they do, and the one whose password is guessed.
+# The stations that do harm, by what they do, and the one with the password that is guessed.
 CONFLICTS, TURNS, FRAMES, GUESSED = "ODD-CONFLICTS", "ODD-TURNS", "ODD-FRAMES", "ODD-GUESSED"
 ODD = (CONFLICTS, TURNS, FRAMES, GUESSED)
 WRONG = "wrong-0123-4567-89ab"
@@ -244,7 +244,7 @@ class Strangers:
             reader.terminate()
 
     async def fills(self) -> None:
-        """A listener stands still in a transaction, and the queue fills."""
+        """A listener stops in a transaction, and the queue fills."""
         await asyncio.sleep(5 * MINUTE)
         sessions = [await connect(self.words.reader)]
         try:

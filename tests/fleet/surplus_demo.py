@@ -1,7 +1,7 @@
 """Tries on a fleet of its own that lines which change nothing fill no log and slow nobody down.
 
     tests/one fleet.surplus_demo ocpp_board
-    tests/one fleet.surplus_demo ocpp_board --big      a log of 1 GiB alone, for which it takes 4 GiB of memory
+    tests/one fleet.surplus_demo ocpp_board --big      only a log of 1 GiB, for which it takes 4 GiB of memory
 
 It starts PostgreSQL 15 in a temporary folder and a worker, whose limits are made small. Then come: conflicting events,
 of which the log keeps some and `refusal` counts all; the same in a log that no worker read, which is compacted; a
@@ -55,7 +55,7 @@ class Memory:
     """The bytes of memory that a process and those that it started took at most."""
 
     def __init__(self) -> None:
-        # All together at one moment; the process alone; and the largest of the others.
+        # All together at one moment; only the process; and the largest of the others.
         self.most = self.own = self.other = 0
 
     def look(self, pid: int) -> None:

@@ -30,7 +30,7 @@ A, B = "CS-00000", "CS-00001"
 PASSWORD = "secret-of-CS-00000"
 LOGIN = f"{A}:{PASSWORD}"
 ELLIPTIC, RSA = ("ec", "-pkeyopt", "ec_paramgen_curve:P-256"), ("rsa:2048",)
-# A suite of TLS 1.2 that OCPP lets a station have alone, and that Python leaves out.
+# A suite of TLS 1.2 that OCPP lets a station have as its only one, and that Python leaves out.
 SUITE = "AES128-GCM-SHA256"
 NGINX = "/usr/sbin/nginx"
 SECRET, HEADER = "a-secret-of-nginx-and-gateway", "X-Client-Certificate"
@@ -139,7 +139,7 @@ class Demo(Trial):
         return process
 
     async def until_told(self, text: str, count: int = 1) -> bool:
-        """Whether the gateway tells this, so many times."""
+        """Whether the gateway reports this, so many times."""
         end = time.monotonic() + 10
         while self.log.read_text().count(text) < count and time.monotonic() < end:
             await asyncio.sleep(0.05)
@@ -184,7 +184,7 @@ class Demo(Trial):
             heard = await self.heard(self.trusting(name))
             self.check(heard == wanted, f"then who trusts the {name} certificate: {heard}")
         heard = await self.heard(self.trusting("second", version="TLSv1_2", suite=SUITE))
-        self.check(heard == "101", f"{SUITE} alone: {heard}")
+        self.check(heard == "101", f"only {SUITE}: {heard}")
         self.file("used.key").write_bytes(self.file("first.key").read_bytes())
         process.send_signal(signal.SIGHUP)
         is_told = await self.until_told("the certificate stays as it was")
@@ -328,7 +328,7 @@ class Demo(Trial):
             ("a station that says by itself that it is A", "station-b", port, forged, "403"),
             ("beside nginx, without the secret", "", behind, forged.replace(SECRET, "x"), "403"),
             ("beside nginx, without the header", "", behind, "", "403"),
-            ("beside nginx, with the secret, which is nginx's alone", "", behind, forged, "101"),
+            ("beside nginx, with the secret, which only nginx has", "", behind, forged, "101"),
         ):
             context = self.trusting("second", own=by) if by else None
             reader, writer = await asyncio.open_connection("127.0.0.1", at, ssl=context)

@@ -122,7 +122,7 @@ def parsed(parser: argparse.ArgumentParser) -> argparse.Namespace:
 
 
 def skipped(packages: str) -> int:
-    """The exit status where packages are missing, which are told."""
+    """The exit status where packages are missing; their names are printed."""
     log.error("nothing was tried: apt-get install %s", packages)
     return SKIPPED
 

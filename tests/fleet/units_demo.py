@@ -5,10 +5,10 @@
 It copies the programs to a folder as the packages do; has `systemd-analyze verify` look at each unit there, which must
 find nothing, and `systemd-analyze security`, which must give 3.0 at most; then runs each unit's command by itself, with
 the variables of its file and its secrets as LoadCredential hands them on, as the user that runs the database, without
-memory that is written and executed, and (with python3-seccomp) with the system calls alone that the unit leaves:
+memory that is written and executed, and (with python3-seccomp) with only the system calls that the unit leaves:
 stations send to the gateway, a worker answers, a feed takes a file, and the page shows their sum; a day is closed, logs
-are compacted, tokens forgotten, a backup made. Each has to tell figures where its unit says, and to end by SIGTERM. A
-unit of a timer that fails has one that tells it. Then the database is backed up while all runs, rows are deleted, and
+are compacted, tokens forgotten, a backup made. Each has to report figures where its unit says, and to end by SIGTERM. A
+unit of a timer that fails has one that reports it. Then the database is backed up while all runs, rows are deleted, and
 the copy takes its place: boards must be as before. The status is 1 where one of these is not as it must be, and 77
 without systemd-analyze.
 """
@@ -179,7 +179,7 @@ class Demo(Trial):
             )
 
     def failures(self) -> None:
-        """Whoever is begun by a timer, and fails, begins a unit that is there and tells it."""
+        """Whoever is begun by a timer, and fails, begins a unit that is there and reports it."""
         folder = self.root / "etc/systemd/system"
         for timer in sorted(folder.glob("*.timer")):
             unit = unit_of(timer.with_suffix(".service"))["Unit"]
@@ -245,7 +245,7 @@ class Demo(Trial):
             "gateway", DB=f"--db {self.fleet.dsn('ledger_gateway')}", PORT=ports[0], OPTIONS="--open",
             METRICS=self.metrics["gateway"],
         )  # fmt: skip
-        # Behind it stands the instance.
+        # The instance is behind it.
         one = self.metrics["worker@"] = next(
             port for port in iter(free_port_text, "") if port[-1] == "1"
         )
@@ -310,7 +310,7 @@ class Demo(Trial):
             self.check(status in (0, -signal.SIGTERM), f"{name} ends by SIGTERM: {status}")
 
     async def watched(self) -> None:
-        """The figures and the health that units tell."""
+        """The figures and the health that units report."""
         for name, port in self.metrics.items():
             for path, wanted in (
                 ("/health", '"well": true'),

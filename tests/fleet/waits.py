@@ -23,12 +23,12 @@ from tests.fleet.trials import Trial, messages, parsed, parser_of, tried
 
 # Stations of a shard that is full, and of each that sends.
 FULL, EACH = 64, 20
-# Events of a full station, and of one whose sessions are closed: 60,032 lines.
+# Events of a full station, and of one with closed sessions: 60,032 lines.
 EVENTS = {"boards": 2048, "closing": 938}
 # By which all stations of the last days are over.
 DAY = "2026-03-20"
 LINES = "select count(*) from own_log where shard = $1"
-# Stations whose rows are those of the plan, and rows of periods and sessions.
+# Stations that have the rows of the plan, and rows of periods and sessions.
 WRITTEN = (
     "select count(*) from own_board_station join own_shard s using (shard, plan) where shard = $1"
 )
@@ -81,7 +81,7 @@ class Waits(Trial):
         return bool(await self.owner.fetchval(query, shard, wanted))
 
     async def sent_meanwhile(self, name: str, seconds: float) -> "asyncio.Task[None]":
-        """Stations that send for so many seconds, whose waits are told."""
+        """Stations that send for so many seconds, and report their waits."""
         shard, self.shards = self.shards, self.shards + -(-self.words.stations // EACH)
         first = await self.fleet.add(self.owner, self.words.stations, EACH, shard)
         # One in five is sent twice.
@@ -142,7 +142,7 @@ class Waits(Trial):
         )
 
     async def closing(self) -> None:
-        """A day whose sessions have 60,000 lines."""
+        """A day with 60,000 lines of sessions."""
         shard, lines = await self.filled(EVENTS["closing"])
         self.check(await self.loaded(shard, lines), f"closing: {len(lines)} lines of a shard")
         waiting = await self.sent_meanwhile("closing", self.words.seconds)

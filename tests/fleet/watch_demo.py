@@ -109,7 +109,7 @@ class Demo(WatchedTrial):
         status, text = await asyncio.to_thread(asked, self.ports["worker-1"], "/metrics")
         self.check(
             'ocpp_board_cell_shards{cell="1"}' in text and "shard_last_answer_age_seconds{" in text,
-            "a worker tells of its cell and its shards",
+            "a worker reports its cell and its shards",
         )
         told = set[str]()
         for name in self.parts:

@@ -21,7 +21,7 @@ from tests.fleet.trials import Trial, event
 
 PROMETHEUS = "/usr/bin/prometheus"
 FOLDER = TOP / "examples/thousands-of-stations"
-# Times of the rules here are so many times shorter; what parts tell in seconds is compared with less by other factors.
+# Times of the rules here are so many times shorter; seconds that parts report are compared with less by other factors.
 SHORTER = 30
 # Stations that send, of both shards.
 SENDING = ("CS-00000", "CS-00001", "CS-00005")
@@ -80,7 +80,7 @@ class WatchedTrial(Trial):
     # The fleet --------------------------------------------------------------------------------------------------------
 
     async def start_part(self, name: str, *more: object, dsn: str = "", code: str = "") -> None:
-        """Starts a part, which begins with this code, and waits until it tells that it is well."""
+        """Starts a part, which begins with this code, and waits until it reports that it is well."""
         if (old := self.parts.get(name)) and old.poll() is None:
             old.kill()
             old.wait()
@@ -170,7 +170,7 @@ class WatchedTrial(Trial):
             await asyncio.sleep(1)
 
     async def station(self, name: str) -> Client:
-        """A station at one of the gateways that stand."""
+        """A station at one of the gateways that are up."""
         while True:
             for gateway in ("stations-1", "stations-2"):
                 try:
@@ -222,7 +222,7 @@ class WatchedTrial(Trial):
         await self.held.execute("set idle_in_transaction_session_timeout = 0; begin; select 1")
 
     async def queue(self) -> None:
-        """A session that listens is in an open transaction, and 64 MB are told."""
+        """A session that listens is in an open transaction, and 64 MB of notifications wait."""
         self.held = await connect(self.fleet.dsn("owner"))
         for statement in (
             "set idle_in_transaction_session_timeout = 0",

@@ -1,6 +1,6 @@
 //! A client that measures a WebSocket server by round trips, and the least server to hold it against.
 //!
-//!     round_trips echo                                     sends each text back; tells its port first
+//!     round_trips echo                                     sends each text back; prints its port first
 //!     round_trips load PORT CONNECTIONS MESSAGES KIND PID  microseconds of processor time a message, messages a second,
 //!                                                          microseconds of a round trip: the median, the 99th percentile
 //!

@@ -5,21 +5,21 @@
 writes each script to FOLDER/NAME and its text to FOLDER/NAME.stdout, NAME being the row's file without
 `.rows`. A row is a transcript:
 
-    > LINE          a line of the script; what it writes stands in the lines below it
-    == LABEL        a new script begins, NAME.LABEL with _ for blanks and the like; what stands above the
-                    first of them stands in front of each
+    > LINE          a line of the script; what it writes is in the lines below it
+    == LABEL        a new script begins, NAME.LABEL with _ for blanks and the like; what is above the
+                    first of them is in front of each
     # TEXT          a comment; so is an empty line
-    %take FILE      the lines of FILE, which lies beside the row, stand here
+    %take FILE      the lines of FILE, which is beside the row, are put here
     %message TEXT   TEXT is the message from here on
     %replace A => B the first A in the message becomes B from here on
-    %for A..B       the lines up to %done stand here once for each number n from A to B
+    %for A..B       the lines up to %done are put here once for each number n from A to B
     %done
 
 A line of the script may have
 
     event STATION ID TRANSACTION KIND SEQNO TIME VALUE MEMBER..
                     at its beginning: the TransactionEvent of 2026-03-01 at TIME, with one reading of VALUE
-                    at that time; `-` stands for no reading, [TIME=VALUE;TIME=VALUE] for a reading for each
+                    at that time; `-` means no reading, [TIME=VALUE;TIME=VALUE] for a reading for each
                     pair, and each MEMBER is put, behind a comma, at the payload's end
     <message>       the message
     <message to n>  the message's first n bytes
@@ -40,7 +40,7 @@ from pathlib import Path
 MARK = re.compile(rb"<(?:(message)|(message to n)|([0-9a-f]{2})|([^<>]+) x ([0-9]+))>")
 NO_LETTERS = re.compile(r"[^A-Za-z0-9]+")
 
-Line = tuple[str, str]  # Where a line stands, and the line.
+Line = tuple[str, str]  # Where a line is, and the line.
 
 
 class Refused(Exception):
@@ -48,7 +48,7 @@ class Refused(Exception):
 
 
 class Misplaced(Refused):
-    """The same, and where it stands."""
+    """The same, and where it is."""
 
 
 def lines_of(path: Path) -> list[Line]:
@@ -61,7 +61,7 @@ def reading(time: str, value: str) -> str:
 
 
 def event(words: list[str]) -> str:
-    """The line of a message that tells an event."""
+    """The line of a message with an event."""
     if len(words) < 7:
         raise Refused("an event has seven words or more")
     station, message_id, transaction, kind, seq_no, time, value, *members = words

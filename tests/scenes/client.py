@@ -9,7 +9,7 @@ LONGEST_WAIT = 10
 # The first byte of a frame: its kind, and whether it ends its message.
 TEXT, BINARY, CLOSE, PING, PONG = 0x81, 0x82, 0x88, 0x89, 0x8A
 TEXT_BEGINS, GOES_ON, GOES_ON_LAST = 0x01, 0x00, 0x80
-# The line of a request that offers the subprotocol beside another, and one that offers others alone.
+# The line of a request that offers the subprotocol beside another, and one that offers only others.
 OFFER = "Sec-WebSocket-Protocol: ocpp1.6, ocpp2.0.1\r\n"
 OTHER = "Sec-WebSocket-Protocol: ocpp1.6, ocpp2.0.1.1\r\n"
 MASK = bytes([0x37, 0xFA, 0x21, 0x3D])

@@ -32,7 +32,7 @@ HEARTBEAT = '[2,"h","Heartbeat",{}]'
 
 
 def message(seq_no: int, kind: str = "Updated", day: str = "2026-03-01") -> str:
-    """An event of transaction T1, whose register reads 100 Wh more each time."""
+    """An event of transaction T1; the register reads 100 Wh more each time."""
     at = f"{day}T10:{seq_no:02}:00Z"
     reading = f'{{"timestamp":"{at}","sampledValue":[{{"value":{1000 + 100 * seq_no}}}]}}'
     return (
@@ -105,7 +105,7 @@ class Beside:
         return self.tool.stdout.readline()
 
     def end(self, number: signal.Signals = signal.SIGTERM) -> tuple[int, str]:
-        """Ends the tool, and gives its status and what it told."""
+        """Ends the tool, and gives its status and what it wrote."""
         assert self.tool
         self.tool.send_signal(number)
         _, told = self.tool.communicate(timeout=LONGEST_WAIT)
@@ -208,7 +208,7 @@ def an_operators_lines_are_kept(program: str) -> None:
 
 
 def a_clock_far_from_the_log(program: str) -> None:
-    """What lies far from the log's time is a finding on the page, the same after a start again. A line without a time
+    """A time far from the log's is a finding on the page, the same after a start again. A line without a time
     that can be read is none: the time of the line before it is not its own."""
     findings = [("A", "t1", "clock far from receipt", "1")]
 
@@ -282,7 +282,7 @@ def closed_sessions_are_shown(program: str) -> None:
 
 
 def what_is_refused_is_shown(program: str) -> None:
-    """Each refused message and each line that can't be taken is told, in the table and counted on the page; the same
+    """Each refused message and each line that can't be taken is listed in the table and counted on the page; the same
     after a start again. What the ledger keeps nothing of is none of these."""
     unset = message(0, "Started", "1970-01-01")
     seen = [
@@ -332,7 +332,7 @@ def of_session(leader: int) -> list[str]:
 
 
 def a_signal_ends_the_feeder_too(program: str) -> None:
-    """SIGTERM ends the tool with the processes whose output it reads, with the pages written once more."""
+    """SIGTERM ends the tool and the processes that it reads from, with the pages written once more."""
     with beside(program) as run:
         run.write(row(message(0, "Started")))
         live = f"{TOOL[0]} {TOOL[1]} live --program {program} --out {run.folder / 'out'}"

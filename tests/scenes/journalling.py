@@ -1,4 +1,4 @@
-"""Plays a server with a journal, kills it and restores it, and compares what is written, answered and told.
+"""Plays a server with a journal, kills it and restores it, and compares what it writes, answers and reports.
 
     tests/one scenes.journalling PROGRAM
 
@@ -59,7 +59,7 @@ MOST_EVENTS = 14_000
 
 
 class Journalled(Live):
-    """A server with a journal, or one that is restored, and its operator; what it tells comes by standard error."""
+    """A server with a journal, or one that is restored, and its operator; it reports on standard error."""
 
     def __init__(
         self, program: str, journal: int, *words: str, restored: bytes = b"", told: str = ""
@@ -78,10 +78,10 @@ class Journalled(Live):
         self.listens(*words)
 
     def hears(self, told: str) -> None:
-        """It has to tell this."""
+        """It has to report this."""
         for wanted in told.splitlines(keepends=True):
             if (read := self.line().decode()) != wanted:
-                raise Differs(f"it tells {read!r}, and not {wanted!r}")
+                raise Differs(f"it reports {read!r}, and not {wanted!r}")
 
     def limit_file(self, limit: int | None = None) -> None:
         """Sets how long a file it may write: without a limit as long as it likes."""
@@ -107,7 +107,7 @@ def begun(program: str, journal: Path, *words: str) -> Journalled:
 
 
 def restored(program: str, journal: Path, told: str, *words: str) -> Journalled:
-    """A server that goes on behind a journal, and tells this of it."""
+    """A server that goes on behind a journal, and reports this of it."""
     with open(journal, "ab") as file:
         return Journalled(program, file.fileno(), *words, restored=journal.read_bytes(), told=told)
 
@@ -148,7 +148,7 @@ def replayed(program: str, script: bytes, *sites: str) -> tuple[list[str], str]:
 
 
 def is_the_boards(program: str, journal: Path, wanted: str) -> None:
-    """The journal is a script of which each line is accepted, and that ends in these boards."""
+    """The journal is a script that ends in these boards; each of its lines is accepted."""
     answers, found = replayed(program, journal.read_bytes(), "north", "south")
     if left := [answer for answer in answers if not answer.startswith(("[3,", "accepted "))]:
         raise Differs(f"a replay of the journal answers {left[:3]}")
@@ -163,7 +163,7 @@ def sends(station: Station, text: bytes, reply: bytes) -> None:
 
 
 def rising(number: int) -> bytes:
-    """An event of a transaction whose register rises by one with each."""
+    """An event of a transaction; the register rises by one with each."""
     return event(number, "Updated", "2026-03-01T10:00:00Z", number)
 
 
@@ -200,7 +200,7 @@ def reply_before_line(program: str) -> None:
         station.leaves()
 
 
-# Limits and a station, in front of a journal of which each front is restored.
+# Limits and a station, in front of a journal; each front of it is restored.
 SMALL = b"limits 4 8 8 9\nstation north A\n"
 
 
@@ -228,7 +228,7 @@ def each_front_is_restored(program: str, written: bytes) -> None:
     """Each front of a small journal, as a kill may leave it, gives the board of its complete lines."""
     none, one = (board("north", {"A": told}) for told in range(2))
     voided = none.replace("voided=0", "voided=1")
-    # What is told once so many lines are complete that are no comments, and how many changes they are.
+    # The report when so many lines that are no comments are complete, and how many changes they are.
     behind = ["", "", none, one, voided, one, voided, none]
     changes = [0, 0, 0, 1, 2, 3, 4, 5]
 
@@ -268,7 +268,7 @@ def restored_after_each_byte(program: str) -> None:
 
 
 def receipt_times(program: str) -> None:
-    """The time of its receipt stands in front of each line, and what reads the journal skips it."""
+    """The time of its receipt is in front of each line, and what reads the journal skips it."""
     with folder() as journal:
         bare = small_journal(program, journal)
         began = time.time_ns()
@@ -284,7 +284,7 @@ def receipt_times(program: str) -> None:
         for at in noted:
             match = re.fullmatch(rb"# ([0-9-]{10}T[0-9:]{8})\.([0-9]{9})Z\n", lines[at - 1])
             if not match:
-                raise Differs(f"in front of {lines[at]!r} stands {lines[at - 1]!r}")
+                raise Differs(f"in front of {lines[at]!r} is {lines[at - 1]!r}")
             second = calendar.timegm(time.strptime(match[1].decode(), "%Y-%m-%dT%H:%M:%S"))
             times.append(second * 1_000_000_000 + int(match[2]))
         if not began <= times[0] or times != sorted(times) or not times[-1] <= ended:
@@ -603,7 +603,7 @@ def restored_lines_are_not_written_again(program: str) -> None:
 
 
 def left_out_lines(program: str) -> None:
-    """Lines that left nothing are told with their numbers; repeats and questions are not."""
+    """Lines that changed nothing are reported with their numbers; repeats and questions are not."""
     other = event(1, "Updated", "2026-03-01T10:14:00Z", 1300)
     script = b"\n".join(
         (
@@ -727,7 +727,7 @@ def comment_after_a_cut_line(program: str) -> None:
             server.answers("erase A T1 0", "accepted 4\n")
             server.answers("msg A " + FIRST.decode(), '[3,"1",{}]\n')
             server.ends(boards(2, 0, 0))
-        # In the journal the comment of the next run stands behind it.
+        # In the journal the comment of the next run is behind it.
         holds(journal, cut + RUN + b"void A T1 0\nerase A T1 0\n" + LINES[0])
         with restored(program, journal, f"left out {number} fault BadLine\nrestored 5\n") as server:
             server.ends(boards(2, 0, 0))

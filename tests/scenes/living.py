@@ -1,4 +1,4 @@
-"""Plays a server that lives with clients of its own and an operator's lines, and compares what is answered and told.
+"""Plays a server that lives with clients of its own and an operator's lines, and compares what it answers and reports.
 
     tests/one scenes.living PROGRAM
 
@@ -58,7 +58,7 @@ def sessions_in_turn(program: str) -> None:
 
 
 def third_session_ends_the_first(program: str) -> None:
-    """Two sessions of a station stand; a third ends the oldest, and once one of them left no other ends."""
+    """Two sessions of a station are open; a third ends the oldest, and after one of them left no other ends."""
     with Live(program) as server:
         first, second = Station(server, "A"), Station(server, "A")
         first.tells(0)
@@ -102,7 +102,7 @@ def silent_station_comes_again(program: str) -> None:
 
 
 def end_while_clients_are_silent(program: str) -> None:
-    """64 clients say nothing, of which 20 are in their handshake and one in the middle of a message."""
+    """64 clients say nothing: 20 are in their handshake and one in the middle of a message."""
     names = [f"S{number}" for number in range(22)]
     with Live(
         program, "--watch", "600", stations=tuple(f"north/{name}" for name in names)
@@ -120,7 +120,7 @@ def end_while_clients_are_silent(program: str) -> None:
 
 
 def half_open_connections_hold_no_station(program: str) -> None:
-    """60 connections of which none finishes its handshake; a station is answered within two seconds all the same."""
+    """None of 60 connections finishes its handshake; a station is answered within two seconds all the same."""
     with Live(program, stations=("north/A",)) as server:
         open_ = [Client(server) for _ in range(60)]
         for client in open_[::2]:
@@ -309,14 +309,14 @@ def sessions_are_told(program: str) -> None:
 
 
 def limits_nearly_used(program: str) -> None:
-    """A limit of which nine tenths are used is told once, by whatever session of its station."""
+    """A limit that is nine tenths used is reported once, by whatever session of its station."""
     told = (
         b"near A transactions 1 of 1\n",
         b"near A readings 17 of 18\n",
         b"near A events 18 of 20\n",
         b"near A changes 27 of 30\n",
     )
-    # What is told behind so many events of A.
+    # The report after so many events of A.
     behind = {1: 1, 16: 1, 17: 2, 18: 3}
     with Live(program, "--limits", "1", "20", "18", "30") as server:
 

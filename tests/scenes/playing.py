@@ -10,7 +10,7 @@ from tests.scenes.client import Differs
 
 
 def play(name: str, about: str | None, scenes: tuple[Callable[[str], None], ...]) -> int:
-    """Plays each scene with the program that the command line names, tells which differ, and gives the exit status."""
+    """Plays each scene with the program that the command line names, reports which differ; the exit status."""
     parser = argparse.ArgumentParser(
         description=about, formatter_class=argparse.RawDescriptionHelpFormatter
     )

@@ -1,4 +1,4 @@
-"""Servers of the program in scenes, with what they tell, and the boards that they have to write."""
+"""Servers of the program in scenes, with their reports, and the boards that they have to write."""
 
 import os
 import re
@@ -16,7 +16,7 @@ STATIONS = ("north/A", "north/B", "south/C")
 EARLY = 0.05
 # How long the server may take to end sessions that are silent, in seconds.
 END = 2
-# A station's part of a board, behind its name, where it told none, the first or both events of transaction T1.
+# A station's part of a board, behind its name, if it sent none, the first or both events of transaction T1.
 TOLD = (
     "total events=0 voided=0 transactions=0 complete=0 missing=0 up=0 down=0 export_up=0 export_down=0\n",
     "total events=1 voided=0 transactions=1 complete=0 missing=0 up=0 down=0 export_up=0 export_down=0\n"
@@ -31,7 +31,7 @@ NONE, ONE, TWO = (told.partition("\n")[0] for told in TOLD)
 
 
 class Served:
-    """A program that serves and is ended with its scene, and what it tells on standard error."""
+    """A program that serves and is ended with its scene, and its reports on standard error."""
 
     process: subprocess.Popen[bytes]
     told: IO[bytes]
@@ -67,7 +67,7 @@ class Server(Served):
         return bool(select.select([self.out], [], [], EARLY)[0])
 
     def ends(self, boards: str, lines: str = "") -> str:
-        """Waits for its end: it has to write these boards, and to tell lines that this expression fits; gives these."""
+        """Waits for its end: it has to write these boards, and report lines that this expression fits; gives these."""
         try:
             written, _ = self.process.communicate(timeout=LONGEST_WAIT)
         except subprocess.TimeoutExpired:
@@ -111,14 +111,14 @@ class Live(Served):
         self.input = self.process.stdin
 
     def listens(self, *options: str) -> None:
-        """It has to tell its ports."""
+        """It has to write its ports."""
         self.port = self.port_of(b"listening")
         self.board_port = self.port_of(b"boards") if "--board-port" in options else 0
 
     def port_of(self, word: bytes) -> int:
         match = re.fullmatch(word + rb" 127\.0\.0\.1:([0-9]+)\n", self.line())
         if not match:
-            raise Differs(f"it does not tell the port of {word!r}")
+            raise Differs(f"it does not write the port of {word!r}")
         return int(match[1])
 
     def line(self) -> bytes:
@@ -160,7 +160,7 @@ class Live(Served):
         return lines
 
     def has_told(self) -> bytes:
-        """What it has told so far."""
+        """What it has reported so far."""
         return os.pread(self.told.fileno(), 1_000_000, 0)
 
     def limit_data(self, limit: int | None = None) -> None:
@@ -179,7 +179,7 @@ class Live(Served):
         return self.has_ended(written, told, status, within)
 
     def has_ended(self, written: str, told: str = "", status: int = 0, within: float = END) -> str:
-        """It has to write this, to tell lines that this expression fits, and to end, in this time."""
+        """It has to write this, to report lines that this expression fits, and to end, in this time."""
         began = time.monotonic()
         rest = self.rest().decode()
         try:
@@ -204,7 +204,7 @@ def dismissed(reason: str) -> bytes:
 
 
 def boards(a: int, b: int, c: int) -> str:
-    """The boards where the stations told so many of the two events."""
+    """The boards after the stations sent so many of the two events."""
     return board("north", {"A": a, "B": b}) + board("south", {"C": c})
 
 

@@ -140,7 +140,7 @@ def connections_that_fail_count_as_ended(program: str) -> None:
 
 
 def one_live_line_a_site(program: str) -> None:
-    """A glance tells each site's name and totals, and the last, two seconds later, the event that came before it."""
+    """A glance shows each site's name and totals; the last, two seconds later, shows the event that came before it."""
     for glances in (1, 3):
         with Server(program, 1, "--watch", str(glances)) as server:
             station = Station(server, "C")

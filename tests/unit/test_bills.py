@@ -80,7 +80,7 @@ def test_a_file_has_both_values_with_their_keys(tmp_path: Path) -> None:
     assert [(one.text, one.attrib["encoding"]) for one in root.iter("publicKey")] == [
         ("3059aa", "plain")
     ] * 2
-    # Other signed data goes as it came, with a key of another form; one value alone is one.
+    # Other signed data goes as it came, with a key of another form; a single value is one.
     assert write_signed(tmp_path, "A", "T", [Details(signed=(Signed("AAEC", "a2V5"),))])
     (value,) = ElementTree.parse(tmp_path / "A.T.xml").getroot()
     assert (value.findtext("signedData"), value.findtext("publicKey")) == ("AAEC", "a2V5")

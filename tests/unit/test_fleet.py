@@ -140,7 +140,7 @@ def test_a_worker_whose_session_is_ended_beats_until_it_is_told() -> None:
 
 
 class Slow:
-    """A session with the database whose commit takes so many seconds, and waits for a standby or does not."""
+    """A session with the database. Its commit takes so many seconds, and waits for a standby or does not."""
 
     def __init__(self, seconds: float, waits: bool) -> None:
         self.seconds, self.rows = seconds, [object()] if waits else []
@@ -237,7 +237,7 @@ def test_what_a_fault_says() -> None:
 
 
 def left_behind(ended: Exception) -> Exception:
-    """What a session tells that ended within a transaction, once that is left."""
+    """What a session shows that ended within a transaction, once that is left."""
     fault: Exception = asyncpg.InterfaceError("cannot call Transaction.__aexit__()")
     fault.__context__ = ended
     return fault

@@ -78,7 +78,7 @@ def test_a_replay_that_ends_lets_nobody_wait(stub: str) -> None:
 
 
 def feed_of(stub: str, folder: Path, *words: str) -> tuple[LogFeed, Ledger, list[Refusal]]:
-    """A feed of a log of this folder, whose station is A of north."""
+    """A feed of a log of this folder, for station A of north."""
     (folder / "stations").write_text("north A\n")
     paths = [
         word for name in ("log", "stations", "state") for word in (f"--{name}", str(folder / name))

@@ -40,7 +40,7 @@ def board(*ups: int) -> bytes:
 
 
 def changed(before: bytes, after: bytes) -> list[int]:
-    """The days of March whose pages are others."""
+    """The days of March that have other pages."""
     calendar = Calendar(timezone.utc)
     old, new = digests(before, calendar), digests(after, calendar)
     return [day.day for day in new if old.get(day) != new[day]]
@@ -87,7 +87,7 @@ def test_days_are_those_of_the_zone() -> None:
 
 
 def made(folder: Path) -> dict[str, int]:
-    """The files of a folder, by which one can tell whether they were written anew."""
+    """The files of a folder, to see whether they were written anew."""
     return {path.name: path.stat().st_ino for path in folder.iterdir()}
 
 
@@ -165,10 +165,10 @@ def test_pages_have_times_and_findings(tmp_path: Path) -> None:
     assert "1 message was refused" in page
     assert "clock far from receipt" in (tmp_path / "north.findings.csv").read_text()
     assert "2026-03-01T08:00:00Z" in (tmp_path / "north.transactions.csv").read_text()
-    # The page of a day tells nothing that changes while its day doesn't.
+    # The page of a day shows nothing that changes while its day doesn't.
     assert "again when something on it changes" in day
     assert "Data up to" not in day and "refused" not in day.split("</style>")[1]
-    # Nothing came for long: the first page tells it, without another change.
+    # Nothing came for long: the first page says so, without another change.
     assert "older than it should be" not in page
     words.oldest = 3_600
     pages.write("north", text)

@@ -133,7 +133,7 @@ def test_words_that_declare_nothing(word: str) -> None:
 
 
 def sent(number: int) -> str:
-    """An event of a session whose values are texts and whose times have no offset."""
+    """An event of a session: its values are texts and its times have no offset."""
     payload = json.loads(json.dumps(sound("T1", FIRST)[number].payload).replace('Z"', '"'))
     value = payload["meterValue"][0]["sampledValue"][0]
     value["value"] = str(value["value"])

@@ -1,4 +1,4 @@
-"""What parts of the fleet tell who watches them."""
+"""What parts of the fleet report to whoever watches them."""
 
 import argparse
 import json

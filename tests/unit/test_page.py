@@ -146,7 +146,7 @@ def test_a_name_is_locked_where_it_failed_and_nowhere_else() -> None:
 
 
 def test_an_address_that_failed_often_waits(monkeypatch: pytest.MonkeyPatch) -> None:
-    # A clock that stands still, since hashes take their time on a busy machine.
+    # A clock that is stopped, since hashes take their time on a busy machine.
     monkeypatch.setattr(operators, "time", SimpleNamespace(monotonic=lambda: 1_000.0))
     database = Database(b"a right password")
     told = begun(database, *[("bob", "a wrong one")] * (FREE + 1))

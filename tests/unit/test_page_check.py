@@ -48,7 +48,7 @@ def test_a_page_that_has_all_is_fine(tmp_path: Path) -> None:
 
 
 def test_all_that_pages_are_made_of_is_fine(tmp_path: Path) -> None:
-    """Marks, warnings, strips, findings and each kind of bar, whose contrasts are looked at in light and in dark."""
+    """Marks, warnings, strips, findings and each kind of bar: their contrasts are looked at in light and in dark."""
     day = datetime(2026, 3, 1, tzinfo=timezone.utc)
     flows = [Flow(5, 2, 3, 1), Flow()]
     periods = [Period(day + n * timedelta(minutes=15), 900, flow) for n, flow in enumerate(flows)]

@@ -258,7 +258,7 @@ def station(name: str, sessions: list[Session], voided: int = 0) -> Part:
 def test_problems_are_counted_the_gravest_first() -> None:
     doubtful = session([], complete=True)
     doubtful.findings = [Finding(Kind.CLOCK_BACK, 2), Finding(Kind.REPEATED, 3)]
-    # The fall of a session that has a finding of it is told by that.
+    # The fall of a session that has a finding of it is reported by that.
     doubtful.flow = Flow(5, 1)
     fell = session([], complete=True)
     fell.flow = Flow(5, 1)
@@ -396,7 +396,7 @@ def test_stations_with_troubles_and_the_last_day_come_first_on_a_page(tmp_path: 
 
 
 def test_no_page_is_larger_than_300_kb(tmp_path: Path) -> None:
-    """Sixty stations whose sessions have many gaps, on four years of days with periods of five minutes on the last."""
+    """Sixty stations with many gaps in their sessions, on four years of days; the last has periods of five minutes."""
     gaps = [(1 + 2 * number, 1 + 2 * number) for number in range(199)]
     one = board(60)
     one.site.periods = [

@@ -1,4 +1,4 @@
-"""What messages tell of sessions: times, registers, and what is doubtful."""
+"""What messages say of sessions: times, registers, and what is doubtful."""
 
 import base64
 import json

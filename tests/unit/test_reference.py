@@ -9,7 +9,7 @@ from tests.reference import replayed
 from tests.rows.rows import scripts_of
 
 TOP = Path(__file__).parents[2]
-# Rows whose messages are sound, but for those of scripts that tell of one that is not.
+# Rows with sound messages, except for those of scripts that report one that is not.
 ROWS = (
     "evse_moves",
     "exported_energy",

@@ -1,4 +1,4 @@
-"""Which waits of a soak are told apart from those that a kill or a stop touched."""
+"""Which waits of a soak are kept apart from those that a kill or a stop touched."""
 
 import pytest
 

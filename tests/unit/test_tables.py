@@ -201,7 +201,7 @@ def test_wrong_words(words: list[str]) -> None:
 
 
 def followed(folder: Path, monkeypatch: pytest.MonkeyPatch, writings: int) -> str:
-    """The page after so many writings, ten seconds apart, of which the first alone finds the server."""
+    """The page after so many writings, ten seconds apart; only the first finds the server."""
     board, pauses = folder / "board", list[float]()
     board.write_text(BOARD)
 

@@ -1,4 +1,4 @@
-"""The command, what tools tell, and the tools that write or explain scripts."""
+"""The command, what tools report, and the tools that write or explain scripts."""
 
 import asyncio
 import gzip

@@ -1,4 +1,4 @@
-"""Alerts and dashboard of a fleet: what they ask for is told, each alert fires in a test, and each has its remedy."""
+"""Alerts and dashboard of a fleet: each metric in them exists, each alert fires in a test, and each has its remedy."""
 
 import json
 import re
@@ -19,7 +19,7 @@ ALERTS = (FOLDER / "alerts.yml").read_text()
 NAMES = re.findall(r"- alert: (\w+)", ALERTS)
 TESTS = (FOLDER / "alerts.test.yml").read_text()
 DASHBOARD = json.loads((FOLDER / "dashboard.json").read_text())
-# What Prometheus and its client tell by themselves.
+# What Prometheus and its client report by themselves.
 OTHERS = {
     "up",
     "process_start_time_seconds",

@@ -9,9 +9,9 @@ port that another process listens on, and `$SCRIPT` a file with the lines `stati
     status N          its exit status
     out LINE          the next line of standard output
     out~ FRONT        the next line of standard output begins so
-    out* TEXT         stands somewhere on standard output
+    out* TEXT         is somewhere on standard output
     no out            nothing is written there
-    no more out       nothing stands there after the lines that were told
+    no more out       nothing is there after the lines above
     err ..            the same of standard error: err, err~, err*, no err, no more err
     CS-01> TEXT       on the WebSocket connection of station CS-01, which is opened for it, this is sent,
     CS-01< TEXT       and this is received; the port is that of the line `listening 127.0.0.1:<port>`
@@ -126,7 +126,7 @@ class Run:
         return line
 
     def ended(self, given: dict[str, str]) -> tuple[int, str, str]:
-        """Runs the command: its status, and what it wrote and told."""
+        """Runs the command: its status, and what it wrote to its two outputs."""
         with (
             tempfile.TemporaryFile() as told,
             subprocess.Popen(

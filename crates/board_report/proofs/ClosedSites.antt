@@ -51,7 +51,7 @@ pub named_alike : (name other : List ℕ) (period : Periods) (order : Order) (to
     → site_named name period order totals boards ≡ record { name = other; period = period; order = order; figures = (site_board period boards).figures; quarters = (site_board period boards).quarters; stations = (site_board period boards).stations }
 named_alike name other period order totals all boards n t e = λ i. record { name = n i; period = period; order = order; figures = (t ∙ e) i; quarters = (site_board period boards).quarters; stations = boards }
 
--- what is told of a value
+-- what is known of a value
 pub value_told : {T E : Type 0} (r : Result T E) (P Q : T → Type 0) → ((x : T) → P x → Q x) → IfOk r P → IfOk r Q
 value_told (Ok x) P Q f p = f x p
 value_told (Err e) P Q f p = p

@@ -1,4 +1,4 @@
--- The quarters of a plan's boards have no more energy than its readings can show.
+-- The periods of a plan's boards have no more energy than its readings can show.
 use Rattle.std.proofs.Common.{◌≡◌, ℕ, ◌+◌, ◌*◌, ◌<◌, ◌≤◌, inl, inr, Bool, true, false, cond, List, [], ◌∷◌, ◌++◌, map, sym, ap, ◌∙◌, arith, eqb, ⊎_elim}
 use Rattle.std.specs.List.{sum_by, filter}
 use Rattle.std.proofs.lemmas.Bool.{cases_eq}
@@ -26,12 +26,12 @@ module _ (p : Part) (e : ℕ → Flows) where
   abbrev lines : List ℕ → List Flowed
   lines ks = map (λ k. (k, e k)) ks
 
-  -- lines of other quarters have nothing of a quarter
+  -- lines of other periods have nothing of a period
   under-others : (q : ℕ) (ks : List ℕ) → (IsIn q ks → ⊥) → p.measure (flows_under q (lines ks)) ≡ 0
   under-others q [] none = part_none p
   under-others q (k ∷ ks) none = ap p.measure (under-other (k, e k) (lines ks) q (λ same. none (inl (sym same)))) ∙ under-others q ks (λ h. none (inr h))
 
-  -- lines of rising quarters have that of one line
+  -- lines of rising periods have that of one line
   under-rising : (q : ℕ) (ks : List ℕ) → AreRising ks → p.measure (flows_under q (lines ks)) ≤ p.measure (e q)
   under-rising q [] rise = let none = part_none p in omega (arith, none)
   under-rising q (k ∷ ks) rise = ⊎_elim
@@ -61,7 +61,7 @@ in_quarter_up order d period q es = sum-filter (λ p. (difference p).up) (λ p. 
 in_quarter_down : (order : Order) (d : Direction) (period : Periods) (q : ℕ) (es : List Entry) → (energy_in_by order d period q es).down ≤ (energy_by order d es).down
 in_quarter_down order d period q es = sum-filter (λ p. (difference p).down) (λ p. eqb (quarter_of period p) q) (all_pairs_by order d es)
 
--- a board shows no more for a quarter than the quarter's pairs add up to
+-- a board shows no more for a period than the period's pairs add up to
 under-board : (p : Part) (order : Order) (period : Periods) (q : ℕ) (es : List Entry) → p.measure (flows_under q (board_by order period es).quarters) ≤ p.measure (flows_in_by order period q es)
 under-board p order period q es =
     under-rising p (λ quarter. flows_in_by order period quarter es) q (quarters_by order period es) (rising-AreRising (map (quarter_of period) (all_pairs_by order Import es ++ all_pairs_by order Export es)))
@@ -88,7 +88,7 @@ under-limits q limits b h =
       of_export_down = omega (arith, ap (λ (f : Flows). f.export.down) same, under-board export_down h.order b.period q es, in_quarter_down h.order Export b.period q es, ap {B = ℕ} (λ f. f.export_down) figures, h.within.export_down);
     }
 
--- the energy of a quarter over two lists
+-- the energy of a period over two lists
 under-append : (p : Part) (q : ℕ) (xs ys : List Flowed) → p.measure (flows_under q (xs ++ ys)) ≡ p.measure (flows_under q xs) + p.measure (flows_under q ys)
 under-append p q [] ys = let none = part_none p in omega (arith, none)
 under-append p q (x ∷ xs) ys =
@@ -114,7 +114,7 @@ under-plan q (limits ∷ plan) (s ∷ stations) h =
     λ p a b. omega (arith, under-append p q s.1.quarters (station_quarters stations), a, b, more) in
     record { of_up = step up one.of_up rest.of_up; of_down = step down one.of_down rest.of_down; of_export_up = step export_up one.of_export_up rest.of_export_up; of_export_down = step export_down one.of_export_down rest.of_export_down }
 
--- the sums of each quarter fit for one plan
+-- the sums of each period fit for one plan
 pub plans_fit : (plan : List Bounds) (stations : List (List ℕ × Board)) → readings_of_plan plan ≤ most_plan_readings → AreBoardsWithin plan stations → QuartersFit (station_quarters stations)
 plans_fit plan stations few h = record {
   up = λ q. omega (arith, few, (under-plan q plan stations h).of_up);

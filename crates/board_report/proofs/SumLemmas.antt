@@ -1,4 +1,4 @@
--- The sums of lines by quarter.
+-- The sums of lines by period.
 use Rattle.std.proofs.Common.{◌≡◌, ℕ, zero, suc, ◌+◌, ◌-◌, ◌<◌, ◌≤◌, ◌^◌, ◌⊎◌, inl, inr, cond, eqb, List, [], ◌∷◌, ◌++◌, map, length, take, get_or, append-nil, refl, sym, ap, subst, ◌∙◌, arith, ⊎_elim}
 use Rattle.std.specs.List.{sum_by}
 use Rattle.std.proofs.lemmas.List.Elements.{All-nil, All-cons}
@@ -51,18 +51,18 @@ part_none p = p.none_of
 plus_none : (f : Flows) → plus_flows f no_flows ≡ f
 plus_none f = same_flows (plus_flows f no_flows) f (λ p. p.plus_of f no_flows ∙ (let none = part_none p in omega (arith, none)))
 
--- the quarters of lines
+-- the periods of lines
 abbrev pub numbers : List Flowed → List ℕ
 numbers lines = map (λ (line : Flowed). line.0) lines
 
--- the energy of a quarter, with one line more
+-- the energy of a period, with one line more
 pub under-own : (x : Flowed) (xs : List Flowed) (q : ℕ) → x.0 ≡ q → flows_under q (x ∷ xs) ≡ plus_flows x.1 (flows_under q xs)
 under-own x xs q e = rw (eq-eqb x.0 q e) refl
 
 pub under-other : (x : Flowed) (xs : List Flowed) (q : ℕ) → (x.0 ≡ q → ⊥) → flows_under q (x ∷ xs) ≡ flows_under q xs
 under-other x xs q apart = rw (ne_eqb x.0 q apart) refl
 
--- a quarter that no line is of has no energy
+-- a period that no line is of has no energy
 pub under-none : (q : ℕ) (xs : List Flowed) → (IsIn q (numbers xs) → ⊥) → flows_under q xs ≡ no_flows
 under-none q [] none = refl
 under-none q (x ∷ xs) none = under-other x xs q (λ e. none (inl (sym e))) ∙ under-none q xs (λ h. none (inr h))
@@ -175,7 +175,7 @@ can_lead front x xs all parts order fit =
       export = record { up = room export_up (fit.export_up k); down = room export_down (fit.export_down k) };
     })
 
--- the last line, and what stands before it
+-- the last line, and what is before it
 parted : (left : List Flowed) (k : ℕ) (x : Flowed) (after : List Flowed) → k + 1 ≡ length left → x ≡ get_or left k x → take k left ++ (x ∷ after) ≡ left ++ after
 parted [] k x after some is = absurd (omega arith)
 parted (y ∷ []) zero x after some is = ap (λ (z : Flowed). z ∷ after) is
@@ -191,7 +191,7 @@ order_from_sort [] up = tt
 order_from_sort (x ∷ []) up = tt
 order_from_sort (x ∷ y ∷ xs) up = (up 0 1 x (omega arith) (omega arith), order_from_sort (y ∷ xs) (λ i j d le lt. up (suc i) (suc j) d (omega arith) (omega arith)))
 
--- how often a number stands among those of lines
+-- how often a number is among those of lines
 hit : ℕ → Flowed → ℕ
 hit k line = cond (eqb line.0 k) 1 0
 
@@ -212,7 +212,7 @@ in_if_hits k (x ∷ xs) h = ⊎_elim
 in_permuted : (k : ℕ) (xs ys : List Flowed) → IsPermutation xs ys → IsIn k (numbers xs) → IsIn k (numbers ys)
 in_permuted k xs ys same h = in_if_hits k ys (omega (arith, sum_by-IsPermutation (hit k) xs ys same, hits_if_in k xs h))
 
--- the energy of a quarter as a sum
+-- the energy of a period as a sum
 at : (Flows → ℕ) → ℕ → Flowed → ℕ
 at part q line = cond (eqb line.0 q) (part line.1) 0
 
@@ -227,7 +227,7 @@ under_is p q (x ∷ xs) =
     (λ (o : x.0 ≡ q → ⊥). omega (arith, ap p.measure (under-other x xs q o), rest, more, ap {B = ℕ} (λ b. cond b (p.measure x.1) 0) (ne_eqb x.0 q o)))
     (cases_eq x.0 q)
 
--- the energies of a quarter do not depend on the order of lines
+-- the energies of a period do not depend on the order of lines
 under_permuted : (q : ℕ) (xs ys : List Flowed) → IsPermutation xs ys → flows_under q ys ≡ flows_under q xs
 under_permuted q xs ys same = same_flows (flows_under q ys) (flows_under q xs) (λ p. under_is p q ys ∙ sum_by-IsPermutation (at p.measure q) xs ys same ∙ sym (under_is p q xs))
 
@@ -283,7 +283,7 @@ fit_permuted xs ys same fit = record {
   export_down = λ q. subst (λ (e : Flows). e.export.down < 2 ^ 64) (sym (under_permuted q xs ys same)) (fit.export_down q);
 }
 
--- the quarters of lines are the period's
+-- the periods of lines have the given length
 line_own : (period : Periods) (xs : List Flowed) (k : ℕ) → AreQuartersOf period xs → IsIn k (numbers xs) → IsQuarterOf period.length k
 line_own period [] k own h = absurd h
 line_own period (x ∷ xs) k own (inl e) = subst (IsQuarterOf period.length) (sym e) (own 0 x (omega arith))

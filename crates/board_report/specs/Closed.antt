@@ -10,14 +10,16 @@ use Rattle.site_desk.specs.Plan.{order_at, period_at}
 use Rattle.site_desk.specs.Close.{AreSummed, Ended}
 use Rattle.board_report.specs.Boards.{AreOpenedFor, site_boards}
 
--- A closed desk of these sites and stations: each site has its book, each station its cell at its site, and each book's totals are the sums over its site's cells.
+-- A closed desk of these sites and stations: each site has its book, each station its cell at its site, and each book's
+-- totals are the sums over its site's cells.
 pub record IsClosedOf (sites : List SitePlan) (stations : List StationPlan) (closed : Ended) : Type 0 where
   pub books : length closed.books ≡ length sites
   pub cells : AreOpenedFor sites stations closed.cells
   pub at_sites : (k : ℕ) (s : StationPlan) (c : Cell) → slice_get stations k ≡ Some s → slice_get closed.cells k ≡ Some c → c.site ≡ s.site
   pub summed : AreSummed closed.cells closed.books
 
--- The board of the site of this number, from scratch, by the site's settlement period and order of readings: its stations' boards, the sums of their figures, and the sums of their quarters.
+-- The board of the site of this number, from scratch, by the site's length of periods and order of
+-- readings: its stations' boards, the sums of their figures, and the sums of their periods.
 abbrev pub closed_site : List SitePlan → List StationPlan → List Cell → ℕ → NamedBoard
 closed_site sites stations cells site =
     let b = site_board (period_at sites site) (site_boards sites stations cells site) in

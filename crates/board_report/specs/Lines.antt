@@ -1,14 +1,14 @@
--- How lines of quarters are added up.
+-- How lines of settlement periods are added up.
 use Rattle.std.specs.Prelude.{◌≤◌, ◌≡◌, ◌==◌, nat_lt, if◌then◌else◌, List, [], ◌∷◌, map}
 use Rattle.energy_flow.specs.Flow.{CanPlus}
 use Rattle.ledger_model.specs.Board.{Flowed, flows_under}
 use Rattle.ledger_model.specs.Energy.{Flows, plus_flows, rising}
 
--- Each quarter of these lines once, rising, with the sums of its energies.
+-- Each period of these lines once, in rising order, with the sums of its energies.
 abbrev pub quarter_sums : List Flowed → List Flowed
 quarter_sums lines = map (λ quarter. (quarter, flows_under quarter lines)) (rising (map (λ line. line.0) lines))
 
--- No line is before the one before it.
+-- No line is of an earlier period than the line in front of it.
 abbrev pub AreInOrder : List Flowed → Type 0
 AreInOrder [] = Unit {0}
 AreInOrder (line ∷ []) = Unit {0}
@@ -26,7 +26,8 @@ pub record CanPlusFlows (a b : Flows) : Type 0 where
   pub flow : CanPlus a.flow b.flow
   pub export : CanPlus a.export b.export
 
--- A line can be added before rising lines: its number is not above the first, and its energies can be added where they are equal.
+-- A line can be added before rising lines: its number is not above the first, and if both are equal, their energies can
+-- be added.
 abbrev pub CanLead : Flowed → List Flowed → Type 0
 CanLead new [] = Unit {0}
 CanLead new (line ∷ lines) = (new.0 ≤ line.0) × (new.0 ≡ line.0 → CanPlusFlows new.1 line.1)

@@ -1,4 +1,4 @@
--- The board of a site of a desk that runs.
+-- The board of a site of a running desk.
 use Rattle.std.specs.Prelude.{◌≡◌, ℕ, List, [], map, get_or}
 use Rattle.ledger_model.specs.Board.{Board, site_board}
 use Rattle.board_report.specs.Named.{NamedBoard}
@@ -10,13 +10,15 @@ use Rattle.site_desk.specs.Operator.{AreBoardsAt}
 use Rattle.site_desk.specs.Plan.{order_at, period_at}
 use Rattle.site_desk.specs.Roster.{AreNewPlaces}
 
--- The board of a site over these stations' boards, by the site's name, settlement period and order of readings: the sums of their figures, and of their quarters.
+-- The board of a site over these stations' boards, by the site's name, length of periods and order
+-- of readings: the sums of their figures, and of their periods.
 abbrev pub running_site : List SitePlan → ℕ → List (List ℕ × Board) → NamedBoard
 running_site sites site boards =
     let b = site_board (period_at sites site) boards in
     record { name = get_or (map (λ s. s.name) sites) site []; period = b.period; order = order_at sites site; figures = b.figures; quarters = b.quarters; stations = b.stations }
 
--- The text is that of the board over boards of the site's stations, each once and in the plan's order, of which each is made by a content that accepted commands leave.
+-- The text is that of the board over boards of the site's stations, each once and in the plan's
+-- order. Each of these is the board of a content that accepted commands reach.
 pub record IsRunningBoard (sites : List SitePlan) (places : List StationPlace) (site : ℕ) (text : List ℕ) : Type 0 where
   pub boards : List (List ℕ × Board)
   pub of_site : AreBoardsAt places site boards

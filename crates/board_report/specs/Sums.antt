@@ -1,15 +1,15 @@
--- The quarters that the stations of a site show, and the condition on their sums.
+-- The settlement periods that the stations of a site show, and the condition on their sums.
 use Rattle.std.specs.Prelude.{◌≡◌, ℕ, ◌<◌, List, All, ◌^◌}
 use Rattle.std.specs.List.{flat_map}
 use Rattle.ledger_model.specs.Periods.{Periods}
 use Rattle.ledger_model.specs.Board.{Board, Flowed, flows_under}
 use Rattle.ledger_model.specs.Quarter.{IsQuarterOf}
 
--- The lines of quarters that stations show, as the stations stand.
+-- The lines of the periods that stations show, station after station.
 abbrev pub station_quarters : List (List ℕ × Board) → List Flowed
 station_quarters stations = flat_map (λ (s : List ℕ × Board). s.1.quarters) stations
 
--- The energies of the lines of each quarter add up to less than 2^64, up and down, in each direction.
+-- The energies of the lines of each period add up to less than 2^64, up and down, in each direction.
 pub record QuartersFit (lines : List Flowed) : Type 0 where
   pub up : (quarter : ℕ) → (flows_under quarter lines).flow.up < 2 ^ 64
   pub down : (quarter : ℕ) → (flows_under quarter lines).flow.down < 2 ^ 64

@@ -86,7 +86,7 @@ gap_line gap = line (field (codes "gap ") gap.0 ++ field (codes "..") gap.1)
 unfoldable pub transaction_text : Shown → List ℕ
 transaction_text t = transaction_line t ++ flat_map gap_line t.gaps
 
--- The lines of a station: its name, its total, its EVSEs, its quarters, and its transactions, each with its gaps.
+-- The lines of a station: its name, its total, its EVSEs, its periods, and its transactions, each with its gaps.
 unfoldable pub station_text : List ℕ × Board → List ℕ
 station_text s =
     line (codes "station " ++ s.0) ++ (line (total_text s.1.figures) ++ (flat_map evse_line s.1.evses

@@ -9,7 +9,7 @@ use std::alloc::{AllocError, Global};
 use std::marker::Model;
 
 /// The board of a site: its name, its settlement periods, the order of its readings, its figures, its quarters with
-/// their energies, rising, and its stations' boards by name, in the order of declaration.
+/// its periods with their energies in rising order, and its stations' boards by name, in the order of declaration.
 #[derive(Debug, Drop)]
 pub struct SiteBoard {
     pub(crate) name: Name,
@@ -61,7 +61,7 @@ impl SiteBoard {
     }
 
     /// The quarters that a station of the site shows, rising, each one of the site's periods and with its
-    /// energies over all stations.
+    /// length and with its energies over all stations.
     pub fn quarters(&self) -> &[QuarterLine]
         ensures value { result.now ≡ self.now.quarters }
         ensures own { AreQuartersOf self.now.period result.now }
@@ -76,7 +76,7 @@ impl SiteBoard {
         self.stations.as_slice()
     }
 
-    /// The vectors of the quarters and of the stations' boards.
+    /// The vectors of the periods and of the stations' boards.
     pub fn into_lists(self) -> (Vec<QuarterLine>, Vec<(Name, StationBoard)>)
         ensures quarters { result.0.items ≡ self.quarters }
         ensures stations { result.1.items ≡ self.stations }

@@ -16,8 +16,9 @@ use std::alloc::{AllocError, Global};
 /// The text of the board of the site of this number, under this name, by the site's settlement periods and
 /// order of readings and with these totals, over the cells of its stations.
 ///
-/// Condition: the plan has the site, each of its stations has its cell, opened with its limits and by its
-/// site's period and order, and the limits allow no more than 1,048,576 readings in all, as in a desk's plan.
+/// Condition: the plan has the site, each of its stations has its cell, opened with its limits and its site's
+/// length of periods and order, and the limits allow no more than 1,048,576 readings in all, as in a desk's
+/// plan.
 pub fn site_text(
     alloc: Global,
     plan: &Plan,
@@ -56,7 +57,7 @@ fn boards_of(
     Ok(boards)
 }
 
-// Adds the board of the station of this number, where it is at the site, to those of the stations before it.
+// Adds the board of the station of this number, if it is at the site, to those of the stations before it.
 fn add_board(
     alloc: Global,
     plan: &Plan,

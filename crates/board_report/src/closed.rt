@@ -16,7 +16,7 @@ use std::io::Write;
 pub enum BoardsFault {
     /// There is no memory for a board.
     OutOfMemory,
-    /// The output took no more bytes.
+    /// A write or a flush of the output failed.
     WriteFault,
 }
 
@@ -26,10 +26,11 @@ impl From<AllocError> for BoardsFault {
     }
 }
 
-/// The text of the board of the site of this number: the one from scratch, by the site's settlement
-/// period and order of readings, from the contents of its stations' ledgers, with the sums over them as its totals.
+/// The text of the board of the site of this number: computed from scratch from the contents of its stations'
+/// ledgers, by the site's length of periods and order of readings, with the sums over the stations as its totals.
+/// The error says that the allocator refused memory.
 ///
-/// Condition: the desk that was closed was opened for this plan, and the site is one of its sites.
+/// Condition: the closed desk was opened for this plan, and the plan has the site.
 pub fn closed_board<J: Naming>(
     alloc: Global,
     plan: &Plan,
@@ -47,10 +48,10 @@ pub fn closed_board<J: Naming>(
     site_text(alloc, plan, closed.cells(), number, &name, totals)
 }
 
-/// Writes the board of each site, in the plan's order, each as [`closed_board`] makes it and out before the next
-/// is made.
+/// Writes the board of each site, in the plan's order, as [`closed_board`] makes it. Each is written and flushed
+/// before the next is made. Errors: `OutOfMemory`, `WriteFault`.
 ///
-/// Condition: the desk that was closed was opened for this plan.
+/// Condition: the closed desk was opened for this plan.
 pub fn write_boards<J: Naming, W: Write>(
     alloc: Global,
     plan: &Plan,
@@ -68,7 +69,7 @@ pub fn write_boards<J: Naming, W: Write>(
     Ok(())
 }
 
-/// Writes bytes and sees to it that they are out.
+/// Writes bytes and flushes them. The error is `WriteFault`.
 pub fn write_out<W: Write>(output: &mut W, text: &[u8]) -> Result<(), BoardsFault>
     ensures { OnOk result (Appends (W.contents output.old) (W.contents output.new) text.now) }
 {

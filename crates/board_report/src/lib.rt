@@ -1,14 +1,15 @@
 //! The boards of sites, and their text.
 //!
-//! A desk has one list of stations and one of cells, each station's cell in its place; a site's stations are those that
-//! name its number. [`site_text`] makes their boards, adds up their quarters and writes the text, `period` lines, stations
-//! and all. Whoever has the cells uses it: a replay, and [`closed_board`], which makes the board of a site of a desk that
-//! was closed. [`write_boards`] writes those of all its sites, and [`running_board`] makes that of a desk that runs.
+//! A desk has one list of stations and one of cells, with each station's cell in its place. The stations of a site are
+//! those that name its number. [`site_text`] makes their boards, adds up their periods and writes the whole text of the
+//! site's board. A replay uses it, and so does [`closed_board`], which makes the board of a site of a closed desk.
+//! [`write_boards`] writes those of all its sites, and [`running_board`] makes the board of a site of a running desk.
 //!
-//! Below it [`site_board`] puts the boards of a site's stations together under the site's name: it adds up their energies
-//! quarter by quarter, and keeps the figures and the stations' boards as they are handed in. [`write_board`] writes such a
-//! [`SiteBoard`] as lines of plain text, for people and for programs. [`total_text`], [`energy_text`] and [`export_text`]
-//! write the figures and an energy alone, without memory, so a live total and the total line of a board are one text.
+//! Below it, [`site_board`] puts the boards of a site's stations together under the site's name: it adds up their
+//! energies period by period, and keeps the figures and the stations' boards as they are. [`write_board`] writes such a
+//! [`SiteBoard`] as lines of plain text, for people and for programs. [`total_text`], [`energy_text`] and
+//! [`export_text`] write only the figures or an energy, without memory; the total line of a board has the same text as
+//! a live total.
 //!
 //! The crate's one contract: each text has exactly the bytes that a short definition gives for the values, one definition
 //! for each kind of line; and a site's board has each of the site's stations once, in the plan's order, its board from

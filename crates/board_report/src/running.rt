@@ -1,4 +1,4 @@
-//! The board of a site of a desk that runs.
+//! The board of a site of a running desk.
 ghost use Rattle.std.specs.Prelude.{◌≡◌, ◌<◌, ◌≤◌, IfOk, length, map, sum_by};
 ghost use Rattle.ledger_model.specs.Board.{sum_of_figures};
 ghost use Rattle.ledger_model.specs.Ranges.{most_plan_readings};
@@ -15,9 +15,10 @@ use station_ledger::StationBoard;
 use std::alloc::{AllocError, Global};
 use std::sync::Wait;
 
-/// The text of the board of the site of this number at one moment, while commands are taken: each of its stations'
-/// boards from scratch from the content of its ledger, in the plan's order, and the sums over them. It waits for the locks
-/// of these stations and of the site's book.
+/// The text of the board of the site of this number at one moment, while the desk takes commands: each of its stations'
+/// boards from scratch from the content of its ledger, in the plan's order, and the sums over them. It waits for the
+/// locks of these stations and of the site's book. Errors: `OutOfMemory`, and `Torn` if cells and book don't fit
+/// together, which no run meets.
 ///
 /// Condition: the desk was opened for this plan, the plan has the site, and its limits allow no more than 1,048,576
 /// readings in all.
@@ -43,11 +44,11 @@ pub fn running_board<J: Naming, C: HasCell, R: Wait>(
     }
 }
 
-/// The text of the board of the site of this number over these boards of its stations, in the plan's order, and the sum of
-/// their figures.
+/// The text of the board of the site of this number over these boards of its stations, in the plan's order, with the
+/// sum of their figures. The error says that the allocator refused memory.
 ///
-/// Condition: the boards are those of a desk that was opened for this plan, the plan has the site, and its limits allow no
-/// more than 1,048,576 readings in all.
+/// Condition: the boards are those of a desk that was opened for this plan, the plan has the site, and its limits allow
+/// no more than 1,048,576 readings in all.
 pub fn running_text(
     alloc: Global,
     plan: &Plan,

@@ -1,4 +1,4 @@
-// The sums of a site by quarter.
+// The sums of a site by settlement period.
 ghost use Rattle.std.specs.Prelude.{◌≡◌, ℕ, reverse, IfOk, OnOk};
 ghost use Rattle.std.specs.List.Sorted.{IsPermutation};
 ghost use Rattle.ledger_model.specs.Periods.{Periods};
@@ -9,7 +9,7 @@ use ledger_model::Name;
 use station_ledger::{QuarterLine, StationBoard};
 use std::alloc::{AllocError, Global};
 
-// The lines of quarters that stations show, as the stations stand.
+// The lines of the periods that stations show, station after station.
 fn station_quarters(
     alloc: Global,
     stations: &[(Name, StationBoard)],
@@ -24,7 +24,7 @@ fn station_quarters(
     Ok(lines)
 }
 
-// Puts lines in the order of their quarters.
+// Puts lines in the order of their periods.
 fn put_in_order(lines: &mut Vec<QuarterLine>)
     ensures same { IsPermutation lines.old.items lines.new.items }
     ensures order { AreInOrder lines.new.items }
@@ -32,7 +32,7 @@ fn put_in_order(lines: &mut Vec<QuarterLine>)
     lines.sort_unstable_by_key(|line| line.quarter().number());
 }
 
-// Adds a line to falling ones, of which none is of an earlier quarter.
+// Adds a line to falling ones; none of them is of an earlier period.
 fn add_line(falling: &mut Vec<QuarterLine>, added: QuarterLine) -> Result<(), AllocError>
     requires { CanLead added (reverse falling.old.items) }
     ensures { OnOk result (reverse falling.new.items ≡ put_line added (reverse falling.old.items)) }
@@ -52,7 +52,7 @@ fn add_line(falling: &mut Vec<QuarterLine>, added: QuarterLine) -> Result<(), Al
     Ok(())
 }
 
-// The sums of lines that are in order, the last quarter first.
+// The sums of lines that are in order, the last period first.
 fn falling_sums(alloc: Global, lines: &[QuarterLine]) -> Result<Vec<QuarterLine>, AllocError>
     requires order { AreInOrder lines.now }
     requires fit { QuartersFit lines.now }
@@ -67,7 +67,7 @@ fn falling_sums(alloc: Global, lines: &[QuarterLine]) -> Result<Vec<QuarterLine>
     Ok(falling)
 }
 
-// The quarters that stations show, rising, each with the sum of its energies.
+// The periods that stations show, rising, each with the sum of its energies.
 pub(crate) fn site_quarters(
     alloc: Global,
     stations: &[(Name, StationBoard)],

@@ -45,7 +45,7 @@ fn put_fields(text: &mut Vec<u8>, flow: Flow, export: Flow) -> Result<(), AllocE
     put_field(text, " export_down=", export.down())
 }
 
-// Puts the same fields, and a line feed behind them.
+// Appends the same fields and a line feed.
 fn put_flows(text: &mut Vec<u8>, flow: Flow, export: Flow) -> Result<(), AllocError>
     ensures { OnOk result (text.new.items ≡ text.old.items ++ line (flows_fields flow.up flow.down export.up export.down)) }
 {
@@ -63,7 +63,7 @@ fn put_total(text: &mut Vec<u8>, figures: &Figures) -> Result<(), AllocError>
     Ok(())
 }
 
-// The first moment of a quarter.
+// The first moment of a period.
 #[tactic(auto, unfolding(crate::specs::Texts::start_text))]
 fn start_text(quarter: Quarter, period: Periods) -> ArrayString<20>
     requires { IsQuarterOf period.length quarter }
@@ -72,7 +72,7 @@ fn start_text(quarter: Quarter, period: Periods) -> ArrayString<20>
     moment_text(quarter_start(quarter, period.length()))
 }
 
-// Appends the line of a quarter.
+// Appends the line of a period.
 #[tactic(auto, unfolding(crate::specs::Texts::quarter_line))]
 fn put_quarter(text: &mut Vec<u8>, period: Periods, shown: &QuarterLine) -> Result<(), AllocError>
     requires { IsQuarterOf period.length shown.now.0 }
@@ -162,7 +162,7 @@ fn put_with_gaps(text: &mut Vec<u8>, shown: &TxLine) -> Result<(), AllocError>
     put_gaps(text, shown.gaps())
 }
 
-// Appends the lines of quarters.
+// Appends the lines of periods.
 fn put_quarters(
     text: &mut Vec<u8>,
     period: Periods,

@@ -1,11 +1,11 @@
-//! What the tests of desks, sessions and servers share: plans in few words, a desk with its viewers, and a
-//! gate that holds a station back.
+//! Parts that the tests of desks, sessions and servers share: plans in few words, a desk with its viewers,
+//! and a gate that holds a station back.
 //!
 //! [`plan_of`] is a plan of the named sites and stations. [`opened`] is the desk of a plan, with all its
 //! viewers in one list, as [`Desk::close`](site_desk::Desk::close) takes them. [`HoldsA`] keeps the
 //! station A under its lock until B was answered.
 //!
-//! No clause speaks of what these calls give: each test compares what it needs.
+//! No clause says what these calls return; each test compares what it needs.
 #![tactic(auto)]
 
 mod gate;

@@ -1,5 +1,5 @@
-//! The tests of `site_book` and `site_desk`. Whole servers are played by `tests/scenes/living.py` and, with a journal, by
-//! `tests/scenes/journalling.py`.
+//! The tests of `site_book` and `site_desk`. `tests/scenes/living.py` tests whole servers, and
+//! `tests/scenes/journalling.py` those with a journal.
 #![tactic(auto)]
 
 #[cfg(test)]

@@ -1,6 +1,6 @@
 use Rattle.std.specs.Prelude.{ℕ, ℤ, pos, ◌+◌, ◌-◌, ◌-ℤ◌, ◌<◌, ◌≤◌, ◌^◌}
 
--- Energy that a register rose by and fell by, in milliwatt-hours, each added up for itself.
+-- Energy that a register rose by and fell by, in milliwatt-hours, added up separately.
 pub record Energy : Type 0 where
   pub up : ℕ
   pub down : ℕ
@@ -9,11 +9,11 @@ pub record Energy : Type 0 where
 abbrev pub no_energy : Energy
 no_energy = record { up = 0; down = 0 }
 
--- What lies between two levels of one register: a rise counts up and a fall counts down.
+-- The difference of two levels of one register: a rise counts up and a fall counts down.
 abbrev pub difference_of : ℕ → ℕ → Energy
 difference_of earlier later = record { up = later - earlier; down = earlier - later }
 
--- Both added up, field by field.
+-- The sum of both, field by field.
 abbrev pub plus : Energy → Energy → Energy
 plus a b = record { up = a.up + b.up; down = a.down + b.down }
 
@@ -25,12 +25,12 @@ minus a b = record { up = a.up - b.up; down = a.down - b.down }
 abbrev pub net : Energy → ℤ
 net a = pos a.up -ℤ pos a.down
 
--- Neither sum leaves 64 bits.
+-- Both sums fit in 64 bits.
 pub record CanPlus (a b : Energy) : Type 0 where
   pub up : a.up + b.up < 2 ^ 64
   pub down : a.down + b.down < 2 ^ 64
 
--- Neither field falls below nothing.
+-- Neither field falls below zero.
 pub record CanMinus (a b : Energy) : Type 0 where
   pub up : b.up ≤ a.up
   pub down : b.down ≤ a.down

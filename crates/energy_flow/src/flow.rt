@@ -45,21 +45,21 @@ impl Flow {
         self.down
     }
 
-    /// Up less down, in milliwatt-hours.
+    /// Up less down, in milliwatt-hours; negative if the register fell by more than it rose.
     pub fn net(self) -> i128
         ensures { result ≡ net self }
     {
         self.up as i128 - self.down as i128
     }
 
-    /// Tells whether `plus` stays within 64 bits.
+    /// Returns whether `plus` stays within 64 bits.
     pub fn can_plus(self, other: Flow) -> bool
         ensures { IsTrue result ↔ CanPlus self other }
     {
         other.up <= u64::MAX - self.up && other.down <= u64::MAX - self.down
     }
 
-    /// Both added up, field by field; the test for the condition is `can_plus`.
+    /// The sum of both, field by field. `can_plus` tests the condition.
     pub fn plus(self, other: Flow) -> Self
         requires { CanPlus self other }
         ensures { result ≡ plus self other }
@@ -70,14 +70,14 @@ impl Flow {
         }
     }
 
-    /// Tells whether `other` can be taken back from this flow.
+    /// Returns whether `other` can be subtracted from this flow.
     pub fn can_minus(self, other: Flow) -> bool
         ensures { IsTrue result ↔ CanMinus self other }
     {
         other.up <= self.up && other.down <= self.down
     }
 
-    /// This flow without the other, field by field; the test for the condition is `can_minus`.
+    /// This flow less the other, field by field. `can_minus` tests the condition.
     pub fn minus(self, other: Flow) -> Self
         requires { CanMinus self other }
         ensures { result ≡ minus self other }
@@ -89,8 +89,8 @@ impl Flow {
     }
 }
 
-/// What an energy register showed, in milliwatt-hours. It can be compared for equality, and nothing
-/// but [`difference`] looks into it.
+/// What an energy register showed, in milliwatt-hours. Two levels can be compared for equality;
+/// only [`difference`] looks into them.
 #[derive(Clone, Copy, PartialEq, Eq)]
 pub struct Level {
     mwh: u64,
@@ -107,7 +107,7 @@ impl Model for Level {
 }
 
 impl Level {
-    /// The level of so many milliwatt-hours.
+    /// The level of this many milliwatt-hours.
     pub fn new(mwh: u64) -> Self
         ensures { result ≡ mwh }
     {
@@ -122,7 +122,8 @@ impl fmt::Debug for Level {
     }
 }
 
-/// What lies between two levels of one register, counted as one comparison in `work`.
+/// The rise or the fall from the earlier to the later of two levels of one register. Counts one
+/// comparison in `work`.
 pub fn difference(earlier: Level, later: Level, work: &mut Work) -> Flow
     ensures flow { result ≡ difference_of earlier later }
     ensures work { work.new ≡ counted work.old 1 }

@@ -1,12 +1,13 @@
 //! Energy as flows between register levels, and the count of comparisons that made them.
 //!
-//! An energy register only tells levels. Energy is what lies between two of them: a [`Flow`], with
-//! the rises and the falls added up apart, in milliwatt-hours. [`difference`] alone looks into a
-//! [`Level`] and alone makes a flow other than zero, and it counts itself in the [`Work`] that it is
-//! lent. So whoever is lent no `Work` can only add up differences that were counted before.
+//! An energy register shows only levels. Energy is the difference of two of them: a [`Flow`], with
+//! rises and falls added up separately, in milliwatt-hours. Only [`difference`] looks into a
+//! [`Level`], and only it makes a flow other than zero. It counts itself in the [`Work`] that its
+//! caller lends it. So a function that is lent no `Work` can only add up differences that were
+//! counted before.
 //!
-//! The crate's one contract: `difference` is the rise, the fall and one count; [`Flow::plus`] and
-//! [`Flow::minus`] go field by field; [`Flow::net`] is up less down.
+//! The crate's contract: `difference` gives the rise and the fall, and counts one; [`Flow::plus`]
+//! and [`Flow::minus`] go field by field; [`Flow::net`] is up less down.
 //!
 //! ```text
 //! let flow = difference(Level::new(1_000), Level::new(1_600), &mut work);

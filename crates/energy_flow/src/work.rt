@@ -4,8 +4,8 @@ ghost use Rattle.energy_flow.specs.Work.{counted};
 use std::marker::Model;
 use std::thread::Threads;
 
-/// How many differences were evaluated. Each holder lends it to what compares readings; it cannot be
-/// copied, and it is opened only where a runtime is at hand.
+/// A count of evaluated differences. Its holder lends it to the functions that compare readings. It
+/// can't be copied, and it is opened only where a runtime is at hand.
 #[derive(Drop)]
 pub struct Work {
     count: u64,
@@ -20,14 +20,15 @@ impl Model for Work {
 }
 
 impl Work {
-    /// A count of nothing yet. The runtime is not used: no other type meets the bound.
+    /// A count of zero. The runtime is not used; asking for one keeps other code from opening a
+    /// count.
     pub fn open<R: Threads>(_rt: &R) -> Self
         ensures { result ≡ 0 }
     {
         Work { count: 0 }
     }
 
-    /// The differences evaluated so far; 2^64 - 1 stands for that many or more.
+    /// The differences evaluated so far; 2^64 - 1 means that many or more.
     pub fn count(&self) -> u64
         ensures { result ≡ self.now }
     {

@@ -11,7 +11,7 @@ use Rattle.ledger_model.specs.Key.{KeyName, key_cmp}
 use Rattle.ledger_model.proofs.Callers.{key_total, exact_keys}
 use Rattle.event_chain.specs.Table.{id_cmp}
 
--- A test by an order whose ties are equal decides equality.
+-- A test by an order decides equality if its ties are equal.
 tied : {K : Type 0} (R : K → K → Ordering) (o : IsTotalOrder R) (same : IsAntisymmetric R) (x y : K) → Decides (eq_by_cmp R x y) (x ≡ y)
 tied R o same x y = (
   λ e. elim (R x y) as (λ (r : Ordering). R x y ≡ r → is_eq r ≡ true → x ≡ y) [ Less ↦ λ _ f. cc | Equal ↦ λ p _. same x y p | Greater ↦ λ _ f. cc ] refl e,

@@ -31,7 +31,7 @@ find_without q key es =
 
 module _ (rows new : List TxRow) (es more : List EventPlace) (slots held : List (Option Held)) (key : KeyName) (slot r0 s0 : ℕ) (move : IsMove rows new es more slots held key slot r0 s0)
     (rising : AreRising rows) (ranks : AreRanks es) (rising_new : AreRising new) (ranks_more : AreRanks more) where
-  -- What stood under the key.
+  -- What was under the key.
   pub found_before : find key_cmp key (flat rows es slots) ≡ event_at slots (place_of r0 es)
   found_before =
       find_flat key rows es slots rising ∙ move.before key.seq ∙ ap (λ b. event_at slots (cond b (place_of (rank slot key.seq) es) None)) ((Decides-ltb key.seq (2 ^ 31)).1 move.number) ∙ ap (λ r. event_at slots (place_of r es)) (sym move.rank_is)

@@ -105,7 +105,7 @@ module _ {limits : Bounds} {table : Table} {store : Slots} {stored live : Index}
   pub entries_all : finite.entries events ≡ all
   entries_all = finite.entries-from_sorted key_cmp all all_rising
 
-  -- The map finds what the tables tell.
+  -- The map finds what the tables have.
   pub get_look : (q : KeyName) → finite.get events q ≡ look table.rows stored.entries store.slots q
   get_look q = finite.get-from_sorted key_cmp all q all_rising ∙ find_flat q table.rows stored.entries store.slots chains.keyed.rising
 
@@ -161,7 +161,7 @@ module _ {limits : Bounds} {table : Table} {store : Slots} {stored live : Index}
   pub places_few : length stored.entries ≤ limits.events
   places_few = omega (arith, chains.counted.held_are, chains.counted.slots_are, count_by-le-length (is_some {T = Held}) store.slots)
 
-  -- The room is told by three tests.
+  -- Three tests decide the room.
   pub room_answer : (tx : List ℕ) (n : ℕ) (a b c : Bool) → (not (is_some (row_of tx table.rows)) && nat_le limits.transactions (length table.rows)) ≡ a → nat_le limits.events (length stored.entries) ≡ b → nat_lt limits.readings (readings_stored all + n) ≡ c
       → room_of limits (finite.entries events) tx n ≡ cond a NoTransaction (cond b NoEvent (cond c NoReading Fits))
   room_answer tx n a b c a_is b_is c_is =

@@ -35,7 +35,7 @@ find_both R q (x ∷ xs) ys = elim (eq_by_cmp R q x.0) as (λ b. cond b (Some x.
 rank_split : (r t : ℕ) → r / 2 ^ 31 ≡ t → r ≡ rank t (r % 2 ^ 31)
 rank_split r t e = omega (arith)
 
--- A key of a transaction's place, told by its rank.
+-- A key of a transaction's place, by its rank.
 key_place : (q : KeyName) (tx : List ℕ) (t : ℕ) (e : EventPlace) → e.0 / 2 ^ 31 ≡ t → eq_by_cmp id_cmp q.tx tx ≡ true → eq_by_cmp key_cmp q (record { tx = tx; seq = e.0 % 2 ^ 31 }) ≡ eq_by_cmp nat_cmp (rank t q.seq) e.0
 key_place q tx t e home is =
     let id : q.tx ≡ tx = (id_test q.tx tx).0 is in let split = rank_split e.0 t home in
@@ -75,7 +75,7 @@ pub missing : (tx : List ℕ) (rows : List TxRow) → T (below_all id_cmp tx row
 missing tx [] h = refl
 missing tx (r ∷ rows) h = ap (λ o. cond (is_eq o) (Some r.1) (row_of tx rows)) (less _ (first _ _ h)) ∙ missing tx rows (second _ _ h)
 
--- What is found among all events is what the tables tell.
+-- What is found among all events is what the tables have.
 pub find_flat : (q : KeyName) (rows : List TxRow) (es : List EventPlace) (slots : List (Option Held)) → AreRising rows → find key_cmp q (flat rows es slots) ≡ look rows es slots q
 find_flat q [] es slots rising = refl
 find_flat q (r ∷ rows) es slots rising =

@@ -28,7 +28,7 @@ ids es = map (λ e. e.0.tx) es
 abbrev names : List TxRow → List (List ℕ)
 names rows = map (λ r. r.0) rows
 
--- Texts but for one.
+-- Texts except for one.
 abbrev others : List ℕ → List (List ℕ) → List (List ℕ)
 others x ys = filter (λ y. not (bytes_eq x y)) ys
 

@@ -13,12 +13,13 @@ pub absent_both : (s : ℕ) (xs ys : List ℕ) → IsApart s xs → IsApart s ys
 absent_both s [] ys a b = b
 absent_both s (x ∷ xs) ys a b = (a.0, absent_both s xs ys a.1 b)
 
--- No slot stands in the empty list.
+-- No slot is in the empty list.
 pub elsewhere_none : (xs : List ℕ) → AreElsewhere xs []
 elsewhere_none [] = tt
 elsewhere_none (x ∷ xs) = (tt, elsewhere_none xs)
 
--- A list that shares no slot with another, one slot more of which is none of it.
+-- A list shares no slot with another; nor does it after one more slot of the other that is not in
+-- it.
 elsewhere_more : (xs : List ℕ) (y : ℕ) (ys : List ℕ) → IsApart y xs → AreElsewhere xs ys → AreElsewhere xs (y ∷ ys)
 elsewhere_more [] y ys absent elsewhere = tt
 elsewhere_more (x ∷ xs) y ys absent elsewhere = (((λ e. absent.0 (sym e)), elsewhere.0), elsewhere_more xs y ys absent.1 elsewhere.1)
@@ -44,7 +45,7 @@ pub parts_elsewhere : (xs ys zs : List ℕ) → AreElsewhere (xs ++ ys) zs → A
 parts_elsewhere [] ys zs elsewhere = (tt, elsewhere)
 parts_elsewhere (x ∷ xs) ys zs elsewhere = let rest = parts_elsewhere xs ys zs elsewhere.1 in ((elsewhere.0, rest.0), rest.1)
 
--- Where no slot stands twice, none does in a part, and the parts share none.
+-- Where no slot occurs twice, none does so in a part, and the parts share none.
 pub apart_parts : (xs ys : List ℕ) → AreApart (xs ++ ys) → AreApart xs × AreApart ys × AreElsewhere xs ys
 apart_parts [] ys apart = (tt, apart, tt)
 apart_parts (x ∷ xs) ys apart = let first = absent_parts x xs ys apart.0 in let rest = apart_parts xs ys apart.1 in

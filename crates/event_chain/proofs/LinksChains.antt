@@ -1,4 +1,4 @@
--- Chains put together, cut, and left alone.
+-- Chains put together, cut, and left as they are.
 use Rattle.std.proofs.Common.{◌≡◌, ℕ, ◌<◌, List, [], ◌∷◌, ◌++◌, Option, Some, None, length, refl, sym, ◌∙◌, subst}
 use Rattle.event_chain.specs.Links.{Links, links, linked_in, linked_out, written}
 use Rattle.slot_arena.specs.Free.{IsApart, AreApart}
@@ -21,7 +21,7 @@ pub last_some : (before : Option ℕ) (xs : List ℕ) (last : ℕ) → last_or N
 last_some before [] last e = absurd (cc)
 last_some before (x ∷ xs) last e = e
 
--- Two chains, the second of which goes on where the first ends, are one.
+-- Two chains are one if the second goes on where the first ends.
 pub chain_both : (l : Links) (before : Option ℕ) (xs ys : List ℕ) (after : Option ℕ) → IsChain l before xs (head_or after ys) → IsChain l (last_or before xs) ys after → IsChain l before (xs ++ ys) after
 chain_both l before [] ys after a b = b
 chain_both l before (x ∷ xs) ys after a b = (a.0, a.1 ∙ sym (head_append after xs ys), chain_both l (Some x) xs ys after a.2 b)
@@ -74,7 +74,7 @@ pub chain_beside_out : (l : Links) (before after b : Option ℕ) (zs : List ℕ)
 chain_beside_out l before after b zs a hb ha chain =
     chain_next_beside (written l.prevs after before) l.nexts before after b zs a hb (chain_prev_beside l.prevs l.nexts after before b zs a ha chain)
 
--- What stands in front of a run, once that is put in.
+-- What is in front of a run, once that is put in.
 pub chain_front_in : (l : Links) (front : List ℕ) (first last : ℕ) (next after : Option ℕ) → AreApart front → AreSlots l front → IsApart first front → IsApart last front → IsBeside after front
     → IsChain l None front next → IsChain (linked_in l (last_or None front) first last after) None front (Some first)
 chain_front_in l front first last next after apart slots hf hl ha chain =
@@ -100,7 +100,7 @@ chain_run_in l mid first last b a before after is_first is_last apart slots hb h
     let ended : IsChain (links p2 n1) before mid after = subst (λ e. IsChain (links p2 (written l.nexts e after)) before mid after) is_last (chain_next_last p2 l.nexts after before mid a apart (slots_kept l (links p2 l.nexts) mid p_as refl slots) beside) in
     chain_next_beside p2 n1 before (Some first) before mid after hb ended
 
--- What stands behind a run, once that is put in.
+-- What is behind a run, once that is put in.
 pub chain_back_in : (l : Links) (back : List ℕ) (first last : ℕ) (prev before : Option ℕ) → AreApart back → AreSlots l back → IsApart first back → IsApart last back → IsBeside before back
     → IsChain l prev back None → IsChain (linked_in l before first last (head_or None back)) (Some last) back None
 chain_back_in l back first last prev before apart slots hf hl hb chain =

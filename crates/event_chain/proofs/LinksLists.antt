@@ -16,7 +16,7 @@ first_absent mid zs first is elsewhere = subst (λ o. IsBeside o zs) is (head_be
 last_absent : (mid zs : List ℕ) (last : ℕ) → last_or None mid ≡ Some last → AreElsewhere mid zs → IsApart last zs
 last_absent mid zs last is elsewhere = subst (λ o. IsBeside o zs) is (last_beside None mid zs tt elsewhere)
 
--- A run put in between the two parts of a list stands there.
+-- A run put in between the two parts of a list is there.
 pub linked_with_run : (l : Links) (front mid back : List ℕ) (first last : ℕ) → head_or None mid ≡ Some first → last_or None mid ≡ Some last → AreElsewhere mid (front ++ back)
     → IsRun l mid → IsLinked l (front ++ back) → IsLinked (linked_in l (last_or None front) first last (head_or None back)) (front ++ (mid ++ back))
 linked_with_run l front mid back first last is_first is_last elsewhere run list =
@@ -41,7 +41,7 @@ linked_with_run l front mid back first last is_first is_last elsewhere run list 
 pub run_of_one : (l : Links) (s : ℕ) → IsSlot l s → IsRun l (s ∷ [])
 run_of_one l s slot = record { before = _; after = _; chain = (refl, refl, tt); apart = (tt, tt); slots = (slot, tt) }
 
--- A slot put in between the two parts of a list stands there.
+-- A slot put in between the two parts of a list is there.
 pub linked_with_slot : (l : Links) (front : List ℕ) (s : ℕ) (back : List ℕ) → IsSlot l s → IsApart s (front ++ back)
     → IsLinked l (front ++ back) → IsLinked (linked_in l (last_or None front) s s (head_or None back)) (front ++ s ∷ back)
 linked_with_slot l front s back slot absent list = linked_with_run l front (s ∷ []) back s s refl refl (absent, tt) (run_of_one l s slot) list

@@ -28,12 +28,12 @@ pub last_other : (s : ℕ) (before : Option ℕ) (ts : List ℕ) → IsOther s b
 last_other s before [] other absent = other
 last_other s before (t ∷ ts) other absent = last_other s (Some t) ts absent.0 absent.1
 
--- The last slot of a list that stands elsewhere is absent.
+-- The last slot of a list that is elsewhere is absent.
 pub last_beside : (before : Option ℕ) (ss ts : List ℕ) → IsBeside before ts → AreElsewhere ss ts → IsBeside (last_or before ss) ts
 last_beside before [] ts beside elsewhere = beside
 last_beside before (s ∷ ss) ts beside elsewhere = last_beside (Some s) ss ts elsewhere.0 elsewhere.1
 
--- The first slot of a list that stands elsewhere is absent.
+-- The first slot of a list that is elsewhere is absent.
 pub head_beside : (ss ts : List ℕ) → AreElsewhere ss ts → IsBeside (head_or None ss) ts
 head_beside [] ts elsewhere = tt
 head_beside (s ∷ ss) ts elsewhere = elsewhere.0

@@ -102,14 +102,14 @@ own_out r0 es own q r s a b =
     let still : (k : ℕ) → place_of k (out r0 es) ≡ Some s → place_of k es ≡ Some s = λ k at. sym (out_other k r0 es (λ e. not_gone (place_of k (out r0 es)) s at (ap (λ x. place_of x (out r0 es)) e ∙ out_here r0 es))) ∙ at in
     own q r s (still q a) (still r b)
 
--- What stands in front of a place put in, and what behind it.
+-- What is in front of a place put in, and what behind it.
 abbrev pub front_of : ℕ → List EventPlace → List ℕ
 front_of r es = map slot_in (places_before r es)
 
 abbrev pub back_of : ℕ → List EventPlace → List ℕ
 back_of r es = map slot_in (places_behind r es)
 
--- What stands on a side of a rank is a slot, where there is one.
+-- What is on a side of a rank is a slot, if there is one.
 abbrev pub IsSide : Links → Option ℕ → Type 0
 IsSide l o = (x : ℕ) → o ≡ Some x → IsSlot l x
 

@@ -123,7 +123,7 @@ slot_filed : (r : ℕ) (l : List (Entry ℕ)) → filed_at r (map place_in l) �
 slot_filed r [] = refl
 slot_filed r (e ∷ l) = elim (e.0 == r) as (λ b. cond b (Some e.1.value) None ≡ option_map (λ (f : Filed ℕ). f.value) (cond b (Some e.1) None)) [ true ↦ refl | false ↦ refl ]
 
--- What stands under a rank, by its place.
+-- What is under a rank, by its place.
 filed_place : (r : ℕ) (es : List (Entry ℕ)) → AreRising es → option_map (λ (f : Filed ℕ). f.value) (filed_at r (from r es)) ≡ place_of r (marked_places None es)
 filed_place r es h = sym (slot_filed r (from r es)) ∙ ap (filed_at r) (marked_from None r es h) ∙ found_at r (marked_places None es) (marked_rising None es h)
 

@@ -85,7 +85,7 @@ bare_number es t seq bare =
     ] refl
 
 module _ (rows : List TxRow) (es : List EventPlace) (slots : List (Option Held)) (keyed : IsKeyed rows es slots) where
-  -- The slot of a place holds the event of its rank alone.
+  -- The slot of a place holds only the event of its rank.
   pub own_rank : (r r0 s0 : ℕ) (st : Stored) → value_at slots s0 ≡ Some (r0, st) → place_of r es ≡ Some s0 → r ≡ r0
   own_rank r r0 s0 st here is = same_rank (value_at slots s0) r r0 (keyed.homes r s0 is).stored st (keyed.homes r s0 is).held_is here
 
@@ -106,14 +106,14 @@ module _ (rows : List TxRow) (es : List EventPlace) (slots : List (Option Held))
       ] refl
 
   module _ (new : List TxRow) (tx : List ℕ) (row after : TableRow) (named : IsNamed rows new tx row after) where
-    -- The slot is the transaction's alone.
+    -- The slot belongs only to the transaction.
     pub apart_named : (q : List ℕ) (other : TableRow) → row_of q rows ≡ Some other → other.slot ≡ row.slot → q ≡ tx
     apart_named q other is same = elim named.known [
       | inl was ↦ keyed.apart q tx other row is was same
       | inr fresh ↦ absurd (fresh.fresh q other is same)
     ]
 
-    -- What was found of the transaction is what its slot's numbers tell.
+    -- What was found of the transaction is what its slot's numbers say.
     pub before_named : (seq : ℕ) → look_in es slots seq (row_of tx rows) ≡ event_at slots (number_at row.slot seq es)
     before_named seq = elim named.known [
       | inl was ↦ ap (look_in es slots seq) was

@@ -31,7 +31,7 @@ module _ (d : Direction) where
   abbrev HasReading : List (Option Held) → EventPlace → Type 0
   HasReading slots p = 0 < length (toward d (stored_at slots p.1).event.readings)
 
-  -- Readings of which there is a first are some.
+  -- Readings with a first one are not none.
   some_there : (rs : List MeterReading) → is_some (first_reading rs) ≡ true → 0 < length rs
   some_there [] is = cc
   some_there (r ∷ rs) is = omega arith

@@ -138,7 +138,7 @@ last_under_seg t (e ∷ f ∷ es) h u =
           ap last_of seg ∙ sym (last_cons e f (segment t es)) ∙ sym (ap (λ (xs : List EventPlace). last_of (e ∷ xs)) seg)
     ] refl
 
--- What stands below a rank is under it.
+-- What is below a rank is under it.
 pub below_under : (n : ℕ) (es : List EventPlace) → AreBelow n (below n es)
 below_under n [] = tt
 below_under n (e ∷ es) = elim (nat_lt e.0 n) as (λ b. nat_lt e.0 n ≡ b → AreBelow n (cond b (e ∷ below n es) [])) [ true ↦ λ y. ((Decides-ltb e.0 n).0 y, below_under n es) | false ↦ λ _. tt ] refl

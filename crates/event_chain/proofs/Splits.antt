@@ -73,7 +73,7 @@ module _ (r : ℕ) (es : List EventPlace) (h : AreRising es) where
     pub seg_absent : segment home es ≡ places_before r es ++ places_behind r es
     seg_absent = ap (segment home) (sym (cut_whole r es)) ∙ seg_both home (below r es) (from r es) ∙ (λ i. front_is i ++ (ap (segment home) (from_absent r es h gap) ∙ back_is) i)
 
-    -- One put in stands between them.
+    -- One put in is between them.
     pub seg_put : (s : ℕ) → segment home (put nat_cmp r s es) ≡ places_before r es ++ (r, s) ∷ places_behind r es
     seg_put s =
         ap (segment home) (sym (put_is r s es gap)) ∙ seg_both home (below r es) ((r, s) ∷ from r es) ∙ ap (λ xs. segment home (below r es) ++ xs) (seg_own home r s (from r es) refl)
@@ -99,7 +99,7 @@ module _ (r : ℕ) (es : List EventPlace) (h : AreRising es) where
     pub cut_present : es ≡ below r es ++ (r, s) ∷ from (r + 1) es
     cut_present = sym (cut_whole r es) ∙ ap (λ xs. below r es ++ xs) on
 
-    -- Where the rank is there, its place stands between those on either side.
+    -- Where the rank is there, its place is between those on either side.
     pub seg_present : segment home es ≡ places_before r es ++ (r, s) ∷ places_behind r es
     seg_present =
         ap (segment home) cut_present ∙ seg_both home (below r es) ((r, s) ∷ from (r + 1) es) ∙ ap (λ xs. segment home (below r es) ++ xs) (seg_own home r s (from (r + 1) es) refl)

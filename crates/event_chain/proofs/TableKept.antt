@@ -85,7 +85,7 @@ IsTable-add rows spare ss capacity slot tx r is table absent same =
       few = table.few;
     }
 
--- What is kept of a transaction changed, but for its slot.
+-- What is kept of a transaction changed, except for its slot.
 pub IsTable-set : (rows : List TxRow) (ss : List ℕ) (capacity : ℕ) (tx : List ℕ) (old r : TableRow) → IsTable rows ss capacity → row_of tx rows ≡ Some old → r.slot ≡ old.slot → IsTable (with_row tx r rows) ss capacity
 IsTable-set rows ss capacity tx old r table there same =
     let back : (q : List ℕ) (x : TableRow) → row_of q (with_row tx r rows) ≡ Some x → (y : TableRow) × ((row_of q rows ≡ Some y) × (x.slot ≡ y.slot)) = λ q x at. elim (put_cases q tx r x rows at) [

@@ -142,7 +142,7 @@ pub all_under : (slots : List (Option Held)) (es : List EventPlace) → AllPlace
 all_under slots [] h = refl
 all_under slots (e ∷ es) h = ap (λ b. b && are_under slots es) h.0 ∙ all_under slots es h.1
 
--- What is told where a test holds.
+-- What is known if a test holds.
 told : (b : Bool) (ns : List ℕ) → 0 < length (cond b ns []) → (b ≡ true) × (0 < length ns)
 told true ns some = (refl, some)
 told false ns some = absurd (omega arith)
@@ -157,7 +157,7 @@ first_of_some [] e none = cc
 first_of_some (x ∷ xs) e some = let same : x ≡ e = cc in (xs, ap (λ (y : EventPlace). y ∷ xs) same)
 
 module _ (es : List EventPlace) (slots : List (Option Held)) (rising : entries.AreRising es) (own : AreOwn es) where
-  -- Where a walk stands at a slot.
+  -- The place of a walk at a slot.
   pub record IsAt (s : ℕ) : Type 0 where
     pub rank : ℕ
     pub found : place_of rank es ≡ Some s

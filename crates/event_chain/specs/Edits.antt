@@ -1,4 +1,4 @@
--- Places put into an index and taken out of it, and what is found by them.
+-- Places put into an index and taken out of it, and what a look-up finds then.
 use Rattle.std.specs.Prelude.{◌≡◌, ℕ, ◌/◌, ◌^◌, ◌==◌, ◌<◌, nat_lt, Bool, not, cond, List, Option, Some, None, length, slice_get, unwrap_or}
 use Rattle.std.specs.List.{filter}
 use Rattle.std.specs.Ordering.{eq_by_cmp, nat_cmp}
@@ -21,7 +21,7 @@ use Rattle.event_chain.specs.Flat.{EventPlace, number_at, place_of, stored_at, s
 use Rattle.event_chain.specs.Placed.{Placed, carriers_of, index}
 use Rattle.event_store.specs.Slots.{Held}
 
--- Places with one put in where a test says so.
+-- Places with one put in if a test says so.
 abbrev pub put_if : Bool → ℕ → ℕ → List EventPlace → List EventPlace
 put_if b r0 s0 es = cond b (put nat_cmp r0 s0 es) es
 
@@ -29,11 +29,11 @@ put_if b r0 s0 es = cond b (put nat_cmp r0 s0 es) es
 abbrev pub out : ℕ → List EventPlace → List EventPlace
 out r0 es = filter (λ e. not (eq_by_cmp nat_cmp r0 e.0)) es
 
--- Places with one taken out where a test says so.
+-- Places with one taken out if a test says so.
 abbrev pub out_if : Bool → ℕ → List EventPlace → List EventPlace
 out_if b r0 es = cond b (out r0 es) es
 
--- The place of a number, where its transaction is known.
+-- The place of a number, if its transaction is known.
 abbrev pub place_in : List EventPlace → ℕ → Option TableRow → Option ℕ
 place_in es seq None = None
 place_in es seq (Some row) = number_at row.slot seq es
@@ -42,7 +42,7 @@ place_in es seq (Some row) = number_at row.slot seq es
 abbrev pub place_at : List TxRow → List EventPlace → KeyName → Option ℕ
 place_at rows es key = place_in es key.seq (row_of key.tx rows)
 
--- The first place of a transaction in an index, where it is known.
+-- The first place of a transaction in an index, if it is known.
 abbrev pub first_under : List EventPlace → Option TableRow → Option EventPlace
 first_under es None = None
 first_under es (Some row) = slice_get (segment row.slot es) 0
@@ -52,12 +52,12 @@ abbrev pub last_under : List EventPlace → Option TableRow → Option EventPlac
 last_under es None = None
 last_under es (Some row) = last_of (segment row.slot es)
 
--- What is counted of a transaction, where it is known.
+-- The counts of a transaction, if it is known.
 abbrev pub counts_under : Option TableRow → ℕ × ℕ
 counts_under None = (0, 0)
 counts_under (Some row) = (row.live, row.ends)
 
--- A place, where it is of the transaction of a slot.
+-- A place, if it belongs to the transaction of a slot.
 abbrev pub at_home : ℕ → Option EventPlace → Option EventPlace
 at_home t None = None
 at_home t (Some e) = cond (e.0 / 2 ^ 31 == t) (Some e) None
@@ -70,7 +70,7 @@ places_before r es = filter (λ e. nat_lt e.0 r) (segment (r / 2 ^ 31) es)
 abbrev pub places_behind : ℕ → List EventPlace → List EventPlace
 places_behind r es = filter (λ e. nat_lt r e.0) (segment (r / 2 ^ 31) es)
 
--- The place, where there is one, is that of an event.
+-- The place, if there is one, is that of an event.
 abbrev pub IsStored : List (Option Held) → Option EventPlace → Type 0
 IsStored slots None = Unit {0}
 IsStored slots (Some e) = IsHeld slots e.1
@@ -124,7 +124,7 @@ pub record CanRestore (key slot : ℕ) (p : Placed) : Type 0 where
   pub not_live : IsNotLive key p
   pub slot_for : IsSlotFor slot p
 
--- A live event came, which carries readings of these directions and may name an EVSE.
+-- A live event came, with readings of these directions and perhaps an EVSE.
 pub record IsLiveMore (key slot : ℕ) (carries : ByDirection Bool) (names : Bool) (old new : Placed) : Type 0 where
   pub live : new.live ≡ index (put nat_cmp key slot old.live.entries) old.live.capacity
   pub carriers : (d : Direction) → carriers_of new d ≡ index (put_if (in_direction d carries) key slot (carriers_of old d).entries) (carriers_of old d).capacity

@@ -20,7 +20,7 @@ EventPlace = ℕ × ℕ
 abbrev pub place_of : ℕ → List EventPlace → Option ℕ
 place_of r es = find nat_cmp r es
 
--- What stands in for an event where there is none.
+-- A value in place of an event that is not there.
 abbrev pub no_stored : Stored
 no_stored = record { event = record { kind = Updated; moment = 0; evse = None; readings = [] }; voided = true }
 
@@ -49,7 +49,7 @@ entries_of es slots row = map (entry_of row.0 slots) (segment row.1.slot es)
 abbrev pub flat : List TxRow → List EventPlace → List (Option Held) → List Entry
 flat rows es slots = flat_map (entries_of es slots) rows
 
--- The event of a place, where there is one.
+-- The event of a place, if there is one.
 abbrev pub event_at : List (Option Held) → Option ℕ → Option Stored
 event_at slots None = None
 event_at slots (Some s) = Some (stored_at slots s)
@@ -58,7 +58,7 @@ event_at slots (Some s) = Some (stored_at slots s)
 abbrev pub number_at : ℕ → ℕ → List EventPlace → Option ℕ
 number_at t seq es = cond (nat_lt seq (2 ^ 31)) (place_of (rank t seq) es) None
 
--- The event of a number, where its transaction is known.
+-- The event of a number, if its transaction is known.
 abbrev pub look_in : List EventPlace → List (Option Held) → ℕ → Option TableRow → Option Stored
 look_in es slots seq None = None
 look_in es slots seq (Some row) = event_at slots (number_at row.slot seq es)

@@ -36,7 +36,7 @@ is_carrier d s = not s.voided && is_some (first_reading (toward d s.event.readin
 abbrev pub is_naming : Stored → Bool
 is_naming s = not s.voided && is_some s.event.evse
 
--- The place, where its event passes a test.
+-- The place, if its event passes a test.
 abbrev pub chosen : (Stored → Bool) → List (Option Held) → Option ℕ → Option ℕ
 chosen test slots None = None
 chosen test slots (Some s) = cond (test (stored_at slots s)) (Some s) None
@@ -45,7 +45,7 @@ chosen test slots (Some s) = cond (test (stored_at slots s)) (Some s) None
 abbrev pub AreRanks : List EventPlace → Type 0
 AreRanks es = T (is_sorted nat_cmp es)
 
--- An index of those places whose events pass a test.
+-- An index of the places with events that pass a test.
 pub record IsSub (test : Stored → Bool) (es : List EventPlace) (slots : List (Option Held)) (sub : List EventPlace) : Type 0 where
   pub rising : AreRanks sub
   pub each : (r : ℕ) → place_of r sub ≡ chosen test slots (place_of r es)
@@ -66,7 +66,7 @@ pub record HasPlace (es : List EventPlace) (slot : ℕ) : Type 0 where
   pub found : place_of rank es ≡ Some place
   pub slot_is : rank / 2 ^ 31 ≡ slot
 
--- The stored events by their keys: each has its transaction and its slot, and no transaction is without one.
+-- The stored events by their keys: each has its transaction and its slot, and each transaction has an event.
 pub record IsKeyed (rows : List TxRow) (es : List EventPlace) (slots : List (Option Held)) : Type 0 where
   pub rising : AreRising rows
   pub apart : AreApart rows
@@ -74,7 +74,7 @@ pub record IsKeyed (rows : List TxRow) (es : List EventPlace) (slots : List (Opt
   pub homes : (r s : ℕ) → place_of r es ≡ Some s → IsHome rows slots r s
   pub filled : (tx : List ℕ) (row : TableRow) → row_of tx rows ≡ Some row → HasPlace es row.slot
 
--- Tells whether the kind is Started or Ended.
+-- Whether the kind is Started or Ended.
 abbrev pub is_end : Kind → Bool
 is_end Started = true
 is_end Updated = false
@@ -92,7 +92,7 @@ live_one tx e = cond (bytes_eq tx e.0.tx && not e.1.voided) 1 0
 abbrev pub end_one : List ℕ → Entry → ℕ
 end_one tx e = cond (bytes_eq tx e.0.tx && not e.1.voided && is_end e.1.event.kind) 1 0
 
--- What is counted of each transaction.
+-- The counts of a transaction.
 pub record IsFigured (rows : List TxRow) (all : List Entry) (tx : List ℕ) (row : TableRow) : Type 0 where
   pub live : row.live ≡ sum_by (live_one tx) all
   pub ends : row.ends ≡ sum_by (end_one tx) all
@@ -132,7 +132,7 @@ pub record IsChains (limits : Bounds) (table : Table) (store : Slots) (stored li
   pub counted : IsCounted limits table.capacity store.slots store.readings store.capacity stored.entries (flat table.rows stored.entries store.slots)
   pub roomy : AreRoomy limits.events stored.capacity live.capacity (λ d. (carriers d).capacity) naming.capacity
 
--- The events that these hold, by their keys.
+-- The stored events, by their keys.
 abbrev pub events_of : Table → Slots → Index → FinMap key_cmp Stored
 events_of table store stored = finite.from_sorted (flat table.rows stored.entries store.slots)
 
@@ -143,7 +143,7 @@ pub record IsNew (rows : List TxRow) (tx : List ℕ) (row : TableRow) : Type 0 w
   pub none_live : row.live ≡ 0
   pub no_ends : row.ends ≡ 0
 
--- A transaction with its row before and after, put in where it was new.
+-- A transaction with its row before and after, added if it was new.
 pub record IsNamed (rows new : List TxRow) (tx : List ℕ) (row after : TableRow) : Type 0 where
   pub there : row_of tx new ≡ Some after
   pub same : after.slot ≡ row.slot
@@ -154,17 +154,17 @@ pub record IsNamed (rows new : List TxRow) (tx : List ℕ) (row after : TableRow
 abbrev pub IsBare : List EventPlace → ℕ → Type 0
 IsBare es slot = (r s : ℕ) → place_of r es ≡ Some s → r / 2 ^ 31 ≡ slot → ⊥
 
--- A transaction after one of its places went: kept while it has another, else gone.
+-- A transaction after one of its places went: it stays if it has another place, else it goes.
 pub record IsLeft (rows new : List TxRow) (left : List EventPlace) (tx : List ℕ) (row : TableRow) : Type 0 where
   pub was : row_of tx rows ≡ Some row
   pub others : (q : List ℕ) → (q ≡ tx → ⊥) → row_of q new ≡ row_of q rows
   pub end : ((row_of tx new ≡ Some row) × HasPlace left row.slot) ⊎ ((row_of tx new ≡ None) × IsBare left row.slot)
 
--- A transaction that was there, or was put in with a slot of its own and no live event.
+-- A transaction that was there, or was added with a slot of its own and no live event.
 abbrev pub IsEntered : List TxRow → List TxRow → List ℕ → TableRow → Type 0
 IsEntered rows new tx row = ((row_of tx rows ≡ Some row) × (new ≡ rows)) ⊎ (IsNew rows tx row × (new ≡ with_row tx row rows))
 
--- What the live events of a transaction come to, among these events.
+-- The summary of a transaction's live events, among these events.
 pub record IsTxStanding (tx : List ℕ) (es : List Entry) (s : TxStanding) : Type 0 where
   pub first : s.first ≡ slice_get (numbers_of tx es) 0
   pub last : s.last ≡ slice_get (numbers_of tx es) (length (numbers_of tx es) - 1)

@@ -25,12 +25,12 @@ slot_before r es = option_map slot_in (last_of (places_before r es))
 abbrev pub slot_after : ℕ → List EventPlace → Option ℕ
 slot_after r es = option_map slot_in (slice_get (places_behind r es) 0)
 
--- A rank under which the slot stands.
+-- A rank that has the slot.
 pub record HasRank (es : List EventPlace) (slot : ℕ) : Type 0 where
   pub rank : ℕ
   pub found : place_of rank es ≡ Some slot
 
--- No slot stands under two ranks.
+-- No slot is under two ranks.
 abbrev pub AreOwn : List EventPlace → Type 0
 AreOwn es = (q r s : ℕ) → place_of q es ≡ Some s → place_of r es ≡ Some s → q ≡ r
 

@@ -38,7 +38,8 @@ abbrev pub mark_of : Direction → Mark
 mark_of Import = Imports
 mark_of Export = Exports
 
--- The places of all events, of the live ones, of those with a reading of each direction, and of those that name an EVSE.
+-- The places of all events, of the live ones, of those with a reading of each direction, and of those that name an
+-- EVSE.
 pub record Placed : Type 0 where
   pub stored : Index
   pub live : Index

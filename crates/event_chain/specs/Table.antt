@@ -6,7 +6,7 @@ use Rattle.std.specs.FinMap.{find, put}
 use Rattle.transaction_map.specs.Map.{Mapped}
 use Rattle.transaction_map.specs.Places.{IsAt}
 use Rattle.event_chain.specs.declared.row.TableRow.{TableRow}
--- The order of transaction ids, by their bytes, and rows by rising id.
+-- The order of transaction ids by their bytes, and rows by rising id.
 pub use Rattle.transaction_map.specs.Map.{id_cmp, AreRising}
 
 -- A transaction's id, and what the table keeps of it.
@@ -25,11 +25,11 @@ row_of tx rows = find id_cmp tx rows
 abbrev pub IsRowAt : List ℕ → List TxRow → ℕ → Type 0
 IsRowAt tx rows i = IsAt tx rows i
 
--- The rows, with this one of a transaction.
+-- The rows, with this row for a transaction.
 abbrev pub with_row : List ℕ → TableRow → List TxRow → List TxRow
 with_row tx row rows = put id_cmp tx row rows
 
--- The rows without that of a transaction.
+-- The rows without the row of a transaction.
 abbrev pub without_row : List ℕ → List TxRow → List TxRow
 without_row tx rows = filter (λ r. not (eq_by_cmp id_cmp tx r.0)) rows
 
@@ -37,7 +37,7 @@ without_row tx rows = filter (λ r. not (eq_by_cmp id_cmp tx r.0)) rows
 abbrev pub IsFresh : ℕ → List TxRow → Type 0
 IsFresh slot rows = (tx : List ℕ) (row : TableRow) → row_of tx rows ≡ Some row → row.slot ≡ slot → ⊥
 
--- No two transactions have one slot.
+-- No two transactions have the same slot.
 abbrev pub AreApart : List TxRow → Type 0
 AreApart rows = (tx other : List ℕ) (a b : TableRow) → row_of tx rows ≡ Some a → row_of other rows ≡ Some b → a.slot ≡ b.slot → tx ≡ other
 
@@ -45,7 +45,7 @@ AreApart rows = (tx other : List ℕ) (a b : TableRow) → row_of tx rows ≡ So
 abbrev pub AreBelow : ℕ → List TxRow → Type 0
 AreBelow n rows = (tx : List ℕ) (row : TableRow) → row_of tx rows ≡ Some row → row.slot < n
 
--- The transactions rise, each with a slot of its own below what the table may hold, which is a number of 32 bits.
+-- The transactions rise. Each has a slot of its own, below the table's capacity, which fits in 32 bits.
 pub record AreSlotted (t : Table) : Type 0 where
   pub rising : AreRising t.rows
   pub apart : AreApart t.rows

@@ -8,7 +8,7 @@ abbrev pub AreSpare : ℕ → List TxRow → List ℕ → Type 0
 AreSpare n rows [] = Unit {0}
 AreSpare n rows (s ∷ ss) = IsFresh s rows × ((s < n) × (IsApart s ss × AreSpare n rows ss))
 
--- Rows by rising id, each with a slot of its own, and the slots that are left, of as many as a number of 32 bits tells.
+-- Rows by rising id, each with a slot of its own, and the spare slots: together the capacity, which fits in 32 bits.
 pub record IsTable (rows : List TxRow) (spare : List ℕ) (capacity : ℕ) : Type 0 where
   pub rising : AreRising rows
   pub apart : AreApart rows

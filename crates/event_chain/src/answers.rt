@@ -1,6 +1,6 @@
 use ledger_model::{EvseId, Kind};
 
-/// Whether there is room for an event under a new key; the first limit that is reached answers.
+/// Whether there is room for an event under a new key; if not, the first limit that is reached.
 #[derive(Clone, Copy, Debug, PartialEq, Eq)]
 pub enum Room {
     /// There is room.
@@ -9,7 +9,7 @@ pub enum Room {
     NoTransaction,
     /// No more events may be stored.
     NoEvent,
-    /// Its readings are more than may still be stored.
+    /// It has more readings than may still be stored.
     NoReading,
 }
 
@@ -22,7 +22,7 @@ pub enum Found {
     Voided,
 }
 
-/// What the live events of a transaction come to.
+/// A summary of a transaction's live events.
 #[derive(Clone, Copy, Debug, PartialEq, Eq)]
 pub struct TxStanding {
     /// The lowest live number.
@@ -31,12 +31,12 @@ pub struct TxStanding {
     pub last: Option<u32>,
     /// The kind of the live event of the lowest number.
     pub first_kind: Option<Kind>,
-    /// The kind of that of the highest.
+    /// The kind of the live event of the highest number.
     pub last_kind: Option<Kind>,
     /// How many live events there are.
     pub live: u32,
     /// How many of them are Started or Ended.
     pub ends: u32,
-    /// The EVSE that the lowest live event names which names one, else 0.
+    /// The EVSE that the transaction's lowest live event with an EVSE names, else 0.
     pub evse: EvseId,
 }

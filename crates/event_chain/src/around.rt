@@ -18,12 +18,12 @@ use key_index::{IndexKey, KeyPlace};
 use ledger_model::{ByDirection, Direction, Key, Reading};
 
 /// The live readings of a direction just before and just behind an event's place in its transaction;
-/// none where the event has no reading of the direction.
+/// none if the event has no reading of the direction.
 #[derive(Clone, Copy)]
 pub struct Sides {
-    /// The last one in front of it.
+    /// The last live reading in front of the place.
     pub before: Option<Reading>,
-    /// The first one behind it.
+    /// The first live reading behind the place.
     pub behind: Option<Reading>,
 }
 
@@ -44,9 +44,9 @@ impl Sides {
     };
 }
 
-// Finds the readings of a direction on either side of the place of a key, whose transaction may have a
-// row; the table is there for the clauses alone. They are written where they are to stand, since each
-// function that hands such values on by value copies them.
+// Finds the readings of a direction on either side of the place of a key. The key's transaction may
+// have a row; only the clauses need the table. The readings are written to their final place, since
+// each function that returns such values copies them.
 #[inline(always)]
 pub(crate) fn sides_of(
     table: &TransactionTable,
@@ -77,8 +77,8 @@ pub(crate) fn sides_of(
     }
 }
 
-// Finds the readings of a direction on either side of the place of a key, where the event of the key has
-// a reading of the direction.
+// Finds the readings of a direction on either side of the place of a key, if the event of the key has a
+// reading of the direction.
 #[inline(always)]
 fn sides_where(
     has: bool,
@@ -104,7 +104,7 @@ fn sides_where(
     sides_of(table, store, places, row, place, key, direction, sides)
 }
 
-// The row of a transaction, where it was found.
+// The row of a transaction, if it was found.
 fn row_in(known: Option<(usize, TableRow)>) -> Option<TableRow>
     ensures { result ≡ option_map (λ f. f.1) known }
 {
@@ -114,7 +114,8 @@ fn row_in(known: Option<(usize, TableRow)>) -> Option<TableRow>
     }
 }
 
-// Finds the readings on either side of the place of a key, in each direction of which its event has one.
+// Finds the readings on either side of the place of a key, in each direction in which its event has a
+// reading.
 pub(crate) fn around_of(
     table: &TransactionTable,
     store: &EventStore,

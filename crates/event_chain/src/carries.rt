@@ -10,7 +10,7 @@ use ledger_model::{ByDirection, Direction, Reading};
 /// In which directions there is a reading.
 pub type Carries = ByDirection<bool>;
 
-// Tells whether there is a reading of a direction.
+// Returns whether there is a reading of a direction.
 fn has_reading(readings: &[Reading], direction: Direction) -> bool
     ensures { result ≡ is_some (first_reading (toward direction readings.now)) }
 {
@@ -22,7 +22,7 @@ fn has_reading(readings: &[Reading], direction: Direction) -> bool
     false
 }
 
-// What these readings carry.
+// The directions that these readings have.
 pub(crate) fn carried_by(readings: &[Reading]) -> Carries
     ensures { (d : Direction) → in_direction d result ≡ is_some (first_reading (toward d readings.now)) }
 {

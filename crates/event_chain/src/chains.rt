@@ -73,7 +73,7 @@ fn ends_of(kind: Kind) -> u32
     }
 }
 
-// The row of a transaction with one live event more, of this kind.
+// The row of a transaction with one more live event, of this kind.
 fn row_with(row: TableRow, kind: Kind) -> TableRow
     requires { (row.live ≤ most_events) × (row.ends ≤ most_events) }
     ensures { result ≡ record row { live = row.live + 1; ends = row.ends + end_count kind } }
@@ -107,7 +107,7 @@ fn carried(event: &EventRef<'_>) -> Carries
     }
 }
 
-// Tells whether a transaction is new and no more may be stored.
+// Returns whether a transaction is new and no more transactions may be stored.
 fn lacks_place(table: &TransactionTable, limit: u32, tx: &TxId) -> bool
     ensures { result ≡ (not (is_some (row_of tx.now table.now.rows)) && nat_le limit (length table.now.rows)) }
 {
@@ -125,7 +125,8 @@ fn counts_in(row: Option<TableRow>) -> (u32, u32)
 }
 
 impl Chains {
-    /// No events, within these limits. It alone takes memory.
+    /// A map without events, for these limits. Only this call takes memory; the error says that the
+    /// allocator refused it.
     pub fn open(alloc: Global, limits: &Limits) -> Result<Self, AllocError>
         ensures limits { IfOk result (λ c. c.limits ≡ limits.now) }
         ensures transactions { IfOk result (λ c. limits.now.transactions ≤ most_transactions) }
@@ -142,7 +143,8 @@ impl Chains {
         })
     }
 
-    /// Searches for a key once, for the calls that come next. Nothing that they answer changes.
+    /// Searches for a key once, so that the next calls need no search for it. Their answers stay
+    /// the same.
     pub fn seek(&mut self, key: &Key)
         ensures { self.new ≡ self.old }
     {
@@ -153,13 +155,14 @@ impl Chains {
         }
     }
 
-    /// Where the transaction of the key that was sought last stood or belonged by its id, as a hint for
-    /// another map of about the same transactions.
+    /// Where the transaction of the last [`Chains::seek`] is or belongs by its id: a hint for another
+    /// map of about the same transactions.
     pub fn near(&self) -> usize {
         self.table.near()
     }
 
-    /// Whether there is room for an event of this transaction under a new key, with so many readings.
+    /// Whether there is room for an event of this transaction under a new key, with this many
+    /// readings.
     pub fn room_for(&self, tx: &TxId, readings: usize) -> Room
         ensures { result ≡ room_of self.now.limits (stored self.now) tx.now readings }
     {
@@ -174,7 +177,7 @@ impl Chains {
         }
     }
 
-    /// How the event of a key is stored; none where the key is absent.
+    /// How the event of a key is stored; none if the key is absent.
     pub fn find(&self, key: &Key) -> Option<Found>
         ensures { result ≡ found_of (finite.get self.now.events key.now) }
     {
@@ -185,14 +188,14 @@ impl Chains {
         }
     }
 
-    /// The event of a key; none where the key is absent.
+    /// The event of a key; none if the key is absent.
     pub fn event(&self, key: &Key) -> Option<EventRef<'_>>
         ensures { option_map (λ e. e.1) result ≡ finite.get self.now.events key.now }
     {
         self.look(key).0
     }
 
-    /// The event of a key, and where the key stands or belongs, as a hint for [`Chains::admit`].
+    /// The event of a key, and where the key is or belongs: a hint for [`Chains::admit`].
     pub fn look(&self, key: &Key) -> (Option<EventRef<'_>>, KeyPlace)
         ensures { option_map (λ e. e.1) result.0 ≡ finite.get self.now.events key.now }
     {
@@ -203,7 +206,7 @@ impl Chains {
         }
     }
 
-    // The event of the key that was sought last.
+    // The event of a key that was just searched for.
     fn event_sought(&self, key: &Key) -> Option<EventRef<'_>>
         ensures { option_map (λ e. e.1) result ≡ finite.get self.now.events key.now }
     {
@@ -213,7 +216,7 @@ impl Chains {
         }
     }
 
-    /// Puts in a live event under a new key, for which there is room.
+    /// Adds a live event under a new key. There must be room for it ([`Chains::room_for`]).
     pub fn insert(&mut self, key: Key, event: &Event)
         requires absent { finite.get self.old.events key ≡ None }
         requires room { room_of self.old.limits (stored self.old) key.tx (length event.now.readings) ≡ Fits }
@@ -224,8 +227,8 @@ impl Chains {
         let _ = self.admit(&key, event, place);
     }
 
-    /// Puts in a live event at the place that [`Chains::look`] told, a hint that saves a search. It answers what
-    /// [`Chains::neighbours`] would, in each direction of which the event has a reading.
+    /// Adds a live event; the place that [`Chains::look`] gave is a hint that saves a search. It returns what
+    /// [`Chains::neighbours`] would, in each direction in which the event has a reading.
     pub fn admit(&mut self, key: &Key, event: &Event, place: KeyPlace) -> Around
         requires absent { finite.get self.old.events key.now ≡ None }
         requires room { room_of self.old.limits (stored self.old) key.now.tx (length event.now.readings) ≡ Fits }
@@ -289,7 +292,7 @@ impl Chains {
         self.table.set(key.tx(), after);
     }
 
-    /// Takes out a voided event with its readings; a transaction without events gives its place back.
+    /// Removes a voided event with its readings; a transaction without events gives its row back.
     pub fn remove(&mut self, key: &Key)
         requires { found_of (finite.get self.old.events key.now) ≡ Some Voided }
         ensures limits { self.new.limits ≡ self.old.limits }
@@ -301,8 +304,8 @@ impl Chains {
         leave(&mut self.table, &self.places, key.tx(), at.row);
     }
 
-    /// The readings of a direction of the event of a key, in the order in which they were sent; none
-    /// where the key is absent.
+    /// The readings of a direction of the event of a key, in the order sent; none if the key is
+    /// absent.
     pub fn readings(&self, key: &Key, direction: Direction) -> Readings<'_>
         ensures { result ≡ readings_under direction (finite.get self.now.events key.now) }
     {
@@ -312,7 +315,7 @@ impl Chains {
         }
     }
 
-    /// In which directions the event of a key has a reading; in neither where the key is absent.
+    /// In which directions the event of a key has a reading; in neither if the key is absent.
     pub fn carries(&self, key: &Key) -> Carries
         ensures { (d : Direction) → in_direction d result ≡ is_some (first_reading (readings_under d (finite.get self.now.events key.now))) }
     {
@@ -323,7 +326,7 @@ impl Chains {
     }
 
     /// The live readings of a direction on either side of the place of a key in its transaction, whether
-    /// the key is live, voided or absent: the last one in front of it, and the first one behind it.
+    /// the key is live, voided or absent: the last in front of it, and the first behind it.
     #[inline(always)]
     pub fn neighbours(&self, key: &Key, direction: Direction) -> (Option<Reading>, Option<Reading>)
         ensures before { result.0 ≡ last_reading (own_readings direction key.now.tx (before_key key.now (stored self.now))) }
@@ -404,15 +407,15 @@ impl Chains {
         }
     }
 
-    /// The EVSE that the lowest live event of a transaction names which names one, else 0.
+    /// The EVSE that a transaction's lowest live event with an EVSE names, else 0.
     pub fn evse(&self, tx: &TxId) -> EvseId
         ensures { result ≡ evse_of tx.now (stored self.now) }
     {
         evse_at(&self.store, first_naming(&self.places, self.table.get(tx)))
     }
 
-    /// What the live events of a transaction come to, with one look-up of the transaction: the two ends
-    /// and their kinds, the two counts, and the EVSE.
+    /// A summary of a transaction's live events, with one look-up of the transaction: the two ends and
+    /// their kinds, the two counts, and the EVSE.
     pub fn standing(&self, tx: &TxId) -> TxStanding
         ensures { IsTxStanding tx.now (stored self.now) result }
     {

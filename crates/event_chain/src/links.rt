@@ -5,7 +5,7 @@ ghost use Rattle.event_chain.specs.Links.{links, prev_of, next_of, linked_in, li
 use std::alloc::{AllocError, Global};
 use std::marker::Model;
 
-// For each slot the one before it and the one after it. Contracts see two lists by slot.
+// For each slot the slot before it and the slot after it. Contracts see two lists by slot.
 #[derive(Drop)]
 pub(crate) struct SlotLinks {
     prevs: Vec<Option<u32>>,
@@ -24,7 +24,7 @@ impl Model for SlotLinks {
 }
 
 impl SlotLinks {
-    // Links for so many slots, none of them linked.
+    // Links for `capacity` slots, none of them linked.
     pub(crate) fn open(alloc: Global, capacity: u32) -> Result<Self, AllocError>
         ensures { IfOk result (λ l. l ≡ links (replicate capacity None) (replicate capacity None)) }
     {
@@ -33,7 +33,7 @@ impl SlotLinks {
         Ok(SlotLinks { prevs, nexts })
     }
 
-    // The slot after this one. There is a slot of the number.
+    // The slot after this one. The number must be that of a slot.
     pub(crate) fn next(&self, slot: u32) -> Option<u32>
         requires { IsSlot self.now slot }
         ensures { result ≡ next_of self.now slot }
@@ -41,7 +41,7 @@ impl SlotLinks {
         self.nexts[slot as usize]
     }
 
-    // The slot before this one. There is a slot of the number.
+    // The slot before this one. The number must be that of a slot.
     pub(crate) fn prev(&self, slot: u32) -> Option<u32>
         requires { IsSlot self.now slot }
         ensures { result ≡ prev_of self.now slot }
@@ -66,8 +66,8 @@ impl SlotLinks {
         }
     }
 
-    // Leaves out the run that stands between two slots; a side that is absent is an end of the list.
-    // The run's own links stay, so it can be put in again as it is.
+    // Leaves out the run between two slots; a side that is absent is an end of the list. The run's
+    // own links stay, so it can be put in again as it is.
     pub(crate) fn link_out(&mut self, before: Option<u32>, after: Option<u32>)
         requires { ForSome before (IsSlot self.old) × ForSome after (IsSlot self.old) }
         ensures { self.new ≡ linked_out self.old before after }

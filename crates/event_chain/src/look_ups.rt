@@ -23,7 +23,7 @@ use ledger_model::{Direction, EvseId, Key, Kind, Reading, TxId};
 // The greatest sequence number.
 const GREATEST_NUMBER: u32 = 2_147_483_647;
 
-// Where an event is: its transaction's row, the key under which the indexes have it, and its slot.
+// Where an event is: its transaction's row, its key in the index, and its slot.
 #[derive(Clone, Copy)]
 pub(crate) struct EventLocation {
     pub(crate) row: TableRow,
@@ -31,15 +31,15 @@ pub(crate) struct EventLocation {
     pub(crate) slot: u32,
 }
 
-// The slot of a key of the index; none where it is absent.
+// The slot of a key of the index; none if it is absent.
 fn slot_at(places: &PlaceIndex, near: KeyPlace, key: IndexKey) -> Option<u32>
     ensures { result ≡ place_of key places.now.stored.entries }
 {
     places.stored(near).get(key)
 }
 
-// Finds a key, also one that was not sought before: its slot, none where it is absent, and where it
-// stands or belongs.
+// Finds a key, also one that was not searched for before: its slot, none if it is absent, and where
+// it is or belongs.
 pub(crate) fn look_up(
     table: &TransactionTable,
     places: &PlaceIndex,
@@ -53,7 +53,7 @@ pub(crate) fn look_up(
     }
 }
 
-// Finds the key that was sought last; none where it is absent.
+// Finds the key of the last search; none if it is absent.
 pub(crate) fn slot_sought(table: &TransactionTable, places: &PlaceIndex, key: &Key) -> Option<u32>
     ensures { result ≡ place_at table.now.rows places.now.stored.entries key.now }
 {
@@ -63,7 +63,7 @@ pub(crate) fn slot_sought(table: &TransactionTable, places: &PlaceIndex, key: &K
     }
 }
 
-// Finds a key that is there.
+// Finds a key, which must be there.
 pub(crate) fn locate(table: &TransactionTable, places: &PlaceIndex, key: &Key) -> EventLocation
     requires { IsSome (place_at table.now.rows places.now.stored.entries key.now) }
     ensures { IsLocation table.now.rows places.now.stored.entries key.now result }
@@ -81,7 +81,7 @@ pub(crate) fn locate(table: &TransactionTable, places: &PlaceIndex, key: &Key) -
     EventLocation { row, key: at, slot }
 }
 
-// The row of a transaction, put in where none is known, else with its place.
+// The row of a transaction: added if none is known, else with its place.
 pub(crate) fn enter(
     table: &mut TransactionTable,
     known: Option<(usize, TableRow)>,
@@ -100,7 +100,7 @@ pub(crate) fn enter(
     }
 }
 
-// Changes what is counted of a transaction, which is there; the place of its row may be known.
+// Changes the counts of a transaction, which must be there; the place of its row may be known.
 pub(crate) fn renew(table: &mut TransactionTable, at: Option<usize>, tx: &TxId, row: TableRow)
     requires at { IfSome at (λ i. IsRowAt tx.now table.old.rows i) }
     requires slot { option_map (λ r. r.slot) (row_of tx.now table.old.rows) ≡ Some row.slot }
@@ -114,7 +114,7 @@ pub(crate) fn renew(table: &mut TransactionTable, at: Option<usize>, tx: &TxId, 
     }
 }
 
-// The place, where it is one of the transaction of a slot.
+// The place, if it belongs to the transaction of a slot.
 fn own(place: Option<(IndexKey, u32)>, slot: u32) -> Option<(IndexKey, u32)>
     ensures { result ≡ at_home slot place }
 {
@@ -124,7 +124,7 @@ fn own(place: Option<(IndexKey, u32)>, slot: u32) -> Option<(IndexKey, u32)>
     }
 }
 
-// Tells whether the transaction of a slot has a place.
+// Returns whether the transaction of a slot has a place.
 fn has_place(places: &PlaceIndex, slot: u32) -> bool
     ensures some { result ≡ true → HasPlace places.now.stored.entries slot }
     ensures bare { result ≡ false → IsBare places.now.stored.entries slot }
@@ -140,7 +140,7 @@ pub(crate) fn first_place(index: &MarkedPlaces<'_>, slot: u32) -> Option<(IndexK
     own(index.at_or_after(IndexKey::new(slot, 0)), slot)
 }
 
-// The first place of a transaction in an index; none where it has none there.
+// The first place of a transaction in an index; none if it has none there.
 fn first_in(index: &MarkedPlaces<'_>, row: Option<TableRow>) -> Option<(IndexKey, u32)>
     ensures { result ≡ first_under index.now.entries row }
 {
@@ -158,7 +158,7 @@ fn last_place(index: &MarkedPlaces<'_>, slot: u32) -> Option<(IndexKey, u32)>
     own(index.before(IndexKey::new(slot + 1, 0)), slot)
 }
 
-// The last place of a transaction in an index; none where it has none there.
+// The last place of a transaction in an index; none if it has none there.
 fn last_in(index: &MarkedPlaces<'_>, row: Option<TableRow>) -> Option<(IndexKey, u32)>
     requires { ForSome row (λ r. r.slot < 4294967295) }
     ensures { result ≡ last_under index.now.entries row }
@@ -187,7 +187,7 @@ pub(crate) fn place_behind(index: &MarkedPlaces<'_>, key: IndexKey) -> Option<(I
     own(index.at_or_after(IndexKey::new(slot, number + 1)), slot)
 }
 
-// The first live place of a transaction; none where it has none.
+// The first live place of a transaction; none if it has none.
 pub(crate) fn first_live(places: &PlaceIndex, row: Option<TableRow>) -> Option<(IndexKey, u32)>
     ensures { result ≡ first_under places.now.live.entries row }
 {
@@ -195,7 +195,7 @@ pub(crate) fn first_live(places: &PlaceIndex, row: Option<TableRow>) -> Option<(
     first_in(&live, row)
 }
 
-// The last live place of a transaction; none where it has none.
+// The last live place of a transaction; none if it has none.
 pub(crate) fn last_live(places: &PlaceIndex, row: Option<TableRow>) -> Option<(IndexKey, u32)>
     requires { ForSome row (λ r. r.slot < 4294967295) }
     ensures { result ≡ last_under places.now.live.entries row }
@@ -204,7 +204,7 @@ pub(crate) fn last_live(places: &PlaceIndex, row: Option<TableRow>) -> Option<(I
     last_in(&live, row)
 }
 
-// The first place of a transaction's events that name an EVSE; none where none does.
+// The first place of a transaction's events that name an EVSE; none if none does.
 pub(crate) fn first_naming(places: &PlaceIndex, row: Option<TableRow>) -> Option<(IndexKey, u32)>
     ensures { result ≡ first_under places.now.naming.entries row }
 {
@@ -212,7 +212,7 @@ pub(crate) fn first_naming(places: &PlaceIndex, row: Option<TableRow>) -> Option
     first_in(&naming, row)
 }
 
-// Tells whether the place is that of the key.
+// Returns whether the place is that of the key.
 fn is_at(place: &Option<(IndexKey, u32)>, key: IndexKey) -> bool
     ensures { result ≡ false → (p : ℕ × ℕ) → place.now ≡ Some p → p.0 ≡ key → ⊥ }
 {
@@ -222,7 +222,7 @@ fn is_at(place: &Option<(IndexKey, u32)>, key: IndexKey) -> bool
     }
 }
 
-// The first place behind a key, of the key's transaction, where the first one from the key on is known.
+// The first place behind a key, of the key's transaction, if the first one from the key on is known.
 #[inline(always)]
 fn behind_found(
     index: &MarkedPlaces<'_>,
@@ -270,7 +270,7 @@ pub(crate) fn carriers_around(
     places_around(&carriers, key)
 }
 
-// The last reading of a direction of the event of a place, where there is one.
+// The last reading of a direction of the event of a place, if there is one.
 pub(crate) fn last_at(
     store: &EventStore,
     direction: Direction,
@@ -285,7 +285,7 @@ pub(crate) fn last_at(
     }
 }
 
-// The first reading of a direction of the event of a place, where there is one.
+// The first reading of a direction of the event of a place, if there is one.
 pub(crate) fn first_at(
     store: &EventStore,
     direction: Direction,
@@ -310,7 +310,7 @@ pub(crate) fn number_of(place: Option<(IndexKey, u32)>) -> Option<u32>
     }
 }
 
-// The kind of the event of a place, where there is one.
+// The kind of the event of a place, if there is one.
 pub(crate) fn kind_at(store: &EventStore, place: &Option<(IndexKey, u32)>) -> Option<Kind>
     requires { IsStored store.now.slots place.now }
     ensures { result ≡ option_map (kind_in store.now.slots) place.now }
@@ -332,7 +332,7 @@ pub(crate) fn evse_at(store: &EventStore, place: Option<(IndexKey, u32)>) -> Evs
     }
 }
 
-// Takes out a transaction whose last place went.
+// Removes a transaction if its last place went.
 pub(crate) fn leave(table: &mut TransactionTable, places: &PlaceIndex, tx: &TxId, row: TableRow)
     requires { row_of tx.now table.old.rows ≡ Some row }
     ensures left { IsLeft table.old.rows table.new.rows places.now.stored.entries tx.now row }

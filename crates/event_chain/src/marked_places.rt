@@ -49,7 +49,7 @@ impl<'a> MarkedPlaces<'a> {
         MarkedPlaces { index, mark, place }
     }
 
-    // The slot of a key; none where the key is absent.
+    // The slot of a key; none if the key is absent.
     pub(crate) fn get(&self, key: IndexKey) -> Option<u32>
         ensures { result ≡ filed_at key (from key self.now.entries) }
     {
@@ -59,7 +59,7 @@ impl<'a> MarkedPlaces<'a> {
         }
     }
 
-    // The first place whose key is the one given or greater.
+    // The first place with the given key or a greater one.
     #[inline(always)]
     pub(crate) fn at_or_after(&self, key: IndexKey) -> Option<(IndexKey, u32)>
         ensures first { result ≡ first_of (from key self.now.entries) }
@@ -71,7 +71,7 @@ impl<'a> MarkedPlaces<'a> {
         }
     }
 
-    // The last place whose key is smaller than the one given.
+    // The last place with a key smaller than the given one.
     #[inline(always)]
     pub(crate) fn before(&self, key: IndexKey) -> Option<(IndexKey, u32)>
         ensures last { result ≡ last_of (below key self.now.entries) }
@@ -83,7 +83,7 @@ impl<'a> MarkedPlaces<'a> {
         }
     }
 
-    // The last place whose key is smaller than the one given, and the first one whose key is that or greater.
+    // The last place with a key smaller than the given one, and the first with that key or a greater one.
     #[inline(always)]
     pub(crate) fn around(&self, key: IndexKey) -> (Option<(IndexKey, u32)>, Option<(IndexKey, u32)>)
         ensures before { result.0 ≡ last_of (below key self.now.entries) }

@@ -21,14 +21,14 @@ use std::alloc::{AllocError, Global};
 use std::marker::Model;
 
 // All events by their keys, each with its slot and its marks, and a doubly linked list of each
-// transaction's live ones over their slots. The index finds where an event is linked in, the links lead
-// from one to the next. Contracts see an index of all places, and one of those with each mark.
+// transaction's live ones over their slots. The index finds where an event is linked in; the links lead
+// from one to the next. Contracts see an index of all places, and one for each mark.
 #[derive(Drop)]
 pub(crate) struct PlaceIndex {
     index: KeyIndex<IndexKey, u32>,
     links: SlotLinks,
-    // The key that was sought last, where it stands or belongs, and where its transaction begins and
-    // ends: they save searches, and change no answer.
+    // The key of the last search, where it is or belongs, and where its transaction begins and ends.
+    // They save searches and change no answer.
     sought: IndexKey,
     near: KeyPlace,
     start: KeyPlace,
@@ -66,8 +66,8 @@ fn slot_of_place(place: Option<(IndexKey, u32)>) -> Option<u32>
     }
 }
 
-// The slot behind a new key, where the one in front of it is known: a link leads there, and a look-up
-// where the key comes first.
+// The slot behind a new key, if the one in front of it is known: a link leads there. If the key comes
+// first, a look-up finds it.
 fn slot_behind(
     live: &MarkedPlaces<'_>,
     links: &SlotLinks,
@@ -108,7 +108,7 @@ fn link_live(
 }
 
 impl PlaceIndex {
-    // No events, with room for so many, in as many slots.
+    // No events, with room for `events`, in as many slots.
     pub(crate) fn open(alloc: Global, events: u32) -> Result<Self, AllocError>
         ensures stored { IfOk result (λ p. p.stored ≡ index [] events) }
         ensures live { IfOk result (λ p. p.live ≡ index [] events) }
@@ -132,7 +132,7 @@ impl PlaceIndex {
         self.index.len()
     }
 
-    // Takes this place for that of a key, for the calls that come next.
+    // Keeps this place as that of a key, for the next calls.
     pub(crate) fn seek_at(&mut self, key: IndexKey, place: KeyPlace)
         ensures { self.new ≡ self.old }
     {
@@ -149,13 +149,13 @@ impl PlaceIndex {
         if slot == self.sought.transaction() && self.start != KeyPlace::UNKNOWN {
             return (self.start, self.end);
         }
-        // A transaction's events mostly come in order.
+        // The events of a transaction usually come in order.
         let start = self.index.place_near(place, IndexKey::new(slot, 0));
         let next = IndexKey::new(slot.saturating_add(1), 0);
         (start, self.index.place_near(start, next))
     }
 
-    // The first place from a key on, and where the key stands or belongs.
+    // The first place from a key on, and where the key is or belongs.
     fn first_from(&self, key: IndexKey) -> (Option<(IndexKey, u32)>, KeyPlace)
         ensures first { result.0 ≡ first_of (from key self.now.stored.entries) }
         ensures rising { AreRising self.now.stored.entries }
@@ -164,7 +164,7 @@ impl PlaceIndex {
         (slot_under(found.0), found.1)
     }
 
-    // The slot of the first place from a key on, where that is the key's.
+    // The slot of the first place from a key on, if that is the key's.
     fn first_slot(&self, key: IndexKey) -> (Option<u32>, KeyPlace)
         ensures slot { result.0 ≡ filed_at key (from key self.now.stored.entries) }
         ensures rising { AreRising self.now.stored.entries }
@@ -176,14 +176,14 @@ impl PlaceIndex {
         }
     }
 
-    // The slot of a key, none where it is absent, and where the key stands or belongs.
+    // The slot of a key, none if it is absent, and where the key is or belongs.
     pub(crate) fn find(&self, key: IndexKey) -> (Option<u32>, KeyPlace)
         ensures { result.0 ≡ place_of key self.now.stored.entries }
     {
         self.first_slot(key)
     }
 
-    // A key that comes after the one that was sought last mostly stands or belongs right behind it.
+    // A key above that of the last search usually is or belongs right behind it.
     fn behind(&self, key: IndexKey) -> KeyPlace {
         if self.sought.is_before(key) {
             return self.near.next();
@@ -191,7 +191,7 @@ impl PlaceIndex {
         KeyPlace::UNKNOWN
     }
 
-    // Where the key that was sought last stands or belongs.
+    // Where the key of the last search is or belongs.
     pub(crate) fn near(&self) -> KeyPlace {
         self.near
     }
@@ -251,7 +251,7 @@ impl PlaceIndex {
         ensures lives { IsLiveMore key slot carries names self.old self.new }
     {
         let ends = self.ends_at(key, place);
-        // A new transaction's first key belongs where it begins.
+        // The first key of a new transaction belongs where the transaction begins.
         let place = place.known_or(ends.0);
         link_live(&self.index, &mut self.links, place, key, slot);
         let marks = Marks {
@@ -297,7 +297,7 @@ impl PlaceIndex {
         self.index.set_marks(key, marks);
     }
 
-    // Takes out an event that is not live.
+    // Removes an event that is not live.
     pub(crate) fn remove(&mut self, key: IndexKey)
         requires stored { IsSome (place_of key self.old.stored.entries) }
         requires not_live { IsNotLive key self.old }
@@ -307,7 +307,7 @@ impl PlaceIndex {
         self.index.remove(key);
     }
 
-    // The slot of the live event that comes after that of a slot in its transaction.
+    // The slot of the next live event of the same transaction.
     pub(crate) fn next(&self, slot: u32) -> Option<u32>
         requires { HasRank self.now.live.entries slot }
         ensures { (rank : ℕ) → place_of rank self.now.live.entries ≡ Some slot → result ≡ option_map slot_in (slice_get (places_behind rank self.now.live.entries) 0) }

@@ -7,7 +7,7 @@ use std::alloc::{AllocError, Global};
 use std::marker::Model;
 use transaction_map::TransactionMap;
 
-/// The transactions of a station by rising id. Contracts see the rows, and how many there may be.
+/// The transactions of a station by rising id. Contracts see the rows, and how many it may have.
 #[derive(Drop)]
 pub struct TransactionTable {
     rows: TransactionMap<TableRow>,
@@ -27,14 +27,16 @@ impl Model for TransactionTable {
 }
 
 impl TransactionTable {
-    /// A table without transactions, with room for so many.
+    /// A table without transactions, with room for `capacity`; the error says that the allocator
+    /// refused memory.
     pub fn open(alloc: Global, capacity: u32) -> Result<Self, AllocError>
         ensures rows { IfOk result (λ t. t.rows ≡ []) }
         ensures capacity { IfOk result (λ t. t.capacity ≡ capacity) }
     {
         let rows = TransactionMap::open(alloc, capacity)?;
         let mut spare = Vec::with_capacity(alloc, capacity as usize)?;
-        // The lowest slot is handed out first, so that keys of a new transaction stand behind the others.
+        // The lowest slot is given out first, so the keys of a new transaction are usually behind the
+        // others.
         for handed in 0..capacity {
             spare.push_reserved(capacity - 1 - handed);
         }
@@ -57,8 +59,8 @@ impl TransactionTable {
         self.rows.capacity()
     }
 
-    /// What is kept of a transaction, and the place of its row; none where it is absent. It is searched
-    /// once for the calls that come next, and nothing that they answer changes.
+    /// What the table keeps of a transaction, and the place of its row; none if it is absent. The next
+    /// calls need no search for it; their answers stay the same.
     pub fn seek(&mut self, tx: &TxId) -> Option<(usize, TableRow)>
         ensures value { option_map (λ f. f.1) result ≡ row_of tx.now self.old.rows }
         ensures at { IfSome result (λ f. IsRowAt tx.now self.old.rows f.0) }
@@ -67,13 +69,13 @@ impl TransactionTable {
         self.rows.seek(tx)
     }
 
-    /// Where the transaction that was sought last stood or belonged, as a hint for another map of about
-    /// the same transactions.
+    /// Where the transaction of the last search is or belongs: a hint for another map of about the same
+    /// transactions.
     pub fn near(&self) -> usize {
         self.rows.near()
     }
 
-    /// What is kept of a transaction; none where it is absent.
+    /// What the table keeps of a transaction; none if it is absent.
     pub fn get(&self, tx: &TxId) -> Option<TableRow>
         ensures value { result ≡ row_of tx.now self.now.rows }
         ensures slotted { AreSlotted self.now }
@@ -89,7 +91,8 @@ impl TransactionTable {
         self.rows.id_at(place)
     }
 
-    /// Puts in a transaction without live events, and answers its row. It is absent, and there is room.
+    /// Adds a transaction without live events, and returns its row. It must be absent, and the table
+    /// must have room.
     pub fn add(&mut self, tx: &TxId) -> TableRow
         requires absent { row_of tx.now self.old.rows ≡ None }
         requires room { length self.old.rows < self.old.capacity }
@@ -114,7 +117,7 @@ impl TransactionTable {
         fresh
     }
 
-    /// Changes what is counted of a transaction, which is there.
+    /// Changes the counts of a transaction, which must be in the table.
     pub fn set(&mut self, tx: &TxId, row: TableRow)
         requires { option_map (λ r. r.slot) (row_of tx.now self.old.rows) ≡ Some row.slot }
         ensures rows { self.new.rows ≡ with_row tx.now row self.old.rows }
@@ -124,7 +127,7 @@ impl TransactionTable {
         self.rows.put(tx, row);
     }
 
-    /// Changes what is counted of a transaction whose row is at this place.
+    /// Changes the counts of a transaction; its row must be at this place.
     pub fn set_at(&mut self, place: usize, tx: &TxId, row: TableRow)
         requires place { IsRowAt tx.now self.old.rows place }
         requires slot { option_map (λ r. r.slot) (row_of tx.now self.old.rows) ≡ Some row.slot }
@@ -135,7 +138,7 @@ impl TransactionTable {
         self.rows.set_at(place, tx, row);
     }
 
-    /// Takes out a transaction, which is there; its slot may be handed out again.
+    /// Removes a transaction, which must be in the table; its slot may be given out again.
     pub fn remove(&mut self, tx: &TxId)
         requires { row_of tx.now self.old.rows ≢ None }
         ensures rows { self.new.rows ≡ without_row tx.now self.old.rows }

@@ -10,13 +10,13 @@ use gap_list::NumberWalk;
 use key_index::KeyPlace;
 use std::marker::Model;
 
-/// A walk over the live numbers of a transaction, rising. Its start is found by a look-up, and each
-/// step follows a link. Contracts see the numbers.
+/// A walk over the live numbers of a transaction, rising. A look-up finds its start, and each step
+/// follows a link. Contracts see the numbers.
 #[derive(Drop)]
 pub struct TxWalk<'a> {
     live: &'a PlaceIndex,
     store: &'a EventStore,
-    // The transaction's slot, where it has one.
+    // The transaction's slot, if it has one.
     slot: Option<u32>,
 }
 
@@ -37,7 +37,7 @@ pub struct TxPlace<'a> {
     live: &'a PlaceIndex,
     store: &'a EventStore,
     slot: u32,
-    // The indexed keys rise, each with a slot of its own.
+    // The keys of the index rise, each with a slot of its own.
     ghost rising: { AreRising live.now.live.entries } by { AreRising-prop live.now.live.entries },
     ghost own: { AreOwn live.now.live.entries },
 }

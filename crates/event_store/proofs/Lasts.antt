@@ -6,7 +6,7 @@ use Rattle.ledger_model.specs.Deltas.{last_reading}
 use Rattle.ledger_model.specs.Event.{MeterReading, same_direction, toward}
 use Rattle.event_store.proofs.Runs.{last_more}
 
--- The last of readings, or what came before where there is none.
+-- The last of readings, or what came before if there is none.
 abbrev pub last_or : Option MeterReading → List MeterReading → Option MeterReading
 last_or o [] = o
 last_or o (r ∷ rs) = last_or (Some r) rs

@@ -147,7 +147,7 @@ put_step start links new id first n more owner link rest all m up long free lt p
       same = length-set links id (Some link);
     }))
 
--- The last of readings is that of the rest, where there is one.
+-- The last of readings is that of the rest, if there is one.
 pub last_more : (x y : MeterReading) (ys : List MeterReading) → last_reading (x ∷ y ∷ ys) ≡ last_reading (y ∷ ys)
 last_more x y ys =
     let a : length (x ∷ y ∷ ys) - 1 ≡ suc (length ys) = omega arith in let b : length (y ∷ ys) - 1 ≡ length ys = omega arith in

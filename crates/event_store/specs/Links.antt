@@ -6,7 +6,7 @@ use Rattle.ledger_model.specs.Event.{MeterReading}
 use Rattle.ledger_model.specs.Deltas.{last_reading}
 use Rattle.event_store.specs.declared.links.ReadingLink.{ReadingLink}
 
--- What is read where there is no reading.
+-- A value in place of a reading that is not there.
 abbrev pub no_reading : MeterReading
 no_reading = record { moment = 0; mwh = 0; direction = Import }
 
@@ -35,7 +35,7 @@ abbrev pub chain : List (Option ReadingLink) → ℕ → ℕ → List MeterReadi
 chain links first zero = []
 chain links first (suc n) = reading_of (value_at links first) ∷ chain links (next_of (value_at links first)) n
 
--- A link is there, of this event and so far from the chain's end.
+-- A link is there, of this event, and has so many links to the chain's end.
 pub record IsLink (link : Option ReadingLink) (owner left : ℕ) : Type 0 where
   pub there : is_some link ≡ true
   pub owner_is : owner_of link ≡ owner
@@ -46,7 +46,7 @@ abbrev pub IsRun : List (Option ReadingLink) → ℕ → ℕ → ℕ → Type 0
 IsRun links owner first zero = Unit {0}
 IsRun links owner first (suc n) = IsLink (value_at links first) owner (suc n) × IsRun links owner (next_of (value_at links first)) n
 
--- Where there are so many links of this event from the first slot on, the last slot has the last of them.
+-- If there are so many links of this event from the first slot on, the last of them is in the last slot.
 abbrev pub IsLast : List (Option ReadingLink) → ℕ → ℕ → ℕ → ℕ → Type 0
 IsLast links owner first zero last = Unit {0}
 IsLast links owner first (suc n) last = IsLink (value_at links last) owner 1 × (last_reading (chain links first (suc n)) ≡ Some (reading_of (value_at links last)))
@@ -56,10 +56,10 @@ pub record AreReadings (links : List (Option ReadingLink)) (owner first count la
   pub run : IsRun links owner first count
   pub ends : IsLast links owner first count last
 
--- Each link that was there is there still.
+-- Each link that was there is still there.
 abbrev pub AreKept : List (Option ReadingLink) → List (Option ReadingLink) → Type 0
 AreKept old new = (i : ℕ) → is_some (value_at old i) ≡ true → value_at new i ≡ value_at old i
 
--- Each link of another event is there still, and none is new.
+-- Each link of another event is still there, and none is new.
 abbrev pub AreOthersKept : ℕ → List (Option ReadingLink) → List (Option ReadingLink) → Type 0
 AreOthersKept owner old new = (i : ℕ) → is_some (value_at old i) ≡ true → (owner_of (value_at old i) ≡ owner → ⊥) → value_at new i ≡ value_at old i

@@ -10,7 +10,7 @@ use Rattle.ledger_model.specs.Content.{Stored}
 abbrev pub Held : Type 0
 Held = ℕ × Stored
 
--- What each slot holds, how many readings are held in all, and how many may be.
+-- What each slot holds, how many readings all slots hold, and how many they may hold.
 pub record Slots : Type 0 where
   pub slots : List (Option Held)
   pub readings : ℕ
@@ -33,7 +33,7 @@ abbrev pub voided_as : Bool → Option Held → Option Held
 voided_as voided None = None
 voided_as voided (Some held) = Some (held.0, record { event = held.1.event; voided = voided })
 
--- The slots with the event of one voided or not.
+-- The slots with the event of one slot marked as voided or not.
 abbrev pub voided_at : List (Option Held) → ℕ → Bool → List (Option Held)
 voided_at slots slot voided = slice_set slots slot (voided_as voided (value_at slots slot))
 

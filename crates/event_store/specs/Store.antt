@@ -15,7 +15,7 @@ content_in links e = record { kind = e.kind; moment = e.moment; evse = e.evse; r
 abbrev pub held_in : List (Option ReadingLink) → EventSlot → Held
 held_in links e = (e.key, record { event = content_in links e; voided = e.voided })
 
--- What a slot holds that may be free.
+-- What a slot holds, if it is not free.
 abbrev pub slot_in : List (Option ReadingLink) → Option EventSlot → Option Held
 slot_in links None = None
 slot_in links (Some e) = Some (held_in links e)
@@ -37,7 +37,7 @@ IsChained links slot (Some e) = AreReadings links slot e.first e.count e.last
 abbrev pub AreChained : List (Option EventSlot) → List (Option ReadingLink) → Type 0
 AreChained events links = (slot : ℕ) → IsChained links slot (value_at events slot)
 
--- A slot with its event's readings from here to there, so many.
+-- A slot with the place of its event's readings: the first, the last, and how many.
 abbrev pub run_set : Option EventSlot → ℕ → ℕ → ℕ → Option EventSlot
 run_set None first last count = None
 run_set (Some e) first last count = Some (record e { first = first; last = last; count = count })

@@ -46,35 +46,35 @@ impl<'a> EventRef<'a> {
         EventRef { slot, links }
     }
 
-    /// The key under which it stands.
+    /// Its key.
     pub fn key(&self) -> IndexKey
         ensures { result ≡ self.now.0 }
     {
         self.slot.key
     }
 
-    /// Tells whether it is voided.
+    /// Returns whether it is voided.
     pub fn is_voided(&self) -> bool
         ensures { result ≡ self.now.1.voided }
     {
         self.slot.voided
     }
 
-    /// What the event tells of its transaction.
+    /// Whether the event is Started, Updated or Ended.
     pub fn kind(&self) -> Kind
         ensures { result ≡ self.now.1.event.kind }
     {
         self.slot.kind
     }
 
-    /// The moment of the event, as its station tells it.
+    /// The moment of the event, by its station's clock.
     pub fn moment(&self) -> Moment
         ensures { result ≡ self.now.1.event.moment }
     {
         self.slot.moment
     }
 
-    /// The EVSE that the event names.
+    /// The EVSE that the event names, if it names one.
     pub fn evse(&self) -> Option<EvseId>
         ensures { result ≡ self.now.1.event.evse }
     {
@@ -88,7 +88,7 @@ impl<'a> EventRef<'a> {
         usize::from(self.slot.count)
     }
 
-    /// Its counted readings of a direction, in the order in which they were sent.
+    /// Its counted readings of a direction, in the order sent.
     pub fn readings(&self, direction: Direction) -> Readings<'a>
         ensures { result ≡ toward direction self.now.1.event.readings }
     {
@@ -96,14 +96,14 @@ impl<'a> EventRef<'a> {
         Readings::of(all, direction)
     }
 
-    /// The first of its counted readings of a direction; none where it has none.
+    /// The first of its counted readings of a direction; none if it has none.
     pub fn first_reading(&self, direction: Direction) -> Option<Reading>
         ensures { result ≡ first_reading (toward direction self.now.1.event.readings) }
     {
         self.readings(direction).next()
     }
 
-    // The last of its counted readings of both directions; none where it has none.
+    // The last of its counted readings of both directions; none if it has none.
     fn last_of_all(&self) -> Option<Reading>
         ensures { result ≡ last_reading self.now.1.event.readings }
     {
@@ -113,7 +113,7 @@ impl<'a> EventRef<'a> {
         Some(self.links.get(SlotId::new(self.slot.last)).reading)
     }
 
-    // The last of its counted readings of a direction, found by going over them.
+    // The last of its counted readings of a direction, found by a walk over them.
     fn last_by_all(&self, direction: Direction) -> Option<Reading>
         ensures { result ≡ last_reading (toward direction self.now.1.event.readings) }
     {
@@ -125,7 +125,7 @@ impl<'a> EventRef<'a> {
         last
     }
 
-    /// The last of its counted readings of a direction; none where it has none.
+    /// The last of its counted readings of a direction; none if it has none.
     pub fn last_reading(&self, direction: Direction) -> Option<Reading>
         ensures { result ≡ last_reading (toward direction self.now.1.event.readings) }
     {
@@ -136,7 +136,7 @@ impl<'a> EventRef<'a> {
         }
     }
 
-    /// Tells whether it has the same content as this event.
+    /// Returns whether it has the same content as this event.
     pub fn same_as(&self, event: &Event) -> bool
         ensures { IsTrue result ↔ (self.now.1.event ≡ event.now) }
     {

@@ -1,13 +1,13 @@
-//! Stored events in numbered slots, each with its readings, in two arenas reserved once.
+//! Stored events in numbered slots, each with its readings, in two arenas that are reserved once.
 //!
-//! An event takes one slot of the first arena and as many of the second as it has readings, which
-//! are chained from its first one on; its slot keeps where they begin and where they end.
-//! [`EventStore::open`] asks the allocator, and nothing else here asks it again.
+//! An event takes one slot of the first arena, and one of the second for each of its readings. The
+//! readings are a chain; the event's slot keeps where it begins and ends. Only [`EventStore::open`]
+//! asks the allocator.
 //!
-//! The crate's one contract: a store is a list with an `Option` for each slot, the key and the event
-//! that it holds, and the number of readings held. [`EventStore::put`] puts an event into a slot that
-//! had none, [`EventStore::set_voided`] marks one, [`EventStore::take_out`] frees a slot with its
-//! readings; all else stays. A voided event keeps its slots.
+//! The crate's contract: a store is a list with an `Option` for each slot (the key and the event that
+//! it holds), and the number of readings held. [`EventStore::put`] puts an event into a free slot,
+//! [`EventStore::set_voided`] marks one as voided or not, [`EventStore::take_out`] frees a slot with
+//! its readings; all else stays the same. A voided event keeps its slots.
 //!
 //! ```text
 //! let mut store = EventStore::open(rt.alloc(), 2, 9)?;

@@ -1,4 +1,4 @@
-//! The chains of readings: how an event's are put into the arena, and taken out.
+//! The chains of readings: how an event's readings are put into the arena and taken out.
 ghost use Rattle.std.specs.Prelude.{◌≡◌, ℕ, ◌+◌, ◌<◌, ◌≤◌, None, Some, length, slice_set, IsSome};
 ghost use Rattle.slot_arena.specs.Arena.{value_at, held_count};
 ghost use Rattle.event_store.specs.Links.{chain, IsRun, IsLast, AreKept, AreOthersKept};
@@ -10,14 +10,14 @@ use slot_arena::{SlotArena, SlotId};
 #[derive(Clone, Copy)]
 pub struct ReadingLink {
     pub(crate) reading: Reading,
-    // The slot of the next reading, where there is one.
+    // The slot of the next reading, if there is one.
     pub(crate) next: u32,
     // The slot of the event, and how many readings it has from this one on.
     pub(crate) owner: u16,
     pub(crate) left: u16,
 }
 
-// The slots of the first reading and of the last one of an event, where it has any.
+// The slots of the first and the last reading of an event, if it has any.
 #[derive(Clone, Copy)]
 pub(crate) struct ChainEnds {
     pub(crate) first: u32,
@@ -25,7 +25,7 @@ pub(crate) struct ChainEnds {
 }
 
 impl ChainEnds {
-    // The ends with a slot put in front, which makes so many.
+    // The ends with a slot put in front of a chain that then has `count` readings.
     fn in_front(self, slot: u32, count: u16) -> ChainEnds
         ensures first { result.first ≡ slot }
         ensures only { count ≡ 1 → result.last ≡ slot }
@@ -49,7 +49,7 @@ fn put_link(links: &mut SlotArena<ReadingLink>, link: ReadingLink) -> u32
     }
 }
 
-// Chains readings of the event in this slot, and answers where the chain begins and ends.
+// Chains readings of the event in this slot, and returns where the chain begins and ends.
 pub(crate) fn put_all(
     links: &mut SlotArena<ReadingLink>,
     owner: u16,
@@ -81,7 +81,7 @@ pub(crate) fn put_all(
     ends
 }
 
-// Frees the slots of so many readings of the event in this slot, from the first one on.
+// Frees the slots of `count` readings of the event in this slot, from the first one on.
 pub(crate) fn take_all(links: &mut SlotArena<ReadingLink>, owner: u16, first: u32, count: u16)
     requires { IsRun links.old owner first count }
     ensures kept { AreOthersKept owner links.old links.new }

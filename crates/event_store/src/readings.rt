@@ -8,7 +8,7 @@ use ledger_model::{Direction, Reading};
 use slot_arena::{SlotArena, SlotId};
 use std::marker::Model;
 
-/// The readings of an event that are still to come, in the order in which they were sent.
+/// The readings of an event that are still to come, in the order sent.
 #[derive(Drop)]
 pub struct AllReadings<'a> {
     links: &'a SlotArena<ReadingLink>,
@@ -60,7 +60,7 @@ impl<'a> Iterator for AllReadings<'a> {
     }
 }
 
-// The first reading of a direction among those to come; those before it are passed over.
+// The first reading of a direction among those to come; those before it are skipped.
 fn next_toward(all: &mut AllReadings<'_>, direction: Direction) -> Option<Reading>
     ensures found { IfSome result (λ r. toward direction all.old ≡ r ∷ toward direction all.new) }
     ensures none { IfNone result ((toward direction all.old ≡ []) × (toward direction all.new ≡ [])) }
@@ -73,8 +73,7 @@ fn next_toward(all: &mut AllReadings<'_>, direction: Direction) -> Option<Readin
     None
 }
 
-/// The readings of an event in one direction that are still to come, in the order in which they were
-/// sent.
+/// The readings of an event in one direction that are still to come, in the order sent.
 #[derive(Drop)]
 pub struct Readings<'a> {
     all: AllReadings<'a>,
@@ -91,7 +90,7 @@ impl<'a> Model for Readings<'a> {
 }
 
 impl<'a> Readings<'a> {
-    // Those of this direction among all that are to come.
+    // The readings of this direction among all that are still to come.
     pub(crate) fn of(all: AllReadings<'a>, direction: Direction) -> Self
         ensures { result ≡ toward direction all.entry }
     {
@@ -111,7 +110,7 @@ impl<'a> Iterator for Readings<'a> {
     }
 }
 
-// Tells whether the readings of a chain are these.
+// Returns whether the readings of a chain are these.
 pub(crate) fn are_same(
     links: &SlotArena<ReadingLink>,
     first: u32,

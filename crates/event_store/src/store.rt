@@ -14,7 +14,7 @@ use std::alloc::{AllocError, Global};
 use std::marker::Model;
 
 /// Events with their readings, each in a numbered slot. Contracts see what each slot holds, and how
-/// many readings are held and may be.
+/// many readings it holds and may hold.
 #[derive(Drop)]
 pub struct EventStore {
     events: SlotArena<EventSlot>,
@@ -36,7 +36,8 @@ impl Model for EventStore {
 }
 
 impl EventStore {
-    /// A store of so many free slots, with room for so many readings, each at most 65,536.
+    /// A store of `events` free slots with room for `readings` readings, each at most 65,536. The
+    /// error says that the allocator refused memory.
     pub fn open(alloc: Global, events: u32, readings: u32) -> Result<Self, AllocError>
         requires { (events ≤ MAX_SLOTS) × (readings ≤ MAX_SLOTS) }
         ensures slots { IfOk result (λ s. s.slots ≡ replicate events None) }
@@ -48,8 +49,8 @@ impl EventStore {
         Ok(EventStore { events, links })
     }
 
-    /// Puts a live event into a free slot, and answers the slot. There is a free slot, and room for
-    /// the event's readings.
+    /// Puts a live event into a free slot, and returns the slot. There must be a free slot, and
+    /// room for the event's readings.
     pub fn put(&mut self, key: IndexKey, event: &Event) -> u32
         requires free { held_count self.old.slots < length self.old.slots }
         requires room { self.old.readings + length event.now.readings ≤ self.old.capacity }
@@ -76,7 +77,7 @@ impl EventStore {
         self.events.get_mut(SlotId::new(slot)).voided = voided;
     }
 
-    /// Frees a slot and those of its readings.
+    /// Frees a slot and the slots of its readings.
     pub fn take_out(&mut self, slot: u32)
         requires { IsHeld self.old.slots slot }
         ensures slots { self.new.slots ≡ slice_set self.old.slots slot None }
@@ -94,7 +95,7 @@ impl EventStore {
         self.events.free()
     }
 
-    /// Tells whether a slot holds an event.
+    /// Returns whether a slot holds an event.
     pub fn is_held(&self, slot: u32) -> bool
         ensures { IsTrue result ↔ IsHeld self.now.slots slot }
     {
@@ -124,7 +125,7 @@ impl EventStore {
     }
 }
 
-// Puts what is kept of an event into a free slot.
+// Puts an event, except for its readings, into a free slot.
 fn put_slot(events: &mut SlotArena<EventSlot>, key: IndexKey, event: &Event) -> u16
     requires { held_count events.old < length events.old }
     ensures free { value_at events.old result ≡ None }
@@ -147,7 +148,7 @@ fn put_slot(events: &mut SlotArena<EventSlot>, key: IndexKey, event: &Event) -> 
     }
 }
 
-// Tells a slot where the readings of its event begin and end, and how many they are.
+// Writes to a slot where the readings of its event begin and end, and how many they are.
 fn set_run(events: &mut SlotArena<EventSlot>, number: u16, ends: ChainEnds, count: u16)
     requires { IsHeld events.old number }
     ensures { events.new ≡ slice_set events.old number (run_set (value_at events.old number) ends.first ends.last count) }

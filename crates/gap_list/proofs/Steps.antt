@@ -6,7 +6,7 @@ use Rattle.std.proofs.lemmas.List.Sums.{sum_by-cons}
 use Rattle.ledger_model.specs.BoardLaws.{AreRising}
 use Rattle.ledger_model.specs.Gaps.{gaps, gap_size, missing}
 
--- a gap stands between the first number and the next
+-- a gap is between the first number and the next
 pub gaps_far : (xs ys : List ℕ) → 0 < length xs → 0 < length ys → ys ≡ drop 1 xs → slice_index xs 0 + 1 < slice_index ys 0
     → gaps xs ≡ (slice_index xs 0 + 1, slice_index ys 0 - 1) ∷ gaps ys
 gaps_far [] ys some more e far = absurd (omega arith)

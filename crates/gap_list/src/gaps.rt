@@ -6,7 +6,8 @@ ghost use Rattle.ledger_model.specs.Gaps.{gaps};
 use crate::NumberWalk;
 use std::marker::Model;
 
-/// The gaps of a walk that are still to come: each as its first and its last missing number, rising.
+/// The gaps of a walk that are still to come: each with its first and its last missing number, in
+/// rising order.
 #[derive(Drop)]
 pub struct Gaps<'a, W: NumberWalk> {
     walk: &'a W,
@@ -26,7 +27,8 @@ impl<'a, W: NumberWalk> Model for Gaps<'a, W> {
 }
 
 impl<'a, W: NumberWalk> Gaps<'a, W> {
-    /// The gaps of the walk: the maximal ranges of what is missing between its numbers, rising.
+    /// The gaps of the walk: the maximal ranges of the numbers missing between its own, in rising
+    /// order.
     pub fn over(walk: &'a W) -> Self
         ensures gaps { result ≡ gaps (W.numbers walk.now) }
         ensures missing { AreGaps (W.numbers walk.now) result }

@@ -4,7 +4,7 @@ ghost use Rattle.ledger_model.specs.Gaps.{missing};
 
 use crate::NumberWalk;
 
-/// How many numbers lie in the walk's gaps, below 2^32.
+/// How many numbers are in the walk's gaps, below 2^32.
 pub fn missing_count<W: NumberWalk>(walk: &W) -> u64
     ensures { result ≡ missing (W.numbers walk.now) }
 {

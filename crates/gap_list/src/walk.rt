@@ -2,18 +2,18 @@ ghost use Rattle.std.specs.Prelude.{◌≡◌, ℕ, ◌<◌, List, length, drop,
 ghost use Rattle.ledger_model.specs.BoardLaws.{AreRising};
 ghost use Rattle.gap_list.specs.Walk.{left, StandsAt};
 
-/// A walk over numbers that rise, from place to place. A place is given by the walk itself.
+/// A walk over rising numbers, from place to place. Only the walk itself gives places.
 pub trait NumberWalk {
-    /// Where the walk stands: at one of its numbers.
+    /// A place in the walk: at one of its numbers.
     type Place: Copy;
 
     // All numbers of the walk.
     ghost numbers: { Self → List ℕ };
 
-    // The numbers from a place on, none where the walk did not give it.
+    // The numbers from a place on, none if the walk did not give the place.
     ghost ahead: { Self → Self.Place → List ℕ };
 
-    /// The place of the first number, `None` where there is none.
+    /// The place of the first number, `None` if there is none.
     fn start(&self) -> Option<Self::Place>
         ensures rising { AreRising (numbers self.now) }
         ensures all { left ahead self.now result ≡ numbers self.now }

@@ -1,10 +1,10 @@
--- What a read gives in place of bytes, once those that came before it were given.
+-- What a read gives in place of bytes, after those that came before.
 use Rattle.std.specs.Prelude.{List, ℕ, Option, None, Some, ⊤}
 use Rattle.std.specs.Io.KnownBytes.{IsAtEnd}
 use Rattle.gathered_input.specs.declared.input.Stop.{Stop}
 use Rattle.gathered_input.specs.declared.input.Stop.TheVariants.{End, Fault}
 
--- the end is told of an input that is at its end
+-- The end is reported only if the input is at its end.
 abbrev pub IsTruly : Option (List ℕ) → Option Stop → Type 0
 IsTruly remaining None = ⊤
 IsTruly remaining (Some End) = IsAtEnd remaining

@@ -1,4 +1,4 @@
-//! An input of which a read gathers what comes at once.
+//! An input that collects everything that is ready in one read.
 ghost use Rattle.std.specs.Prelude.{◌≡◌, ◌≤◌, ◌++◌, ℕ, List, length, take};
 ghost use Rattle.std.specs.Io.KnownBytes.{Consumes};
 ghost use Rattle.gathered_input.specs.Told.{IsTruly};
@@ -9,25 +9,26 @@ use std::marker::Model;
 use std::thread::Threads;
 use std::{io, thread};
 
-// From how many bytes on, given at once, more may follow at once: where less comes, whoever writes it is no faster than its
-// reader.
+// After a read of at least this many bytes, more may be ready; after less, the writer is no faster than the reader.
 const MUCH: usize = 32_768;
 
-// How often is looked for more before a read ends without it.
+// How often a read looks for more bytes before it ends without them.
 const LOOKS: usize = 256;
 
-/// An input of which a read gathers what comes at once. To a contract it is that input.
+/// An input that collects everything that is ready in one read. A contract sees the input that it
+/// reads from.
 #[derive(Drop)]
 pub struct GatheredInput<R: Read, L> {
     input: R,
     readiness: L,
-    // Whether there is a processor for who writes while is looked.
+    // Whether another processor can run the writer during a look.
     is_gathering: bool,
-    // What a read gave behind bytes that were gathered.
+    // What a read gave in place of bytes, kept for the next read because this one already has
+    // bytes.
     stop: Option<Stop>,
 }
 
-// What a read gives in place of bytes.
+// What a read gives in place of bytes: the end or a fault.
 #[derive(Drop)]
 enum Stop {
     End,
@@ -42,7 +43,7 @@ impl<R: Read, L> Model for GatheredInput<R, L> {
     ghost invariant = { λ g. IsTruly (R.remaining g.input) g.stop };
 }
 
-/// Standard input, of which a read gathers what comes at once.
+/// Standard input, with everything that is ready collected in one read.
 pub fn gathered<X: Threads>(rt: &X, input: Stdin) -> GatheredInput<Stdin, StandardInput>
     ensures { result ≡ input }
 {
@@ -50,7 +51,7 @@ pub fn gathered<X: Threads>(rt: &X, input: Stdin) -> GatheredInput<Stdin, Standa
 }
 
 impl<R: Read, L: Readiness> GatheredInput<R, L> {
-    /// This input, of whose readiness `readiness` tells. With one processor nothing is gathered.
+    /// This input; `readiness` says whether it is ready. With one processor nothing is collected.
     pub fn new<X: Threads>(rt: &X, input: R, readiness: L) -> GatheredInput<R, L>
         ensures { result ≡ input }
     {
@@ -82,15 +83,16 @@ impl<R: Read, L: Readiness> Read for GatheredInput<R, L> {
     }
 }
 
-/// It is ready where its input is, and where a read has something to give already.
+/// Ready if its input is ready, or if it has kept an end or a fault for the next read.
 impl<R: Read, L: Readiness> Readiness for GatheredInput<R, L> {
     fn is_ready_within(&self, millis: u16) -> bool {
         self.stop.is_some() || self.readiness.is_ready_within(millis)
     }
 }
 
-// Reads on behind the first bytes while much more is there at once, and tells how many bytes there are then, and what a read
-// gave in place of more. Behind a read that gave little it ends: whoever waits for an answer may write one line at a time.
+// Reads on behind the first bytes while each read gives much and more is ready. Returns how many bytes there are then,
+// and what a read gave in place of more. It ends after a read that gave little, since a writer that waits for answers
+// may write one line at a time.
 fn gather<R: Read, L: Readiness>(
     input: &mut R,
     readiness: &L,
@@ -118,7 +120,7 @@ fn gather<R: Read, L: Readiness>(
     (count, None)
 }
 
-// Whether more comes within so many looks.
+// Whether more becomes ready within `LOOKS` looks.
 fn has_more<L: Readiness>(readiness: &L) -> bool {
     for _ in 0..LOOKS {
         if readiness.is_ready_within(0) {
@@ -128,7 +130,7 @@ fn has_more<L: Readiness>(readiness: &L) -> bool {
     false
 }
 
-// Whether another processor is there than the caller's.
+// Whether there is a second processor.
 fn has_processors<X: Threads>(rt: &X) -> bool {
     match thread::available_parallelism(rt) {
         Ok(processors) => processors.get() > 1,
@@ -144,8 +146,8 @@ mod tests {
     use std::io::ErrorKind;
     use std::test::Fail;
 
-    // Gives so many bytes by its first read and so many by each later one as long as there are some, and then its end or
-    // a fault. It counts its reads.
+    // Gives so many bytes at its first read and so many at each later one, as long as there are some; then its end or a
+    // fault. It counts its reads.
     #[derive(Drop)]
     struct Steps<'a> {
         rest: &'a [u8],
@@ -169,7 +171,7 @@ mod tests {
         }
     }
 
-    // Is ready or not, and counts how often it was asked.
+    // Is ready or not, and counts the calls.
     #[derive(Clone, Copy)]
     struct Fixed<'a> {
         is_ready: bool,
@@ -223,13 +225,13 @@ mod tests {
         assert_eq!(rt; input.read(&mut read)?, 120_000);
         assert!(rt; bytes.get(..120_000) == Some(&read[..]));
         assert_eq!(rt; reads.get(), 3);
-        // The rest, and the end, which is told by the next read.
+        // The rest. The next read reports the end.
         assert_eq!(rt; input.read(&mut read)?, 80_000);
         assert!(rt; bytes.get(120_000..) == read.get(..80_000));
         assert_eq!(rt; reads.get(), 6);
         assert_eq!(rt; input.read(&mut read)?, 0);
         assert_eq!(rt; reads.get(), 6);
-        // Whoever reads on asks the input again.
+        // A further read asks the input again.
         assert_eq!(rt; input.read(&mut read)?, 0);
         assert_eq!(rt; reads.get(), 7);
         Ok(())
@@ -255,11 +257,11 @@ mod tests {
         let bytes = some_bytes(rt.alloc())?;
         let (reads, looks) = (Cell::new(0), Cell::new(0));
         let mut read = [0; 150_000];
-        // So little that nothing is looked for.
+        // So little that the read looks for no more.
         let mut slow = gathering(&bytes, MUCH - 1, true, (&reads, &looks));
         assert_eq!(rt; slow.read(&mut read)?, MUCH - 1);
         assert_eq!(rt; (reads.get(), looks.get()), (1, 0));
-        // Much, behind which nothing comes.
+        // Much, and nothing comes behind it.
         let mut once = gathering(&bytes, MUCH, false, (&reads, &looks));
         assert_eq!(rt; once.read(&mut read)?, MUCH);
         assert_eq!(rt; (reads.get(), looks.get()), (2, LOOKS));

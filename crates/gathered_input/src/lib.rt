@@ -1,13 +1,13 @@
-//! Standard input, of which a read gathers what comes at once.
+//! Standard input, with everything that is ready collected in one read.
 //!
-//! A pipe of Linux holds 64 KiB, so whoever reads it with long pauses is shown little at a time. Where a read gives much, more
-//! mostly follows at once: [`GatheredInput`] then looks for it, for about a tenth of a millisecond, and reads on while each
-//! read gives much and there is room for more. It looks without waiting (POSIX's `poll` with no time), and waits only for the
-//! first bytes, as any read does. Whoever must not wait in a read asks first whether there is something to read
-//! ([`Readiness`]).
+//! A pipe of Linux holds 64 KiB, so a program that reads it with long pauses gets little at a time. If a read gives
+//! much, more usually follows at once. [`GatheredInput`] then looks for it, for about a tenth of a millisecond, and
+//! reads on while each read gives much and there is room for more. It looks without waiting (POSIX's `poll` with a
+//! timeout of zero), and waits only for the first bytes, as any read does. A caller that must not wait in a read asks
+//! first whether there is something to read ([`Readiness`]).
 //!
-//! To a contract a [`GatheredInput`] is its input: the bytes that it gives are those of the input, in their order, with none
-//! lost and none added, and its end is the input's.
+//! A contract sees a [`GatheredInput`] as its input: it gives the same bytes in the same order, with none lost and none
+//! added, and it ends where the input ends.
 //!
 //! ```text
 //! let mut input = gathered(&rt, rt.stdin());

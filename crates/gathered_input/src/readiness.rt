@@ -5,13 +5,14 @@ use libc::net::{POLLIN, poll};
 use libc::types::pollfd;
 use std::io::{BufReader, Read};
 
-/// What says whether a read of an input would wait.
+/// Says whether a read of an input would wait.
 pub trait Readiness {
-    /// Whether a read gives something, the end or a fault at once, or within so many milliseconds.
+    /// Whether a read would give bytes, the end or a fault within `millis` milliseconds; 0 asks
+    /// about now.
     fn is_ready_within(&self, millis: u16) -> bool;
 }
 
-/// That of standard input, by POSIX's `poll`.
+/// The readiness of standard input, by POSIX's `poll`.
 #[derive(Clone, Copy)]
 pub struct StandardInput;
 

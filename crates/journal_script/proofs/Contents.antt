@@ -25,9 +25,9 @@ use Rattle.site_desk.specs.Plan.{has_twice}
 use Rattle.journal_script.specs.Journals.{AreLeft, IsSpoken, commands_of, station_name}
 use Rattle.journal_script.proofs.Steps.{asked_in}
 
--- ---- whose an entry is
+-- ---- the station of an entry
 
--- names that stand once are the same where their numbers are
+-- names that occur once are the same where their numbers are
 names_alike : (names : List (List ℕ)) (j k : ℕ) → has_twice names ≡ false → j < length names → k < length names → bytes_eq (get_or names j []) (get_or names k []) ≡ eqb j k
 names_alike names j k once lj lk = ⊎_elim
     (λ (e : j ≡ k). (bytes_eq-Decides (get_or names j []) (get_or names k [])).1 (ap (λ n. get_or names n []) e) ∙ sym (eq-eqb j k e))

@@ -28,7 +28,7 @@ use Rattle.journal_script.proofs.Whole.{after_both, lines_apart}
 
 -- ---- where a text is cut
 
--- two texts that are one, of which the first is no longer
+-- two equal texts; the first is no longer than the second
 front_of : (a b x y : List ℕ) → a ++ b ≡ x ++ y → length a ≤ length x → (more : List ℕ) × (x ≡ a ++ more) × (b ≡ more ++ y)
 front_of [] b x y e short = (x, refl, e)
 front_of (c ∷ a) b [] y e short = absurd (omega arith)
@@ -63,7 +63,7 @@ whole_lines (e ∷ log) front rest is = elim (cases_lt (length front) (length (e
       )
 ]
 
--- the part of an entry's text is what stands in front of the line, or none of that, and a part without a line feed
+-- the part of an entry's text is what is in front of the line, or none of that, and a part without a line feed
 record Parted (part : List ℕ) : Type 0 where
   first : List ℕ
   rest : List ℕ
@@ -78,7 +78,7 @@ open_part line part more feedless is short =
     sym (take-append-le (length part) line (10 ∷ []) short) ∙ ap (take (length part)) is ∙ take-append_seam part more in
     subst HasNoFeed same (All-take (λ b. b ≢ 10) (length part) line feedless)
 
--- behind what stands in front of the line
+-- behind what is in front of the line
 parted_line : (note line part more : List ℕ) → IsNote note → HasNoFeed line → note ++ line_text line ≡ part ++ more → 0 < length more → length note ≤ length part → Parted part
 parted_line note line part more may feedless is some past =
     let there = front_of note (line_text line) part more is past in
@@ -90,7 +90,7 @@ parted_line note line part more may feedless is some past =
       is = there.1;
     }
 
--- within what stands in front of it
+-- within what is in front of it
 parted_note : (note line part more : List ℕ) → IsNote note → note ++ line_text line ≡ part ++ more → length part < length note → Parted part
 parted_note note line part more (inl none) is less = absurd (omega (arith, less, ap length none))
 parted_note note line part more (inr c) is less =

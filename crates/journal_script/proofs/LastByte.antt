@@ -5,7 +5,7 @@ use Rattle.std.proofs.lemmas.Bool.{eqb-true, false≢true}
 use Rattle.std.proofs.lemmas.Bool.Decides.{nat_tests}
 use Rattle.std.proofs.Math.Seq.{get_or-append_seam}
 
--- the last byte, or this one where there is none
+-- the last byte, or this one if there is none
 abbrev pub last : ℕ → List ℕ → ℕ
 last d [] = d
 last d (x ∷ xs) = last x xs
@@ -14,7 +14,7 @@ pub last_behind : (d : ℕ) (front : List ℕ) (b : ℕ) (back : List ℕ) → l
 last_behind d [] b back = refl
 last_behind d (x ∷ front) b back = last_behind x front b back
 
--- it stands at the end
+-- it is at the end
 pub last_apart : (x : ℕ) (xs : List ℕ) → (front : List ℕ) × (x ∷ xs ≡ front ++ last x xs ∷ [])
 last_apart x [] = ([], refl)
 last_apart x (y ∷ xs) = let later = last_apart y xs in (x ∷ later.0, ap (λ l. x ∷ l) later.1)
@@ -43,7 +43,7 @@ kept_last x xs same = at (last x xs == 13) (sym (ap (λ b. cond b (take (length 
     at true e = absurd (omega (arith, ap length e, length-take (length (x ∷ xs) - 1) (x ∷ xs)))
     at false e = refl
 
--- what stands before the byte with which a text ends
+-- what is before the last byte of a text
 pub before_last : (c : ℕ) (bytes : List ℕ) → ends_with_byte c bytes ≡ true → (front : List ℕ) × (bytes ≡ front ++ c ∷ [])
 before_last c [] ends = absurd (false≢true ends)
 before_last c (x ∷ xs) ends =

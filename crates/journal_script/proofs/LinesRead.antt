@@ -41,7 +41,7 @@ pub one_more : (b : Bool) → not b ≡ true → b ≡ false
 one_more true e = sym e
 one_more false e = refl
 
--- a line that was answered and told
+-- a line that was answered and counted
 pub told_line : (s t : Script) (seen now : LeftOut) (line other : Line) (reply : List ℕ) → line_step s other ≡ (t, reply)
     → now.is_marked ≡ is_marked line → now.has_lost ≡ (seen.has_lost || is_lost reply line) → line ≡ other → standing t now ≡ read_line (standing s seen) other
 told_line s t seen now line other reply is m l same =

@@ -1,4 +1,4 @@
--- What a text asks for does not depend on the moment at which it is read.
+-- What a text asks for does not depend on the moment when it is read.
 use Rattle.std.proofs.Common.{◌≡◌, ℕ, List, refl}
 use Rattle.ocppj_frame.specs.declared.action.Action.{Action}
 use Rattle.ocppj_frame.specs.declared.action.Action.TheVariants.{BootNotification, Heartbeat, StatusNotification, MeterValues, TransactionEvent}

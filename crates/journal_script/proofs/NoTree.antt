@@ -36,7 +36,7 @@ pub record IsStray (c : ℕ) : Type 0 where
 
 -- ---- words
 
--- an operator or a space stands in the text, or the byte c is not its last; `last` tells that c was just before
+-- an operator or a space is in the text, or the byte c is not its last; `last` says that c was just before
 abbrev fits : ℕ → Bool → List ℕ → Bool
 fits c last [] = not last
 fits c last (x ∷ xs) = is_stop x || fits c (x == c) xs

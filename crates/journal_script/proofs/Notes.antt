@@ -1,4 +1,4 @@
--- What stands in front of a journal's line changes nothing of what a script leaves.
+-- What is in front of a journal's line changes nothing of what a script leaves.
 use Rattle.std.proofs.Common.{◌≡◌, ℕ, suc, ◌+◌, ◌-◌, ◌≤◌, Bool, true, false, cond, leb, List, [], ◌∷◌, ◌++◌, Some, None, All, length, take, inl, inr, refl, sym, ap, ◌∙◌, arith, append-nil}
 use Rattle.std.specs.Io.BufRead.{ends_with_byte, strip_last}
 use Rattle.std.proofs.lemmas.Bool.Decides.{nat_tests}

@@ -34,7 +34,7 @@ use Rattle.journal_script.proofs.Unheard.{IsAnswered, answered_where_not_read}
 
 -- ---- a mark
 
--- a `#` stands in the text
+-- a `#` is in the text
 abbrev pub is_marked : List ℕ → Bool
 is_marked [] = false
 is_marked (b ∷ bs) = (b == 35) || is_marked bs
@@ -74,7 +74,7 @@ parted_is text words e = at (ltb (position_or_len is_space text) (length text)) 
 
 -- ---- the words of a text
 
--- a mark stands in one of the words
+-- a mark is in one of the words
 abbrev AnyMarked : List (List ℕ) → Type 0
 AnyMarked [] = ⊥
 AnyMarked (word ∷ line) = (is_marked word ≡ true) ⊎ AnyMarked line
@@ -262,7 +262,7 @@ module _ (c : ℕ) (no_space : (32 == c) ≡ false) (no_digit : is_ascii_digit c
   idle_command what (a ∷ b ∷ []) h = tt
   idle_command what (a ∷ b ∷ d ∷ e ∷ line) h = tt
 
-  -- the mark does not stand in the word `station`
+  -- the mark is not in the word `station`
   behind_station : (line : List ℕ × List ℕ) → bytes_eq line.0 (codes "station") ≡ true → (is_marked line.0 ≡ true) ⊎ (is_marked line.1 ≡ true) → is_marked line.1 ≡ true
   behind_station line is (inl there) = absurd (false≢true (ap is_marked (sym ((bytes_eq-Decides line.0 (codes "station")).0 is)) ∙ there))
   behind_station line is (inr there) = there
@@ -342,7 +342,7 @@ stays_step s (asks_export _) idle = (refl, record { sites = refl; periods = refl
 stays_step s (asks_total _) idle = (refl, record { sites = refl; periods = refl; orders = refl })
 stays_step s (asks_board _) idle = (refl, record { sites = refl; periods = refl; orders = refl })
 
--- a line in which a `#` stands, and which ends with it or with the run's comment, changes nothing that is shown
+-- a line with a `#`, which ends with it or with the run's comment, changes nothing that is shown
 pub spoiled : (s : Script) (most : ℕ) (front back : List ℕ) → (last 35 back ≡ 35) ⊎ (last 35 back ≡ 115) → Stays s (line_step s (ended most (front ++ 35 ∷ back))).0
 spoiled s most front back (inl hash) =
     stays_step s (line_meaning (ended most (front ++ 35 ∷ back))) (idle_line 35 refl refl refl refl refl refl hash_not_read most (front ++ 35 ∷ back) refl (last_behind 32 front 35 back ∙ hash) (marked_behind front back))

@@ -9,7 +9,7 @@ after_both s [] other = refl
 after_both s (line ∷ one) other = after_both (line_step s line).0 one other
 
 module _ (most : ℕ) where
-  -- lines that a line feed ends are cut apart from what stands behind them
+  -- lines that a line feed ends are cut apart from what is behind them
   cut_apart : (seen front more : List ℕ) → cut (unended most) most seen ((front ++ 10 ∷ []) ++ more) ≡ cut (unended most) most seen (front ++ 10 ∷ []) ++ cut (unended most) most [] more
   cut_apart seen [] more = refl
   cut_apart seen (b ∷ front) more = at (eqb b 10) (cut_apart [] front more) (cut_apart (seen ++ b ∷ []) front more)

@@ -1,4 +1,5 @@
--- What a journal's text leaves that was cut at any byte, as a script behind another one.
+-- The contents after a journal's text that was cut at any byte, read as a script behind another
+-- one.
 use Rattle.std.specs.Prelude.{◌≡◌, ℕ, ◌<◌, ◌≤◌, List, [], ◌∷◌, ◌++◌, ◌⊎◌, All, codes, drop, length, take}
 use Rattle.kept_desk.specs.declared.entry.Entry.{Entry}
 use Rattle.kept_desk.specs.Entries.{entry_text, text_of}
@@ -12,7 +13,7 @@ use Rattle.station_cell.specs.Cell.{Cell}
 use Rattle.journal_script.specs.Journals.{AreLeft, EndsWhole, HasOnce, IsSpoken, Shows}
 use Rattle.journal_script.specs.Restoring.{run_line}
 
--- What is put behind a journal that is restored, before `listen`.
+-- The bytes that are put behind a journal to restore it, before `listen`.
 abbrev pub restore_mark : List ℕ
 restore_mark = codes "#\n"
 
@@ -20,23 +21,28 @@ restore_mark = codes "#\n"
 abbrev pub run_begins : List ℕ
 run_begins = run_line ++ 10 ∷ []
 
--- What stands behind a journal that was cut: the mark of a restore, or the next run's first line.
+-- What is behind a journal that was cut: the mark of a restore, or the next run's first line.
 abbrev pub IsMark : List ℕ → Type 0
 IsMark mark = (mark ≡ restore_mark) ⊎ (mark ≡ run_begins)
 
--- The bytes begin the text of the first of these entries, and are not all of it; where there are no entries, there are no bytes.
+-- The bytes are a front, but not all, of the text of the first of these entries; without entries there are no bytes.
 abbrev pub BeginsNext : List ℕ → List Entry → Type 0
 BeginsNext part [] = part ≡ []
 BeginsNext part (e ∷ es) = (more : List ℕ) × (entry_text e ≡ part ++ more) × (0 < length more)
 
--- The front of a journal's text has the lines of its first k entries whole, with what stands in front of them, and of the next entry's text only a part, which may be none of it. A line without its line feed is not whole.
+-- The front of a journal's text has the whole lines of its first k entries, with the bytes in front
+-- of them, and only a part, perhaps nothing, of the next entry's text. A line without its line feed
+-- is not whole.
 pub record HasWhole (log : List Entry) (front : List ℕ) (k : ℕ) : Type 0 where
   pub within : k ≤ length log
   pub part : List ℕ
   pub is : front ≡ text_of (take k log) ++ part
   pub next : BeginsNext part (drop k log)
 
--- Where a script ends with a plan's stations in these contents, and behind it stand the front of a journal's text, wherever it is cut, and a mark, the longer script ends with the contents that the entries leave whose lines are whole in that front. So a journal that was cut at any byte loses no whole line and gains none.
+-- Take a script that ends with a plan's stations in these contents, and behind it the front of a
+-- journal's text, cut anywhere, and a mark. The longer script ends with the contents to which the
+-- entries with whole lines in that front lead. So a journal that was cut at any byte loses no whole
+-- line and gains none.
 abbrev pub CutsAreScripts : Type 0
 CutsAreScripts = (read : List ℕ) (sites : List SitePlan) (stations : List StationPlan) (firsts : List Cell) (log : List Entry) (front rest mark : List ℕ)
     → EndsWhole read → HasOnce sites stations → Shows (script_after start (lines_of longest_line read)) sites stations firsts

@@ -15,15 +15,18 @@ use Rattle.journal_script.specs.Journals.{AreLeft, EndsWhole, HasOnce, IsSpoken,
 abbrev pub ends_in : List ℕ → Script
 ends_in bytes = script_after start (lines_of longest_line bytes)
 
--- A comment line between whole lines and what is behind them changes nothing of the state in which a replay ends.
+-- A comment line behind whole lines, whatever follows, changes nothing in the state in which a replay ends.
 abbrev pub CommentsChangeNothing : Type 0
 CommentsChangeNothing = (front note back : List ℕ) → EndsWhole front → IsNote note → ends_in (front ++ (note ++ back)) ≡ ends_in (front ++ back)
 
--- A server read a journal in whole lines with the mark of a restore behind it, and went on in the journal's file, which has no mark. A replay of what the server read and wrote ends as a replay of the file ends.
+-- A server read a journal in whole lines with the mark of a restore behind it, and went on in the journal's file, which
+-- has no mark. A replay of what the server read and wrote ends as a replay of the file ends.
 abbrev pub RestoredFilesAreScripts : Type 0
 RestoredFilesAreScripts = (journal written : List ℕ) → EndsWhole journal → ends_in (journal ++ (restore_mark ++ (run_begins ++ written))) ≡ ends_in (journal ++ (run_begins ++ written))
 
--- Where the journal was cut at any byte, behind a script that leaves a plan's stations in these contents, the next run begins with the contents that the journal's whole lines leave, with the mark and without it.
+-- If the journal was cut at any byte, behind a script that ends with a plan's stations in these
+-- contents, the next run begins with the contents to which the journal's whole lines lead, with the
+-- mark and without it.
 abbrev pub RestoredCutsAreScripts : Type 0
 RestoredCutsAreScripts = (read : List ℕ) (sites : List SitePlan) (stations : List StationPlan) (firsts : List Cell) (log : List Entry) (front rest : List ℕ)
     → EndsWhole read → HasOnce sites stations → Shows (ends_in read) sites stations firsts

@@ -1,4 +1,4 @@
--- A script that is restored, as a place in it.
+-- A script that is being restored, as a place in it.
 use Rattle.std.specs.Prelude.{ℕ}
 use Rattle.journal_script.specs.declared.restored_script.RestoredScript.{RestoredScript}
 use Rattle.journal_script.specs.Reading.{Place, place}

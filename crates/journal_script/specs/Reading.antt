@@ -14,7 +14,8 @@ use Rattle.journal_script.specs.declared.source.Source.{Source}
 use Rattle.journal_script.specs.Journals.{EndsWhole, Shows}
 use Rattle.journal_script.specs.Restoring.{HasNoListen, IsListen, is_lost, is_marked}
 
--- Where a script that is read stands: whether its last line ends with `#`, and whether a line is lost.
+-- How far a script was read: its state, whether its last line ends with `#`, and whether a line is
+-- lost.
 pub record Standing : Type 0 where
   pub script : Script
   pub marked : Bool
@@ -35,7 +36,8 @@ abbrev pub read_lines : Standing → List Line → Standing
 read_lines s [] = s
 read_lines s (line ∷ lines) = read_lines (read_line s line) lines
 
--- One line was read, to its line feed: of `raw` no more is held than one byte above a line's most, and `left` of `room` may still be read. It is `listen` just where `more` is false.
+-- One line was read, to its line feed: at most one byte more than a line may have of `raw` is held,
+-- and `left` of `room` may still be read. It is `listen` exactly if `more` is false.
 pub record ReadsLine (most room left : ℕ) (more : Bool) (bytes held : List ℕ) : Type 0 where
   pub raw : List ℕ
   pub feedless : HasNoFeed raw
@@ -45,7 +47,7 @@ pub record ReadsLine (most room left : ℕ) (more : Bool) (bytes held : List ℕ
   pub last : more ≡ false → strip_last 13 raw ≡ codes "listen"
   pub other : more ≡ true → line_of Feed most held ≢ Some (codes "listen")
 
--- These bytes were read of a script, no line of which is `listen`, and it went from where it stood to where it stands.
+-- These bytes of a script were read, none of their lines is `listen`, and they lead from the old state to the new one.
 pub record Runs (most : ℕ) (old new : Standing) (read : List ℕ) : Type 0 where
   pub whole : EndsWhole read
   pub ran : new ≡ read_lines old (lines_of most read)
@@ -59,34 +61,35 @@ pub record ReadsTo (most : ℕ) (old new : Standing) (r0 r1 : Option (List ℕ))
   pub listens : IsListen last
   pub consumed : Consumes r0 r1 (read ++ last)
 
--- The line that is held.
+-- The line that the reader holds.
 abbrev pub held_line : LineReader → Line
 held_line lines = line_of Feed lines.max_line_bytes lines.held.items
 
--- A reader of lines took one line more.
+-- A reader of lines took one more line.
 abbrev pub TakesLine : Bool → LineReader → LineReader → Option (List ℕ) → Option (List ℕ) → Type 0
 TakesLine more before after r0 r1 = (bytes : List ℕ) × Consumes r0 r1 bytes × ReadsLine before.max_line_bytes before.room after.room more bytes after.held.items
 
--- A place in a script: where it stands, and the reader of its lines.
+-- A place in a script: how far it was read, and the reader of its lines.
 pub record Place : Type 0 where
   pub standing : Standing
   pub lines : LineReader
 
--- The place of a script that stands so and is read on from there.
+-- The place of a script in this state, with this source for the lines to come.
 abbrev pub place : Script → Source → Place
 place script source = record { standing = standing script source.left_out; lines = source.lines }
 
--- A place, once the line that is held was taken.
+-- A place, after the line that the reader holds was taken.
 abbrev pub read_on : Place → Place
 read_on p = record { standing = read_line p.standing (held_line p.lines); lines = p.lines }
 
--- What a script leaves that stands so: the contents of what is restored, whether a line is lost, and whether the last ends with `#`.
+-- The result of a script that was read so far: the restored contents, whether a line is lost, and whether the last one
+-- ends with `#`.
 pub record IsLeft (s : Standing) (r : Restored) (marked : Bool) : Type 0 where
   pub shows : Shows s.script r.draft.sites r.draft.stations r.cells.items
   pub loses : r.has_lost ≡ s.lost
   pub ends : marked ≡ s.marked
 
--- A script was read up to `listen`, and this is what it leaves.
+-- A script was read up to `listen`, and this is its result.
 pub record Leaves (r0 r1 : Option (List ℕ)) (r : Restored) (marked : Bool) : Type 0 where
   pub standing : Standing
   pub reads : ReadsTo longest_line begun standing r0 r1

@@ -1,4 +1,4 @@
--- What a message's line says, at whatever moment it is read.
+-- What a message's line says, whenever it is read.
 use Rattle.std.specs.Prelude.{◌≡◌, ℕ, ◌≤◌, true, List, ◌∷◌, ◌++◌, codes, length}
 use Rattle.std.specs.Io.BufRead.{strip_last}
 use Rattle.ledger_model.specs.declared.command.Command.TheVariants.{Deliver}
@@ -9,7 +9,7 @@ use Rattle.transaction_event.specs.Request.{Request}
 use Rattle.script_lines.specs.Lines.{HasNoFeed}
 use Rattle.script_lines.specs.Ranges.{longest_line}
 
--- A text that is an event at one moment asks for its delivery at any.
+-- A text that is an event at one moment asks for its delivery at every moment.
 abbrev pub EventsAskAtAnyMoment : Type 0
 EventsAskAtAnyMoment = (text : List ℕ) (now : ℕ) (id : List ℕ) (request : Request) → message text now ≡ Event id request → AsksFor text (Deliver request.key request.event)
 
@@ -17,7 +17,8 @@ EventsAskAtAnyMoment = (text : List ℕ) (now : ℕ) (id : List ℕ) (request : 
 abbrev pub message_text : List ℕ → List ℕ → List ℕ
 message_text name text = codes "msg " ++ (name ++ 32 ∷ text)
 
--- The text stands in a script as it is, as the message of a station: it has no line feed and no carriage return at its end, and its line is no longer than a line may be.
+-- The text can be in a script as it is, as the message of a station: it has no line feed and no
+-- carriage return at its end, and its line is no longer than a line may be.
 pub record StandsAsItIs (name text : List ℕ) : Type 0 where
   pub named : is_name name ≡ true
   pub feedless : HasNoFeed text

@@ -2,23 +2,23 @@ use script_lines::ReplayFault;
 use std::alloc::AllocError;
 use thiserror::Error;
 
-/// Why a script was not restored. Nothing is kept of what was read.
+/// Why a script was not restored. Nothing that was read is kept.
 #[derive(Clone, Copy, Debug, PartialEq, Eq, Error)]
 pub enum RestoreFault {
     /// The input ended before the line `listen`.
     #[error("NotRestored")]
     NotRestored,
-    /// The line before `listen` does not end with `#`. Behind a journal belong a line `#`, which spoils the part of a
-    /// line that a kill may have left there, and the line `listen`: `printf '#\nlisten\n'`.
+    /// The line before `listen` does not end with `#`. Behind a journal there must be a `#` and a line feed, so that
+    /// no part of a line left by a kill is a command, and then the line `listen`: `printf '#\nlisten\n'`.
     #[error("NotMarked")]
     NotMarked,
-    /// The reader answered an error.
+    /// A read failed.
     #[error("ReadFault")]
     ReadFault,
-    /// The script has more bytes than a replay reads, 1 GiB.
+    /// The script has more bytes than a replay may read: 1 GiB.
     #[error("TooMuchInput")]
     TooMuchInput,
-    /// No memory was found for a line, its answer or the ledgers.
+    /// There was no memory for a line, its answer or the ledgers.
     #[error("OutOfMemory")]
     OutOfMemory,
 }

@@ -7,17 +7,18 @@ use itoa::Buffer;
 use script_lines::write_bytes;
 use std::io::Write;
 
-/// The first line of a run in a journal, a comment. It makes one line of itself and of what a kill left before it, which
-/// changes nothing.
+/// The first line of a run in a journal, a comment. If a kill left a part of a line in front of it, both are one line,
+/// which changes nothing.
 pub const RUN_LINE: &[u8] = b"# a run of ocpp_board begins";
 
-// Counts the lines of a script, and tells those whose answers say that nothing was taken.
+// Counts the lines of a script, and reports those with an answer that says that they changed
+// nothing.
 #[derive(Drop)]
 pub(crate) struct LeftOut {
     pub(crate) lines: u64,
     // Whether the last line ends with `#`.
     pub(crate) is_marked: bool,
-    // Whether a line is lost: nothing of it was taken, and no kill cut it.
+    // Whether a line is lost: it changed nothing, and no kill cut it.
     pub(crate) has_lost: bool,
 }
 
@@ -33,8 +34,8 @@ impl LeftOut {
         }
     }
 
-    // Counts one line more, and tells it where this answer to it is a fault, a refusal or a CALLERROR. Whether that
-    // can be written does not matter.
+    // Counts one more line, and reports it if its answer is a fault, a refusal or a CALLERROR. A report that can't
+    // be written is dropped.
     pub(crate) fn tell<T: Write>(&mut self, told: &mut T, line: Option<&[u8]>, reply: &[u8])
         ensures marked { self.new.is_marked ≡ is_marked (line_bytes line.entry) }
         ensures lost { self.new.has_lost ≡ (self.old.has_lost || is_lost reply.now (line_bytes line.entry)) }
@@ -50,7 +51,7 @@ impl LeftOut {
     }
 }
 
-// Tells a line by its number, and the answer to it.
+// Reports a line by its number, with the answer to it.
 fn tell_line<T: Write>(told: &mut T, number: u64, reply: &[u8])
     ensures { Grows (T.contents told.old) (T.contents told.new) }
 {
@@ -69,14 +70,14 @@ fn tell_number<T: Write>(told: &mut T, number: u64)
     let _ = write_bytes(told, number.as_bytes());
 }
 
-// Tells whether an answer is a fault, a refusal or a CALLERROR.
+// Returns whether an answer is a fault, a refusal or a CALLERROR.
 fn leaves_nothing(reply: &[u8]) -> bool
     ensures { result ≡ leaves_nothing reply.now }
 {
     reply.starts_with(b"fault ") || reply.starts_with(b"refused ") || reply.starts_with(b"[4,")
 }
 
-// Tells whether a line ends with `#`.
+// Returns whether a line ends with `#`.
 fn is_marked(line: Option<&[u8]>) -> bool
     ensures { result ≡ is_marked (line_bytes line.entry) }
 {
@@ -86,7 +87,7 @@ fn is_marked(line: Option<&[u8]>) -> bool
     }
 }
 
-// Tells whether a line ends as one does that a kill cut.
+// Returns whether a line ends as one that a kill cut.
 fn is_cut(line: Option<&[u8]>) -> bool
     ensures { result ≡ is_cut (line_bytes line.entry) }
 {
@@ -96,7 +97,7 @@ fn is_cut(line: Option<&[u8]>) -> bool
     }
 }
 
-// Tells whether the bytes end with `#`.
+// Returns whether the bytes end with `#`.
 fn ends_with_mark(bytes: &[u8]) -> bool
     ensures { result ≡ ends_with_byte 35 bytes.now }
 {

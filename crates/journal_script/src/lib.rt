@@ -1,9 +1,9 @@
-//! A journal as the script that it is, and scripts that are restored.
+//! Journals as scripts, and scripts that are restored.
 //!
-//! [`laws`] says what the text of a journal's entries leaves of stations, where it is read behind a script, whole or cut
-//! at any byte, and that the boards which `replay` then writes are those of the stations. [`message_line`] makes the line
-//! of a message, and reads it before it is journalled. [`restore`] reads a script up to the line `listen`, before which
-//! stands a `#`, and gives its stations in the contents that it leaves.
+//! [`laws`] says which contents stations have after the text of a journal's entries is read behind a script, whole or
+//! cut at any byte, and that the boards which `replay` then writes are those of the stations. [`message_line`] makes
+//! the line of a message, and reads it before it goes into the journal. [`restore`] reads a script up to a `#` and the
+//! line `listen`, and returns its stations with the contents that it leads to.
 #![tactic(auto)]
 
 mod fault;

@@ -13,9 +13,9 @@ use script_lines::{MAX_LINE_BYTES, ScriptLine, read_line, without_return};
 use std::alloc::{AllocError, Global};
 use transaction_event::{Message, message_of};
 
-/// Makes the line of a station's message, and tells whether it asks for the delivery that the message asks for. It does
-/// where the text is one line that is not too long. Line feeds and carriage returns, which may stand between the tokens
-/// of a text, are spaces in the line; such a line is read, and its event compared.
+/// Makes the line of a station's message, and returns whether the line asks for the same delivery as the message. It
+/// does if the text is one line that is not too long. Line feeds and carriage returns between the tokens of a text
+/// become spaces in the line; such a line is read again and its event compared.
 ///
 /// Condition: the text asks for this delivery.
 pub fn message_line(
@@ -58,8 +58,8 @@ fn put_spaces(line: &mut Vec<u8>) {
     }
 }
 
-/// Tells whether the bytes stand in a script as they are, as one line: at most [`MAX_LINE_BYTES`], without a line feed
-/// and with no carriage return at their end.
+/// Returns whether the bytes are one line of a script as they are: at most [`MAX_LINE_BYTES`],
+/// without a line feed and with no carriage return at their end.
 pub fn is_script_line(line: &[u8]) -> bool
     ensures feedless { IsTrue result → HasNoFeed line.now }
     ensures bare { IsTrue result → strip_last 13 line.now ≡ line.now }
@@ -69,21 +69,21 @@ pub fn is_script_line(line: &[u8]) -> bool
     line.len() <= MAX_LINE_BYTES && is_bare(line) && is_line(line)
 }
 
-// Tells whether no byte is a line feed.
+// Returns whether no byte is a line feed.
 fn is_line(bytes: &[u8]) -> bool
     ensures { IsTrue result ↔ HasNoFeed bytes.now }
 {
     bytes.iter().all(|byte| *byte != b'\n')
 }
 
-// Tells whether no carriage return ends the bytes.
+// Returns whether no carriage return ends the bytes.
 fn is_bare(line: &[u8]) -> bool
     ensures { IsTrue result ↔ (strip_last 13 line.now ≡ line.now) }
 {
     without_return(line).len() == line.len()
 }
 
-// Tells whether the line says that this station sends this text.
+// Returns whether the line says that this station sends this text.
 fn is_message(line: Option<&[u8]>, name: &Name, text: &str) -> bool
     ensures { IsTrue result ↔ (line_meaning (line_bytes line.entry) ≡ sends name.now text.now) }
 {
@@ -93,14 +93,14 @@ fn is_message(line: Option<&[u8]>, name: &Name, text: &str) -> bool
     }
 }
 
-// Tells whether both names are one, and both texts.
+// Returns whether both names are the same, and both texts.
 fn is_sent(to: &Name, said: &str, name: &Name, text: &str) -> bool
     ensures { IsTrue result ↔ ((to.now ≡ name.now) × (said.now ≡ text.now)) }
 {
     *to == *name && *said == *text
 }
 
-// Tells whether the line asks for this delivery by a message of this station.
+// Returns whether the line asks for this delivery by a message of this station.
 fn is_delivery(alloc: Global, line: Option<&[u8]>, name: &Name, key: &Key, event: &Event) -> bool
     ensures { IsTrue result → Says (line_meaning (line_bytes line.entry)) name.now (Deliver key.now event.now) }
 {
@@ -116,7 +116,7 @@ fn is_same_name(to: &Name, name: &Name) -> bool
     *to == *name
 }
 
-// Tells whether the text asks for this delivery.
+// Returns whether the text asks for this delivery.
 fn asks(alloc: Global, text: &str, key: &Key, event: &Event) -> bool
     ensures { IsTrue result → AsksFor text.now (Deliver key.now event.now) }
 {
@@ -131,7 +131,7 @@ fn asks(alloc: Global, text: &str, key: &Key, event: &Event) -> bool
     }
 }
 
-// Tells whether both keys are one, and both events.
+// Returns whether both keys are the same, and both events.
 fn is_same_event(other: &Key, content: &Event, key: &Key, event: &Event) -> bool
     ensures { IsTrue result → (other.now ≡ key.now) × (content.now ≡ event.now) }
 {

@@ -18,7 +18,7 @@ use std::alloc::Global;
 use std::io::{BufRead, Write};
 use std::thread::Threads;
 
-// A script that is restored: what its lines left so far, and its source.
+// A script that is being restored: the state after its lines so far, and its source.
 #[derive(Drop)]
 pub(crate) struct RestoredScript<J: Naming> {
     script: ScriptState<J>,
@@ -26,7 +26,7 @@ pub(crate) struct RestoredScript<J: Naming> {
 }
 
 impl<J: Naming> RestoredScript<J> {
-    // A script of which nothing was read.
+    // A script before its first line.
     //
     // Condition: the tables are those that J names, and there is one for each site that a plan may have.
     pub(crate) fn begin(alloc: Global, tables: Tables) -> Self
@@ -66,7 +66,7 @@ impl<J: Naming> RestoredScript<J> {
         }
     }
 
-    // Has threads read the lines to come that the reader shows.
+    // Lets threads read the lines to come that the reader shows.
     fn look<X: Threads, R: BufRead>(&mut self, rt: &X, reader: &mut R) -> Result<(), RestoreFault>
         ensures place { place_of self.new ≡ place_of self.old }
         ensures posts { posts_of self.new ≡ posts_of self.old }
@@ -79,7 +79,7 @@ impl<J: Naming> RestoredScript<J> {
         }
     }
 
-    // Reads the next line; false where it is `listen`.
+    // Reads the next line; false if it is `listen`.
     fn next<R: BufRead>(&mut self, reader: &mut R) -> Result<bool, RestoreFault>
         requires { self.old.source.lines.max_line_bytes < 2 ^ 62 }
         ensures takes { IfOk result (λ more. TakesLine more self.old.source.lines self.new.source.lines (R.remaining reader.old) (R.remaining reader.new)) }
@@ -109,7 +109,7 @@ impl<J: Naming> RestoredScript<J> {
         Ok(())
     }
 
-    // What is left, and whether the line before `listen` ends with `#`.
+    // The result, and whether the line before `listen` ends with `#`.
     pub(crate) fn into_restored<X: AllocGlobal + Threads>(
         self,
         rt: &X,

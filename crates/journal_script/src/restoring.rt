@@ -15,13 +15,13 @@ use std::io::{BufRead, Write};
 use std::marker::Brand;
 use std::thread::Threads;
 
-/// Reads a script up to the line `listen`, of which nothing is read beyond its line feed, and takes its declarations
-/// and commands. A line whose answer is a fault, a refusal or a CALLERROR changes nothing, and is told as `left out
-/// <line number> <answer>`, the first line being 1; whether that can be written does not matter. A repeat is not told.
+/// Reads a script up to the line feed of the line `listen`, and takes its declarations and commands. A line changes
+/// nothing if its answer is a fault, a refusal or a CALLERROR; it is reported as `left out <line number> <answer>`,
+/// counted from 1. A report that can't be written is dropped. A repeat is not reported.
 ///
-/// The line before `listen` has to end with `#`, and else the script is `NotMarked`: behind a journal that a kill cut
-/// within a line, the `#` makes that part of a line say nothing. An input that ends before the line feed of `listen` is
-/// `NotRestored`.
+/// The line before `listen` must end with `#`, else the fault is `NotMarked`: if a kill cut the journal within a line,
+/// the `#` keeps that part of a line from being a command. If the input ends before the line feed of `listen`, the
+/// fault is `NotRestored`.
 pub fn restore<X: AllocGlobal + Threads, R: BufRead, T: Write>(
     rt: &X,
     reader: &mut R,
@@ -41,7 +41,8 @@ pub fn restore<X: AllocGlobal + Threads, R: BufRead, T: Write>(
     Ok(restored)
 }
 
-// Restores a script over tables that J names, and tells whether the line before `listen` ends with `#`.
+// Restores a script over tables that J names, and returns whether the line before `listen` ends with
+// `#`.
 fn restore_script<J: Naming, X: AllocGlobal + Threads, R: BufRead, T: Write>(
     rt: &X,
     tables: Tables,

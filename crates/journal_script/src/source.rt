@@ -12,10 +12,10 @@ use script_lines::{LineEnd, LineReader, MAX_LINE_BYTES};
 use std::alloc::Global;
 use std::io::{BufRead, Write};
 
-// The line that ends what is restored.
+// The line that ends a script to restore.
 const LISTEN: &[u8] = b"listen";
 
-// A script that is restored: its lines, and what was left out of them.
+// A script that is being restored: its lines, and which of them were left out.
 #[derive(Drop)]
 pub(crate) struct Source {
     pub(crate) lines: LineReader,
@@ -23,7 +23,7 @@ pub(crate) struct Source {
 }
 
 impl Source {
-    // A script of which nothing was read.
+    // A script before its first line.
     pub(crate) fn open(alloc: Global) -> Self
         ensures begun { standing start result.left_out ≡ begun }
         ensures most { result.lines.max_line_bytes ≡ longest_line }
@@ -35,7 +35,7 @@ impl Source {
         }
     }
 
-    // Reads the next line; false where it is `listen`.
+    // Reads the next line; false if it is `listen`.
     pub(crate) fn next<R: BufRead>(&mut self, reader: &mut R) -> Result<bool, RestoreFault>
         requires { self.old.lines.max_line_bytes < 2 ^ 62 }
         ensures takes { IfOk result (λ more. TakesLine more self.old.lines self.new.lines (R.remaining reader.old) (R.remaining reader.new)) }
@@ -56,7 +56,7 @@ impl Source {
         self.lines.line(LineEnd::Feed)
     }
 
-    // Counts the line that was read last, and tells it where this answer to it is a fault, a refusal or a CALLERROR.
+    // Counts the line that was read last, and reports it if its answer is a fault, a refusal or a CALLERROR.
     pub(crate) fn tell<T: Write>(&mut self, told: &mut T, reply: &[u8])
         ensures step { (s t : Script) → line_step s (held_line self.old.lines) ≡ (t, reply.now)
             → standing t self.new.left_out ≡ read_line (standing s self.old.left_out) (held_line self.old.lines) }
@@ -68,7 +68,7 @@ impl Source {
     }
 }
 
-// Tells whether the line is `listen`.
+// Returns whether the line is `listen`.
 fn is_listen(line: Option<&[u8]>) -> bool
     ensures { IsTrue result ↔ (line_bytes line.entry ≡ Some (codes "listen")) }
 {

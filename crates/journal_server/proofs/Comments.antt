@@ -36,7 +36,7 @@ restored_after read r is = record {
   shows = subst (λ s. Shows s r.draft.sites r.draft.stations r.cells.items) (sym (comment_after read is.whole)) is.shows;
 }
 
--- what was consumed stood first
+-- what was consumed was first
 pub consumed_first : (input rest : Option (List ℕ)) (front : List ℕ) → Consumes input rest front → Begins input front
 consumed_first None rest front consumed = tt
 consumed_first (Some bytes) None front consumed = absurd consumed

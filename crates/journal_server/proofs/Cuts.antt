@@ -1,4 +1,4 @@
--- A script that was read up to its line `listen` is what stands before that line.
+-- A script that was read up to its line `listen` is what is before that line.
 use Rattle.std.proofs.Common.{◌≡◌, ℕ, ◌+◌, ◌-◌, ◌<◌, Bool, true, false, not, cond, ◌&&◌, eqb, ltb, List, [], ◌∷◌, ◌++◌, length, take, get_or, refl, sym, ap, ◌∙◌, eqb-true, length-append, arith}
 use Rattle.std.specs.Prelude.{codes}
 use Rattle.std.specs.Io.BufRead.{ends_with_byte, strip_last}

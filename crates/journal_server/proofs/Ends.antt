@@ -60,7 +60,7 @@ name_is (s ∷ stations) (suc k) = name_is stations k
 abbrev Own : List StationPlan → Entry → Type 0
 Own stations e = SpeaksOf (names_of stations e.station) e.line e.command
 
--- lines that speak for stations of a plan, with what stands in front of them
+-- lines that speak for stations of a plan, with what is in front of them
 all_spoken : (stations : List StationPlan) (log : List Entry) → All (λ (e : Entry). IsNote e.note) log → AreSpoken (names_of stations) log → All (IsSpoken stations) log
 all_spoken stations [] noted all = All-nil (IsSpoken stations)
 all_spoken stations (e ∷ log) noted all =
@@ -163,7 +163,7 @@ script_of_plan front sites planned stations plan firsts before left tells s t no
     (subst (λ x. IsEnded (names_of stations) (contents_of firsts) before x stations left (tells stations x)) s
     (subst (λ x. IsEnded (names_of x) (contents_of firsts) before planned x left (tells x planned)) t e))
 
--- what was written behind a head was written behind what stood before it
+-- what was written behind a head was written behind what was before it
 written_behind : (broken : Bool) (before begun now : Option (List ℕ)) (buffer head : List ℕ) (log : List Entry) → Appends before begun head → IsWritten broken begun now buffer log → IsWritten broken (append_known before head) now buffer log
 written_behind broken None begun now buffer head log begins w = record { front = w.front; begins = w.begins; notes = w.notes; lines = w.lines; whole = w.whole; handed_on = w.handed_on; appended = tt }
 written_behind broken (Some bytes) None now buffer head log begins w = absurd begins
@@ -185,7 +185,7 @@ script_behind front sites stations firsts before begun head left tells begins s 
   shown = s.shown;
 }
 
--- what holds of what was told more, holds of the script
+-- what holds of the further answers holds of the script
 pub telling : (front : List ℕ) (sites : List SitePlan) (stations : List StationPlan) (firsts : List Cell) (before : Option (List ℕ)) (left : Left) (tells more : List Entry → Type 0)
     → ((log : List Entry) → tells log → more log) → IsItsScript front sites stations firsts before left tells → IsItsScript front sites stations firsts before left more
 telling front sites stations firsts before left tells more on s = record {
@@ -208,7 +208,7 @@ pub reported : {E : Type 0} (ended : Result (Unit {0}) E) (sites : List SitePlan
 reported (Ok _) sites stations firsts rest before middle now grows log t = (middle, grows, t)
 reported (Err _) sites stations firsts rest before middle now grows log t = t
 
--- what was told at a desk, of the list of its lines
+-- the answers at a desk, by the list of its lines
 pub ended_telling : {S E F : Type 0} (ended : Result (Unit {0}) E) (ran : Result S F) (handed : S → List (List Entry)) (sites : List SitePlan) (stations : List StationPlan) (firsts : List Cell) (places : List StationPlace) (first : ℕ → Content) (coming : Option (List Line)) (before now : Option (List ℕ)) (log : List Entry)
     → AreNewPlaces sites stations places → first ≡ contents_of firsts → OnOk ended (IsOk ran) → IfOk ran (λ seen. All (λ m. IsPrefix m log) (handed seen))
     → IfOk ran (λ seen. Tells (IsKeptAnswer first) (AreBoardsBehind first places) sites places coming before now (handed seen)) → OnOk ended (IsToldOf sites stations (contents_of firsts) log coming before now)
@@ -217,7 +217,7 @@ ended_telling (Ok _) (Ok s) handed sites stations firsts places first coming bef
 ended_telling (Ok _) (Err _) handed sites stations firsts places first coming before now log placed same well begin tells = cc well
 ended_telling (Err _) ran handed sites stations firsts places first coming before now log placed same well begin tells = well
 
--- what a desk was when it was closed, by what is named, with what was told more
+-- a desk at its close, by what is named, with the further answers
 pub ended_as : (name name' : ℕ → List ℕ) (first first' : ℕ → Content) (before before' : Option (List ℕ)) (sites : List SitePlan) (stations : List StationPlan) (left : Left) (tells more : List Entry → Type 0)
     → name ≡ name' → first ≡ first' → before ≡ before' → ((log : List Entry) → tells log → more log) → IsEnded name first before sites stations left tells → IsEnded name' first' before' sites stations left more
 ended_as name name' first first' before before' sites stations left tells more n f b on e =
@@ -230,7 +230,7 @@ pub begin_those : {S F : Type 0} (r : Result S F) (handed : S → List (List Ent
 begin_those (Ok s) handed all log same begin = subst (All (λ m. IsPrefix m log)) same begin
 begin_those (Err _) handed all log same begin = same
 
--- a run by another name of its plan, of which nothing more is said
+-- a run by another name of its plan, without further answers
 pub run_of_plan : (sites sites' : List SitePlan) (stations stations' : List StationPlan) (before : Option (List ℕ)) (left : Left) (tells : List SitePlan → List Cell → List Entry → Type 0) → sites ≡ sites' → stations ≡ stations'
     → IsNewRun sites stations before left tells → IsNewRun sites' stations' before left (λ read firsts log. ⊤)
 run_of_plan sites sites' stations stations' before left tells same at r = record {

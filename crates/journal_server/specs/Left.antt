@@ -1,9 +1,10 @@
--- What a server with a journal leaves.
+-- The result of a server with a journal.
 use Rattle.std.specs.Prelude.{ℕ, Bool, List, Option}
 use Rattle.station_cell.specs.Cell.{Held}
 use Rattle.journal_server.specs.declared.run.Served.{Served}
 
--- What a server leaves: the bytes that the writer of its journal has, those that its buffer kept, whether a write failed, the boards, and the passes.
+-- The result of a server: the bytes that the writer of its journal has, those that its buffer kept,
+-- whether a write failed, the boards, and the passes.
 pub record Left : Type 0 where
   pub now : Option (List ℕ)
   pub buffer : List ℕ

@@ -31,16 +31,17 @@ use Rattle.site_desk.specs.Close.{changes_of}
 use Rattle.station_cell.specs.Cell.{Cell, Held}
 use Rattle.journal_server.specs.Left.{Left}
 
--- The state in which these bytes leave a replay.
+-- The state of a replay after these bytes.
 abbrev pub after : List ℕ → Script
 after bytes = script_after start (lines_of longest_line bytes)
 
--- A script, in whole lines, that leaves these sites and stations, in the contents of these cells.
+-- A script, in whole lines, that ends with these sites and stations, with the contents of these
+-- cells.
 pub record Leaves (script : List ℕ) (sites : List SitePlan) (stations : List StationPlan) (cells : List Cell) : Type 0 where
   pub whole : EndsWhole script
   pub shows : Shows (after script) sites stations cells
 
--- The texts of the first so many sites, one behind the other.
+-- The texts of the first so many sites, one after the other.
 abbrev pub joined : (ℕ → List ℕ) → ℕ → List ℕ
 joined texts zero = []
 joined texts (suc k) = joined texts k ++ texts k
@@ -58,7 +59,8 @@ pub record Declares (sites read : List SitePlan) (cells : List Cell) : Type 0 wh
   pub orders : map (λ s. s.order) read ≡ map (λ s. s.order) sites
   pub unchanged : All (λ c. c.content ≡ empty_content) cells
 
--- Each station's content is what the commands of its own lines, each accepted under the station's limits and counted, leave of what it was first.
+-- The commands of each station's own lines, each accepted under the station's limits and counted,
+-- lead from its first content to this one.
 pub record AreLeftFrom (stations : List StationPlan) (firsts cells : List Cell) (log : List Entry) : Type 0 where
   pub count_first : length firsts ≡ length stations
   pub count : length cells ≡ length stations
@@ -69,11 +71,18 @@ abbrev pub AreAccepted : List StationPlan → List Cell → List Entry → Type 
 AreAccepted stations firsts log = (before : List Entry) (e : Entry) (rest : List Entry) (s : StationPlan) (f : Cell) → log ≡ before ++ e ∷ rest
     → slice_get stations e.station ≡ Some s → slice_get firsts e.station ≡ Some f → IsAcceptedBehind s.limits f.content (of_station e.station before) e.command
 
--- The passes of each station counted the changes that it held first and one for each of its lines in the list: as many answers were accepted as there are lines.
+-- The passes of each station counted its first changes and one more for each of its lines in the
+-- list: as many answers were accepted as there are lines.
 abbrev pub AreGiven : List Cell → List Entry → List Held → Type 0
 AreGiven firsts log passes = (k : ℕ) (f : Cell) → slice_get firsts k ≡ Some f → changes_of k passes ≡ f.content.changes + length (of_station k log)
 
--- What a server wrote behind the front of its script, which leaves these sites and stations in the contents of the cells `firsts`, and the boards that it gave last. There is one list of lines. The writer, which held `before`, took their text, and where a write failed a front of one line more. Each line speaks for its command on its station, and was accepted where the earlier lines of the station lead. Each station's content is what its own lines leave, and its passes counted one accepted answer for each of them. What was told is of this list. The boards are what `replay` answers behind the front and the lines.
+-- What a server wrote behind the front of its script, and the boards that it gave at its end. The
+-- front ends with these sites and stations, with the contents of the cells `firsts`. There is one
+-- list of lines. The writer, which had `before`, took their text and, if a write failed, a front of
+-- one more line. Each line speaks for its command on its station, and was accepted at the content
+-- to which the earlier lines of the station lead. Each station's own lines lead to its content, and
+-- its passes counted one accepted answer for each of them. The console's answers belong to this
+-- list. The boards are what `replay` answers behind the front and the lines.
 pub record IsItsScript (front : List ℕ) (sites : List SitePlan) (stations : List StationPlan) (firsts : List Cell) (before : Option (List ℕ)) (left : Left) (tells : List Entry → Type 0) : Type 0 where
   pub log : List Entry
   pub written : IsWritten left.broken before left.now left.buffer log
@@ -87,7 +96,9 @@ pub record IsItsScript (front : List ℕ) (sites : List SitePlan) (stations : Li
   pub ended : Shows (after (front ++ text_of log)) sites stations cells
   pub shown : AreAnswers (after (front ++ text_of log)) sites left.boards
 
--- A server that began anew with this plan: its script is what it wrote, a head that declares the plan's sites and stations, without a change, and its lines. What it told is of these sites, of what the stations held first, and of these lines.
+-- A server that began anew with this plan: its script is what it wrote, a head that declares the
+-- plan's sites and stations, without a change, and its lines. Its answers belong to these sites, to
+-- the stations' first contents, and to these lines.
 pub record IsNewRun (sites : List SitePlan) (stations : List StationPlan) (before : Option (List ℕ)) (left : Left) (tells : List SitePlan → List Cell → List Entry → Type 0) : Type 0 where
   pub head : List ℕ
   pub read : List SitePlan
@@ -99,7 +110,10 @@ pub record IsNewRun (sites : List SitePlan) (stations : List StationPlan) (befor
 abbrev pub Begins : Option (List ℕ) → List ℕ → Type 0
 Begins input front = IfSome input (λ bytes. (rest : List ℕ) × (bytes ≡ front ++ rest))
 
--- A server that was restored: its script is what it read, in whole lines, before the first line `listen`, followed by what it wrote, the first line of a run and its lines. The last line that was read ends with `#`, and none is lost unless that was allowed. What it told is of what is left of the input, of these sites and stations, of what they held first, and of these lines.
+-- A server that was restored: its script is what it read, in whole lines, before the first line
+-- `listen`, followed by what it wrote, the first line of a run and its lines. The last line that
+-- was read ends with `#`, and none is lost unless that was allowed. Its answers belong to the rest
+-- of the input, to these sites and stations, to their first contents, and to these lines.
 pub record IsRestoredRun (allows : Bool) (input before : Option (List ℕ)) (left : Left) (tells : Option (List ℕ) → List SitePlan → List StationPlan → List Cell → List Entry → Type 0) : Type 0 where
   pub read : List ℕ
   pub last : List ℕ
@@ -115,11 +129,11 @@ pub record IsRestoredRun (allows : Bool) (input before : Option (List ℕ)) (lef
   pub firsts : List Cell
   pub script : IsItsScript (read ++ run_begins) sites stations firsts (append_known before run_begins) left (tells rest sites stations firsts)
 
--- A server that was not restored, since of what it read up to the line `listen` this is so.
+-- A server that was not restored, since this holds for what it read up to the line `listen`.
 abbrev pub IsRefused : Option (List ℕ) → (List ℕ → Type 0) → Type 0
 IsRefused input why = (read last : List ℕ) × Begins input (read ++ last) × IsListen last × why read
 
--- What a desk with a journal was when it was closed, with its boards and its passes, and what was told of its list of lines.
+-- A desk with a journal at its close, with its boards and its passes, and the answers that belong to its list of lines.
 pub record IsEnded (name : ℕ → List ℕ) (first : ℕ → Content) (before : Option (List ℕ)) (sites : List SitePlan) (stations : List StationPlan) (left : Left) (tells : List Entry → Type 0) : Type 0 where
   pub cells : List Cell
   pub seen : List (List Entry)
@@ -130,11 +144,16 @@ pub record IsEnded (name : ℕ → List ℕ) (first : ℕ → Content) (before :
   pub limits : (k : ℕ) (s : StationPlan) (c : Cell) → slice_get stations k ≡ Some s → slice_get cells k ≡ Some c → c.limits ≡ s.limits
   pub is : left.boards ≡ boards_text sites stations cells (length sites)
 
--- With an answer to a command came what a desk with a journal hands out with it, for a line of the command and what stood in front of it.
+-- What came with an answer to a command is what a desk with a journal returns with it, for a line
+-- of the command and the bytes in front of it.
 abbrev pub IsKeptAnswer : (ℕ → Content) → ℕ → StationPlace → Command → Answer → Option Known → Option (List Entry) → Type 0
 IsKeptAnswer first number at command answer told seen = (note line : List ℕ) × IsReceived at (first number) answer (entry number note line command) told seen
 
--- The console of a server, which held `before`, took where the server listens and then the answers to its operator's lines, at a desk of the plan's stations with what they held first. What was seen of the journal with each answer begins this list of lines: an accepted command's line is the last of it, and the answer is the ledger's where the station's earlier lines lead; a board is that of what the lines of its stations in it leave.
+-- The console of a server, which had `before`, took the lines of the ports and then the answers to
+-- its operator's lines, at a desk of the plan's stations with their first contents. The moment of
+-- the journal with each answer is a front of this list of lines. An accepted command's line is the
+-- last of that front, and its answer is the ledger's at the content to which the station's earlier
+-- lines lead. A board is that of the contents to which the stations' lines in that front lead.
 pub record IsToldOf (sites : List SitePlan) (stations : List StationPlan) (first : ℕ → Content) (log : List Entry) (coming : Option (List Line)) (before now : Option (List ℕ)) : Type 0 where
   pub places : List StationPlace
   pub placed : AreNewPlaces sites stations places
@@ -142,11 +161,13 @@ pub record IsToldOf (sites : List SitePlan) (stations : List StationPlan) (first
   pub begin : All (λ m. IsPrefix m log) seen
   pub tells : Tells (IsKeptAnswer first) (AreBoardsBehind first places) sites places coming before now seen
 
--- After Ok the console of a server that began anew took that; its operator's lines are those of this input.
+-- After Ok, `IsToldOf` holds for the console of a server that began anew; its operator's lines are those of
+-- this input.
 abbrev pub TellsNew : {E : Type 0} → Result (Unit {0}) E → List StationPlan → Option (List ℕ) → Option (List ℕ) → Option (List ℕ) → List SitePlan → List Cell → List Entry → Type 0
 TellsNew ended stations input before now read firsts log = OnOk ended (IsToldOf read stations (contents_of firsts) log (lines_in input) before now)
 
--- After Ok the console of a server that was restored took first what was reported of the script, and then that; its operator's lines are those of the rest of the input.
+-- After Ok the console of a restored server took first the reports about the script; after them
+-- `IsToldOf` holds. Its operator's lines are those of the rest of the input.
 abbrev pub TellsRestored : {E : Type 0} → Result (Unit {0}) E → Option (List ℕ) → Option (List ℕ) → Option (List ℕ) → List SitePlan → List StationPlan → List Cell → List Entry → Type 0
 TellsRestored ended before now rest sites stations firsts log =
     OnOk ended ((reported : Option (List ℕ)) × Grows before reported × IsToldOf sites stations (contents_of firsts) log (lines_in rest) reported now)

@@ -13,12 +13,12 @@ use Rattle.journal_server.specs.Served.{IsNewRun}
 abbrev pub simulated_name : ℕ → List ℕ
 simulated_name number = codes "CS-" ++ decimal number
 
--- The site `sim`, once it has a station, by the default settlement period and with readings by sequence.
+-- The site `sim`, if it has a station, with the default length of periods and readings by sequence.
 abbrev pub simulated_sites : ℕ → List SitePlan
 simulated_sites zero = []
 simulated_sites (suc before) = record { name = codes "sim"; viewers = 0; period = default_periods; order = Sequence } ∷ []
 
--- So many simulated stations of it, numbered from 1, under the default limits.
+-- So many simulated stations of that site, numbered from 1, under the default limits.
 abbrev pub simulated_stations : ℕ → List StationPlan
 simulated_stations zero = []
 simulated_stations (suc before) = simulated_stations before ++ record { site = 0; name = simulated_name (suc before); limits = default_limits } ∷ []

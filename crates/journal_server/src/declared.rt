@@ -8,7 +8,7 @@ use ledger_model::{Limits, Name, Order, Settle};
 use site_desk::{Plan, SitePlan, StationPlan};
 use std::alloc::{AllocError, Global};
 
-// What ends the head of a journal, as it ends what is restored: a script that is restored has it before its line `listen`.
+// The end of a journal's head. A script to restore has the same mark before its line `listen`.
 const MARK: &[u8] = b"#\n";
 
 // How a run begins in a journal: its first line.
@@ -85,7 +85,7 @@ fn put_period(head: &mut Vec<u8>, site: &SitePlan) -> Result<(), AllocError> {
     Ok(())
 }
 
-// The line of a site's order of readings, where it is not the one that a script takes for undeclared ones.
+// The line of a site's order of readings, if it is not the one that a script takes by default.
 fn put_order(head: &mut Vec<u8>, site: &SitePlan) -> Result<(), AllocError> {
     if site.order == Order::Moment {
         head.extend_from_slice(b"order")?;

@@ -4,14 +4,14 @@ use std::alloc::AllocError;
 use std::fmt;
 use std::fmt::{Display, Formatter};
 
-/// Why a server with a journal came to no board.
+/// Why a server with a journal ended without its boards.
 #[derive(Clone, Copy, Debug, PartialEq, Eq)]
 pub enum JournalFault {
-    /// As a server without one.
+    /// A fault that a server without a journal may have too.
     Service(ServiceFault),
-    /// What it was to begin with is not restored.
+    /// The script that it should begin with can't be restored.
     Restore(RestoreFault),
-    /// A line of what it was to begin with is lost: it was left out, and no kill cut it.
+    /// A line of the script that it should begin with is lost: it was left out, and no kill cut it.
     LeftOut,
 }
 

@@ -1,21 +1,20 @@
-//! A server that lives and writes a journal: a crash loses nothing that was answered.
+//! A live server that writes a journal: a crash loses nothing that was answered.
 //!
-//! [`serve_journalled`] serves a plan's stations by [`live_server`], over a desk with a
-//! journal ([`KeptDesk`](kept_desk::KeptDesk)): before an answer goes out, the line of its change was written. The journal
-//! is a script: a comment, the plan's declarations, and one line for each accepted change, before which the time of its
-//! receipt may stand as a comment. [`serve_restored`] begins with
-//! such a script, up to the line `listen`, and goes on behind it. While no line of its operator is there it looks
-//! whether the journal can still be written, and ends if not. A server without a journal ([`serve_live`], one of so many
-//! connections by [`serve_counted`], and that of simulated stations by [`simulate`]) is the same, with a journal that is
-//! written nowhere.
+//! [`serve_journalled`] serves a plan's stations by [`live_server`], over a desk with a journal
+//! ([`KeptDesk`](kept_desk::KeptDesk)): it writes the line of a change before the answer goes out. The journal is a
+//! script: a comment, the plan's declarations, and one line for each accepted change; in front of each line may be a
+//! comment with the time of its receipt. [`serve_restored`] begins with such a script, up to the line `listen`, and
+//! goes on behind it. While its operator sends no line, it looks whether the journal can still be written, and ends if
+//! not. A server without a journal is the same server with a journal that is written nowhere: [`serve_live`],
+//! [`serve_counted`] for a number of connections, and [`simulate`] for simulated stations.
 //!
-//! The crate's one contract ([`Served`], `IsItsScript` of `specs/Served.antt`): the boards that a server writes at its end
-//! are the answers to `board <site>` behind one script, which is what it read and wrote; behind its front that script is
-//! the text of one list of lines. Each line was accepted where the earlier lines of its station lead, each station's content
-//! is what its own lines leave, and its passes counted as many accepted answers as it has lines. The console took where the
-//! server listens and the answers to its operator's lines (`IsToldOf`): what was accepted is in that list, and a board is that
-//! of a front of it. That lines are out before their replies, and what a kill leaves,
-//! is shown by tests.
+//! The crate's contract ([`Served`], `IsItsScript` of `specs/Served.antt`): the boards that a server writes at its end
+//! are the answers to `board <site>` behind one script, which is what it read and wrote. Behind its front that script
+//! is the text of one list of lines. Each line was accepted at the content to which the earlier lines of its station
+//! lead. Each station's own lines lead to its content, and its passes counted as many accepted answers as it has lines.
+//! The console took the lines of the ports and the answers to its operator's lines (`IsToldOf`): what was accepted is
+//! in that list, and a board is that of a front of it. Tests show that lines are out before their replies, and what is
+//! left after a kill.
 //!
 //! ```text
 //! serve_journalled(rt, &plan, journalling, stdin, stdout, stderr, lines)?    // standard output is the journal

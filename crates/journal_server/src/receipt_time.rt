@@ -1,4 +1,4 @@
-//! The time at which a line was taken, which stands in front of it.
+//! The time of a line's receipt, as a comment in front of the line.
 ghost use Rattle.kept_desk.specs.Entries.{IsNote};
 
 use arrayvec::ArrayString;
@@ -11,13 +11,13 @@ use std::fmt;
 use std::fmt::Write;
 use std::time::Clock;
 
-// How many bytes such a comment has: `# 2026-03-01T10:00:00.123456789Z` and a line feed.
+// How many bytes the comment has: `# 2026-03-01T10:00:00.123456789Z` and a line feed.
 const NOTE_BYTES: usize = 33;
 
 const NANOS_PER_SECOND: u64 = 1_000_000_000;
 
-// What stands in front of a line that is taken now: the present moment as a comment line where that is asked for, and
-// nothing where it is not, or the clock can't tell.
+// The bytes in front of a line that is taken now: the present moment as a comment line if that is asked for; nothing
+// if it is not, or if the clock fails.
 pub(crate) fn receipt_note<R: Clock>(rt: &R, is_asked: bool) -> ArrayString<NOTE_BYTES>
     ensures { IsNote result.bytes }
 {
@@ -32,7 +32,7 @@ pub(crate) fn receipt_note<R: Clock>(rt: &R, is_asked: bool) -> ArrayString<NOTE
     ArrayString::new()
 }
 
-// A moment to its nanosecond, as a comment line; no bytes where they find no room.
+// A moment to its nanosecond, as a comment line; no bytes if there is no room for them.
 fn comment_of(moment: Moment) -> ArrayString<NOTE_BYTES> {
     let mut comment = ArrayString::new();
     match put_comment(&mut comment, moment) {

@@ -26,12 +26,13 @@ use std::alloc::{AllocError, Global};
 use std::io::{BufRead, BufWriter, Write};
 use std::marker::Brand;
 
-/// What a server with a journal leaves.
+/// The result of a server with a journal.
 #[derive(Drop)]
 pub struct Served<W, T> {
     /// The writer of the journal, behind its buffer.
     pub journal: W,
-    /// What a failed write left in the buffer. It is not written later: its change was refused.
+    /// The bytes that a failed write left in the buffer. They are not written later, since their
+    /// change was refused.
     pub unwritten: Vec<u8>,
     /// Whether a write or a flush of the journal failed.
     pub is_broken: bool,
@@ -41,18 +42,18 @@ pub struct Served<W, T> {
     pub passes: Vec<Pass>,
     /// How the operator's lines ended.
     pub ended: Result<(), ServiceFault>,
-    /// The console, which took where the server listens and the answers to its operator.
+    /// The console, which took the lines of the ports and the answers to the operator.
     pub console: T,
 }
 
-// What a server is asked to do, and which connections it serves.
+// The options of a server, and which connections it serves.
 #[derive(Drop)]
 pub(crate) struct Asked {
     pub(crate) journalling: Journalling,
     pub(crate) clients: Clients,
 }
 
-// Where a server writes: its journal, its console, and the lines of sessions and totals.
+// The outputs of a server: its journal, its console, and the lines of sessions and totals.
 #[derive(Drop)]
 pub(crate) struct Outputs<W: Write + Drop, T, L> {
     pub(crate) journal: BufWriter<W>,
@@ -60,8 +61,8 @@ pub(crate) struct Outputs<W: Write + Drop, T, L> {
     pub(crate) lines: L,
 }
 
-// Serves the stations of a script that was restored until the operator's lines end, which come from the input, or so many
-// connections as are asked for have ended.
+// Serves the stations of a restored script until the operator's lines, which come from the input, end, or until as many
+// connections have ended as are asked for.
 pub(crate) fn run_restored<
     R: AllocGlobal + Host,
     I: BufRead + Readiness,
@@ -104,7 +105,7 @@ pub(crate) fn run_restored<
     )
 }
 
-// Serves what was restored, under the naming of the desk's tables and of its journal.
+// Serves the restored stations, under the naming of the desk's tables and of its journal.
 fn run_over<
     J: Naming + Send + Sync,
     K: Opening + Send + Sync,
@@ -222,7 +223,8 @@ fn seen_of<M: Drop>(
     }
 }
 
-// Closes a desk with a journal whose sessions have ended, and makes the board of each site, in the plan's order.
+// Closes a desk with a journal after its sessions have ended, and makes the board of each site, in the plan's
+// order.
 fn end_run<J: Naming, K: Opening, W: Write + Drop, T: Write + Drop>(
     alloc: Global,
     plan: &Plan,

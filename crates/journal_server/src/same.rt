@@ -1,4 +1,4 @@
-//! Whether what a journal's head declares is the plan that it was made of.
+//! Whether a journal's head declares the plan that it was made from.
 ghost use Rattle.std.specs.Prelude.{◌≡◌, ◌↔◌, IsTrue, All, map};
 ghost use Rattle.ledger_model.specs.Content.{empty_content};
 ghost use Rattle.journal_server.specs.Served.{Declares};
@@ -6,8 +6,9 @@ ghost use Rattle.journal_server.specs.Served.{Declares};
 use site_desk::{Plan, SitePlan, StationPlan};
 use station_cell::StationCell;
 
-// Tells whether a plan that was read, with the cells of its stations, is one that declares the plan: the names,
-// settlement periods and orders of readings of its sites, and its stations, none of which has changed.
+// Returns whether a plan that was read, with the cells of its stations, declares the given plan:
+// the names, lengths of periods and orders of readings of its sites, and its stations, none with a
+// change.
 pub(crate) fn is_declared(plan: &Plan, read: &Plan, cells: &[StationCell]) -> bool
     ensures sites { IsTrue result → Declares plan.now.sites.items read.now.sites.items cells.now }
     ensures stations { IsTrue result → read.now.stations.items ≡ plan.now.stations.items }
@@ -17,7 +18,8 @@ pub(crate) fn is_declared(plan: &Plan, read: &Plan, cells: &[StationCell]) -> bo
         && are_unchanged(cells)
 }
 
-// Tells whether these sites have the same names, settlement periods and orders of readings, one after the other.
+// Returns whether these sites have the same names, lengths of periods and orders of readings, one
+// after the other.
 fn are_same_sites(sites: &[SitePlan], read: &[SitePlan]) -> bool
     ensures names { IsTrue result → map (λ s. s.name) read.now ≡ map (λ s. s.name) sites.now }
     ensures periods { IsTrue result → map (λ s. s.period) read.now ≡ map (λ s. s.period) sites.now }
@@ -32,7 +34,7 @@ fn are_same_sites(sites: &[SitePlan], read: &[SitePlan]) -> bool
     is_same_site(site, other) && are_same_sites(rest, others)
 }
 
-// Tells whether these sites have one name, one settlement period and one order of readings.
+// Returns whether these sites have the same name, length of periods and order of readings.
 fn is_same_site(site: &SitePlan, other: &SitePlan) -> bool
     ensures name { IsTrue result → other.now.name ≡ site.now.name }
     ensures period { IsTrue result → other.now.period ≡ site.now.period }
@@ -41,7 +43,7 @@ fn is_same_site(site: &SitePlan, other: &SitePlan) -> bool
     other.name == site.name && other.period == site.period && other.order == site.order
 }
 
-// Tells whether these are the same stations, in one order.
+// Returns whether these are the same stations, in the same order.
 fn are_same_stations(stations: &[StationPlan], read: &[StationPlan]) -> bool
     ensures { IsTrue result → read.now ≡ stations.now }
 {
@@ -54,14 +56,14 @@ fn are_same_stations(stations: &[StationPlan], read: &[StationPlan]) -> bool
     is_same_station(station, other) && are_same_stations(rest, others)
 }
 
-// Tells whether this is the same station.
+// Returns whether this is the same station.
 fn is_same_station(station: &StationPlan, other: &StationPlan) -> bool
     ensures { IsTrue result → other.now ≡ station.now }
 {
     other.site == station.site && other.name == station.name && other.limits == station.limits
 }
 
-// Tells whether no cell has taken a change.
+// Returns whether no cell has taken a change.
 fn are_unchanged(cells: &[StationCell]) -> bool
     ensures { IsTrue result → All (λ c. c.content ≡ empty_content) cells.now }
 {
@@ -71,7 +73,7 @@ fn are_unchanged(cells: &[StationCell]) -> bool
     is_unchanged(cell) && are_unchanged(rest)
 }
 
-// Tells whether a cell has taken no change.
+// Returns whether a cell has taken no change.
 fn is_unchanged(cell: &StationCell) -> bool
     ensures { IsTrue result → cell.now.content ≡ empty_content }
 {

@@ -29,36 +29,37 @@ use std::io;
 use std::io::{BufRead, BufWriter, Write};
 use std::thread::Threads;
 
-// What ends a script that is restored.
+// The end of a script to restore.
 const LISTEN: &[u8] = b"listen\n";
 
-/// What a server with a journal is asked to do.
+/// The options of a server with a journal.
 #[derive(Clone, Copy, Debug)]
 pub struct Journalling {
-    /// As a server that lives.
+    /// Those of a live server.
     pub live: Live,
-    /// Whether the moment at which it took a message or an operator's line stands in front of the line, as a comment.
+    /// Whether a comment with the moment of its receipt is in front of each line.
     pub has_receipt_times: bool,
 }
 
-/// What a server that is restored is asked to do.
+/// The options of a restored server.
 #[derive(Clone, Copy, Debug)]
 pub struct Restoring {
-    /// As a server with a journal.
+    /// Those of a server with a journal.
     pub journalling: Journalling,
-    /// Whether it serves although a line of what it begins with is lost.
+    /// Whether it serves even if a line of the script that it begins with is lost.
     pub allows_left_out: bool,
 }
 
-/// Serves a plan's stations until the operator's lines end or say `close`, or the journal can't be written: writes
-/// `listening 127.0.0.1:<port>` to the console, and serves connections, two sessions of each station at once. Meanwhile it
-/// answers the lines of the input on the console, each answer out before the next line is read. The journal takes a comment,
-/// the plan's declarations, and the line of each accepted change, which the writer behind the buffer took before the change
-/// is answered, with the time of its receipt in front of it where that is asked for. At the end it ends all sessions, and
-/// the board of each site comes back as a value. Where the journal can't be written nothing more is accepted, and the
-/// server ends itself with `WriteFault`; its boards are there. What it reports of sessions and totals goes to `lines`.
+/// Serves a plan's stations until the operator's lines end or say `close`, or the journal can't be written. It writes
+/// `listening 127.0.0.1:<port>` to the console, and serves connections, up to two sessions of each station at once.
+/// Meanwhile it answers the lines of the input on the console; each answer is out before the next line is read. The
+/// journal takes a comment, the plan's declarations, and the line of each accepted change, with the time of its receipt
+/// in front if that is asked for. The writer behind the buffer took a line before its change is answered. At the end it
+/// ends all sessions, and returns the board of each site as a value. If the journal can't be written, nothing more is
+/// accepted, and the server ends with `WriteFault`; it returns its boards all the same. It reports sessions and totals
+/// to `lines`.
 ///
-/// A plan with a fault is reported before anything is written.
+/// It reports a plan with a fault before it writes anything.
 pub fn serve_journalled<
     R: AllocGlobal + Host,
     I: BufRead + Readiness,
@@ -93,7 +94,7 @@ pub fn serve_journalled<
     serve_plan(rt, plan, asked, input, outputs)
 }
 
-// Serves a plan's stations as it is asked.
+// Serves a plan's stations with these options.
 pub(crate) fn serve_plan<
     R: AllocGlobal + Host,
     I: BufRead + Readiness,
@@ -133,14 +134,14 @@ pub(crate) fn serve_plan<
     Ok(served)
 }
 
-/// Serves the stations of a script as [`serve_journalled`] serves those of a plan: it restores the script with which the
-/// input begins, up to the line `listen`, and goes on behind it. Restored lines are not written again, nor are the
-/// declarations. A line that left nothing is told as `left out <line number> <answer>`, and then how many changes the
+/// Serves the stations of a script as [`serve_journalled`] serves those of a plan: it restores the script at the front
+/// of the input, up to the line `listen`, and goes on behind it. It writes neither restored lines nor the declarations
+/// again. It reports a line that changed nothing as `left out <line number> <answer>`, and then how many changes the
 /// stations hold, as `restored <n>`. An operator's lines follow on the input.
 ///
-/// Where a line is lost, which is one that left nothing and that no kill cut, it ends with `LeftOut` before anything is
-/// written or listened on, unless it is asked to serve all the same: what the stations hold is less than the script tells
-/// then, as where a declaration is missing.
+/// If a line is lost, that is, it changed nothing and no kill cut it, the server ends with `LeftOut` before it writes a
+/// journal or listens, unless the options allow it: the stations then hold less than the script says, as when a
+/// declaration is missing.
 pub fn serve_restored<
     R: AllocGlobal + Host,
     I: BufRead + Readiness,
@@ -184,14 +185,14 @@ pub fn serve_restored<
     Ok(served)
 }
 
-// Tells whether a script is refused, by whether a line of it is lost and whether that is allowed.
+// Returns whether a script is refused, by whether a line of it is lost and whether that is allowed.
 fn is_refused(has_lost: bool, allows_left_out: bool) -> bool
     ensures { result ≡ (has_lost && not allows_left_out) }
 {
     has_lost && !allows_left_out
 }
 
-// Writes how a run begins, of which nothing is left in the buffer then.
+// Writes the beginning of a run; nothing of it is left in the buffer then.
 fn write_head<W: Write + Drop>(
     mut journal: BufWriter<W>,
     head: &[u8],
@@ -208,7 +209,7 @@ fn write_head<W: Write + Drop>(
     }
 }
 
-// Tells how many changes the stations hold that were restored. Whether that can be written does not matter.
+// Reports how many changes the restored stations hold. A report that can't be written is dropped.
 fn tell_restored<T: Write>(console: &mut T, cells: &[StationCell])
     ensures { Grows (T.contents console.old) (T.contents console.new) }
 {
@@ -230,7 +231,7 @@ fn tell_changes<T: Write>(console: &mut T, changes: u64)
     let _ = write_bytes(console, b"\n");
 }
 
-// What the head of a journal leaves: the stations that it declares, without events.
+// The result of a journal's head: the stations that it declares, without events.
 fn restore_declared<R: AllocGlobal + Threads>(rt: &R, head: &[u8]) -> Result<Restored, JournalFault>
     ensures restored { IfOk result (λ r. IsRestored head.now r) }
     ensures makes_desk { IfOk result (λ r. (plan_fault r.draft.sites r.draft.stations ≡ None) × AreCellsOf r.draft.sites r.draft.stations r.cells.items) }

@@ -24,14 +24,14 @@ use std::io::Write;
 use std::sync::Wait;
 use std::time::Clock;
 
-// How many bytes of a message's line stand before its text at most: `msg`, two spaces and a name.
+// The most bytes of a message's line before its text: `msg`, two spaces and a name.
 const LINE_START: usize = 53;
 
 // A desk with a journal, as a live server serves it.
 #[derive(Drop)]
 pub(crate) struct Serving<J: Naming, K: Opening, W: Write + Drop> {
     pub(crate) kept: KeptDesk<J, K, W>,
-    // Whether the time of its receipt stands in front of each line.
+    // Whether a comment with the time of its receipt is in front of each line.
     pub(crate) has_receipt_times: bool,
 }
 

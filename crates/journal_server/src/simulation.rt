@@ -39,9 +39,9 @@ const QUIET: Live = Live {
 
 type Played = JoinHandle<Result<(), SimFault>>;
 
-/// Plays so many simulated stations, each with a transaction of so many events, against a server of their own on a port of
-/// 127.0.0.1 that the system chooses, and gives what that leaves when all have ended, among it the board of their site,
-/// `sim`. The console comes back as it was.
+/// Plays `stations` simulated stations, each with a transaction of `events` events, against a server of their own on a
+/// port of 127.0.0.1 that the system chooses. After all have ended it returns the server's result, with the board of
+/// their site, `sim`. The console comes back as it was.
 ///
 /// Condition: 1 to 64 stations, and 2 to 64 events.
 pub fn simulate<R: AllocGlobal + Host + RandomSource, T: Write + Drop>(
@@ -83,8 +83,8 @@ pub fn simulate<R: AllocGlobal + Host + RandomSource, T: Write + Drop>(
     })
 }
 
-// The plan of a site `sim` with so many stations `CS-1`, `CS-2` and so on, under the default limits, by
-// the default settlement period and with readings by sequence.
+// The plan of a site `sim` with `stations` stations `CS-1`, `CS-2` and so on, with default limits, the
+// default length of periods and readings by sequence.
 fn simulated_plan(stations: u16) -> Plan
     requires { stations ≤ 64 }
     ensures sites { result.sites.items ≡ simulated_sites stations }
@@ -144,7 +144,7 @@ fn connect_all<R: Sockets>(
     Ok(streams)
 }
 
-// A connection that waits no longer than a station does for its reply.
+// A connection that waits as long as a station waits for its reply, and no longer.
 fn connect<R: Sockets>(rt: &R, address: SocketAddr) -> io::Result<TcpStream> {
     let stream = TcpStream::connect(rt, address)?;
     stream.set_read_timeout(Some(Duration::from_secs(REPLY_SECONDS)))?;
@@ -153,10 +153,10 @@ fn connect<R: Sockets>(rt: &R, address: SocketAddr) -> io::Result<TcpStream> {
     Ok(stream)
 }
 
-// What the server of simulated stations gives, and the fault of the first of them that had one.
+// The result of the server of simulated stations, and the fault of the first station that had one.
 type Run = (Result<Served<Sink, Sink>, JournalFault>, Option<SimFault>);
 
-// Plays each station on a thread of its own while this one serves them. The listener goes when all are served, so that no
+// Plays each station on a thread of its own while this one serves them. The listener closes when all are served, so no
 // station waits for an answer that never comes.
 fn play_all<R: AllocGlobal + Host + RandomSource>(
     rt: &R,
@@ -192,7 +192,7 @@ fn play_all<R: AllocGlobal + Host + RandomSource>(
     )
 }
 
-// Starts a station on each stream, and gives the fault of one whose thread can't start.
+// Starts a station on each stream, and returns the fault of one if its thread can't start.
 fn start_all<'s, E: 's, R: Threads + RandomSource + Sync>(
     scope: &'s Scope<'s, E>,
     rt: &'s R,
@@ -218,8 +218,8 @@ fn start_all<'s, E: 's, R: Threads + RandomSource + Sync>(
     (played, refused)
 }
 
-// Plays a station. On a desk of its own its events are refused for want of memory alone, which the reply
-// tells.
+// Plays a station. On a desk of its own its events are refused only for a lack of memory, which the
+// reply reports.
 fn play<R: RandomSource>(
     rt: &R,
     alloc: Global,

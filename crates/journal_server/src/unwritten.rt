@@ -1,4 +1,4 @@
-//! Servers without a journal: the same server, whose journal is written nowhere.
+//! Servers without a journal: the same server, with a journal that is written nowhere.
 ghost use Rattle.std.specs.Prelude.{◌≡◌, [], IfOk, None, Some};
 ghost use Rattle.journal_server.specs.Left.{left_of};
 ghost use Rattle.journal_server.specs.Served.{IsNewRun, TellsNew};
@@ -17,7 +17,7 @@ use std::io::{BufRead, BufWriter, Read, Sink, Write};
 /// How many connections a server may be asked to serve.
 pub const MAX_CONNECTIONS: u8 = 64;
 
-/// What a server of so many connections is asked to do.
+/// The options of a server for a number of connections.
 #[derive(Clone, Copy, Debug)]
 pub struct Service {
     /// The port of 127.0.0.1 that it listens on; for 0 the system chooses one.
@@ -28,7 +28,7 @@ pub struct Service {
     pub glances: u16,
 }
 
-// The lines of an operator who says nothing.
+// The input of an operator who sends no line.
 #[derive(Drop)]
 pub(crate) struct NoLines;
 
@@ -52,7 +52,8 @@ impl Readiness for NoLines {
     }
 }
 
-/// Serves a plan's stations as [`serve_journalled`](crate::serve_journalled) does, with a journal that is written nowhere.
+/// Serves a plan's stations as [`serve_journalled`](crate::serve_journalled) does, with a journal that is written
+/// nowhere.
 pub fn serve_live<
     R: AllocGlobal + Host,
     I: BufRead + Readiness,
@@ -76,8 +77,9 @@ pub fn serve_live<
     serve_unwritten(rt, plan, live, clients, input, console, lines)
 }
 
-/// Serves so many connections of a plan's stations as [`serve_live`] does, two sessions of each station at once, and ends
-/// when all have ended. It glances at the totals as often as is asked for, also where the connections end before that.
+/// Serves a number of connections of a plan's stations as [`serve_live`] does, up to two sessions of each station at
+/// once, and ends when all have ended. It glances at the totals as often as the options say, also if the connections
+/// end before that.
 pub fn serve_counted<R: AllocGlobal + Host, T: Write + Drop, L: Write + Send + Drop>(
     rt: &R,
     plan: &Plan,

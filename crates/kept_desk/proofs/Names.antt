@@ -27,7 +27,7 @@ named_places name sites stations places names new k p at =
     some_same : (a b : StationPlace) → Some a ≡ Some b → a ≡ b
     some_same a b h = cc
 
--- what holds of all elements holds of the one that stands here
+-- what holds of all elements holds of the one that is here
 pub all_at : {A : Type 0} (P : A → Type 0) (xs : List A) (k : ℕ) (x : A) → All P xs → slice_get xs k ≡ Some x → P x
 all_at P xs k x all at = subst P (get_or_from_slice_get xs k x x at) (all k x (slice_get_within xs k x at))
 

@@ -1,4 +1,4 @@
--- The receipt of an accepted command tells of the content at which it was accepted.
+-- The receipt of an accepted command says at which content it was accepted.
 use Rattle.std.proofs.Common.{◌≡◌, ℕ, List, [], ◌∷◌, ◌++◌, Option, None, Some, Result, Ok, Err, ap, sym, ◌∙◌, subst}
 use Rattle.std.specs.Prelude.{IfOk, OnOk}
 use Rattle.kept_desk.specs.declared.broken.Broken.{Broken}
@@ -17,14 +17,14 @@ use Rattle.site_desk.specs.Roster.{StandsAt}
 use Rattle.site_desk.specs.Submit.{TellsOf}
 use Rattle.station_cell.specs.Cell.{Cell}
 
--- a share whose entry was added, and its receipt
+-- a share with an entry added, and its receipt
 pub noted : (r : Result (List Entry) Broken) (share : OwnEntries) (e : Entry) (log now : Ledger) → OnOk r (share.entries ≡ of_station share.station log.entries) → IfOk r (λ x. x ≡ now.entries)
     → OnOk r (now ≡ record log { entries = log.entries ++ e ∷ [] }) → IfOk r (IsNoted share e)
 noted (Ok x) share e log now own is added = record { log = log.entries; own = own; received = is ∙ ap (λ (j : Ledger). j.entries) added }
 noted (Err broken) share e log now own is added = tt
 
 module _ (at : StationPlace) (first : ℕ → Content) (number : ℕ) (c : Cell) (share : OwnEntries) (note line : List ℕ) (command : Command) (stands : StandsAt number at c) (kept : IsKeptCell first c share) where
-  -- an accepted command, whose content the entries before it left
+  -- an accepted command, at the content to which the entries before it lead
   given : (n : ℕ) (told : Option Known) (receipt : List Entry) (now : Option (List Entry)) → IsNoted share (entry share.station note line command) receipt → TellsOf at c.content command (Accepted n) told → now ≡ Some receipt
       → IsGiven at (first number) n (entry number note line command) told now
   given n told receipt now noted_as taken is =

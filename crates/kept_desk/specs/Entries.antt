@@ -4,7 +4,7 @@ use Rattle.ledger_model.specs.declared.command.Command.{Command}
 use Rattle.script_lines.specs.Lines.{HasNoFeed}
 use Rattle.script_lines.specs.Ranges.{longest_line}
 
--- A station's line with the note in front of it, and the command that the line is, as an entry.
+-- The entry of a station's line, with the note in front of it and the line's command.
 abbrev pub entry : ℕ → List ℕ → List ℕ → Command → Entry
 entry station note line command = record { station = station; note = note; line = line; command = command }
 
@@ -16,14 +16,15 @@ of_station station entries = filter (λ e. e.station == station) entries
 abbrev pub line_text : List ℕ → List ℕ
 line_text line = line ++ 10 ∷ []
 
--- These bytes are one comment line, no longer than a line may be: `#`, what stands behind it, and the line feed that ends it.
+-- These bytes are one comment line, no longer than a line may be: `#`, the bytes behind it, and the line feed that ends
+-- it.
 pub record IsComment (bytes : List ℕ) : Type 0 where
   pub said : List ℕ
   pub feedless : HasNoFeed said
   pub short : length (35 ∷ said) ≤ longest_line
   pub is : bytes ≡ line_text (35 ∷ said)
 
--- What may stand in front of a line: nothing, or a comment line.
+-- What may be in front of a line: nothing, or a comment line.
 abbrev pub IsNote : List ℕ → Type 0
 IsNote note = (note ≡ []) ⊎ IsComment note
 

@@ -4,7 +4,7 @@ use Rattle.kept_desk.specs.declared.entry.Entry.{Entry}
 use Rattle.kept_desk.specs.Entries.{IsNote, line_text, text_of}
 use Rattle.script_lines.specs.Lines.{HasNoFeed}
 
--- A journal: its entries, first to last; the number below which all stations with a share are; and whether a write failed.
+-- A journal: its entries, first to last; a number above those of all stations with a share; and whether a write failed.
 pub record Ledger : Type 0 where
   pub entries : List Entry
   pub shares : ℕ
@@ -15,7 +15,7 @@ pub record OwnEntries : Type 0 where
   pub station : ℕ
   pub entries : List Entry
 
--- These bytes begin the text of some line with a note in front of it, or are all of it.
+-- These bytes are a front, or all, of the text of some line with a note in front of it.
 pub record BeginsLine (front : List ℕ) : Type 0 where
   pub note : List ℕ
   pub line : List ℕ
@@ -24,7 +24,10 @@ pub record BeginsLine (front : List ℕ) : Type 0 where
   pub no_feed : HasNoFeed line
   pub is : note ++ line_text line ≡ front ++ rest
 
--- What was written behind `before`: the text of the entries, whose lines have no line feeds and before which stand notes, and behind it, where a write or a flush failed, the front of one line more, which may be all of it. Of this `now` is what the writer behind the buffer took, and the buffer holds the rest; where none failed, it holds nothing.
+-- What was written behind `before`: the text of the entries; none of their lines has a line feed,
+-- and before each is a note. If a write or a flush failed, the front of one more line is behind it,
+-- perhaps all of it. The writer behind the buffer took `now` of this, and the buffer holds the
+-- rest; if nothing failed, it holds nothing.
 pub record IsWritten (broken : Bool) (before now : Option (List ℕ)) (buffer : List ℕ) (entries : List Entry) : Type 0 where
   pub front : List ℕ
   pub begins : BeginsLine front

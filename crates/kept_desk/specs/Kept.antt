@@ -23,53 +23,62 @@ use Rattle.station_cell.specs.Cell.{Cell, IsInService}
 abbrev pub commands_of : List Entry → List Command
 commands_of entries = map (λ e. e.command) entries
 
--- These commands, each admissible and each accepted under these limits, leave this content of the first one; each is counted.
+-- These commands, each admissible and each accepted under these limits, lead from the first content to this one; each
+-- is counted.
 pub record IsLeftFrom (limits : Bounds) (first c : Content) (commands : List Command) : Type 0 where
   pub admissible : All IsAdmissible commands
   pub accepted : AreAccepted limits first commands
   pub left : left_by limits first commands ≡ c
   pub counted : c.changes ≡ first.changes + length commands
 
--- What stands behind a station's lock: the cell's content is what the commands of the own entries leave of the station's first content.
+-- What is behind a station's lock: the commands of the station's own entries lead from its first
+-- content to the cell's content.
 pub record IsKeptCell (first : ℕ → Content) (c : Cell) (share : OwnEntries) : Type 0 where
   pub station : share.station ≡ c.station
   pub left : IsLeftFrom c.limits (first c.station) c.content (commands_of share.entries)
 
--- That stands so behind the lock of a station whose cell is in service.
+-- This holds behind the lock of a station if its cell is in service.
 abbrev pub KeepsCell : (ℕ → Content) → Cell → OwnEntries → Type 0
 KeepsCell first c share = IsInService c → IsKeptCell first c share
 
--- A cell in service has the content that the commands of just its station's entries in this list, each accepted, leave of the station's first content.
+-- The commands of just its station's entries in this list, each accepted, lead from the station's
+-- first content to that of a cell in service.
 abbrev pub IsLeftOwn : (ℕ → Content) → List Entry → Cell → Type 0
 IsLeftOwn first log c = IsInService c → IsLeftFrom c.limits (first c.station) c.content (commands_of (of_station c.station log))
 
--- The board of the station of this place, under its name, is that of the content which these entries of it leave of its first content, by the place's period and order.
+-- The board of the station of this place, under its name, is that of the content to which these
+-- entries of it lead from its first content, by the place's period and order.
 pub record IsBoardBehind (at : StationPlace) (first : Content) (own : List Entry) (b : List ℕ × Board) : Type 0 where
   pub content : Content
   pub left : IsLeftFrom at.limits first content (commands_of own)
   pub name : b.0 ≡ at.name
   pub shown : b.1 ≡ board_by at.order at.period (entries content)
 
--- The boards of the stations of the site of this number, in the plan's order, are those behind this one list of entries.
+-- The boards of the stations of the site of this number, in the plan's order, are those behind this one list of
+-- entries.
 abbrev pub AreBoardsBehind : (ℕ → Content) → List StationPlace → ℕ → List (List ℕ × Board) → List Entry → Type 0
 AreBoardsBehind first places site boards log = (k : ℕ) (p : StationPlace) → slice_get places k ≡ Some p → p.site ≡ site
     → (b : List ℕ × Board) × (slice_get boards (before_at places site k) ≡ Some b) × IsBoardBehind p (first k) (of_station k log) b
 
--- What a desk with a journal keeps: the names are those of its stations, there is room for their cells, and they are few.
+-- What a desk with a journal keeps: the names are those of its stations, there is room for their cells, and they are
+-- few.
 pub record IsKeptDesk (name : ℕ → List ℕ) (places : List StationPlace) (cells room : ℕ) : Type 0 where
   pub names : (k : ℕ) (p : StationPlace) → slice_get places k ≡ Some p → name k ≡ p.name
   pub none : cells ≡ 0
   pub room_for_all : length places ≤ room
   pub few : length places ≤ 64
 
--- The command is accepted, as change n, at the content that the commands of these entries, each accepted, leave of the first one.
+-- The command is accepted, as change n, at the content to which the commands of these entries, each accepted, lead from
+-- the first one.
 pub record IsAcceptedBehind (limits : Bounds) (first : Content) (entries : List Entry) (command : Command) : Type 0 where
   pub before : Content
   pub n : ℕ
   pub left : IsLeftFrom limits first before (commands_of entries)
   pub answered : answer limits before command ≡ Accepted n
 
--- What is known of a desk with a journal once it is closed: there is one list of entries, of which the writer took the text, whose lines speak for their commands, of which just each station's own leave its content, and which begins with the entries of each of these moments.
+-- What is known of a desk with a journal after its close: there is one list of entries. The writer
+-- took its text. Its lines speak for their commands. Just each station's own entries lead to that
+-- station's content. It begins with the entries of each of these moments.
 pub record IsWrittenDown (name : ℕ → List ℕ) (first : ℕ → Content) (before : Option (List ℕ)) (broken : Bool) (now : Option (List ℕ)) (buffer : List ℕ) (cells : List Cell) (moments : List (List Entry)) : Type 0 where
   pub log : List Entry
   pub written : IsWritten broken before now buffer log
@@ -77,7 +86,9 @@ pub record IsWrittenDown (name : ℕ → List ℕ) (first : ℕ → Content) (be
   pub left : (k : ℕ) (c : Cell) → slice_get cells k ≡ Some c → IsLeftFrom c.limits (first k) c.content (commands_of (of_station k log))
   pub begins : All (λ m. IsPrefix m log) moments
 
--- The entry's command was accepted as change n at its own line: the moment is of all entries that the journal had, of this one last, and the content at which it was accepted is what the commands of just its station's entries before it, each accepted, leave of the station's first content.
+-- The entry's command was accepted as change n at its own line. The moment has all entries that the
+-- journal had, with this one last. The commands of just its station's entries before it, each
+-- accepted, lead from the station's first content to the content where it was accepted.
 pub record IsGiven (at : StationPlace) (first : Content) (n : ℕ) (e : Entry) (told : Option Known) (moment : Option (List Entry)) : Type 0 where
   pub log : List Entry
   pub before : Content
@@ -85,19 +96,20 @@ pub record IsGiven (at : StationPlace) (first : Content) (n : ℕ) (e : Entry) (
   pub left : IsLeftFrom at.limits first before (commands_of (of_station e.station log))
   pub taken : IsTakenAt at before e.command n told
 
--- With an accepted answer comes the moment of this entry, and with any other none.
+-- An accepted answer comes with the moment of this entry, any other without one.
 abbrev pub IsReceived : StationPlace → Content → Answer → Entry → Option Known → Option (List Entry) → Type 0
 IsReceived at first (Accepted n) e told moment = IsGiven at first n e told moment
 IsReceived at first Repeat e told moment = moment ≡ None
 IsReceived at first (Refused why) e told moment = moment ≡ None
 
--- A share had its station's entries in a list to which this entry was added, and the moment is of that list.
+-- This entry was added to a list. The share had its station's entries in that list, and the moment is of the
+-- list with this entry.
 pub record IsNoted (share : OwnEntries) (e : Entry) (moment : List Entry) : Type 0 where
   pub log : List Entry
   pub own : share.entries ≡ of_station share.station log
   pub received : moment ≡ log ++ e ∷ []
 
--- The moment with this answer, where it is accepted.
+-- The moment that comes with this answer, if it is accepted.
 abbrev pub given_with : Answer → List Entry → Option (List Entry)
 given_with (Accepted n) moment = Some moment
 given_with Repeat moment = None

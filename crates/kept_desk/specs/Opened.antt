@@ -21,7 +21,7 @@ name_or_none (Some s) = s.name
 abbrev pub names_of : List StationPlan → ℕ → List ℕ
 names_of stations k = name_or_none (slice_get stations k)
 
--- Each cell is that of the station of its place, and holds what is named first of that station.
+-- Each cell is that of the station of its place, and holds that station's first content.
 abbrev pub AreFirst : (ℕ → Content) → List Cell → Type 0
 AreFirst first cells = (k : ℕ) (c : Cell) → slice_get cells k ≡ Some c → (c.station ≡ k) × (c.content ≡ first k)
 

@@ -7,7 +7,8 @@ use Rattle.kept_desk.specs.declared.table.View.{View}
 use Rattle.kept_desk.specs.Entries.{of_station}
 use Rattle.site_book.specs.Prefix.{IsPrefix}
 
--- What a seat knows is so: the journal's, which is the first, knows all entries; each station has one share at most, which knows just that station's; a receipt knows the first of them.
+-- What a seat knows is true. The journal's seat, the first, knows all entries; each station has at
+-- most one share, which knows just that station's entries; a receipt knows the first entries.
 pub record Fits (log : List Entry) (made : ℕ) (claimant : ℕ → ℕ) (by : ℕ) (v : View) : Type 0 where
   pub journal : v.is_journal ≡ true → (by ≡ 0) × (v.log ≡ log) × (v.made ≡ made)
   pub share : v.is_share ≡ true → (v.station < made) × (by ≡ claimant v.station) × (v.mine ≡ of_station v.station log)
@@ -20,11 +21,11 @@ pub record Kept (views : List View) : Type 0 where
   pub claimant : ℕ → ℕ
   pub seats : (by : ℕ) (v : View) → get_elem? views by ≡ some v → Fits log made claimant by v
 
--- What holds of a journal's table between any two steps.
+-- What is true of a journal's table between any two steps.
 abbrev pub Tied : State (Unit {0}) View → Type 0
 Tied s = Kept s.views
 
--- The journal's seat: all entries, and the number below which all stations with a share are.
+-- The journal's seat: all entries, and a number above those of all stations with a share.
 abbrev pub keeping : List Entry → ℕ → View
 keeping log made = record { is_journal = true; log = log; made = made; is_share = false; station = 0; mine = []; is_receipt = false; seen = [] }
 
@@ -36,7 +37,7 @@ holding station mine = record { is_journal = false; log = []; made = 0; is_share
 abbrev pub joined : List Entry → ℕ → ℕ → List Entry → View
 joined log made station mine = record { is_journal = true; log = log; made = made; is_share = true; station = station; mine = mine; is_receipt = false; seen = [] }
 
--- A seat that knows nothing.
+-- A seat without knowledge.
 abbrev pub nobody : View
 nobody = record { is_journal = false; log = []; made = 0; is_share = false; station = 0; mine = []; is_receipt = false; seen = [] }
 
@@ -60,10 +61,10 @@ Sat = Me (Unit {0}) View
 abbrev pub Added : List Entry → At → Sat → ℕ → Sat → Type 0
 Added es step v n w = w ≡ (joined (v.0.log ++ es) v.0.made v.0.station (v.0.mine ++ es), v.1)
 
--- The share is told that its entries are just those of its station.
+-- The share now knows that its entries are just those of its station.
 abbrev pub Compared : At → Sat → ℕ → Sat → Type 0
 Compared step v n w = (w ≡ v) × (v.0.mine ≡ of_station v.0.station v.0.log)
 
--- The receipt is told that its entries begin the journal's.
+-- The receipt now knows that its entries are the first of the journal's.
 abbrev pub Confirmed : At → Sat → ℕ → Sat → Type 0
 Confirmed step v n w = (w ≡ v) × IsPrefix v.0.seen v.0.log

@@ -34,14 +34,15 @@ Says (asks_export _) name command = ⊥
 Says (asks_total _) name command = ⊥
 Says (asks_board _) name command = ⊥
 
--- The bytes stand in a script as they are, as one line, and that line asks for this command on the station of this name.
+-- The bytes are one line of a script, and that line asks for this command on the station of this name.
 pub record Speaks (name line : List ℕ) (command : Command) : Type 0 where
   pub feedless : HasNoFeed line
   pub bare : strip_last 13 line ≡ line
   pub short : length line ≤ longest_line
   pub says : Says (line_meaning (Some line)) name command
 
--- The line stands in a script, and asks for the command on the station of this name, which is not empty.
+-- The bytes are a line of a script, and the line asks for the command on the station of this name, which
+-- is not empty.
 pub record SpeaksOf (name line : List ℕ) (command : Command) : Type 0 where
   pub some : 0 < length name
   pub speaks : Speaks name line command

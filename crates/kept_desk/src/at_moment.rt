@@ -1,4 +1,5 @@
-//! What is noted of cells with shares while they are held: the moment of the journal.
+//! The note of cells with shares that is made while their locks are held: the moment of the
+//! journal.
 ghost use Rattle.std.specs.Prelude.{◌≡◌, All, IfOk};
 ghost use Rattle.std.specs.Sync.Mutex.{mutex_guard_value};
 ghost use Rattle.kept_desk.specs.Kept.{IsLeftOwn};
@@ -13,7 +14,7 @@ use std::alloc::{AllocError, Global};
 use std::io::Write;
 use std::sync::{Mutex, MutexGuard, Wait};
 
-// The journal, whose lock is taken for a moment while the cells are held.
+// The journal. Its lock is taken briefly while those of the cells are held.
 #[derive(Drop)]
 pub(crate) struct AtMoment<'a, K: Opening, W: Write + Drop> {
     pub(crate) log: &'a Mutex<Journal<K, W>>,

@@ -1,6 +1,6 @@
 use script_lines::WriteStopped;
 
-/// The journal takes nothing more: a write or a flush failed, at this line or at an earlier one.
+/// The journal takes no more lines: a write or a flush failed, at this line or at an earlier one.
 #[derive(Clone, Copy, Debug, PartialEq, Eq)]
 pub struct Broken;
 

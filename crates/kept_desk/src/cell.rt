@@ -24,9 +24,9 @@ use std::marker::Model;
 use std::sync::{Mutex, Wait};
 use std::thread::Threads;
 
-/// A station's cell and its share of the journal. Contracts see the cell: its content, while it is in
-/// service, is always what the commands of its entries, each accepted, leave of what the station
-/// held when the desk was opened.
+/// A station's cell and its share of the journal. Contracts see the cell. While it is in service, the
+/// commands of its entries, each accepted, always lead from what the station held when the desk was
+/// opened to its content.
 #[derive(Drop)]
 pub struct KeptCell<K: Opening> {
     cell: StationCell,
@@ -66,7 +66,7 @@ struct Judged {
 }
 
 impl<K: Opening> KeptCell<K> {
-    // The cell of a station as it was when the desk was opened, with a share of no entries.
+    // The cell of a station as it was when the desk was opened, with a share without entries.
     pub(crate) fn new(cell: StationCell, share: Share<K>) -> Self
         requires station { share.station ≡ cell.station }
         requires none { share.entries ≡ [] }
@@ -76,7 +76,7 @@ impl<K: Opening> KeptCell<K> {
         KeptCell { cell, share }
     }
 
-    // Compares its share with the journal: the cell's content is what its own entries there leave.
+    // Compares its share with the journal: the cell's own entries there lead to its content.
     pub(crate) fn compare<W: Write + Drop>(&mut self, log: &mut Journal<K, W>)
         ensures cell { self.new ≡ self.old }
         ensures log { log.new ≡ log.old }
@@ -85,7 +85,7 @@ impl<K: Opening> KeptCell<K> {
         log.compare(&mut self.share);
     }
 
-    // Both, where the journal's lock is given up.
+    // Both parts, after the journal is out of its lock.
     pub(crate) fn into_parts(self) -> (StationCell, Share<K>)
         ensures cell { result.0 ≡ self }
         ensures left { KeepsCell K.first self result.1 }
@@ -94,7 +94,7 @@ impl<K: Opening> KeptCell<K> {
         (cell, share)
     }
 
-    // Takes a command of a pass: where the ledger would accept it, its line is written first. A line that
+    // Takes a command of a pass. If the ledger would accept it, its line is written first. A line that
     // can't be written changes nothing.
     pub(crate) fn take<J: Naming, W: Write + Drop, R: Wait>(
         &mut self,
@@ -150,7 +150,7 @@ impl<K: Opening> KeptCell<K> {
     }
 }
 
-// The answer with what the book told, and with the moment where the command was accepted.
+// The answer with the book's `Told`, and with the moment if the command was accepted.
 fn with_moment<J: Naming, K: Opening>(
     settled: (Answer, Option<Told<J>>),
     moment: Moment<K>,
@@ -167,9 +167,9 @@ fn with_moment<J: Naming, K: Opening>(
     }
 }
 
-// Settles a command whose line was written, under the lock of the site's book. Where the book is not as it
-// should be, which no run of fewer than 2^62 accepted changes a site meets, the cell leaves service: what
-// it holds is no more what its lines leave.
+// Settles a command after its line was written, under the lock of the site's book. If the book is not as
+// it should be, which no run with fewer than 2^62 accepted changes of a site meets, the cell leaves
+// service: its lines no longer lead to what it holds.
 fn settle_written<J: Naming, R: Wait>(
     rt: &R,
     cell: &mut StationCell,

@@ -33,7 +33,7 @@ pub(crate) fn keep_cells<K: Opening, W: Write + Drop>(
     Ok(kept)
 }
 
-// Gives each cell back without its share, which is compared with the journal.
+// Returns each cell without its share, after the share was compared with the journal.
 pub(crate) fn free_cells<K: Opening, W: Write + Drop>(
     kept: Vec<KeptCell<K>>,
     log: &mut Journal<K, W>,
@@ -64,7 +64,7 @@ pub(crate) fn confirm_all<K: Opening, W: Write + Drop>(
     }
 }
 
-// Gives the cell back without its share.
+// Returns the cell without its share.
 fn free_cell<K: Opening, W: Write + Drop>(kept: KeptCell<K>, log: &mut Journal<K, W>) -> StationCell
     ensures cell { result ≡ kept }
     ensures log { log.new ≡ log.old }

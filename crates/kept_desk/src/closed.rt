@@ -18,7 +18,7 @@ pub struct KeptClosed<J: Naming, W: Write + Drop> {
     pub is_broken: bool,
 }
 
-/// A desk that was not closed, with the passes, viewers and moments that were handed in, all as they were.
+/// A desk that was not closed, with the passes, viewers and moments that were handed in; all is as it was.
 #[derive(Drop)]
 pub struct KeptRefused<J: Naming, K: Opening, W: Write + Drop> {
     /// The desk.

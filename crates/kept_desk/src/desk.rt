@@ -35,9 +35,8 @@ use std::marker::Model;
 use std::sync::{Mutex, Wait};
 use std::time::Clock;
 
-/// The stations and sites of a plan under locks, as a [`Desk`], with a journal under a lock of its own,
-/// which is held while no other lock is asked for. Contracts see what they see of a
-/// [`Desk`].
+/// The stations and sites of a plan under locks, as a [`Desk`], with a journal under a lock of its own;
+/// a thread that holds that lock asks for no other. Contracts see what they see of a [`Desk`].
 #[derive(Drop)]
 pub struct KeptDesk<J: Naming, K: Opening, W: Write + Drop> {
     desk: Desk<J, KeptCell<K>>,
@@ -59,13 +58,13 @@ impl<J: Naming, K: Opening, W: Write + Drop> Model for KeptDesk<J, K, W> {
 }
 
 impl<J: Naming, K: Opening, W: Write + Drop> KeptDesk<J, K, W> {
-    /// The desk of a plan over these parts, with a journal of no entries that writes behind what the writer
-    /// holds, and the viewers, each with its site's number.
+    /// The desk of a plan over these parts, with a journal without entries that writes behind what its
+    /// writer has already, and the viewers, each with its site's number. The error says that the
+    /// allocator refused memory.
     ///
-    /// Conditions: K names this table, what the writer behind the buffer holds, what the stations hold and what they
-    /// are called; nothing is left in the buffer; the plan has no fault ([`Plan::fault`] tells), and the parts are a
-    /// cell for each of its stations and a book for each of its sites, as [`Parts::open`] gives them, whatever commands
-    /// they took since.
+    /// Conditions: K names this table, the bytes that the writer behind the buffer has, and the stations' contents and
+    /// names; nothing is left in the buffer; the plan has no fault ([`Plan::fault`] tests it), and the parts are a cell
+    /// for each of its stations and a book for each of its sites, as [`Parts::open`] gives them and after any commands.
     pub fn open(
         alloc: Global,
         plan: &Plan,
@@ -104,16 +103,17 @@ impl<J: Naming, K: Opening, W: Write + Drop> KeptDesk<J, K, W> {
         Ok((kept, viewers))
     }
 
-    /// The desk without its journal: what is read of it, and passes.
+    /// The desk without its journal, to read it and to get passes.
     pub fn desk(&self) -> &Desk<J, KeptCell<K>>
         ensures { result.now ≡ self.now }
     {
         &self.desk
     }
 
-    /// The boards of a site as [`Desk::site_boards`] gives them, and the moment of the journal that they show: each is the
-    /// board of what its station's entries at that moment leave. The journal's lock is taken while those of the site are
-    /// held, and given back before the boards are made.
+    /// The boards of a site as [`Desk::site_boards`] gives them, and the moment of the journal that they show: each
+    /// board is that of the content that its station's entries at that moment lead to. The call takes the journal's
+    /// lock while it holds those of the site, and gives it back before it makes the boards. Errors are those of
+    /// [`Desk::site_boards`].
     pub fn site_boards<R: Wait>(
         &self,
         rt: &R,
@@ -128,8 +128,8 @@ impl<J: Naming, K: Opening, W: Write + Drop> KeptDesk<J, K, W> {
         self.desk.site_boards_by(rt, alloc, site, &way)
     }
 
-    /// Tells whether the journal took no line to its end, and takes no more. It waits for nobody: while a
-    /// line is being written it tells that this is not so.
+    /// Returns whether a line could not be written whole; the journal then takes no more. It waits
+    /// for nobody: while a line is being written, it returns false.
     pub fn is_broken(&self) -> bool {
         match self.log.try_lock() {
             Some(log) => log.is_broken(),
@@ -137,16 +137,16 @@ impl<J: Naming, K: Opening, W: Write + Drop> KeptDesk<J, K, W> {
         }
     }
 
-    /// Takes a command of a pass and answers it as [`Desk::submit`] does. Where it is accepted, the line was
-    /// written and flushed before, under the station's lock and the journal's; it is settled under the
-    /// station's and then its site's. `ChangesExhausted` also answers where the line can't be written, then
-    /// and from then on; and where the site's book is not as it should be behind a line that was written,
-    /// which no run of fewer than 2^62 accepted changes a site meets: the station's cell then leaves service,
-    /// and the desk doesn't close over it. With an accepted answer comes the moment of the journal
-    /// at which the line's entry was its last.
+    /// Takes a command of a pass and returns the answer, as [`Desk::submit`] does. If the command is
+    /// accepted, its line was written and flushed before, under the station's lock and the journal's; it is
+    /// settled under the station's lock and its site's. `ChangesExhausted` also answers if the line can't be
+    /// written, and then every later command that would be accepted. It answers, too, if the site's book is
+    /// not as it should be behind a written line, which no run with fewer than 2^62 accepted changes of a
+    /// site meets; then the station's cell leaves service, and the desk doesn't close over it. An accepted
+    /// answer comes with the journal's moment at which the line's entry was the last one.
     ///
-    /// Conditions: in front of the line stands nothing or a comment line ([`is_note`](crate::is_note) tells), which is
-    /// written with it, and the line speaks for the command on the pass's station.
+    /// Conditions: in front of the line is nothing or a comment line, which is written with it
+    /// ([`is_note`](crate::is_note) tests it), and the line speaks for the command on the pass's station.
     pub fn submit<G: Gate, R: Wait + Clock>(
         &self,
         rt: &R,
@@ -170,8 +170,9 @@ impl<J: Naming, K: Opening, W: Write + Drop> KeptDesk<J, K, W> {
         self.desk.submit_by(rt, pass, command, gate, &way)
     }
 
-    /// Closes the desk as [`Desk::close`] does, and then compares each station's side, and each moment that is
-    /// handed in, with the journal. It takes no memory.
+    /// Closes the desk as [`Desk::close`] does, and then compares each station's share, and each moment that
+    /// is handed in, with the journal. It takes no memory. The error gives all back as it was, with the
+    /// fault.
     pub fn close(
         self,
         passes: Vec<Pass>,

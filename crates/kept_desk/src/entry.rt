@@ -1,8 +1,8 @@
 use ledger_model::Command;
 use std::collections::LinkedList;
 
-/// One entry of a journal, as contracts see it: a station's number, the bytes that stand in front of its line, the bytes
-/// of the line, without the line feed, and the command that the line is. No value of it is made.
+/// One entry of a journal, as contracts see it: a station's number, the bytes in front of its line, the bytes of the
+/// line without its line feed, and the line's command. No value of it is ever made.
 pub struct Entry {
     pub(crate) station: u16,
     pub(crate) note: LinkedList<u8>,

@@ -17,8 +17,8 @@ use ledger_model::Command;
 use std::io::{BufWriter, Write};
 use std::marker::{Brand, Model, PhantomData};
 
-/// A list of entries, each of which was written and flushed before it was noted, and whose line speaks for its
-/// command. W is the writer behind the buffer, in which nothing is left while no write and no flush has failed.
+/// A list of entries. Each was written and flushed before it was noted, and its line speaks for its command. W
+/// is the writer behind the buffer; nothing is left in the buffer while no write and no flush has failed.
 #[derive(Drop)]
 pub struct Journal<K: Opening, W: Write + Drop> {
     table: EntryTable,
@@ -42,9 +42,10 @@ impl<K: Opening, W: Write + Drop> Model for Journal<K, W> {
 }
 
 impl<K: Opening, W: Write + Drop> Journal<K, W> {
-    /// A journal of no entries, with no shares, that writes behind what the writer holds.
+    /// A journal without entries and shares that writes behind what its writer has already.
     ///
-    /// Conditions: K names this table, and what the writer behind the buffer holds; nothing is left in the buffer.
+    /// Conditions: K names this table, and the bytes that the writer behind the buffer has; nothing is left in the
+    /// buffer.
     pub fn open(table: JournalTable, writer: BufWriter<W>) -> Self
         requires table { table ≡ K.table }
         requires before { W.contents (writer_inner writer) ≡ K.before }
@@ -62,24 +63,24 @@ impl<K: Opening, W: Write + Drop> Journal<K, W> {
         }
     }
 
-    /// Each station that was given a share has a number below this one.
+    /// A number above those of all stations that have a share.
     pub fn shares(&self) -> u32
         ensures { result ≡ self.now.shares }
     {
         self.shares
     }
 
-    /// Tells whether a write or a flush failed: then no more is taken.
+    /// Returns whether a write or a flush failed; the journal then takes no more lines.
     pub fn is_broken(&self) -> bool
         ensures { result ≡ self.now.broken }
     {
         self.broken
     }
 
-    /// The share of a station, with that station's entries.
+    /// A new share, for this station: it has that station's entries.
     ///
-    /// Conditions: neither this station nor one of a greater number was given a share
-    /// ([`Journal::shares`] tells), so no station has two.
+    /// Condition: neither this station nor one of a greater number has a share ([`Journal::shares`]
+    /// tests it), so no station gets two.
     pub fn enlist(&mut self, station: u16) -> Share<K>
         requires { self.old.shares ≤ station }
         ensures share { result ≡ record { station = station; entries = of_station station self.old.entries } }
@@ -95,11 +96,11 @@ impl<K: Opening, W: Write + Drop> Journal<K, W> {
         }
     }
 
-    /// Writes what stands in front of the line, the line and a line feed and flushes them, then notes the entry, here
-    /// and in the share, and gives the moment. After an error nothing is noted, and the journal takes nothing more. The
-    /// command is noted for contracts alone.
+    /// Writes the bytes in front of the line, the line and a line feed, and flushes them. Then it notes the entry, here
+    /// and in the share, and returns the moment. After an error nothing is noted, and the journal takes no more lines.
+    /// Only contracts see the command that is noted.
     ///
-    /// Conditions: in front of the line stands nothing or a comment line ([`is_note`](crate::is_note) tells), and the
+    /// Conditions: in front of the line is nothing or a comment line ([`is_note`](crate::is_note) tests it), and the
     /// line speaks for the command on the share's station.
     pub fn add(
         &mut self,
@@ -163,7 +164,7 @@ impl<K: Opening, W: Write + Drop> Journal<K, W> {
         }
     }
 
-    /// Compares a moment with the journal: its entries begin the journal's.
+    /// Compares a moment with the journal: its entries are the journal's first ones.
     pub fn confirm(&mut self, moment: Moment<K>)
         ensures first { IsPrefix moment self.old.entries }
         ensures same { self.new ≡ self.old }
@@ -172,8 +173,8 @@ impl<K: Opening, W: Write + Drop> Journal<K, W> {
         confirm(&table.shared, &mut self.seat, moment.seat);
     }
 
-    /// The writer. What was written since the journal was opened is the text of the entries, all of which the
-    /// writer behind the buffer took, and behind it, where the journal is broken, a front of one line more.
+    /// The writer. Since the journal was opened, the text of the entries was written, and the writer behind
+    /// the buffer took all of it. Behind it is a front of one more line, if the journal is broken.
     pub fn into_writer(self) -> BufWriter<W>
         ensures written { IsWritten self.broken K.before (W.contents (writer_inner result)) (writer_buffer result) self.entries }
         ensures spoken { AreSpoken K.name self.entries }

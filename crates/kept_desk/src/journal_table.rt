@@ -5,8 +5,8 @@ use crate::table::{EntryTable, TableSeat};
 use std::alloc::{AllocError, Global};
 use std::marker::Model;
 
-/// The table of a journal that is not open yet. To a contract it is what names the table. It takes a few
-/// words of memory; nothing else here takes any.
+/// The table of a journal that is not open yet. Contracts see its name. It takes a few words of memory;
+/// nothing else in this crate takes any.
 #[derive(Drop)]
 pub struct JournalTable {
     table: EntryTable,
@@ -27,7 +27,7 @@ impl Model for JournalTable {
 }
 
 impl JournalTable {
-    /// The table of one journal.
+    /// The table of one journal. The error says that the allocator refused memory.
     pub fn new(alloc: Global) -> Result<Self, AllocError> {
         let (table, seat) = EntryTable::of_words(alloc, &[0; 1], &())?;
         Ok(JournalTable { table, seat })

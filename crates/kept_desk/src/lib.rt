@@ -1,39 +1,38 @@
-//! A desk with a journal: each change of a station is a line that was written before.
+//! A desk with a journal: before each change of a station, its line is written.
 //!
-//! A [`KeptDesk`] is a [`Desk`](site_desk::Desk) that keeps beside each station's cell the station's
-//! [`Share`](crate::Share) of one [`Journal`](crate::Journal), both under the station's lock
-//! ([`KeptCell`]), and the journal under a lock of its own. [`KeptDesk::submit`] takes the station's lock,
-//! and where the ledger would accept the command, the journal's: it writes and flushes the line that the
-//! caller gives, and a comment line in front of it where the caller gives one, gives the journal's lock back, and
-//! only then takes the site's and settles. So a write holds up its own station and other writes, and nobody else at
-//! the site. A journal that can't be written accepts nothing more. All that is read of a running desk is read of
-//! [`KeptDesk::desk`].
+//! A [`KeptDesk`] is a [`Desk`](site_desk::Desk) that keeps, beside each station's cell, the station's
+//! [`Share`](crate::Share) of one [`Journal`](crate::Journal). Cell and share are under the station's lock
+//! ([`KeptCell`]), and the journal is under a lock of its own. [`KeptDesk::submit`] takes the station's lock and, if
+//! the ledger would accept the command, the journal's. It writes and flushes the line that the caller gives, and a
+//! comment line in front of it if the caller gives one. Then it gives the journal's lock back, takes the site's, and
+//! settles. So a write holds up its own station and other writes, and nobody else at the site. A journal that can't be
+//! written accepts nothing more. What any desk shows while it runs is read through [`KeptDesk::desk`].
 //!
-//! The crate's one contract: what a station holds, whenever its lock is free, is what the commands of its
-//! own lines in the journal, each accepted, leave of what it held when the desk was opened; where a written
-//! line's change can't be settled, which no run meets, the station's cell leaves service, and nothing more
-//! is taken, shown or closed there. [`KeptDesk::close`] tells it of
-//! all stations at once: there is one list of entries, of which the writer took the text, and each
-//! station's ledger holds what just its own entries leave; each entry's line asks for its command on the
-//! station of its name, as a line of a script does (`specs/Speaking.antt`). The contract of `submit` is that of
-//! [`Desk::submit`](site_desk::Desk::submit), word for word, and that an accepted answer comes with a
-//! [`Moment`] of the journal: the entries that it had then, the last of them just this line's. The boards of a site come
-//! with the moment that they show ([`KeptDesk::site_boards`]). The entries of each moment begin those that `close` speaks
-//! of.
+//! The crate's contract: whenever a station's lock is free, the commands of the station's own lines in the journal,
+//! each accepted, lead from what it held when the desk was opened to what it holds. If the change of a written line
+//! can't be settled, which no run meets, the station's cell leaves service, and nothing more is taken, shown or closed
+//! there. [`KeptDesk::close`] says this of all stations at once: there is one list of entries; the writer took its
+//! text; each station's own entries, and no others, lead to its ledger's content; each entry's line asks for its
+//! command on the station of its name, as a line of a script does (`specs/Speaking.antt`). The contract of `submit` is
+//! that of [`Desk::submit`](site_desk::Desk::submit), word for word; and an accepted answer comes with a [`Moment`] of
+//! the journal: the entries that it had then, with just this line's as the last. The boards of a site come with the
+//! moment that they show ([`KeptDesk::site_boards`]). The entries of each moment are the first of those in the
+//! contract of `close`.
 //!
-//! Below the desk stands the journal itself, which knows nothing of ledgers. A [`Journal`] writes lines for
-//! stations: [`Journal::add`] writes and flushes one line, and then notes it as an [`Entry`], with the command
-//! that it is, in the journal and in the [`Share`] of the line's station. Notes take no memory and have no
-//! bytes: a share is its station's number. While nothing has failed, nothing is left in the buffer of the
-//! journal's writer, so the writer behind it took each entry's line before the entry was noted. What was written is the
-//! text of one list of entries, and each station's share has just the entries of its own station in that list, in
-//! their order. So what a station holds beside its share, and was proved to come of the share's entries, comes of its
-//! own entries in what was written ([`Journal::compare`], [`Journal::into_writer`]). A write or a flush that fails
-//! breaks the journal for good: nothing is noted, and behind the text lies a front of one entry at most. Each station
-//! has one share at most, since shares are made in rising order of stations.
+//! The journal is a type of its own below the desk, and knows nothing of ledgers. A [`Journal`] writes lines for
+//! stations. [`Journal::add`] writes and flushes one line, and then notes it as an [`Entry`] with its command, in the
+//! journal and in the [`Share`] of the line's station. Notes take no memory and have no bytes: a share is its station's
+//! number. While nothing has failed, nothing is left in the buffer of the journal's writer, so the writer behind it
+//! took each entry's line before the entry was noted. The text that was written is that of one list of entries, and
+//! each station's share has just the entries of its own station in that list, in their order. So if a station's content
+//! was proved to come from its share's entries, it comes from the station's own entries in what was written
+//! ([`Journal::compare`], [`Journal::into_writer`]). A write or a flush that fails breaks the journal for good: nothing
+//! more is noted, and behind the text is a front of at most one entry. No station has two shares, since shares are made
+//! in rising order of stations.
 //!
-//! The type parameters: J names the tables of the sites, K the journal, so that a share reaches no other, and what the
-//! stations held and were called when the desk was opened ([`Opening`]); W is the writer behind the journal's buffer.
+//! The type parameters: J names the tables of the sites. K names the journal, so that a share reaches no other, and
+//! the stations' contents and names when the desk was opened ([`Opening`]). W is the writer behind the journal's
+//! buffer.
 //!
 //! ```text
 //! let (desk, viewers) = KeptDesk::open(alloc, &plan, parts, table, writer)?;

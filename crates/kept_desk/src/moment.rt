@@ -2,8 +2,8 @@ use crate::opening::Opening;
 use crate::table::TableSeat;
 use std::marker::{Model, PhantomData};
 
-/// A moment of a journal: to a contract, the entries that it had then. It may be dropped; where it is handed in
-/// when its journal's desk is closed, its entries begin those of the journal. It has no bytes.
+/// A moment of a journal. Contracts see the entries that the journal had then. It may be dropped; if it is
+/// handed in when its journal's desk is closed, its entries are the first of the journal's. It has no bytes.
 #[derive(Drop)]
 pub struct Moment<K: Opening> {
     pub(crate) seat: TableSeat,

@@ -1,11 +1,11 @@
 use std::marker::Brand;
 
-/// Names one journal and what its desk was when it was opened: the journal's table, what its writer held, and by their
-/// numbers in the plan what the stations held and were called.
+/// Names one journal and its desk's state when it was opened: the journal's table, what its writer had, and the
+/// stations' contents and names, by their numbers in the plan.
 ///
-/// A desk with a journal is opened, used and closed in one function that is generic in it and is called with [`Brand`],
-/// after the table was made; the call picks the members, such as `contents_of` of the cells and `names_of` of the plan's
-/// stations (`specs/Opened.antt`). So a station's share reaches no journal but its own.
+/// One function opens, uses and closes a desk with a journal. It is generic in this trait and is called with [`Brand`],
+/// after the table was made; the call picks the members, such as `contents_of` of the cells and `names_of` of the
+/// plan's stations (`specs/Opened.antt`). So a station's share reaches no journal but its own.
 pub trait Opening {
     ghost use Rattle.std.specs.Prelude.{ℕ, List, Option};
     ghost use Rattle.atomic_table.specs.Seated.{TableId};

@@ -4,8 +4,8 @@ use crate::opening::Opening;
 use crate::table::TableSeat;
 use std::marker::{Model, PhantomData};
 
-/// A station's share of a journal: to a contract, its number and its entries. A station has one share at
-/// most, so where it lies beside what the station holds, that can be told to come of just these entries.
+/// A station's share of a journal. Contracts see the station's number and its entries. A station has at
+/// most one share, so the content kept beside it can be shown to come from just these entries.
 #[derive(Drop)]
 pub struct Share<K: Opening> {
     pub(crate) station: u16,

@@ -1,4 +1,4 @@
-//! The single steps on a journal's table. Each tells what its seats know then.
+//! The single steps on a journal's table. Each contract says what its seats know then.
 ghost use Rattle.std.specs.Prelude.{◌≡◌, ◌+◌, ◌≤◌, [], ◌∷◌, ◌++◌};
 ghost use Rattle.kept_desk.specs.Entries.{entry, of_station};
 ghost use Rattle.kept_desk.specs.Held.{Sits};
@@ -11,7 +11,7 @@ use crate::table::{
 };
 use ledger_model::Command;
 
-// A share leaves all that it knows to a new seat: it can't be joined and kept.
+// A share leaves all that it knows to a new seat, since a seat that is joined can't be kept.
 pub(crate) fn leave(words: &Words, share: &mut TableSeat) -> TableSeat
     requires sits { Sits words.now.table_id share.old.table_id }
     requires holds { share.old.me ≡ (holding share.old.me.0.station share.old.me.0.mine, []) }
@@ -85,7 +85,8 @@ pub(crate) fn enlist<K: TheStation>(words: &Words, seat: &mut TableSeat, station
     words.split_seat::<Enlists<K>>(seat)
 }
 
-// The journal and a share note this line of the share's station, whose entries the share had before.
+// The journal and a share note this line of the share's station. The share had all entries of the
+// station before.
 pub(crate) fn note_entry<E: TheEntries>(
     words: &Words,
     seat: &mut TableSeat,
@@ -148,7 +149,7 @@ pub(crate) fn read_receipt(words: &Words, seat: &mut TableSeat, receipt: TableSe
     words.join_seat::<ReadsReceipt>(seat, receipt);
 }
 
-// The receipt's entries begin the journal's.
+// The receipt's entries are the first of the journal's.
 pub(crate) fn compare_receipt(words: &Words, seat: &mut TableSeat)
     requires sits { Sits words.now.table_id seat.old.table_id }
     requires reads { seat.old.me ≡ (reading seat.old.me.0.log seat.old.me.0.made seat.old.me.0.seen, []) }

@@ -1,18 +1,18 @@
-//! The table that a journal and its shares have seats at. Its one word is never written: what counts is
-//! what the seats know.
+//! The table where a journal and its shares have seats. Its one word is never written: only what the
+//! seats know counts.
 use crate::entry::Entry;
 use atomic_table::{Join, Play, Seat, Shared, Split, Table, TableRule};
 use std::alloc::Global;
 use std::collections::LinkedList;
 use std::marker::{Brand, PhantomData};
 
-// What a seat knows. No value of it is made.
+// What a seat knows. No value of it is ever made.
 pub(crate) struct View {
     // It is the journal's seat.
     pub(crate) is_journal: bool,
     // All entries.
     pub(crate) log: LinkedList<Entry>,
-    // Each station that was given a share has a number below this one.
+    // A number above those of all stations that have a share.
     pub(crate) made: u32,
     // It is a station's share.
     pub(crate) is_share: bool,
@@ -43,7 +43,7 @@ pub(crate) type Words = Shared<(), View, (), OneList>;
 
 pub(crate) type TableSeat = Seat<(), View>;
 
-// Names the entries that are added, for the proof alone: a load carries none.
+// Names the entries that are added, only for the proof: a load carries none.
 pub(crate) trait TheEntries {
     ghost use Rattle.std.specs.Prelude.{List};
     ghost use Rattle.kept_desk.specs.declared.entry.Entry.{Entry};
@@ -57,7 +57,7 @@ impl TheEntries for Brand {
     ghost entries = { [] };
 }
 
-// Names the station that is given a share, for the proof alone.
+// Names the station that gets a share, only for the proof.
 pub(crate) trait TheStation {
     ghost use Rattle.std.specs.Prelude.{ℕ};
 

@@ -20,7 +20,7 @@ use std::io::Write;
 use std::sync::{Mutex, MutexGuard, Wait};
 use std::thread::yield_now;
 
-// The journal, the line that speaks for the command, and what stands in front of it.
+// The journal, the line that speaks for the command, and the bytes in front of it.
 #[derive(Drop)]
 pub(crate) struct Journalled<'a, K: Opening, W: Write + Drop> {
     pub(crate) log: &'a Mutex<Journal<K, W>>,
@@ -29,7 +29,7 @@ pub(crate) struct Journalled<'a, K: Opening, W: Write + Drop> {
 }
 
 impl<'a, K: Opening, W: Write + Drop> Journalled<'a, K, W> {
-    // Writes the line under the journal's lock, notes it with its command, and gives the moment.
+    // Writes the line under the journal's lock, notes it with its command, and returns the moment.
     pub(crate) fn write<R: Wait>(
         &self,
         rt: &R,
@@ -74,11 +74,11 @@ impl<'a, J: Naming, K: Opening, W: Write + Drop> Settles<J, KeptCell<K>, Moment<
     }
 }
 
-// How often a lock that another thread has is looked at before the thread sleeps.
+// How often a thread looks at a lock that another thread has before it sleeps.
 const LOOKS: u32 = 60;
 
-// Takes a lock that is held for one write at a time: to let other threads run meanwhile costs less than to sleep
-// and be woken.
+// Takes a lock that is held for one write at a time: letting other threads run meanwhile costs less than to
+// sleep and be woken.
 pub(crate) fn hold<'b, T, R: Wait>(rt: &R, lock: &'b Mutex<T>) -> MutexGuard<'b, T> {
     for _ in 0..LOOKS {
         if let Some(guard) = lock.try_lock() {

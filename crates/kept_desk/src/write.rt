@@ -1,4 +1,4 @@
-//! What may stand in front of a line, and writing one.
+//! What may be in front of a line, and how a line is written.
 ghost use Rattle.std.specs.Prelude.{◌≡◌, ℕ, ◌↔◌, ◌++◌, List, [], ◌∷◌, IsTrue, OnOk};
 ghost use Rattle.std.specs.Io.Buffered.{writer_buffer, writer_contents};
 ghost use Rattle.std.specs.Io.KnownBytes.{Appends};
@@ -9,15 +9,15 @@ ghost use Rattle.script_lines.specs.Lines.{HasNoFeed};
 use script_lines::{MAX_LINE_BYTES, WriteStopped, write_bytes};
 use std::io::{BufWriter, Write};
 
-/// Tells whether these bytes may stand in front of a line: they are none, or a comment line of at most
-/// [`MAX_LINE_BYTES`] with its line feed.
+/// Returns whether these bytes may be in front of a line: there are none, or they are a comment
+/// line of at most [`MAX_LINE_BYTES`] with its line feed.
 pub fn is_note(bytes: &[u8]) -> bool
     ensures { IsTrue result → IsNote bytes.now }
 {
     bytes.is_empty() || is_comment(bytes)
 }
 
-// Tells whether these bytes are a comment line of at most `MAX_LINE_BYTES` with its line feed.
+// Returns whether these bytes are a comment line of at most `MAX_LINE_BYTES` with its line feed.
 fn is_comment(bytes: &[u8]) -> bool
     ensures { IsTrue result → IsComment bytes.now }
 {
@@ -37,14 +37,14 @@ fn is_comment(bytes: &[u8]) -> bool
     has_no_feed(&bytes[1..count - 1])
 }
 
-// Tells whether no byte is a line feed.
+// Returns whether no byte is a line feed.
 fn has_no_feed(bytes: &[u8]) -> bool
     ensures { IsTrue result ↔ HasNoFeed bytes.now }
 {
     bytes.iter().all(|byte| *byte != b'\n')
 }
 
-// Writes what stands in front of a line, the line and a line feed, and flushes them: nothing is left in the buffer then.
+// Writes the bytes in front of a line, the line and a line feed, and flushes them: nothing is left in the buffer then.
 pub(crate) fn write_entry<W: Write + Drop>(
     writer: &mut BufWriter<W>,
     note: &[u8],

@@ -32,7 +32,7 @@ module _ {V : Type 0} where
   from_at key leaves at b = let front = all_of (take at leaves) in let leaf = get_or leaves at [] in let back = all_of (drop (suc at) leaves) in
       ap (from key) (all_at leaves at b.within) ∙ (cut_front key front (leaf ++ back) b.front).1 ∙ (cut_back key leaf back b.back).1
 
-  -- An entry put into the leaf of its key stands between what is in front of the key and what is left.
+  -- An entry put into the leaf of its key is between what is in front of the key and what is left.
   pub put_all : (key : ℕ) (filed : Filed V) (leaves : List (List (Entry V))) (at : ℕ) → Belongs key leaves at
       → all_of (set leaves at (insert (get_or leaves at []) (length (below key (get_or leaves at []))) (key, filed))) ≡ below key (all_of leaves) ++ (key, filed) ∷ from key (all_of leaves)
   put_all key filed leaves at b =
@@ -58,13 +58,13 @@ module _ {V : Type 0} where
       ∙ ap (λ l. (front ++ below key leaf) ++ l) (sym (drop_first (from key leaf) back some))
       ∙ (λ i. sym (below_at key leaves at b) i ++ drop 1 (sym (from_at key leaves at b) i))
 
-  -- A key above which all later entries lie is in the first part, if anywhere.
+  -- If all later entries are above a key, it is in the first part, if anywhere.
   pub present_in : (key : ℕ) (xs back : List (Entry V)) → AreAbove key back → is_some (filed_at key (xs ++ back)) ≡ true → 0 < length xs
   present_in key [] [] above present = cc
   present_in key [] (y ∷ back) above present = let no : filed_at key (y ∷ back) ≡ None = grind (arith, nat_tests, above.0) in absurd (cc)
   present_in key (x ∷ xs) back above present = omega arith
 
-  -- A key that is there lies in front of the end of its leaf.
+  -- A key that is there is in front of the end of its leaf.
   pub place_within : (key : ℕ) (leaf : List (Entry V)) → 0 < length (from key leaf) → length (below key leaf) < length leaf
   place_within key leaf some = omega (arith, length-append (below key leaf) (from key leaf), ap length (cut_whole key leaf))
 

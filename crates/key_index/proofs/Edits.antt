@@ -40,13 +40,13 @@ module _ {V : Type 0} where
   joined_filled (l ∷ m ∷ leaves) zero lt filled = (omega (arith, length-append l m, filled.0), filled.1.1)
   joined_filled (l ∷ m ∷ leaves) (suc at) lt filled = (filled.0, joined_filled (m ∷ leaves) at (omega arith) filled.1)
 
-  -- The same, where the second place is told by a number.
+  -- The same, with the second place given by a number.
   pub joined_same_at : (leaves : List (List (Entry V))) (at i : ℕ) → i ≡ suc at → i < length leaves → all_of (set (remove leaves i) at (get_or leaves at [] ++ get_or leaves i [])) ≡ all_of leaves
   joined_same_at leaves at i up lt =
       let P : ℕ → Type 0 = λ n. all_of (set (remove leaves n) at (get_or leaves at [] ++ get_or leaves n [])) ≡ all_of leaves in
       subst P (sym up) (joined_same leaves at (omega (arith, up, lt)))
 
-  -- They stay filled, told so too.
+  -- They stay filled, given so too.
   pub joined_filled_at : (leaves : List (List (Entry V))) (at i : ℕ) → i ≡ suc at → i < length leaves → AreFilled leaves → AreFilled (set (remove leaves i) at (get_or leaves at [] ++ get_or leaves i []))
   joined_filled_at leaves at i up lt filled =
       let P : ℕ → Type 0 = λ n. AreFilled (set (remove leaves n) at (get_or leaves at [] ++ get_or leaves n [])) in

@@ -5,11 +5,11 @@ use Rattle.std.proofs.lemmas.Bool.Decides.{nat_tests}
 use Rattle.key_index.specs.Entries.{below, from, filed_at, first_of, last_of, AreAbove, AreRising, AreBelow}
 
 module _ {X : Type 0} where
-  -- An entry before the key stands in front.
+  -- An entry before the key is in front.
   pub below_on : (key : ℕ) (e : ℕ × X) (es : List (ℕ × X)) → e.0 < key → below key (e ∷ es) ≡ e ∷ below key es
   below_on key e es lt = grind (arith, nat_tests)
 
-  -- No entry stands in front of the key where the first does not.
+  -- No entry is in front of the key where the first does not.
   pub below_end : (key : ℕ) (e : ℕ × X) (es : List (ℕ × X)) → key ≤ e.0 → below key (e ∷ es) ≡ []
   below_end key e es le = grind (arith, nat_tests)
 
@@ -17,11 +17,11 @@ module _ {X : Type 0} where
   pub from_on : (key : ℕ) (e : ℕ × X) (es : List (ℕ × X)) → e.0 < key → from key (e ∷ es) ≡ from key es
   from_on key e es lt = grind (arith, nat_tests)
 
-  -- Where the first entry does not stand before the key, all are left.
+  -- Where the first entry is not before the key, all are left.
   pub from_end : (key : ℕ) (e : ℕ × X) (es : List (ℕ × X)) → key ≤ e.0 → from key (e ∷ es) ≡ e ∷ es
   from_end key e es le = grind (arith, nat_tests)
 
-  -- What stands in front and what is left are the whole.
+  -- What is in front and what is left are the whole.
   pub cut_whole : (key : ℕ) (es : List (ℕ × X)) → below key es ++ from key es ≡ es
   cut_whole key [] = refl
   cut_whole key (e ∷ es) = elim (cases_lt e.0 key) [
@@ -29,11 +29,11 @@ module _ {X : Type 0} where
     | inr le ↦ rw (below_end key e es le, from_end key e es le) refl
   ]
 
-  -- No more stand in front than there are.
+  -- No more are in front than there are.
   pub below_within : (key : ℕ) (es : List (ℕ × X)) → length (below key es) ≤ length es
   below_within key es = omega (arith, length-append (below key es) (from key es), ap length (cut_whole key es))
 
-  -- What stands in front is the part up to the key's place.
+  -- What is in front is the part up to the key's place.
   pub take_below : (key : ℕ) (es : List (ℕ × X)) → take (length (below key es)) es ≡ below key es
   take_below key [] = refl
   take_below key (e ∷ es) = elim (cases_lt e.0 key) [
@@ -59,7 +59,7 @@ module _ {X : Type 0} where
   cut_none key n [] above le = (refl, refl)
   cut_none key n (e ∷ es) above le = let end : key ≤ e.0 = omega (arith, above.0) in (below_end key e es end, from_end key e es end)
 
-  -- The last entry is that of the rest, where there is one.
+  -- The last entry is that of the rest, if there is one.
   pub last_cons : (e f : ℕ × X) (es : List (ℕ × X)) → last_of (e ∷ f ∷ es) ≡ last_of (f ∷ es)
   last_cons e f es =
       let a : suc (suc (length es)) - 1 ≡ suc (length es) = omega arith in let b : suc (length es) - 1 ≡ length es = omega arith in
@@ -96,7 +96,7 @@ module _ {X : Type 0} where
   above_at n (e ∷ es) zero d above lt = above.0
   above_at n (e ∷ es) (suc i) d above lt = above_at n es i d above.1 (omega arith)
 
-  -- A place whose key is before the one sought lies in front of its place.
+  -- A place whose key is before the one sought is in front of its place.
   pub place_more : (key : ℕ) (es : List (ℕ × X)) (i : ℕ) (d : ℕ × X) → AreRising es → i < length es → (get_or es i d).0 < key → i < length (below key es)
   place_more key [] i d rising lt small = absurd (omega arith)
   place_more key (e ∷ es) zero d rising lt small = rw (below_on key e es small) (omega arith)

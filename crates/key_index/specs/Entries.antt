@@ -1,4 +1,4 @@
--- Lists by rising keys: numbers, each with what stands under it.
+-- Lists by rising keys: numbers, each with what is filed under it.
 use Rattle.std.specs.Prelude.{ℕ, ◌<◌, List, [], ◌∷◌, Option, Some, None, length, nat_lt, nat_eq, if◌then◌else◌, slice_get, ◌-◌}
 use Rattle.std.specs.Coded.{×_prop, Unit-prop, le_prop}
 use Rattle.key_index.specs.declared.filed.Filed.{Filed}
@@ -8,17 +8,17 @@ abbrev pub Entry : Type 0 → Type 0
 Entry V = ℕ × Filed V
 
 module _ {X : Type 0} where
-  -- The entries in front that stand before the key.
+  -- The entries in front, up to the first that is not before the key.
   abbrev pub below : ℕ → List (ℕ × X) → List (ℕ × X)
   below key [] = []
   below key (e ∷ es) = if nat_lt e.0 key then e ∷ below key es else []
 
-  -- The entries from the first one on that does not stand before the key.
+  -- The entries from the first one on that is not before the key.
   abbrev pub from : ℕ → List (ℕ × X) → List (ℕ × X)
   from key [] = []
   from key (e ∷ es) = if nat_lt e.0 key then from key es else e ∷ es
 
-  -- What stands under the first entry, where that has the key.
+  -- What is filed under the first entry, if that has the key.
   abbrev pub filed_at : ℕ → List (ℕ × X) → Option X
   filed_at key [] = None
   filed_at key (e ∷ es) = if nat_eq e.0 key then Some e.1 else None
@@ -46,12 +46,12 @@ module _ {X : Type 0} where
   AreRising [] = Unit {0}
   AreRising (e ∷ es) = AreAbove e.0 es × AreRising es
 
-  -- That each key is above a number is a fact: it has one proof.
+  -- `AreAbove` has at most one proof.
   pub AreAbove-prop : (n : ℕ) (es : List (ℕ × X)) → IsProp (AreAbove n es)
   AreAbove-prop n [] = Unit-prop
   AreAbove-prop n (e ∷ es) = ×_prop le_prop (AreAbove-prop n es)
 
-  -- So is that they rise.
+  -- So has `AreRising`.
   pub AreRising-prop : (es : List (ℕ × X)) → IsProp (AreRising es)
   AreRising-prop [] = Unit-prop
   AreRising-prop (e ∷ es) = ×_prop (AreAbove-prop e.0 es) (AreRising-prop es)

@@ -2,7 +2,7 @@
 use Rattle.std.specs.Prelude.{◌≡◌, ℕ, ◌+◌, ◌*◌, ◌/◌, ◌%◌, ◌^◌, ◌<◌}
 use Rattle.std.proofs.lemmas.Nat.{div-mul-add, mod-mul-add}
 
--- Where a key stands among all keys: by the transaction's slot, then by the sequence number.
+-- A key's position among all keys: by the transaction's slot, then by the sequence number.
 abbrev pub rank : ℕ → ℕ → ℕ
 rank transaction number = transaction * 2 ^ 31 + number
 

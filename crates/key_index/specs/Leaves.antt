@@ -34,7 +34,7 @@ module _ {V : Type 0} where
   begun key [] = 0
   begun key (leaf ∷ leaves) = if nat_le (first_key leaf) key then suc (begun key leaves) else 0
 
-  -- The key stands in this leaf, or belongs there: smaller keys are in front of the leaf, greater ones behind it.
+  -- The key is in this leaf, or belongs there: smaller keys are in front of the leaf, greater ones behind it.
   pub record Belongs (key : ℕ) (leaves : List (List (Entry V))) (at : ℕ) : Type 0 where
     pub within : at < length leaves
     pub front : AreBelow key (all_of (take at leaves))
@@ -52,7 +52,8 @@ module _ {V : Type 0} where
     pub rising : AreRising (all_of leaves)
     pub empty : AreEmpty spare
 
-  -- Leaves with the entries of the old ones, and with room in the leaf where a key belongs; the other leaves are filled.
+  -- Leaves with the entries of the old ones, and with room in the leaf where a key belongs; the other leaves are
+  -- filled.
   pub record IsReady (old leaves : List (List (Entry V))) (key at : ℕ) : Type 0 where
     pub same : all_of leaves ≡ all_of old
     pub belongs : Belongs key leaves at
@@ -60,7 +61,8 @@ module _ {V : Type 0} where
     pub front : AreFilled (take at leaves)
     pub back : AreFilled (drop (suc at) leaves)
 
-  -- What an index keeps: its leaves, as many in all as its capacity wants, and the count of its entries.
+  -- What an index keeps: its leaves, used and spare ones as many as its capacity needs, and the count of
+  -- its entries.
   pub record IsIndex {Z : Type 0} (leaves spare : Vec (List (Entry V)) Z) (len capacity : ℕ) : Type 0 where
     pub kept : IsKept leaves.items spare.items
     pub room : HaveRoom leaves spare

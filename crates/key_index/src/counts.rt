@@ -24,7 +24,7 @@ fn weight(is_set: bool) -> u8
 }
 
 impl Counts {
-    // Those of no entries.
+    // The counts of no entries.
     pub(crate) fn none() -> Self
         ensures { (m : Mark) → count_of m result ≡ 0 }
     {
@@ -36,7 +36,7 @@ impl Counts {
         }
     }
 
-    // How many have a mark.
+    // How many entries have a mark.
     pub(crate) fn of(self, mark: Mark) -> u8
         ensures { result ≡ count_of mark self }
     {
@@ -48,7 +48,7 @@ impl Counts {
         }
     }
 
-    // With an entry of these marks more.
+    // The counts with one more entry, of these marks.
     pub(crate) fn more(self, marks: Marks) -> Self
         requires { (m : Mark) → count_of m self < 255 }
         ensures { (m : Mark) → count_of m result ≡ count_of m self + weigh (has_mark m marks) }
@@ -61,7 +61,7 @@ impl Counts {
         }
     }
 
-    // With one fewer.
+    // The counts with one entry fewer, of these marks.
     pub(crate) fn less(self, marks: Marks) -> Self
         requires { (m : Mark) → weigh (has_mark m marks) ≤ count_of m self }
         ensures { (m : Mark) → count_of m result + weigh (has_mark m marks) ≡ count_of m self }
@@ -74,7 +74,7 @@ impl Counts {
         }
     }
 
-    // With those of other entries.
+    // The counts with those of other entries added.
     pub(crate) fn plus(self, other: Counts) -> Self
         requires { (m : Mark) → count_of m self + count_of m other ≤ 255 }
         ensures { (m : Mark) → count_of m result ≡ count_of m self + count_of m other }
@@ -87,7 +87,7 @@ impl Counts {
         }
     }
 
-    // Without those of some of the entries.
+    // The counts without those of some of the entries.
     pub(crate) fn minus(self, other: Counts) -> Self
         requires { (m : Mark) → count_of m other ≤ count_of m self }
         ensures { (m : Mark) → count_of m result + count_of m other ≡ count_of m self }

@@ -7,7 +7,7 @@ use crate::key::Ranked;
 use std::alloc::AllocError;
 use std::marker::Model;
 
-/// A key, and what stands under it. Contracts see the key's rank.
+/// A key, and what is filed under it. Contracts see the key's rank.
 #[derive(Copy, Debug)]
 pub struct Entry<K: Ranked, V: Copy> {
     key: K,
@@ -38,7 +38,7 @@ impl<K: Ranked, V: Copy> Clone for Entry<K, V> {
 }
 
 impl<K: Ranked, V: Copy> Entry<K, V> {
-    /// An entry of this key.
+    /// An entry of this key and what is filed under it.
     pub fn new(key: K, filed: Filed<V>) -> Self
         ensures { result ≡ (K.rank key, filed) }
     {
@@ -52,7 +52,7 @@ impl<K: Ranked, V: Copy> Entry<K, V> {
         self.key
     }
 
-    /// What stands under it.
+    /// What is filed under the key.
     pub fn filed(self) -> Filed<V>
         ensures { result ≡ self.1 }
     {
@@ -70,14 +70,14 @@ impl<K: Ranked, V: Copy> Entry<K, V> {
         }
     }
 
-    // Tells whether its key stands before another.
+    // Returns whether its key is before another.
     pub(crate) fn is_before(self, key: K) -> bool
         ensures { result ≡ nat_lt self.0 (K.rank key) }
     {
         self.key.is_before(key)
     }
 
-    // Tells whether another key stands before its own.
+    // Returns whether another key is before its own.
     pub(crate) fn is_after(self, key: K) -> bool
         ensures { result ≡ nat_lt (K.rank key) self.0 }
     {

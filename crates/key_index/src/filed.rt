@@ -28,7 +28,7 @@ pub enum Mark {
     Names,
 }
 
-/// What stands under a key.
+/// What is filed under a key.
 #[derive(Clone, Copy, Debug, PartialEq, Eq)]
 pub struct Filed<V> {
     /// The value.
@@ -46,7 +46,7 @@ impl Marks {
         names: false,
     };
 
-    /// Tells whether the mark is set.
+    /// Returns whether the mark is set.
     pub fn has(self, mark: Mark) -> bool
         ensures { result ≡ has_mark mark self }
     {

@@ -38,7 +38,8 @@ impl<K: Ranked, V: Copy> Model for KeyIndex<K, V> {
 }
 
 impl<K: Ranked, V: Copy> KeyIndex<K, V> {
-    /// An index of no entries, with room for so many.
+    /// An empty index with room for `capacity` entries. Only this call takes memory; the error says
+    /// that the allocator refused it.
     pub fn open(alloc: Global, capacity: u32) -> Result<Self, AllocError>
         ensures { IfOk result (λ i. i ≡ index [] capacity) }
     {
@@ -72,7 +73,7 @@ impl<K: Ranked, V: Copy> KeyIndex<K, V> {
         self.capacity
     }
 
-    /// The place where a key stands or belongs, to be handed to the calls that take one.
+    /// The place where a key is or belongs, for the calls that take a place.
     pub fn place(&self, key: K) -> KeyPlace {
         if self.leaves.is_empty() {
             return KeyPlace { leaf: 0, entry: 0 };
@@ -80,7 +81,7 @@ impl<K: Ranked, V: Copy> KeyIndex<K, V> {
         seek(&self.leaves, key)
     }
 
-    /// The place where a key stands or belongs; that which is given is looked at first.
+    /// The place where a key is or belongs. The call looks at the place `near` first.
     pub fn place_near(&self, near: KeyPlace, key: K) -> KeyPlace
         ensures rising { AreRising self.now.entries }
     {
@@ -90,7 +91,7 @@ impl<K: Ranked, V: Copy> KeyIndex<K, V> {
         settled(&self.leaves, near, key)
     }
 
-    /// What stands under a key; none where the key is absent.
+    /// What is filed under a key; none if the key is absent.
     pub fn get(&self, place: KeyPlace, key: K) -> Option<Filed<V>>
         ensures { result ≡ filed_at (K.rank key) (from (K.rank key) self.now.entries) }
     {
@@ -100,14 +101,14 @@ impl<K: Ranked, V: Copy> KeyIndex<K, V> {
         }
     }
 
-    /// The first entry whose key is the one given or greater.
+    /// The first entry with the given key or a greater one.
     pub fn at_or_after(&self, place: KeyPlace, key: K) -> Option<Entry<K, V>>
         ensures { result ≡ first_of (from (K.rank key) self.now.entries) }
     {
         self.find(place, key).0
     }
 
-    /// The first entry whose key is the one given or greater, and the place where the key stands or
+    /// The first entry with the given key or a greater one, and the place where the key is or
     /// belongs.
     pub fn find(&self, near: KeyPlace, key: K) -> (Option<Entry<K, V>>, KeyPlace)
         ensures { result.0 ≡ first_of (from (K.rank key) self.now.entries) }
@@ -119,7 +120,7 @@ impl<K: Ranked, V: Copy> KeyIndex<K, V> {
         (first_from(&self.leaves, at.leaf, at.entry), at)
     }
 
-    /// The last entry whose key is smaller than the one given.
+    /// The last entry with a key smaller than the given one.
     pub fn before(&self, place: KeyPlace, key: K) -> Option<Entry<K, V>>
         ensures { result ≡ last_of (below (K.rank key) self.now.entries) }
     {
@@ -130,7 +131,7 @@ impl<K: Ranked, V: Copy> KeyIndex<K, V> {
         last_before(&self.leaves, at.leaf, at.entry)
     }
 
-    /// The last entry with a mark whose key is smaller than the one given.
+    /// The last entry that has the mark and a key smaller than the given one.
     pub fn before_marked(&self, place: KeyPlace, key: K, mark: Mark) -> Option<Entry<K, V>>
         ensures { result ≡ last_of (marked mark (below (K.rank key) self.now.entries)) }
     {
@@ -141,7 +142,7 @@ impl<K: Ranked, V: Copy> KeyIndex<K, V> {
         last_marked(&self.leaves, at, mark)
     }
 
-    /// The first entry with a mark whose key is the one given or greater.
+    /// The first entry that has the mark and the given key or a greater one.
     pub fn at_or_after_marked(&self, place: KeyPlace, key: K, mark: Mark) -> Option<Entry<K, V>>
         ensures { result ≡ first_of (marked mark (from (K.rank key) self.now.entries)) }
     {
@@ -152,8 +153,8 @@ impl<K: Ranked, V: Copy> KeyIndex<K, V> {
         first_marked(&self.leaves, at, mark)
     }
 
-    /// The nearest entries with a mark: the last one whose key is smaller than the one given, and the first one
-    /// whose key is that or greater. The place is tested once.
+    /// The nearest entries with the mark on either side: the last one with a smaller key, and the first one
+    /// with the given key or a greater one. The call tests the place once.
     pub fn around_marked(
         &self,
         place: KeyPlace,
@@ -172,7 +173,7 @@ impl<K: Ranked, V: Copy> KeyIndex<K, V> {
         (before, from)
     }
 
-    /// Sets the marks of the entry of a key, which is there.
+    /// Sets the marks of the entry of a key. The key must be in the index.
     pub fn set_marks(&mut self, key: K, marks: Marks)
         requires { IsSome (filed_at (K.rank key) (from (K.rank key) self.old.entries)) }
         ensures entries { self.new.entries ≡ below (K.rank key) self.old.entries ++ mark_at marks 0 (from (K.rank key) self.old.entries) }
@@ -183,7 +184,7 @@ impl<K: Ranked, V: Copy> KeyIndex<K, V> {
         mark(&mut self.leaves, at, key, marks);
     }
 
-    /// Puts in an entry at its place. The key is absent, and there is room.
+    /// Inserts an entry. The key must be absent, and the index must have room.
     pub fn insert(&mut self, place: KeyPlace, key: K, filed: Filed<V>)
         requires absent { filed_at (K.rank key) (from (K.rank key) self.old.entries) ≡ None }
         requires room { length self.old.entries < self.old.capacity }
@@ -202,7 +203,7 @@ impl<K: Ranked, V: Copy> KeyIndex<K, V> {
         self.insert_making_room(key, filed);
     }
 
-    // Puts in an entry where its leaf may be full, or there is none.
+    // Inserts an entry if its leaf may be full, or if there is no leaf.
     fn insert_making_room(&mut self, key: K, filed: Filed<V>)
         requires absent { filed_at (K.rank key) (from (K.rank key) self.old.entries) ≡ None }
         requires room { length self.old.entries < self.old.capacity }
@@ -216,7 +217,7 @@ impl<K: Ranked, V: Copy> KeyIndex<K, V> {
         self.len += 1;
     }
 
-    /// Takes out the entry of a key, which is there.
+    /// Removes the entry of a key. The key must be in the index.
     pub fn remove(&mut self, key: K)
         requires { IsSome (filed_at (K.rank key) (from (K.rank key) self.old.entries)) }
         ensures entries { self.new.entries ≡ below (K.rank key) self.old.entries ++ drop 1 (from (K.rank key) self.old.entries) }

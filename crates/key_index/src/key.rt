@@ -3,25 +3,25 @@ ghost use Rattle.key_index.specs.Key.{rank};
 
 use std::marker::Model;
 
-/// Keys in an order. An index goes by their ranks.
+/// Keys with an order. An index keeps its entries by the ranks of their keys.
 pub trait Ranked: Copy {
-    // Where a key stands among all keys, and the key that stands there.
+    // A key's rank, its position among all keys; and the key of a rank.
     ghost rank: { Self → ℕ };
 
     ghost key_of: { ℕ → Self };
 
     ghost back: { (key : Self) → key_of (rank key) ≡ key };
 
-    /// Tells whether this key stands before the other.
+    /// Returns whether this key is before the other.
     fn is_before(self, other: Self) -> bool
         ensures { result ≡ nat_lt (rank self) (rank other) };
 }
 
 /// A transaction's slot and a sequence number below 2^31. Contracts see a key as its rank, the slot
-/// times 2^31 and the number, so keys go by transaction first.
+/// times 2^31 and the number, so keys are ordered by transaction first.
 #[derive(Clone, Copy, Debug, PartialEq, Eq)]
 pub struct IndexKey {
-    // In this order both are read as one number.
+    // The comparison reads both as one number.
     number: u32,
     transaction: u32,
 }
@@ -67,7 +67,7 @@ impl IndexKey {
         self.number
     }
 
-    // Both parts as one number, which goes by the transaction first.
+    // Both parts as one number, ordered by the transaction first.
     fn joined(self) -> u64
         ensures { result ≡ self / 2 ^ 31 * 2 ^ 32 + self % 2 ^ 31 }
     {

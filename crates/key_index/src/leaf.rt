@@ -1,4 +1,4 @@
-//! A run of up to [`LEAF_SIZE`] entries, whose memory is taken when it is opened.
+//! A run of up to [`LEAF_SIZE`] entries, which takes its memory when it is opened.
 ghost use Rattle.std.specs.Prelude.{◌≡◌, ◌+◌, ◌<◌, ◌≤◌, [], ◌++◌, length, take, drop, slice_get, Some, IfOk};
 ghost use Rattle.std.specs.List.{insert, remove};
 ghost use Rattle.std.specs.Vec.{vec_len, vec_capacity};
@@ -15,8 +15,8 @@ use std::marker::Model;
 /// The most entries of a leaf.
 pub const LEAF_SIZE: usize = 128;
 
-/// A run of entries, with how many of them have each mark. Contracts see the list of their keys and
-/// what stands under them.
+/// A run of entries, with how many of them have each mark. Contracts see the list of keys with what
+/// is filed under them.
 #[derive(Drop)]
 pub struct Leaf<K: Ranked, V: Copy> {
     entries: Vec<Entry<K, V>>,
@@ -37,7 +37,7 @@ impl<K: Ranked, V: Copy> Model for Leaf<K, V> {
     ghost invariant = { λ l. (LEAF_SIZE ≤ vec_capacity l.entries) × (length l.entries.items ≤ LEAF_SIZE) × AreCounts l.counts l.entries.items };
 }
 
-// Moves the entries from a place on into an empty vector, copied as a whole run.
+// Moves all entries from a place on into an empty vector, copied as a whole run.
 fn move_from<K: Ranked, V: Copy>(
     entries: &mut Vec<Entry<K, V>>,
     place: usize,
@@ -57,7 +57,7 @@ fn move_from<K: Ranked, V: Copy>(
     entries.truncate(place);
 }
 
-// Copies entries behind those of a vector that has room for them.
+// Copies entries to the end of a vector that has room for them.
 fn push_all<K: Ranked, V: Copy>(entries: &mut Vec<Entry<K, V>>, more: &[Entry<K, V>])
     requires { length entries.old.items + length more.now ≤ vec_capacity entries.old }
     ensures items { entries.new.items ≡ entries.old.items ++ more.now }
@@ -70,7 +70,7 @@ fn push_all<K: Ranked, V: Copy>(entries: &mut Vec<Entry<K, V>>, more: &[Entry<K,
 }
 
 impl<K: Ranked, V: Copy> Leaf<K, V> {
-    /// A leaf of no entries, with room for all that it may hold.
+    /// An empty leaf with room for all the entries that it may hold.
     pub(crate) fn open(alloc: Global) -> Result<Leaf<K, V>, AllocError>
         ensures { IfOk result (λ l. l ≡ []) }
     {
@@ -104,7 +104,7 @@ impl<K: Ranked, V: Copy> Leaf<K, V> {
         self.entries[place]
     }
 
-    /// The place where a key stands or belongs.
+    /// The place where a key is or belongs.
     pub(crate) fn place_of(&self, key: K) -> usize
         requires { AreRising self.now }
         ensures place { result ≡ length (below (K.rank key) self.now) }
@@ -203,7 +203,7 @@ impl<K: Ranked, V: Copy> Leaf<K, V> {
         self.counts = self.counts.minus(moved);
     }
 
-    /// Moves the entries of another leaf behind this one's.
+    /// Moves the entries of another leaf to the end of this one.
     pub(crate) fn append(&mut self, other: &mut Leaf<K, V>)
         requires { length self.old + length other.old ≤ LEAF_SIZE }
         ensures { (self.new ≡ self.old ++ other.old) × (other.new ≡ []) }

@@ -13,8 +13,8 @@ use crate::key::Ranked;
 use crate::leaf::{LEAF_SIZE, Leaf};
 use crate::place::KeyPlace;
 
-/// The leaf in which a key stands or belongs: the last one that begins at the key or before it, or
-/// the first leaf.
+/// The leaf where a key is or belongs: the last one that begins at the key or before it, or the
+/// first leaf.
 pub(crate) fn leaf_of<K: Ranked, V: Copy>(leaves: &Vec<Leaf<K, V>>, key: K) -> usize
     requires { (0 < length leaves.now.items) × AreFilled leaves.now.items × AreRising (all_of leaves.now.items) }
     ensures { Belongs (K.rank key) leaves.now.items result }
@@ -79,7 +79,7 @@ pub(crate) fn seek<K: Ranked, V: Copy>(leaves: &Vec<Leaf<K, V>>, key: K) -> KeyP
     KeyPlace { leaf: at, entry }
 }
 
-/// Tells whether a place is that of a key.
+/// Returns whether a place is that of a key.
 fn fits<K: Ranked, V: Copy>(leaves: &Vec<Leaf<K, V>>, place: KeyPlace, key: K) -> bool
     requires { (place.leaf < length leaves.now.items) × AreFilled leaves.now.items × (place.entry ≤ length (get_or leaves.now.items place.leaf [])) }
     ensures { result ≡ true → IsCutAt (K.rank key) (in_front place.leaf place.entry leaves.now.items) (on_from place.leaf place.entry leaves.now.items) }
@@ -95,7 +95,7 @@ fn fits<K: Ranked, V: Copy>(leaves: &Vec<Leaf<K, V>>, place: KeyPlace, key: K) -
     }
 }
 
-/// The place of a key, where there is a hint of it.
+/// The place of a key: the hint if it fits, else the one that a search finds.
 pub(crate) fn settled<K: Ranked, V: Copy>(
     leaves: &Vec<Leaf<K, V>>,
     place: KeyPlace,
@@ -224,7 +224,7 @@ pub(crate) fn put<K: Ranked, V: Copy>(leaves: &mut Vec<Leaf<K, V>>, at: usize, e
     leaf.insert(place, entry);
 }
 
-/// Moves the upper half of a full leaf into an empty one behind it.
+/// Moves the upper half of a full leaf into an empty one, which comes next.
 pub(crate) fn split<K: Ranked, V: Copy>(
     leaves: &mut Vec<Leaf<K, V>>,
     at: usize,
@@ -241,7 +241,7 @@ pub(crate) fn split<K: Ranked, V: Copy>(
     }
 }
 
-/// Moves the entries of a leaf behind those of the one in front of it, and answers it, empty.
+/// Moves the entries of a leaf to the end of the one in front of it, and returns it, empty.
 pub(crate) fn join<K: Ranked, V: Copy>(leaves: &mut Vec<Leaf<K, V>>, at: usize) -> Leaf<K, V>
     requires { (at + 1 < length leaves.old.items) × (length (get_or leaves.old.items at []) + length (get_or leaves.old.items (at + 1) []) ≤ 128) }
     ensures empty { result ≡ [] }
@@ -268,7 +268,7 @@ pub(crate) fn pair_that_fits<K: Ranked, V: Copy>(leaves: &Vec<Leaf<K, V>>) -> Op
     None
 }
 
-/// Takes an empty leaf from those to spare.
+/// Takes an empty leaf from the spare ones.
 fn taken<K: Ranked, V: Copy>(spare: &mut Vec<Leaf<K, V>>) -> Leaf<K, V>
     requires { AreEmpty spare.old.items × (0 < length spare.old.items) }
     ensures empty { result ≡ [] }
@@ -281,7 +281,7 @@ fn taken<K: Ranked, V: Copy>(spare: &mut Vec<Leaf<K, V>>) -> Leaf<K, V>
     }
 }
 
-/// Sees that there is a leaf to spare, by joining two that fit one where there is none.
+/// Makes sure that there is a spare leaf: if there is none, joins two neighbours that fit one.
 pub(crate) fn reclaim<K: Ranked, V: Copy>(leaves: &mut Vec<Leaf<K, V>>, spare: &mut Vec<Leaf<K, V>>)
     requires kept { IsKept leaves.old.items spare.old.items }
     requires room { HaveRoom leaves.old spare.old }
@@ -304,7 +304,7 @@ pub(crate) fn reclaim<K: Ranked, V: Copy>(leaves: &mut Vec<Leaf<K, V>>, spare: &
     }
 }
 
-/// Sees that the leaf where a key belongs has room, and answers it.
+/// Makes sure that the leaf where a key belongs has room, and returns its number.
 pub(crate) fn make_room<K: Ranked, V: Copy>(
     leaves: &mut Vec<Leaf<K, V>>,
     spare: &mut Vec<Leaf<K, V>>,
@@ -344,7 +344,7 @@ pub(crate) fn take_out<K: Ranked, V: Copy>(leaves: &mut Vec<Leaf<K, V>>, at: usi
     leaf.remove(place);
 }
 
-/// Puts a leaf that is empty to those to spare.
+/// Moves a leaf to the spare ones if it is empty.
 pub(crate) fn release_empty<K: Ranked, V: Copy>(
     leaves: &mut Vec<Leaf<K, V>>,
     spare: &mut Vec<Leaf<K, V>>,

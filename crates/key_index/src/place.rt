@@ -1,7 +1,7 @@
-//! Places in an index, found once and handed on.
+//! Places in an index, found once and passed on.
 
-/// A place in an index, as a hint: each call that takes one tests it, and searches again where it is
-/// not the place of the call's key.
+/// A place in an index, as a hint: each call that takes one tests it, and searches if it is not the
+/// place of the call's key.
 #[derive(Clone, Copy, Debug, PartialEq, Eq)]
 pub struct KeyPlace {
     pub(crate) leaf: usize,
@@ -9,13 +9,13 @@ pub struct KeyPlace {
 }
 
 impl KeyPlace {
-    /// A place that is no key's, where none is known yet.
+    /// The place of no key, to begin with.
     pub const UNKNOWN: KeyPlace = KeyPlace {
         leaf: usize::MAX,
         entry: 0,
     };
 
-    /// The place behind the entry that stands here.
+    /// The place behind the entry at this place.
     pub fn next(self) -> KeyPlace {
         KeyPlace {
             leaf: self.leaf,
@@ -23,7 +23,7 @@ impl KeyPlace {
         }
     }
 
-    /// This place, or the other where it is none that is known.
+    /// This place, or the other if this one is not known.
     pub fn known_or(self, other: KeyPlace) -> KeyPlace {
         if self == KeyPlace::UNKNOWN {
             other
@@ -32,7 +32,7 @@ impl KeyPlace {
         }
     }
 
-    /// This place once an entry was put in at another one, where no leaf was split by it.
+    /// This place after an entry was put in at another one, if no leaf was split by it.
     pub fn moved_by(self, put: KeyPlace) -> KeyPlace {
         if self.leaf == put.leaf && put.entry <= self.entry {
             return self.next();

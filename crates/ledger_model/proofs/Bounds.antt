@@ -50,7 +50,7 @@ AreEntries-put key v (e ∷ es) k event h =
       | Greater ↦ (h.0, AreEntries-put key v es k event h.1)
     ]
 
--- what stands under a key is in range
+-- what is under a key is in range
 AreEntries-find : (key : KeyName) (s : Stored) (es : List Entry) → AreEntries es → find key_cmp key es ≡ Some s → IsEventContent s.event
 AreEntries-find key s [] h is = cc
 AreEntries-find key s (e ∷ es) h is =

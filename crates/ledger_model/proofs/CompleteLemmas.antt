@@ -1,4 +1,4 @@
--- A transaction is complete exactly where its four conditions hold.
+-- A transaction is complete exactly if its four conditions hold.
 use Rattle.std.proofs.Common.{◌≡◌, ◌≢◌, ◌↔◌, ℕ, zero, suc, ◌<◌, ◌+◌, ◌-◌, true, List, [], ◌∷◌, Some, None, length, refl, sym, subst, arith, eqb}
 use Rattle.std.specs.List.{slice_get}
 use Rattle.std.proofs.lemmas.Bool.{and_parts, and_from, eqb-true, eq-eqb, false≢true}

@@ -78,7 +78,7 @@ module _ (limits : Bounds) (c : Content) (d : Sent) where
   pub left_with : Room limits c d → (commands : List Command) → left_by limits c (Deliver d.0 d.1 ∷ commands) ≡ left_by limits (delivered c d) commands
   left_with r commands = ap (λ (p : Content × Answer). left_by limits p.0 commands) (told r)
 
--- an entry stands between others, without which the list is es
+-- an entry is between others, without which the list is es
 pub record IsPut (e : Entry) (es fs : List Entry) : Type 0 where
   pub front : List Entry
   pub back : List Entry

@@ -1,4 +1,4 @@
--- The energy of a station, parted by quarters, by EVSEs and by transactions.
+-- The energy of a station, parted by periods, by EVSEs and by transactions.
 use Rattle.std.proofs.Common.{◌≡◌, ◌↔◌, ℕ, ◌+◌, ◌*◌, Bool, true, false, cond, List, [], ◌∷◌, ◌++◌, refl, ap, sym, ◌∙◌, ⊎_elim, arith, map, eqb}
 use Rattle.std.proofs.lemmas.Bool.{eq-eqb, ne_eqb, cases_eq}
 use Rattle.std.specs.Prelude.{sum_by}
@@ -27,7 +27,7 @@ sum_of-down e (x ∷ xs) = ap (λ n. (e x).down + n) (sum_of-down e xs) ∙ sym 
 pub same_energy : (a b : Energy) → a.up ≡ b.up → a.down ≡ b.down → a ≡ b
 same_energy a b up down = λ i. record { up = up i; down = down i }
 
--- the quarters of one direction's pairs are among those of both
+-- the periods of one direction's pairs are among those of both
 shown_pairs : (order : Order) (d : Direction) (period : Periods) (es : List Entry) (n : ℕ) → IsIn n (map (quarter_of period) (all_pairs_by order d es)) → IsIn n (map (quarter_of period) (all_pairs_by order Import es ++ all_pairs_by order Export es))
 shown_pairs order Import period es n there = among_front (quarter_of period) (all_pairs_by order Import es) (all_pairs_by order Export es) n there
 shown_pairs order Export period es n there = among_back (quarter_of period) (all_pairs_by order Import es) (all_pairs_by order Export es) n there
@@ -67,7 +67,7 @@ lines_sum g q ks = sum_by-same _ _ (taken_at g q) ks ∙ sum_by-times q (g q) ks
 
 -- a measure of energies that adds up
 module _ (measure : Flows → ℕ) (none : measure no_flows ≡ 0) (both : (a b : Flows) → measure (plus_flows a b) ≡ measure a + measure b) where
-  -- the energies of a quarter over lines: the sum over those lines of it
+  -- the energies of a period over lines: the sum over those lines of it
   under-part : (quarter : ℕ) (lines : List Flowed) → measure (flows_under quarter lines) ≡ sum_by (λ line. cond (eqb line.0 quarter) (measure line.1) 0) lines
   under-part quarter [] = none
   under-part quarter (line ∷ lines) = step (eqb line.0 quarter) line.1 (flows_under quarter lines)
@@ -77,7 +77,7 @@ module _ (measure : Flows → ℕ) (none : measure no_flows ≡ 0) (both : (a b 
       step true e rest = both e rest
       step false e rest = omega arith
 
-  -- a quarter that is not shown has no energy, and one that is shown has its own
+  -- a period that is not shown has no energy, and one that is shown has its own
   station_part : (order : Order) (d : Direction) (f : Pair → ℕ) (period : Periods) (es : List Entry) → ((q : ℕ) → measure (flows_in_by order period q es) ≡ sum_by f (filter (λ p. eqb (quarter_of period p) q) (all_pairs_by order d es)))
       → (q : ℕ) → sum_by (λ line. cond (eqb line.0 q) (measure line.1) 0) (board_by order period es).quarters ≡ measure (flows_in_by order period q es)
   station_part order d f period es part q =

@@ -43,7 +43,7 @@ missing_rest n m ns up k above h = record {
       (λ (there : IsIn h.higher.0 (m ∷ ns)). (h.higher.0, (there, h.higher.1.1))) h.higher.1.0;
 }
 
--- what is missing lies above the first number
+-- what is missing is above the first number
 missing_above : (n : ℕ) (ns : List ℕ) → AreRising (n ∷ ns) → (k : ℕ) → IsMissing (n ∷ ns) k → n < k
 missing_above n ns up k h =
     let low : n ≤ h.lower.0 = first_is_lowest n ns up h.lower.0 h.lower.1.0 in
@@ -120,7 +120,7 @@ apart-all (n ∷ m ∷ ns) up = apart-more n m ns up (apart-all (m ∷ ns) up.1)
 pub gaps-AreGaps : (ns : List ℕ) → AreRising ns → AreGaps ns (gaps ns)
 gaps-AreGaps ns up = record { covers = covers-all ns up; within = within-all ns up; apart = apart-all ns up }
 
--- what lies in gaps that are apart is not below the first
+-- what is in gaps that are apart is not below the first
 in_some_above : (g : Gap) (gs : List Gap) → AreApart (g ∷ gs) → (k : ℕ) → IsInSome k (g ∷ gs) → g.0 ≤ k
 in_some_above g [] up k (inl h) = h.0
 in_some_above g [] up k (inr h) = absurd h
@@ -129,7 +129,7 @@ in_some_above g (g' ∷ gs) up k (inr h) =
     let later : g'.0 ≤ k = in_some_above g' gs up.1.1 k h in
     let a : g.0 ≤ g.1 = up.0 in let b : g.1 + 1 < g'.0 = up.1.0 in omega arith
 
--- what lies in the later ones is at least two above the first
+-- what is in the later ones is at least two above the first
 in_later_above : (g : Gap) (gs : List Gap) → AreApart (g ∷ gs) → (k : ℕ) → IsInSome k gs → g.1 + 1 < k
 in_later_above g [] up k h = absurd h
 in_later_above g (g' ∷ gs) up k h =

@@ -27,7 +27,7 @@ module _ {X : Type 0} (when : X → ℕ) where
   later_from m n [] le h = tt
   later_from m n (x ∷ xs) le h = (let a : n ≤ when x = h.0 in omega (arith, a, le), later_from m n xs le h.1)
 
-  -- What rises lies behind its first element.
+  -- What rises is behind its first element.
   pub rest_from : (x : X) (xs : List X) → AreInTime when (x ∷ xs) → AreFrom (when x) xs
   rest_from x [] up = tt
   rest_from x (y ∷ ys) up = (up.0, later_from (when x) (when y) ys up.0 (rest_from y ys up.1))
@@ -139,7 +139,7 @@ module _ {X : Type 0} (when : X → ℕ) where
       sym (in_time-passed (λ x. eqb (when x) n) xs)
       ∙ in_time-same (of_moment n xs) (one_moment_rises n (of_moment n xs) (all_one n xs).0 (all_one n xs).1)
 
-  -- Nothing of an earlier moment stands among what is later.
+  -- Nothing of an earlier moment is among what is later.
   none_earlier : (n m : ℕ) (xs : List X) → n < m → AreFrom m xs → of_moment n xs ≡ []
   none_earlier n m [] lt from = refl
   none_earlier n m (x ∷ xs) lt from =
@@ -181,7 +181,7 @@ module _ {X : Type 0} (when : X → ℕ) where
   pub in_time-only : (xs rs : List X) → AreInTime when xs → ((n : ℕ) → of_moment n xs ≡ of_moment n rs) → xs ≡ in_time when rs
   in_time-only xs rs up same = rising-one xs (in_time when rs) up (in_time-rises rs) (λ n. same n ∙ sym (in_time-stable n rs))
 
-  -- One element more among others: where it comes to stand, nothing in front is later and nothing behind is earlier.
+  -- One element more among others: at its place, nothing in front is later and nothing behind is earlier.
   pub record IsPutIn (x : X) (less more : List X) : Type 0 where
     pub front : List X
     pub back : List X

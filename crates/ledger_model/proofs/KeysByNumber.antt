@@ -1,4 +1,4 @@
--- Where a key stands among the events of its own transaction: by its number.
+-- Where a key is among the events of its own transaction: by its number.
 use Rattle.std.proofs.Common.{◌≡◌, ℕ, ◌<◌, Bool, true, false, cond, ◌&&◌, nat_lt, ◌⊎◌, List, [], ◌∷◌, refl, sym, ap, ◌∙◌, bytes_eq, arith, ⊎_elim}
 use Rattle.std.specs.List.{filter}
 use Rattle.std.specs.Ordering.{is_lt, nat_cmp, ordering_then}
@@ -29,7 +29,7 @@ always : (b : Bool) → (b && true) ≡ b
 always true = refl
 always false = refl
 
--- A smaller number stands in front.
+-- A smaller number is in front.
 number_first : (m n : ℕ) → is_lt (nat_cmp m n) ≡ nat_lt m n
 number_first m n = ⊎_elim
     (λ (e : m ≡ n). ap is_lt (sym (nat_cmp_is m n Equal e)) ∙ sym (le-ltb m n (omega arith)))
@@ -39,7 +39,7 @@ number_first m n = ⊎_elim
     o)
     (cases_order m n)
 
--- Of two keys of one transaction, that of the smaller number stands in front.
+-- Of two keys of one transaction, that of the smaller number is in front.
 by_number : (a b : KeyName) → a.tx ≡ b.tx → is_lt (key_cmp a b) ≡ nat_lt a.seq b.seq
 by_number a b same =
     ap (λ o. is_lt (ordering_then o (nat_cmp a.seq b.seq))) (sym (ap (slice_cmp nat_cmp a.tx) same) ∙ tied_itself nat_list_cmp_total a.tx) ∙ number_first a.seq b.seq

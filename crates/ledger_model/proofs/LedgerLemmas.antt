@@ -62,7 +62,7 @@ shadowed : {A : Type 0} (b : Bool) (x y z : A) → cond b x (cond b y z) ≡ con
 shadowed true x y z = refl
 shadowed false x y z = refl
 
--- what is inserted last at a key stands there
+-- what is inserted last at a key is there
 pub inserted_twice : (m : FinMap key_cmp Stored) (key : KeyName) (s t : Stored) → finite.insert (finite.insert m key s) key t ≡ finite.insert m key t
 inserted_twice m key s t = finite.same_map key_total exact_keys _ _ (λ q.
     finite.get-insert key_total (finite.insert m key s) key t q
@@ -75,7 +75,7 @@ equal Less e = cc
 equal Equal e = refl
 equal Greater e = cc
 
--- what is inserted stands there
+-- what is inserted is there
 pub inserted_there : (m : FinMap key_cmp Stored) (key : KeyName) (s : Stored) → finite.get (finite.insert m key s) key ≡ Some s
 inserted_there m key s = finite.get-insert key_total m key s key ∙ ap (λ o. cond (is_eq o) (Some s) (finite.get m key)) (tied_itself key_total key)
 
@@ -84,7 +84,7 @@ at_tied : (m : FinMap key_cmp Stored) (key q : KeyName) (s : Stored) (b : Bool) 
 at_tied m key q s true h e = sym h ∙ ap (finite.get m) (sym (exact_keys q key (equal (key_cmp q key) e)))
 at_tied m key q s false h e = refl
 
--- what stands at a key may be inserted there
+-- what is at a key may be inserted there
 pub inserted_same : (m : FinMap key_cmp Stored) (key : KeyName) (s : Stored) → finite.get m key ≡ Some s → finite.insert m key s ≡ m
 inserted_same m key s h = finite.same_map key_total exact_keys _ _ (λ q.
     finite.get-insert key_total m key s q ∙ at_tied m key q s (eq_by_cmp key_cmp q key) h refl)

@@ -74,7 +74,7 @@ turned : {A : Type 0} (b : Bool) (x y : A) → cond (not b) x y ≡ cond b y x
 turned true x y = refl
 turned false x y = refl
 
--- what stands after an erasure
+-- what is after an erasure
 pub entries_removed : (m : FinMap key_cmp Stored) (key : KeyName) → finite.entries (finite.remove m key) ≡ entries_without key (finite.entries m)
 entries_removed m key =
     let p = λ (x : KeyName). not (eq_by_cmp key_cmp key x) in

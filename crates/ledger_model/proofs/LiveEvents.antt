@@ -1,4 +1,4 @@
--- Boards depend on live events and the order of readings, but for how many are voided.
+-- Boards depend on live events and the order of readings, except for how many are voided.
 use Rattle.std.proofs.Common.{◌≡◌, ℕ, Bool, List, ◌++◌, map, filter, length, sum_by, ap, bytes_eq}
 use Rattle.std.specs.Prelude.{◌&&◌, ◌==◌, count_by}
 use Rattle.std.specs.List.{filter_map, flat_map}
@@ -20,7 +20,8 @@ use Rattle.ledger_model.specs.InTime.{in_order, AreInTime}
 use Rattle.ledger_model.specs.ReadingOrder.{taken_when}
 use Rattle.ledger_model.proofs.InTimeLemmas.{in_time-same}
 
--- Of live events alone: those of a transaction, their numbers, its completeness, its EVSE.
+-- Computed only from live events: those of a transaction, their numbers, its completeness, its
+-- EVSE.
 abbrev of_one : List ℕ → List Entry → List Entry
 of_one tx l = filter (λ e. bytes_eq tx e.0.tx) l
 

@@ -1,4 +1,4 @@
--- What one live event more changes: in its transaction alone.
+-- What one more live event changes: only in its transaction.
 use Rattle.std.proofs.Common.{◌≡◌, ℕ, ◌+◌, ◌==◌, ◌≤◌, Bool, true, false, cond, not, ◌||◌, List, [], ◌∷◌, ◌++◌, Option, length, map, refl, sym, ap, ◌∙◌, bytes_eq, arith}
 use Rattle.std.specs.List.{filter, filter_map, flat_map, list_any, sum_by}
 use Rattle.std.proofs.lemmas.List.Elements.{filter-append}
@@ -38,7 +38,7 @@ own_else u e front back apart =
     ∙ ap (λ b. own_events u front ++ cond b (e ∷ own_events u back) (own_events u back)) apart
     ∙ sym (filter-append (λ (x : Entry). bytes_eq u x.0.tx) front back)
 
--- A transaction whose id stands nowhere has no events.
+-- A transaction whose id is nowhere has no events.
 none_own : (t : List ℕ) (es : List Entry) → list_any (bytes_eq t) (ids es) ≡ false → own_events t es ≡ []
 none_own t [] none = refl
 none_own t (e ∷ es) none =
@@ -100,7 +100,8 @@ transaction_sums d f es more front e back one =
 turned_apart : (t u : List ℕ) → bytes_eq t u ≡ false → bytes_eq u t ≡ false
 turned_apart t u apart = nat_list_eq_equiv.symm u t ∙ apart
 
--- A sum over the transactions with a live event, of a measure that is nothing where a transaction has none, changes by what the event's transaction counts.
+-- A sum over the transactions with a live event, of a measure that is nothing where a transaction has none, changes by
+-- what the event's transaction counts.
 pub by_transaction_sums : (g h : List ℕ → ℕ) (es more front : List Entry) (e : Entry) (back : List Entry) → IsOneMore es more front e back
     → ((u : List ℕ) → bytes_eq u e.0.tx ≡ false → h u ≡ g u) → (live_of e.0.tx es ≡ [] → g e.0.tx ≡ 0) → (live_of e.0.tx more ≡ [] → h e.0.tx ≡ 0)
     → sum_by h (transactions_of (live more)) + g e.0.tx ≡ sum_by g (transactions_of (live es)) + h e.0.tx
@@ -145,7 +146,7 @@ pairs_more_kept d f es more front e back one =
     let many = sum_by-append f (pairs_more d front e back) (pairs_kept d es front e back) in
     omega (arith, less, many, station_sums d f es more front e back one)
 
--- What is so of the pair that goes and of those that come is so of none where there is no reading.
+-- What is so of the pair that goes and of those that come is so of none if there is no reading.
 if_moved : (f : Pair → ℕ) (rs : List MeterReading) (before after : Option MeterReading) (m n : ℕ) → m + sum_by f (across before after) ≡ n + sum_by f (pairs_between before rs after)
     → m + sum_by f (if_read rs (across before after)) ≡ n + sum_by f (if_read rs (pairs_between before rs after))
 if_moved f [] before after m n h = omega (arith, h)

@@ -1,4 +1,4 @@
--- The commands that make one live event more, or one less.
+-- The commands that make one more live event, or one less.
 use Rattle.std.proofs.Common.{◌≡◌, Bool, true, false, cond, not, T, List, [], ◌∷◌, ◌++◌, Option, Some, None, refl, sym, ap, subst, ◌∙◌, append_assoc}
 use Rattle.std.specs.List.{filter}
 use Rattle.std.specs.Ordering.{is_lt, is_eq}
@@ -104,7 +104,7 @@ live_put key v (e ∷ es) rising =
           ∙ sym (ap (λ l. l ++ (if_live (key, v) ++ behind key (live (e ∷ es)))) parts.0 ∙ ap (λ l. (if_live e ++ in_front key (live es)) ++ (if_live (key, v) ++ l)) parts.1)
     ]) refl
 
--- A delivered event that is new is one live event more.
+-- A delivered event that is new is one more live event.
 pub delivered_more : (es : List Entry) (key : KeyName) (event : EventContent) → IsRising es → find key_cmp key es ≡ None
     → IsOneMore es (entries_after es (Deliver key event)) (before_key key es) (key, record { event = event; voided = false }) (behind_key key es)
 delivered_more es key event rising absent = record {
@@ -123,7 +123,7 @@ live_at_voided key s voided = ap (λ b. cond (not b) ((key, s) ∷ []) []) voide
 live_at_live : (key : KeyName) (s : Stored) → s.voided ≡ false → live_at key (Some s) ≡ (key, s) ∷ []
 live_at_live key s voided = ap (λ b. cond (not b) ((key, s) ∷ []) []) voided
 
--- A restored event is one live event more.
+-- A restored event is one more live event.
 pub restored_more : (es : List Entry) (key : KeyName) (s : Stored) → IsRising es → find key_cmp key es ≡ Some s → s.voided ≡ true
     → IsOneMore es (entries_after es (Restore key)) (before_key key es) (key, record { event = s.event; voided = false }) (behind_key key es)
 restored_more es key s rising there voided = record {
@@ -131,7 +131,7 @@ restored_more es key s rising there voided = record {
   more_live = ap live (marked_is es key false s there) ∙ live_put key (record { event = s.event; voided = false }) es rising;
 }
 
--- Before it was voided, an event was one live event more.
+-- An event that is voided was one more live event before.
 pub voided_less : (es : List Entry) (key : KeyName) (s : Stored) → IsRising es → find key_cmp key es ≡ Some s → s.voided ≡ false
     → IsOneMore (entries_after es (Void key)) es (before_key key es) (key, s) (behind_key key es)
 voided_less es key s rising there live_now = record {

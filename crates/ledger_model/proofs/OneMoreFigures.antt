@@ -1,4 +1,4 @@
--- How figures and energies change with one live event more.
+-- How figures and energies change with one more live event.
 use Rattle.std.proofs.Common.{◌≡◌, ℕ, ◌+◌, ◌==◌, Bool, true, false, cond, not, ◌&&◌, T, List, [], ◌∷◌, Option, Some, None, is_some, length, map, refl, sym, ap, subst, ◌∙◌, arith}
 use Rattle.std.specs.List.{filter, sum_by, count_by}
 use Rattle.std.specs.Ordering.{is_eq}
@@ -43,7 +43,7 @@ transactions_more es more front e back one =
 abbrev complete_by : List Entry → ℕ
 complete_by l = cond (starts_and_ends (map (λ e. e.1.event.kind) l) && (missing (map (λ e. e.0.seq) l) == 0)) 1 0
 
--- How many are complete changes by the event's transaction alone.
+-- How many are complete changes only by the event's transaction.
 pub complete_more : (es more front : List Entry) (e : Entry) (back : List Entry) → IsOneMore es more front e back
     → count_by (λ tx. is_complete tx more) (transactions_of (live more)) + cond (is_complete e.0.tx es) 1 0 ≡ count_by (λ tx. is_complete tx es) (transactions_of (live es)) + cond (is_complete e.0.tx more) 1 0
 complete_more es more front e back one =
@@ -73,7 +73,7 @@ pub energy_of_more : (d : Direction) (es more front : List Entry) (e : Entry) (b
 energy_of_more d es more front e back one =
     same_energy (plus (energy_of d e.0.tx more) (energy_over (gone_by d front e back))) (plus (energy_of d e.0.tx es) (energy_over (came_by d front e back))) (transaction_moved d (λ p. (difference p).up) es more front e back one) (transaction_moved d (λ p. (difference p).down) es more front e back one)
 
--- A sum over the pairs of a quarter.
+-- A sum over the pairs of a period.
 quarter_sums : (d : Direction) (f : Pair → ℕ) (period : Periods) (q : ℕ) (es more front : List Entry) (e : Entry) (back : List Entry) → IsOneMore es more front e back
     → sum_by f (filter (λ p. quarter_of period p == q) (pairs d more)) + sum_by f (filter (λ p. quarter_of period p == q) (gone_by d front e back)) ≡ sum_by f (filter (λ p. quarter_of period p == q) (pairs d es)) + sum_by f (filter (λ p. quarter_of period p == q) (came_by d front e back))
 quarter_sums d f period q es more front e back one =
@@ -81,14 +81,14 @@ quarter_sums d f period q es more front e back one =
     let all = station_moved d (λ p. taken (test p) (f p)) es more front e back one in
     omega (arith, all, passed_sum f test (pairs d more), passed_sum f test (gone_by d front e back), passed_sum f test (pairs d es), passed_sum f test (came_by d front e back))
 
--- The energy of a quarter.
+-- The energy of a period.
 pub energy_in_more : (d : Direction) (period : Periods) (q : ℕ) (es more front : List Entry) (e : Entry) (back : List Entry) → IsOneMore es more front e back
     → plus (energy_in d period q more) (energy_over (filter (λ p. quarter_of period p == q) (gone_by d front e back))) ≡ plus (energy_in d period q es) (energy_over (filter (λ p. quarter_of period p == q) (came_by d front e back)))
 energy_in_more d period q es more front e back one =
     let test = λ (p : Pair). quarter_of period p == q in
     same_energy (plus (energy_in d period q more) (energy_over (filter test (gone_by d front e back)))) (plus (energy_in d period q es) (energy_over (filter test (came_by d front e back)))) (quarter_sums d (λ p. (difference p).up) period q es more front e back one) (quarter_sums d (λ p. (difference p).down) period q es more front e back one)
 
--- How many pairs a quarter has.
+-- How many pairs a period has.
 pub pairs_in_more : (d : Direction) (period : Periods) (q : ℕ) (es more front : List Entry) (e : Entry) (back : List Entry) → IsOneMore es more front e back
     → count_by (λ p. quarter_of period p == q) (pairs d more) + count_by (λ p. quarter_of period p == q) (gone_by d front e back) ≡ count_by (λ p. quarter_of period p == q) (pairs d es) + count_by (λ p. quarter_of period p == q) (came_by d front e back)
 pairs_in_more d period q es more front e back one = station_moved d (λ p. cond (quarter_of period p == q) 1 0) es more front e back one

@@ -49,7 +49,7 @@ not_found : (k : KeyName) (es : List Entry) → T (below_all key_cmp k es) → f
 not_found k [] h = refl
 not_found k (e ∷ es) h = ap (λ o. cond (is_eq o) (Some e.1) (find key_cmp k es)) (less _ (first _ _ h)) ∙ not_found k es (second _ _ h)
 
--- nothing stands where the transaction is another
+-- there is nothing if the transaction is another
 another : {A : Type 0} (a v b : Bool) (rs : List A) → b ≡ false → cond a (cond v [] (cond b rs [])) [] ≡ []
 another true true b rs h = refl
 another true false b rs h = ap (λ b. cond b rs []) h
@@ -83,7 +83,7 @@ module _ (d : Direction) (tx : List ℕ) where
   abbrev named : ℕ → KeyName
   named n = record { tx = tx; seq = n }
 
-  -- the order of two ids tells whether they are one
+  -- the order of two ids decides whether they are the same
   other_text : (e : Entry) (o : Ordering) → slice_cmp nat_cmp tx e.0.tx ≡ o → is_eq o ≡ false → bytes_eq tx e.0.tx ≡ false
   other_text e o h f = sym (is_eq-slice_cmp tx e.0.tx) ∙ ap is_eq h ∙ f
 

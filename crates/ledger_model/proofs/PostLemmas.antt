@@ -139,7 +139,7 @@ module _ (figure : Figures → ℕ) (none : figure no_figures ≡ 0) (both : (a 
       omega (arith, same, one))
       (cases_eq p.0 row)
 
-  -- a figure of the totals is the sum of that figure over rows in which each posted row stands once
+  -- a figure of the totals is the sum of that figure over rows in which each posted row occurs once
   figure-rows : (rows : List ℕ) (ps : List Post) → AreOnce (λ p. p.0) rows ps → figure (totals_after ps) ≡ sum_by (λ row. figure (row_after row ps)) rows
   figure-rows rows [] once = none ∙ sym (sum_by-same (λ row. figure no_figures) (λ row. 0) (λ row. none) rows ∙ sum_by-none rows)
   figure-rows rows (p ∷ ps) once =
@@ -155,7 +155,7 @@ module _ (figure : Figures → ℕ) (none : figure no_figures ≡ 0) (both : (a 
       omega (arith, whole, parted, one, rest))
       (cases_Bool (has_post p.0 ps))
 
--- the numbers of a range stand once in it
+-- the numbers of a range occur once in it
 times-before : (q a n : ℕ) → q < a → times q (range_with_len a n) ≡ 0
 times-before q a zero less = refl
 times-before q a (suc n) less = times-other q a (range_with_len (a + 1) n) (λ e. absurd (omega arith)) ∙ times-before q (a + 1) n (omega arith)

@@ -29,7 +29,7 @@ none_or_some : {X : Type 0} (xs : List X) → (xs ≡ []) ⊎ (xs ≡ [] → ⊥
 none_or_some [] = inl refl
 none_or_some (x ∷ xs) = inr (λ e. cc)
 
--- The last of readings in time, of which some have the last moment, has it; and what is so of all is so of it.
+-- The last of readings in time has the last moment if some have it; and what is true of all is true of it.
 record IsLast (P : MeterReading → Type 0) (m : ℕ) (rs : List MeterReading) : Type 0 where
   s : MeterReading
   is : last_reading rs ≡ Some s
@@ -190,7 +190,7 @@ module _ (es more : List Entry) (key : KeyName) (r : MeterReading) (one : IsOneR
   pub evses_stay : (tx : List ℕ) → evse_of tx more ≡ evse_of tx es
   evses_stay tx = ap (λ l. first_or_zero (evses_in tx l)) one.more_live ∙ ap first_or_zero (evse_stays tx one.front) ∙ ap (λ l. first_or_zero (evses_in tx l)) (sym one.less_live)
 
-  -- A transaction's readings by sequence: they stay, or the reading stands among them.
+  -- A transaction's readings by sequence: they stay, or the reading is among them.
   record HasOneMore (d : Direction) (tx : List ℕ) : Type 0 where
     before : List MeterReading
     behind : List MeterReading

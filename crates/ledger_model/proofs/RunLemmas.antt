@@ -1,4 +1,4 @@
--- Elements in a row of which some pass a test, with these and without.
+-- Elements in a row; some pass a test. The row with these and without.
 use Rattle.std.proofs.Common.{◌≡◌, ℕ, ◌+◌, ◌*◌, ◌≤◌, Bool, true, false, cond, not, ◌&&◌, ◌||◌, List, [], ◌∷◌, ◌++◌, Option, Some, None, length, refl, ap, ◌∙◌, ⊎_elim, arith, length-append}
 use Rattle.std.specs.List.{filter, sum_by, zip}
 use Rattle.std.proofs.lemmas.Bool.{cases_Bool}
@@ -108,7 +108,8 @@ module _ {X : Type 0} (own : X → Bool) where
           omega (arith, rest, gone, left, came, here, cut (Some y) x xs))
           (cases_Bool (own x))
 
-    -- Sums over the pairs in a row: those across the runs go, and those come of which one passes.
+    -- Sums over the pairs in a row: those across the runs go, and those come that have an element
+    -- which passes.
     pub runs_sums : (xs : List X) → sum_by f (in_pairs xs) + sum_by f (across_runs own xs) ≡ sum_by f (in_pairs (others xs)) + sum_by f (filter either (in_pairs xs))
     runs_sums xs =
         let all = outside None tt xs in
@@ -170,7 +171,7 @@ module _ {X : Type 0} (own : X → Bool) where
   pub few_by_runs : (xs : List X) → length (across_runs own xs) + length (filter either (in_pairs xs)) ≤ length (filter own xs) + 2 * runs own xs
   few_by_runs xs = let came = ap (λ ps. length (filter either ps)) (pairs_in_row xs) in omega (arith, few_outside None tt xs, came)
 
-  -- Elements that all pass, or none of which does.
+  -- Elements that all pass, or all fail.
   abbrev pub AreOwn : List X → Type 0
   AreOwn [] = Unit {0}
   AreOwn (x ∷ xs) = (own x ≡ true) × AreOwn xs

@@ -7,7 +7,7 @@ use Rattle.ledger_model.specs.Event.{MeterReading}
 use Rattle.ledger_model.specs.Energy.{Pair, followed}
 use Rattle.ledger_model.specs.Deltas.{across, pairs_between, first_reading, last_reading}
 
--- The last reading, or what came before where there is none.
+-- The last reading, or what came before if there is none.
 abbrev last_after : Option MeterReading → List MeterReading → Option MeterReading
 last_after before [] = before
 last_after before (r ∷ rs) = last_after (Some r) rs
@@ -52,7 +52,8 @@ pub last_is : (xs : List MeterReading) → last_after None xs ≡ last_reading x
 last_is [] = refl
 last_is (x ∷ xs) = last_behind x xs ∙ ap (slice_get (x ∷ xs)) (let e : length xs ≡ length (x ∷ xs) - 1 = omega arith in e)
 
--- The pairs of readings in a row: those of the front, those of the middle with the readings on either side, and those of the back.
+-- The pairs of readings in a row: those of the front, those of the middle with the readings on either side, and those
+-- of the back.
 pub followed_cut : (front mid back : List MeterReading) → followed (front ++ (mid ++ back)) ≡ followed front ++ (pairs_between (last_reading front) mid (first_reading back) ++ followed back)
 followed_cut front mid back =
     followed_between (front ++ (mid ++ back))
@@ -62,7 +63,8 @@ followed_cut front mid back =
     ∙ ap (λ ps. followed front ++ (pairs_between (last_after None front) mid (first_reading back) ++ ps)) (sym (followed_between back))
     ∙ ap (λ last. followed front ++ (pairs_between last mid (first_reading back) ++ followed back)) (last_is front)
 
--- Sums over the pairs of readings, when some are put in between: what the pair across added goes, and what the pairs between add comes.
+-- Sums over the pairs of readings, when some are put in between: what the pair across added goes, and what the pairs
+-- between add comes.
 pub followed_sums : (f : Pair → ℕ) (front mid back : List MeterReading) → sum_by f (followed (front ++ (mid ++ back))) + sum_by f (across (last_reading front) (first_reading back)) ≡ sum_by f (followed (front ++ back)) + sum_by f (pairs_between (last_reading front) mid (first_reading back))
 followed_sums f front mid back =
     let a = across (last_reading front) (first_reading back) in let m = pairs_between (last_reading front) mid (first_reading back) in

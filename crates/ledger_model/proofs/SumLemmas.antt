@@ -40,7 +40,7 @@ sum_by-filter_cons f p x xs =
       | false ↦ omega arith
     ]
 
--- how often a number stands in a list
+-- how often a number is in a list
 abbrev pub times : ℕ → List ℕ → ℕ
 times n ns = count_by (λ m. eqb n m) ns
 
@@ -65,7 +65,7 @@ sum_by-times n c (m ∷ ns) =
     step true c k = omega arith
     step false c k = omega arith
 
--- each element's key stands once in a list
+-- each element's key occurs once in a list
 abbrev pub AreOnce : {X : Type 0} → (X → ℕ) → List ℕ → List X → Type 0
 AreOnce key ks [] = Unit {0}
 AreOnce key ks (x ∷ xs) = (times (key x) ks ≡ 1) × AreOnce key ks xs
@@ -85,7 +85,7 @@ sum_by_keys f key ks (x ∷ xs) once =
     one_times : (n : ℕ) → 1 * n ≡ n
     one_times n = omega arith
 
--- what put_in does, by where the number stands
+-- what put_in does, by where the number is
 pub put_in-same : (n m : ℕ) (ms : List ℕ) → n ≡ m → put_in n (m ∷ ms) ≡ m ∷ ms
 put_in-same n m ms e = rw (eq-eqb n m e)
 
@@ -120,7 +120,7 @@ pub rising-AreRising : (ns : List ℕ) → AreRising (rising ns)
 rising-AreRising [] = tt
 rising-AreRising (n ∷ ns) = put_in-AreRising n (rising ns) (rising-AreRising ns)
 
--- a number below a rising list doesn't stand in it
+-- a number below a rising list isn't in it
 times-below : (n m : ℕ) (ms : List ℕ) → n < m → AreRising (m ∷ ms) → times n (m ∷ ms) ≡ 0
 times-below n m [] less up = times-other n m [] (λ e. absurd (omega arith))
 times-below n m (k ∷ ms) less up = times-other n m (k ∷ ms) (λ e. absurd (omega arith)) ∙ times-below n k ms (let a : m < k = up.0 in omega arith) up.1
@@ -154,7 +154,7 @@ times-put_other n k (m ∷ ms) apart = ⊎_elim
     o)
     (cases_order k m)
 
--- each number of a list stands once among its rising numbers
+-- each number of a list occurs once among its rising numbers
 times-rising : (n : ℕ) (ns : List ℕ) → IsIn n ns → times n (rising ns) ≡ 1
 times-rising n [] h = absurd h
 times-rising n (m ∷ ns) h = ⊎_elim
@@ -218,7 +218,8 @@ key_or_none f key k (x ∷ xs) = ⊎_elim {C = IsIn k (map key (x ∷ xs)) ⊎ (
     (key_or_none f key k xs))
     (cases_eq k (key x))
 
--- the sum of a key stands once among the sums by rising keys of a list that has them all, or is nothing
+-- the sum of a key occurs once among the sums by rising keys of a list that has them all, or is
+-- nothing
 pub times-among_sum : {X : Type 0} (f key : X → ℕ) (k : ℕ) (xs ys : List X) → ((n : ℕ) → IsIn n (map key xs) → IsIn n (map key ys))
     → times k (rising (map key ys)) * sum_by f (filter (λ x. eqb (key x) k) xs) ≡ sum_by f (filter (λ x. eqb (key x) k) xs)
 times-among_sum f key k xs ys among = ⊎_elim

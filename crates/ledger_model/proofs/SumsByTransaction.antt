@@ -59,7 +59,7 @@ another_left_out c t x apart (y ∷ ys) =
       | false ↦ λ e. sum_by-cons (λ y. cond (bytes_eq t y) c 0) y (others x ys) ∙ ap (λ n. cond (bytes_eq t y) c 0 + n) rest ∙ sym whole
     ]) refl
 
--- A text stands once among distinct ones, where it stands at all.
+-- A text occurs once among distinct ones, where it is at all.
 once : (c : ℕ) (t : List ℕ) (xs : List (List ℕ)) → sum_by (λ y. cond (bytes_eq t y) c 0) (distinct xs) ≡ cond (list_any (bytes_eq t) xs) c 0
 once c t [] = refl
 once c t (x ∷ xs) =
@@ -110,16 +110,16 @@ others_agree g h t same (y ∷ ys) =
       | false ↦ λ e. sum_by-cons h y (others t ys) ∙ ap (λ n. n + sum_by h (others t ys)) (same y e) ∙ ap (λ n. g y + n) rest ∙ sym (sum_by-cons g y (others t ys))
     ]) refl
 
--- A sum over distinct texts: for one text, where it stands, and over the others.
+-- A sum over distinct texts: for one text, where it is, and over the others.
 sum_with_one : (g : List ℕ → ℕ) (t : List ℕ) (xs : List (List ℕ)) → sum_by g (distinct xs) ≡ cond (list_any (bytes_eq t) xs) (g t) 0 + sum_by g (others t (distinct xs))
 sum_with_one g t xs = sum_parts g t (distinct xs) ∙ ap (λ n. n + sum_by g (others t (distinct xs))) (once (g t) t xs)
 
--- A text that does not stand there counts nothing.
+-- A text that is not there counts nothing.
 counts_nothing : (n : ℕ) (b : Bool) → (b ≡ false → n ≡ 0) → cond b n 0 ≡ n
 counts_nothing n true none = refl
 counts_nothing n false none = sym (none refl)
 
--- A sum over distinct texts: what one text counts, and the others, where one that does not stand there counts nothing.
+-- A sum over distinct texts: what one text counts, and the others, where one that is not there counts nothing.
 pub sum_by_one : (g : List ℕ → ℕ) (t : List ℕ) (xs : List (List ℕ)) → (list_any (bytes_eq t) xs ≡ false → g t ≡ 0) → sum_by g (distinct xs) ≡ g t + sum_by g (others t (distinct xs))
 sum_by_one g t xs none = sum_with_one g t xs ∙ ap (λ n. n + sum_by g (others t (distinct xs))) (counts_nothing (g t) (list_any (bytes_eq t) xs) none)
 
@@ -127,12 +127,12 @@ sum_by_one g t xs none = sum_with_one g t xs ∙ ap (λ n. n + sum_by g (others 
 pub others_count : (g h : List ℕ → ℕ) (t : List ℕ) (xs ys : List (List ℕ)) → others t xs ≡ others t ys → ((u : List ℕ) → bytes_eq t u ≡ false → h u ≡ g u) → sum_by h (others t (distinct ys)) ≡ sum_by g (others t (distinct xs))
 others_count g h t xs ys same agree = others_agree g h t agree (distinct ys) ∙ ap (sum_by g) (others_distinct t ys ∙ ap distinct (sym same) ∙ sym (others_distinct t xs))
 
--- Two sums over distinct texts, where the texts and the measures differ in one text alone, differ by what that counts.
+-- Two sums over distinct texts, where the texts and the measures differ only in one text, differ by what that counts.
 pub sums_differ_by_one : (g h : List ℕ → ℕ) (t : List ℕ) (xs ys : List (List ℕ)) → others t xs ≡ others t ys → ((u : List ℕ) → bytes_eq t u ≡ false → h u ≡ g u) → (list_any (bytes_eq t) xs ≡ false → g t ≡ 0) → (list_any (bytes_eq t) ys ≡ false → h t ≡ 0)
     → sum_by h (distinct ys) + g t ≡ sum_by g (distinct xs) + h t
 sums_differ_by_one g h t xs ys same agree none_x none_y = omega (arith, sum_by_one g t xs none_x, sum_by_one h t ys none_y, others_count g h t xs ys same agree)
 
--- The same, where a text that does not stand there may count.
+-- The same, where a text that is not there may count.
 pub counts_differ_by_one : (g h : List ℕ → ℕ) (t : List ℕ) (xs ys : List (List ℕ)) → others t xs ≡ others t ys → ((u : List ℕ) → bytes_eq t u ≡ false → h u ≡ g u)
     → sum_by h (distinct ys) + cond (list_any (bytes_eq t) xs) (g t) 0 ≡ sum_by g (distinct xs) + cond (list_any (bytes_eq t) ys) (h t) 0
 counts_differ_by_one g h t xs ys same agree = omega (arith, sum_with_one g t xs, sum_with_one h t ys, others_count g h t xs ys same agree)

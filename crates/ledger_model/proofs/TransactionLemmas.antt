@@ -1,4 +1,5 @@
--- The transactions of a station, each listed once, and in the order of their ids where the events are in the order of their keys.
+-- The transactions of a station, each listed once, and in the order of their ids where the events are in the order of
+-- their keys.
 use Rattle.std.proofs.Common.{◌≡◌, ◌⊎◌, Bool, true, false, cond, not, ◌||◌, T, List, [], ◌∷◌, ℕ, refl, ap, sym, ◌∙◌, subst, ⊎_elim, inl, inr, map}
 use Rattle.std.specs.Prelude.{filter}
 use Rattle.std.specs.List.{list_any, AllByRecursion}
@@ -40,7 +41,7 @@ pub any-map : (tx : List ℕ) (es : List Entry) → list_any (bytes_eq tx) (map 
 any-map tx [] = refl
 any-map tx (e ∷ es) = ap (λ b. bytes_eq tx e.0.tx || b) (any-map tx es)
 
--- a transaction is listed exactly where an event of it stands
+-- a transaction is listed exactly if it has an event
 pub transactions-any : (tx : List ℕ) (es : List Entry) → list_any (bytes_eq tx) (transactions_of es) ≡ has_transaction tx es
 transactions-any tx es = distinct-any tx (map (λ e. e.0.tx) es) ∙ any-map tx es
 

@@ -55,7 +55,7 @@ split_case false false px a n h = omega arith
 same_text : (t x : List ℕ) → bytes_eq t x ≡ true → t ≡ x
 same_text t x = (bytes_eq-Decides t x).0
 
--- one text is counted where it stands, and the others without it
+-- one text is counted where it is, and the others without it
 pub split_by : (t : List ℕ) (p : List ℕ → Bool) (xs : List (List ℕ)) → how_many p xs ≡ cond (p t && list_any (bytes_eq t) xs) 1 0 + how_many (λ y. not (bytes_eq t y) && p y) xs
 split_by t p [] = none (p t)
 split_by t p (x ∷ xs) =

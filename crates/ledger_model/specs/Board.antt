@@ -13,7 +13,9 @@ use Rattle.ledger_model.specs.Evse.{evse_of, evses, flows_at_by, first_or_zero}
 use Rattle.ledger_model.specs.Gaps.{Gap, numbers_of, gaps, missing}
 use Rattle.ledger_model.specs.Complete.{is_complete}
 
--- The figures of a station, the readings of each transaction in an order: live and voided events; transactions with a live event, how many of these are complete, what they miss, and their energies: imported, and exported.
+-- The figures of a station, with the readings of each transaction in the given order: live and
+-- voided events; transactions with a live event, how many of these are complete, what they miss,
+-- and their energies: imported, and exported.
 abbrev pub figures_by : Order → List Entry → Figures
 figures_by order es = record {
   events = length (live es);
@@ -31,7 +33,7 @@ figures_by order es = record {
 abbrev pub figures : List Entry → Figures
 figures es = figures_by Sequence es
 
--- Both figures added up, number by number.
+-- The sum of both, number by number.
 abbrev pub plus_figures : Figures → Figures → Figures
 plus_figures a b = record {
   events = a.events + b.events;
@@ -50,7 +52,7 @@ abbrev pub sum_of_figures : List Figures → Figures
 sum_of_figures [] = no_figures
 sum_of_figures (f ∷ fs) = plus_figures f (sum_of_figures fs)
 
--- An EVSE, or a quarter, with its energies.
+-- An EVSE or a period, with its energies.
 abbrev pub Flowed : Type 0
 Flowed = ℕ × Flows
 
@@ -67,13 +69,13 @@ pub record Shown : Type 0 where
   pub export : Energy
   pub gaps : List Gap
 
--- The last of a list, or 0 where there is none.
+-- The last of a list, or 0 if it is empty.
 abbrev pub last_or_zero : List ℕ → ℕ
 last_or_zero [] = 0
 last_or_zero (n ∷ []) = n
 last_or_zero (n ∷ m ∷ ns) = last_or_zero (m ∷ ns)
 
--- A transaction as a board shows it, its readings in an order.
+-- A transaction as a board shows it, with its readings in the given order.
 abbrev pub shown_by : Order → List Entry → List ℕ → Shown
 shown_by order es tx = record {
   tx = tx;
@@ -110,7 +112,7 @@ board_by order period es = record {
 abbrev pub board : Periods → List Entry → Board
 board period es = board_by Sequence period es
 
--- The energies of a quarter over lines of several stations.
+-- The energies of a period, summed over the lines of several stations.
 abbrev pub flows_under : ℕ → List Flowed → Flows
 flows_under quarter [] = no_flows
 flows_under quarter (line ∷ lines) = if line.0 == quarter then plus_flows line.1 (flows_under quarter lines) else flows_under quarter lines

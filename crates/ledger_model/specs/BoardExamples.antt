@@ -38,19 +38,19 @@ metered kind seq n wh = told kind seq n None (reading n wh ∷ [])
 abbrev pub voided : Entry → Entry
 voided e = (e.0, record { event = e.1.event; voided = true })
 
--- Rises alone.
+-- Only rises.
 abbrev pub rise : ℕ → Energy
 rise mwh = record { up = mwh; down = 0 }
 
--- Rises of what was imported alone.
+-- Only rises of the import register.
 abbrev pub took : ℕ → Flows
 took mwh = flows_toward Import (rise mwh)
 
--- The quarter of 900 seconds that begins at 10:00 on that day; the next ones follow it.
+-- The period of 900 seconds that begins at 10:00 on that day; the next ones follow it.
 abbrev pub ten : ℕ
 ten = 1_969_288
 
--- Two events of a transaction, the one between them not yet told.
+-- Two events of a transaction, with the one between them not delivered yet.
 abbrev pub first_run : List Entry
 first_run = metered Started 0 0 1_000 ∷ metered Updated 2 31 1_600 ∷ []
 
@@ -63,11 +63,11 @@ first_run_board = record {
   transactions = record { tx = codes "t1"; evse = 0; events = 2; first = 0; last = 2; complete = false; missing = 1; flow = rise 600_000; export = no_energy; gaps = (1, 1) ∷ [] } ∷ [];
 }
 
--- The board of a site that has this station alone.
+-- The board of a site that has only this station.
 abbrev pub first_run_site : SiteBoard
 first_run_site = record { period = default_periods; figures = first_run_board.figures; quarters = first_run_board.quarters; stations = (codes "A", first_run_board) ∷ [] }
 
--- Then the one between them.
+-- Then the one between them comes.
 abbrev pub late_event : List Entry
 late_event = metered Started 0 0 1_000 ∷ metered Updated 1 14 1_200 ∷ metered Updated 2 31 1_600 ∷ []
 
@@ -80,14 +80,15 @@ late_event_board = record {
   transactions = record { tx = codes "t1"; evse = 0; events = 3; first = 0; last = 2; complete = false; missing = 0; flow = rise 600_000; export = no_energy; gaps = [] } ∷ [];
 }
 
--- Then that one voided: the board is that of the first run, but for the voided event. Restored, the events are those before.
+-- Then that one is voided: the board is that of the first run except for the voided event. After a restoration the
+-- events are those before.
 abbrev pub void_and_restore : List Entry
 void_and_restore = metered Started 0 0 1_000 ∷ voided (metered Updated 1 14 1_200) ∷ metered Updated 2 31 1_600 ∷ []
 
 abbrev pub void_and_restore_board : Board
 void_and_restore_board = record first_run_board { figures = record { events = 2; voided = 1; transactions = 1; complete = 0; missing = 1; up = 600_000; down = 0; export_up = 0; export_down = 0 } }
 
--- A later reading at the very beginning of a quarter.
+-- A later reading at the very beginning of a period.
 abbrev pub quarter_boundary : List Entry
 quarter_boundary = metered Started 0 0 1_000 ∷ metered Updated 1 15 1_100 ∷ []
 
@@ -103,28 +104,28 @@ quarter_closed = metered Started 0 0 1_000 ∷ metered Updated 1 15 1_400 ∷ me
 abbrev pub at_first_moment : List Entry
 at_first_moment = told Updated 0 0 None (record (reading 0 1_000) { moment = first_moment } ∷ record (reading 0 1_400) { moment = first_moment } ∷ []) ∷ []
 
--- An end that tells all readings again.
+-- An end that lists all readings again.
 abbrev pub readings_again_at_end : List Entry
 readings_again_at_end =
     metered Started 0 0 1_000 ∷ metered Updated 1 14 1_200 ∷ metered Updated 2 31 1_600
     ∷ told Ended 3 45 None (reading 0 1_000 ∷ reading 14 1_200 ∷ reading 31 1_600 ∷ reading 45 1_700 ∷ []) ∷ []
 
--- Its quarters, and its figures.
+-- Its periods, and its figures.
 abbrev pub readings_again_quarters : List Flowed
 readings_again_quarters = (ten, flows_toward Import (record { up = 400_000; down = 600_000 })) ∷ (ten + 2, took 800_000) ∷ (ten + 3, took 100_000) ∷ []
 
 abbrev pub readings_again_counts : Figures
 readings_again_counts = record { events = 4; voided = 0; transactions = 1; complete = 1; missing = 0; up = 1_300_000; down = 600_000; export_up = 0; export_down = 0 }
 
--- The second of three events alone names an EVSE.
+-- Only the second of three events names an EVSE.
 abbrev pub evse_moves : List Entry
 evse_moves = metered Started 0 0 1_000 ∷ told Updated 1 5 (Some 2) (reading 5 1_100 ∷ []) ∷ metered Ended 2 10 1_250 ∷ []
 
--- That event voided. Restored, the events are those before.
+-- That event is voided. After a restoration the events are those before.
 abbrev pub evse_voided : List Entry
 evse_voided = metered Started 0 0 1_000 ∷ voided (told Updated 1 5 (Some 2) (reading 5 1_100 ∷ [])) ∷ metered Ended 2 10 1_250 ∷ []
 
--- Then the first event voided.
+-- Then the first event is voided.
 abbrev pub start_voided : List Entry
 start_voided = voided (metered Started 0 0 1_000) ∷ told Updated 1 5 (Some 2) (reading 5 1_100 ∷ []) ∷ metered Ended 2 10 1_250 ∷ []
 
@@ -136,7 +137,7 @@ widest_gap = metered Started 0 0 10_000_000_000 ∷ metered Ended 2_147_483_647 
 abbrev pub widest_gap_counts : Figures
 widest_gap_counts = record { events = 2; voided = 0; transactions = 1; complete = 0; missing = 2_147_483_646; up = 0; down = 10_000_000_000_000; export_up = 0; export_down = 0 }
 
--- The register of what was fed back is read with the first event and with the last.
+-- The export register is read with the first event and with the last.
 abbrev pub exported : List Entry
 exported =
     told Started 0 0 None (reading 0 1_000 ∷ fed_back 0 50 ∷ [])
@@ -147,13 +148,13 @@ exported =
 abbrev pub in_turn : List Entry
 in_turn = told Updated 0 10 None (reading 1 10 ∷ fed_back 2 500 ∷ reading 3 30 ∷ fed_back 4 490 ∷ []) ∷ []
 
--- What was read at 10:14 is in the end, too, where its own event is voided.
+-- The end lists the reading of 10:14 too; the event of 10:14 is voided.
 abbrev pub read_again : List Entry
 read_again =
     metered Started 0 0 1_000 ∷ voided (metered Updated 1 14 1_200) ∷ metered Updated 2 31 1_600
     ∷ told Ended 3 45 None (reading 0 1_000 ∷ reading 14 1_200 ∷ reading 31 1_600 ∷ reading 45 1_700 ∷ []) ∷ []
 
--- The end that tells all readings again is voided.
+-- The end that lists all readings again is voided.
 abbrev pub end_voided : List Entry
 end_voided =
     metered Started 0 0 1_000 ∷ metered Updated 1 14 1_200 ∷ metered Updated 2 31 1_600

@@ -18,23 +18,23 @@ AreRising [] = Unit {0}
 AreRising (n ∷ []) = Unit {0}
 AreRising (n ∷ m ∷ ns) = (n < m) × AreRising (m ∷ ns)
 
--- A number stands in a list.
+-- A number is in a list.
 abbrev pub IsIn : ℕ → List ℕ → Type 0
 IsIn n [] = ⊥
 IsIn n (m ∷ ms) = (n ≡ m) ⊎ IsIn n ms
 
--- A number is missing: it lies strictly between two live numbers, and is not live.
+-- A number is missing: it is strictly between two live numbers, and is not live.
 pub record IsMissing (live : List ℕ) (n : ℕ) : Type 0 where
   pub absent : IsIn n live → ⊥
   pub lower : (low : ℕ) × (IsIn low live × (low < n))
   pub higher : (high : ℕ) × (IsIn high live × (n < high))
 
--- A number lies in one of these gaps.
+-- A number is in one of these gaps.
 abbrev pub IsInSome : ℕ → List Gap → Type 0
 IsInSome n [] = ⊥
 IsInSome n (g ∷ gs) = ((g.0 ≤ n) × (n ≤ g.1)) ⊎ IsInSome n gs
 
--- Gaps rise and lie apart: each ends no lower than it begins, and a number that is in neither stands before the next.
+-- Gaps rise and are apart: each ends no lower than it begins, and between two of them is a number that is in neither.
 abbrev pub AreApart : List Gap → Type 0
 AreApart [] = Unit {0}
 AreApart (g ∷ []) = g.0 ≤ g.1
@@ -46,7 +46,7 @@ pub record AreGaps (live : List ℕ) (gs : List Gap) : Type 0 where
   pub within : (n : ℕ) → IsInSome n gs → IsMissing live n
   pub apart : AreApart gs
 
--- The kinds of live events, and how many numbers are missing, of a transaction that is complete.
+-- The kinds of the live events of a complete transaction, and how many numbers it misses.
 pub record AreComplete (kinds : List Kind) (missing : ℕ) : Type 0 where
   pub lowest : slice_get kinds 0 ≡ Some Started
   pub highest : slice_get kinds (length kinds - 1) ≡ Some Ended
@@ -59,22 +59,23 @@ abbrev pub sum_of_energies : List Energy → Energy
 sum_of_energies [] = no_energy
 sum_of_energies (e ∷ es) = plus e (sum_of_energies es)
 
--- The pairs of a station of both directions, the readings of each transaction in an order.
+-- The pairs of a station in both directions, with the readings of each transaction in the given
+-- order.
 abbrev pub pairs_of_both : Order → List Entry → List Pair
 pairs_of_both order es = all_pairs_by order Import es ++ all_pairs_by order Export es
 
--- The quarters of several stations' boards, one behind the other.
+-- The periods of several stations' boards, one board after the other.
 abbrev pub quarters_over : Order → Periods → List (List Entry) → List Flowed
 quarters_over order period stations = flat_map (λ es. (board_by order period es).quarters) stations
 
--- The energies of several stations in a quarter, added up in each direction.
+-- The energies of several stations in a period, added up in each direction.
 abbrev pub flows_over : Order → Periods → ℕ → List (List Entry) → Flows
 flows_over order period quarter stations = record {
   flow = sum_of_energies (map (energy_in_by order Import period quarter) stations);
   export = sum_of_energies (map (energy_in_by order Export period quarter) stations);
 }
 
--- A board that tells so many voided events.
+-- The board with this number of voided events.
 abbrev pub with_voided : ℕ → Board → Board
 with_voided voided board = record board { figures = record board.figures { voided = voided } }
 

@@ -19,6 +19,7 @@ abbrev pub starts_and_ends : List Kind → Bool
 starts_and_ends (Started ∷ kinds) = goes_on_and_ends kinds
 starts_and_ends _ = false
 
--- A transaction is complete: its lowest live event is Started, its highest is Ended, no other is either, and no number is missing.
+-- A transaction is complete: its lowest live event is Started, its highest is Ended, no other is either, and no number
+-- is missing.
 abbrev pub is_complete : List ℕ → List Entry → Bool
 is_complete tx es = starts_and_ends (kinds_of tx es) && (missing (numbers_of tx es) == 0)

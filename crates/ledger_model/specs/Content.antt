@@ -11,7 +11,8 @@ pub record Stored : Type 0 where
   pub event : EventContent
   pub voided : Bool
 
--- What a station's ledger holds: its events by their keys, each voided or not, and the number of changes accepted so far.
+-- What a station's ledger holds: its events by their keys, each voided or not, and the number of changes accepted so
+-- far.
 pub record Content : Type 0 where
   pub events : FinMap key_cmp Stored
   pub changes : ℕ
@@ -36,7 +37,7 @@ live es = filter (λ e. not e.1.voided) es
 abbrev pub live_of : List ℕ → List Entry → List Entry
 live_of tx es = filter (λ e. bytes_eq tx e.0.tx) (live es)
 
--- Each text once, where it first stands.
+-- Each text once, at its first place.
 abbrev pub distinct : List (List ℕ) → List (List ℕ)
 distinct [] = []
 distinct (x ∷ xs) = x ∷ filter (λ y. not (bytes_eq x y)) (distinct xs)
@@ -45,6 +46,6 @@ distinct (x ∷ xs) = x ∷ filter (λ y. not (bytes_eq x y)) (distinct xs)
 abbrev pub transactions_of : List Entry → List (List ℕ)
 transactions_of es = distinct (map (λ e. e.0.tx) es)
 
--- Tells whether an event of this transaction stands here.
+-- Whether one of these events is of this transaction.
 abbrev pub has_transaction : List ℕ → List Entry → Bool
 has_transaction tx es = list_any (λ e. bytes_eq tx e.0.tx) es

@@ -1,4 +1,4 @@
--- What one live event more changes, law by law.
+-- What one more live event changes, law by law.
 use Rattle.std.specs.Prelude.{◌≡◌, ℕ, ◌+◌, ◌≤◌, ◌==◌, true, false, if◌then◌else◌, List, ◌++◌, None, Some, count_by, filter, length, sum_by}
 use Rattle.std.specs.FinMap.{find}
 use Rattle.energy_flow.specs.Flow.{plus}
@@ -16,7 +16,10 @@ use Rattle.ledger_model.specs.Evse.{energy_at_by, evse_of, transactions_at}
 use Rattle.ledger_model.specs.Gaps.{missing, numbers_of}
 use Rattle.ledger_model.specs.Key.{KeyName, key_cmp}
 
--- The middle readings are put in between the others: the pair across their place goes, and those come that they make with one another and with the readings on either side. So do the sums of each measure of a pair. One pair goes at most, and one more comes at most than there are readings in the middle.
+-- The middle readings are put in between the others: the pair across their place goes, and the
+-- pairs come that they make with one another and with the readings on either side. The sum of each
+-- measure of a pair changes in the same way. At most one pair goes, and at most one pair more comes
+-- than there are readings in the middle.
 pub record ArePutBetween (front mid back : List MeterReading) : Type 0 where
   pub pairs : followed (front ++ (mid ++ back)) ≡ followed front ++ (pairs_between (last_reading front) mid (first_reading back) ++ followed back)
   pub sums : (f : Pair → ℕ)
@@ -29,27 +32,29 @@ pub record ArePutBetween (front mid back : List MeterReading) : Type 0 where
 abbrev pub live_under : KeyName → EventContent → Entry
 live_under key event = (key, record { event = event; voided = false })
 
--- The delivery of a key that holds nothing makes one live event more, in the place of its key.
+-- The delivery of a key without an event adds one live event, in the place of its key.
 abbrev pub DeliveryMakesOneMore : Type 0
 DeliveryMakesOneMore = (es : List Entry) (key : KeyName) (event : EventContent) → IsRising es → find key_cmp key es ≡ None
     → IsOneMore es (entries_after es (Deliver key event)) (before_key key es) (live_under key event) (behind_key key es)
 
--- An event stands under a key of rising entries, live or voided.
+-- Rising entries have an event under a key, live or voided.
 pub record Holds (es : List Entry) (key : KeyName) (s : Stored) : Type 0 where
   pub rising : IsRising es
   pub stored : find key_cmp key es ≡ Some s
 
--- The restoration of a voided event makes one live event more, in the place of its key.
+-- The restoration of a voided event adds one live event, in the place of its key.
 abbrev pub RestorationMakesOneMore : Type 0
 RestorationMakesOneMore = (es : List Entry) (key : KeyName) (s : Stored) → Holds es key s → s.voided ≡ true
     → IsOneMore es (entries_after es (Restore key)) (before_key key es) (live_under key s.event) (behind_key key es)
 
--- Before the void of a live event there was one more, in the place of its key.
+-- The void of a live event takes one live event away, from the place of its key.
 abbrev pub VoidMakesOneLess : Type 0
 VoidMakesOneLess = (es : List Entry) (key : KeyName) (s : Stored) → Holds es key s → s.voided ≡ false
     → IsOneMore (entries_after es (Void key)) es (before_key key es) (key, s) (behind_key key es)
 
--- With one live event more, the pairs of its transaction in a direction change at its place alone. The station's pairs with the event and without it are, in some order, those that are kept, and those that come or go.
+-- With one more live event, the pairs of its transaction in a direction change only at its place.
+-- The station's pairs with the event, and those without it, are, in some order, the pairs that are
+-- kept and the pairs that come or go.
 pub record PairsMove (d : Direction) (es more front : List Entry) (e : Entry) (back : List Entry) : Type 0 where
   pub own_without : pairs_of d e.0.tx es ≡ followed (own_readings d e.0.tx front) ++ (pairs_less d front e back ++ followed (own_readings d e.0.tx back))
   pub own_with : pairs_of d e.0.tx more ≡ followed (own_readings d e.0.tx front) ++ (pairs_more d front e back ++ followed (own_readings d e.0.tx back))
@@ -58,15 +63,18 @@ pub record PairsMove (d : Direction) (es more front : List Entry) (e : Entry) (b
   pub less_kept : (f : Pair → ℕ) → sum_by f (pairs d es) ≡ sum_by f (gone_by d front e back ++ kept_by d es front e back)
   pub more_kept : (f : Pair → ℕ) → sum_by f (pairs d more) ≡ sum_by f (came_by d front e back ++ kept_by d es front e back)
 
--- Those of these pairs that are of a quarter.
+-- Those of these pairs that belong to a period.
 abbrev pub pairs_in : Periods → ℕ → List Pair → List Pair
 pairs_in period quarter ps = filter (λ p. quarter_of period p == quarter) ps
 
--- How many of these pairs are of a quarter.
+-- How many of these pairs belong to a period.
 abbrev pub count_in : Periods → ℕ → List Pair → ℕ
 count_in period quarter ps = count_by (λ p. quarter_of period p == quarter) ps
 
--- With one live event more, the energies in a direction of the station, of the event's transaction and of each quarter lose the pair that goes and gain those that come, and so does the number of a quarter's pairs. The transaction's energy is taken from the EVSE where it was and brought to the one where it is.
+-- With one more live event, the energies in a direction of the station, of the event's transaction
+-- and of each period lose the pair that goes and gain the pairs that come; so does the number of a
+-- period's pairs. The transaction's old energy is taken from the EVSE where it was, and its new
+-- energy is added to the EVSE where it is.
 pub record EnergiesMove (d : Direction) (es more front : List Entry) (e : Entry) (back : List Entry) : Type 0 where
   pub station : plus (energy d more) (energy_over (gone_by d front e back)) ≡ plus (energy d es) (energy_over (came_by d front e back))
   pub transaction : plus (energy_of d e.0.tx more) (energy_over (gone_by d front e back)) ≡ plus (energy_of d e.0.tx es) (energy_over (came_by d front e back))
@@ -92,7 +100,10 @@ count_missing es = sum_by (λ tx. missing (numbers_of tx es)) (transactions_of (
 abbrev pub count_voided : List Entry → ℕ
 count_voided es = count_by (λ e. e.1.voided) es
 
--- With one live event more, of this transaction, one event more is live, and a transaction more where it had none. How many are complete, how many numbers are missing and how many transactions an EVSE has change by that transaction alone.
+-- With one more live event of this transaction, the number of live events rises by one, and the
+-- number of transactions by one if this one had no live event. How many transactions are complete,
+-- how many numbers are missing and how many transactions an EVSE has change only by this
+-- transaction.
 pub record CountsMove (tx : List ℕ) (es more : List Entry) : Type 0 where
   pub events : length (live more) ≡ length (live es) + 1
   pub transactions : length (transactions_of (live more))

@@ -1,4 +1,4 @@
--- What one live event more changes.
+-- What one more live event changes.
 use Rattle.std.specs.Prelude.{Bool, if◌then◌else◌, ◌≡◌, ℕ, zero, suc, ◌+◌, ◌-◌, not, List, [], ◌∷◌, ◌++◌, Option, None, Some, filter, length, slice_get}
 use Rattle.std.specs.List.{flat_map}
 use Rattle.std.specs.Ordering.{is_lt}
@@ -10,7 +10,7 @@ use Rattle.ledger_model.specs.Key.{KeyName, key_cmp}
 use Rattle.ledger_model.specs.Content.{Entry, live, transactions_of}
 use Rattle.ledger_model.specs.Energy.{Pair, followed, pairs, pairs_of}
 
--- The pair of two readings, where there are both.
+-- The pair of two readings, if both are there.
 abbrev pub across : Option MeterReading → Option MeterReading → List Pair
 across None after = []
 across (Some a) None = []
@@ -45,12 +45,12 @@ before_key key es = filter (λ e. is_lt (key_cmp e.0 key)) (live es)
 abbrev pub behind_key : KeyName → List Entry → List Entry
 behind_key key es = filter (λ e. is_lt (key_cmp key e.0)) (live es)
 
--- The second entries have one live event more, between those in front and those behind.
+-- The second entries have one more live event, between those in front and those behind.
 pub record IsOneMore (es more front : List Entry) (e : Entry) (back : List Entry) : Type 0 where
   pub less_live : live es ≡ front ++ back
   pub more_live : live more ≡ front ++ e ∷ back
 
--- The reading of one direction before the event's place in its transaction, where there is one.
+-- The reading of one direction before the event's place in its transaction, if there is one.
 abbrev pub reading_before : Direction → List Entry → Entry → Option MeterReading
 reading_before d front e = last_reading (own_readings d e.0.tx front)
 
@@ -58,47 +58,52 @@ reading_before d front e = last_reading (own_readings d e.0.tx front)
 abbrev pub reading_behind : Direction → Entry → List Entry → Option MeterReading
 reading_behind d e back = first_reading (own_readings d e.0.tx back)
 
--- The pair of one direction across the event's place, which stands without the event.
+-- The pair of one direction across the event's place, which is there without the event.
 abbrev pub pairs_less : Direction → List Entry → Entry → List Entry → List Pair
 pairs_less d front e back = across (reading_before d front e) (reading_behind d e back)
 
--- The pairs of one direction that stand there with the event: those that its readings make.
+-- The pairs of one direction that are there with the event: those that its readings make.
 abbrev pub pairs_more : Direction → List Entry → Entry → List Entry → List Pair
 pairs_more d front e back = pairs_between (reading_before d front e) (toward d e.1.event.readings) (reading_behind d e back)
 
--- The station's pairs of one direction that stand with the event and without it: those of other transactions, and those of its own on either side of its place.
+-- The station's pairs of one direction that are there with and without the event: those of other
+-- transactions, and those of its own on either side of its place.
 abbrev pub pairs_kept : Direction → List Entry → List Entry → Entry → List Entry → List Pair
 pairs_kept d es front e back =
     flat_map (λ tx. pairs_of d tx es) (filter (λ tx. not (bytes_eq e.0.tx tx)) (transactions_of (live es)))
     ++ (followed (own_readings d e.0.tx front) ++ followed (own_readings d e.0.tx back))
 
--- Pairs where there is a reading, else none.
+-- The pairs if there is a reading, else none.
 abbrev pub if_read : List MeterReading → List Pair → List Pair
 if_read [] ps = []
 if_read (r ∷ rs) ps = ps
 
--- The first pairs where there is a reading, else the second.
+-- The first pairs if there is a reading, else the second.
 abbrev pub read_or : List MeterReading → List Pair → List Pair → List Pair
 read_or [] ps qs = qs
 read_or (r ∷ rs) ps qs = ps
 
--- The pair of one direction that the event takes away: that across its place. Where it has no reading of that direction it takes none.
+-- The pair of one direction that the event takes away: the pair across its place. If it has no
+-- reading of that direction, it takes none away.
 abbrev pub gone_by : Direction → List Entry → Entry → List Entry → List Pair
 gone_by d front e back = if_read (toward d e.1.event.readings) (pairs_less d front e back)
 
--- The pairs of one direction that the event brings, of which its readings are. Where it has none of that direction it brings none.
+-- The pairs of one direction that the event brings: those with a reading of its own. If it has no reading of that
+-- direction, it brings none.
 abbrev pub came_by : Direction → List Entry → Entry → List Entry → List Pair
 came_by d front e back = if_read (toward d e.1.event.readings) (pairs_more d front e back)
 
--- The station's pairs of one direction that the event leaves: all, where it has no reading of that direction.
+-- The station's pairs of one direction that the event leaves as they are: all, if it has no reading of that
+-- direction.
 abbrev pub kept_by : Direction → List Entry → List Entry → Entry → List Entry → List Pair
 kept_by d es front e back = read_or (toward d e.1.event.readings) (pairs_kept d es front e back) (pairs d es)
 
--- At most how many pairs of one direction come and go with an event of so many readings of it.
+-- The greatest number of pairs of one direction that come or go with an event of so many readings
+-- of that direction.
 abbrev pub most_for : ℕ → ℕ
 most_for zero = 0
 most_for (suc n) = n + 3
 
--- An energy where a test holds, else none.
+-- The energy if a test holds, else none.
 abbrev pub flow_if : Bool → Energy → Energy
 flow_if b flow = if b then flow else no_energy

@@ -11,11 +11,12 @@ use Rattle.ledger_model.specs.InTime.{in_order}
 use Rattle.ledger_model.specs.Settling.{settled_at}
 use Rattle.ledger_model.specs.Content.{Entry, live, live_of, transactions_of}
 
--- The readings of a transaction in one direction, by sequence: of each live event in the order of its number, its readings of that direction in their order.
+-- The readings of a transaction in one direction, by sequence: its live events in the order of
+-- their numbers, and within an event its readings of that direction as sent.
 abbrev pub readings_of : Direction → List ℕ → List Entry → List MeterReading
 readings_of d tx es = flat_map (λ e. toward d e.1.event.readings) (live_of tx es)
 
--- The readings of a transaction in one direction, in the order of a site.
+-- The readings of a transaction in one direction, in a site's order.
 abbrev pub readings_by : Order → Direction → List ℕ → List Entry → List MeterReading
 readings_by order d tx es = in_order order (λ r. r.moment) (readings_of d tx es)
 
@@ -35,7 +36,7 @@ difference p = difference_of p.0.mwh p.1.mwh
 abbrev pub energy_over : List Pair → Energy
 energy_over ps = record { up = sum_by (λ p. (difference p).up) ps; down = sum_by (λ p. (difference p).down) ps }
 
--- The pairs of a transaction in one direction, its readings in an order.
+-- The pairs of a transaction in one direction, with its readings in the given order.
 abbrev pub pairs_by : Order → Direction → List ℕ → List Entry → List Pair
 pairs_by order d tx es = followed (readings_by order d tx es)
 
@@ -43,7 +44,8 @@ pairs_by order d tx es = followed (readings_by order d tx es)
 abbrev pub pairs_of : Direction → List ℕ → List Entry → List Pair
 pairs_of d tx es = pairs_by Sequence d tx es
 
--- The pairs of a station in one direction: those of each of its transactions, the readings of each in an order.
+-- The pairs of a station in one direction: those of each of its transactions, with the readings of each in the
+-- given order.
 abbrev pub all_pairs_by : Order → Direction → List Entry → List Pair
 all_pairs_by order d es = flat_map (λ tx. pairs_by order d tx es) (transactions_of (live es))
 
@@ -51,7 +53,7 @@ all_pairs_by order d es = flat_map (λ tx. pairs_by order d tx es) (transactions
 abbrev pub pairs : Direction → List Entry → List Pair
 pairs d es = all_pairs_by Sequence d es
 
--- The energy of a transaction in one direction, its readings in an order.
+-- The energy of a transaction in one direction, with its readings in the given order.
 abbrev pub energy_of_by : Order → Direction → List ℕ → List Entry → Energy
 energy_of_by order d tx es = energy_over (pairs_by order d tx es)
 
@@ -59,7 +61,8 @@ energy_of_by order d tx es = energy_over (pairs_by order d tx es)
 abbrev pub energy_of : Direction → List ℕ → List Entry → Energy
 energy_of d tx es = energy_of_by Sequence d tx es
 
--- The energy of a station in one direction, over all its transactions, the readings of each in an order.
+-- The energy of a station in one direction, over all its transactions, with the readings of each in the
+-- given order.
 abbrev pub energy_by : Order → Direction → List Entry → Energy
 energy_by order d es = energy_over (all_pairs_by order d es)
 
@@ -71,11 +74,12 @@ energy d es = energy_by Sequence d es
 abbrev pub quarter_of : Periods → Pair → ℕ
 quarter_of period p = settled_at period p.1.moment
 
--- The energy of a quarter of a station in one direction, the readings of each transaction in an order.
+-- The energy of a period of a station in one direction, with the readings of each transaction in the
+-- given order.
 abbrev pub energy_in_by : Order → Direction → Periods → ℕ → List Entry → Energy
 energy_in_by order d period quarter es = energy_over (filter (λ p. quarter_of period p == quarter) (all_pairs_by order d es))
 
--- The energy of a quarter of a station in one direction, by sequence.
+-- The energy of a period of a station in one direction, by sequence.
 abbrev pub energy_in : Direction → Periods → ℕ → List Entry → Energy
 energy_in d period quarter es = energy_in_by Sequence d period quarter es
 
@@ -93,7 +97,7 @@ abbrev pub flows_toward : Direction → Energy → Flows
 flows_toward Import e = record { flow = e; export = no_energy }
 flows_toward Export e = record { flow = no_energy; export = e }
 
--- Both added up, direction by direction.
+-- The sum of both, direction by direction.
 abbrev pub plus_flows : Flows → Flows → Flows
 plus_flows a b = record { flow = plus a.flow b.flow; export = plus a.export b.export }
 
@@ -101,11 +105,11 @@ plus_flows a b = record { flow = plus a.flow b.flow; export = plus a.export b.ex
 abbrev pub minus_flows : Flows → Flows → Flows
 minus_flows a b = record { flow = minus a.flow b.flow; export = minus a.export b.export }
 
--- The energies of a quarter of a station, in an order.
+-- The energies of a period of a station, with readings in the given order.
 abbrev pub flows_in_by : Order → Periods → ℕ → List Entry → Flows
 flows_in_by order period quarter es = record { flow = energy_in_by order Import period quarter es; export = energy_in_by order Export period quarter es }
 
--- A number put into a rising list, where it does not stand in it already.
+-- A number put into a rising list, if it is not in it already.
 abbrev pub put_in : ℕ → List ℕ → List ℕ
 put_in n [] = n ∷ []
 put_in n (m ∷ ms) = if n == m then m ∷ ms else (if nat_lt n m then n ∷ m ∷ ms else m ∷ put_in n ms)
@@ -115,6 +119,7 @@ abbrev pub rising : List ℕ → List ℕ
 rising [] = []
 rising (n ∷ ns) = put_in n (rising ns)
 
--- The quarters of a station that are shown, its readings in an order: each that has a pair of either direction, even one of difference zero.
+-- The periods that a station shows, with its readings in the given order: each that has a pair of
+-- either direction, even one of difference zero.
 abbrev pub quarters_by : Order → Periods → List Entry → List ℕ
 quarters_by order period es = rising (map (quarter_of period) (all_pairs_by order Import es ++ all_pairs_by order Export es))

@@ -11,12 +11,13 @@ use Rattle.ledger_model.specs.Content.{Entry, Stored}
 abbrev pub IsRising : List Entry → Type 0
 IsRising es = T (is_sorted key_cmp es)
 
--- The entries with the event under this key, which was looked up, voided, or not.
+-- The entries with the event under this key marked as voided or not; the event was looked up
+-- before.
 abbrev pub entries_marked_at : List Entry → KeyName → Bool → Option Stored → List Entry
 entries_marked_at es key voided None = es
 entries_marked_at es key voided (Some stored) = put key_cmp key (record { event = stored.event; voided = voided }) es
 
--- The entries with the event under this key voided, or not.
+-- The entries with the event under this key marked as voided or not.
 abbrev pub entries_marked : List Entry → KeyName → Bool → List Entry
 entries_marked es key voided = entries_marked_at es key voided (find key_cmp key es)
 

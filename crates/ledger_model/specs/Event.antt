@@ -6,7 +6,8 @@ use Rattle.ledger_model.specs.declared.reading.Direction.TheVariants.{Import, Ex
 use Rattle.ledger_model.specs.Moment.{IsMoment}
 use Rattle.ledger_model.specs.Ranges.{greatest_evse, greatest_reading, most_event_readings}
 
--- A counted reading of an active energy register: its moment in nanoseconds from 1970, its milliwatt-hours, and its direction.
+-- A counted reading of an active energy register: its moment in nanoseconds since 1970, its milliwatt-hours, and its
+-- direction.
 pub record MeterReading : Type 0 where
   pub moment : ℕ
   pub mwh : ℕ
@@ -19,26 +20,26 @@ pub record EventContent : Type 0 where
   pub evse : Option ℕ
   pub readings : List MeterReading
 
--- Tells whether two kinds are one.
+-- Whether two kinds are the same.
 abbrev pub same_kind : Kind → Kind → Bool
 same_kind Started Started = true
 same_kind Updated Updated = true
 same_kind Ended Ended = true
 same_kind _ _ = false
 
--- Tells whether two EVSEs, each of which may be missing, are one.
+-- Whether two EVSEs are the same; each may be missing.
 abbrev pub same_evse : Option ℕ → Option ℕ → Bool
 same_evse None None = true
 same_evse (Some a) (Some b) = a == b
 same_evse _ _ = false
 
--- Tells whether two directions are one.
+-- Whether two directions are the same.
 abbrev pub same_direction : Direction → Direction → Bool
 same_direction Import Import = true
 same_direction Export Export = true
 same_direction _ _ = false
 
--- Tells whether two readings agree in moment, value and direction.
+-- Whether two readings agree in moment, value and direction.
 abbrev pub same_reading : MeterReading → MeterReading → Bool
 same_reading a b = (a.moment == b.moment) && ((a.mwh == b.mwh) && same_direction a.direction b.direction)
 
@@ -46,17 +47,17 @@ same_reading a b = (a.moment == b.moment) && ((a.mwh == b.mwh) && same_direction
 abbrev pub toward : Direction → List MeterReading → List MeterReading
 toward d rs = filter (λ r. same_direction d r.direction) rs
 
--- Tells whether two lists have the same readings in the same order.
+-- Whether two lists have the same readings in the same order.
 abbrev pub same_readings : List MeterReading → List MeterReading → Bool
 same_readings [] [] = true
 same_readings (a ∷ as') (b ∷ bs) = same_reading a b && same_readings as' bs
 same_readings _ _ = false
 
--- Tells whether two events are equal: in kind, moment, EVSE and readings.
+-- Whether two events are equal: in kind, moment, EVSE and readings.
 abbrev pub same_event : EventContent → EventContent → Bool
 same_event a b = same_kind a.kind b.kind && (a.moment == b.moment) && same_evse a.evse b.evse && same_readings a.readings b.readings
 
--- An event has a number of counted readings that it may have, and an EVSE that it names is not 0.
+-- An event has no more counted readings than it may have, and does not name EVSE 0.
 abbrev pub IsEvent : Option ℕ → List MeterReading → Type 0
 IsEvent evse readings = (length readings ≤ most_event_readings) × (evse ≢ Some 0)
 

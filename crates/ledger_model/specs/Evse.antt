@@ -7,12 +7,13 @@ use Rattle.ledger_model.specs.declared.reading.Direction.TheVariants.{Import, Ex
 use Rattle.ledger_model.specs.declared.order.Order.{Order}
 use Rattle.ledger_model.specs.Energy.{Flows, pairs_by, energy_over, rising}
 
--- The first of a list, or 0 where there is none.
+-- The first of a list, or 0 if it is empty.
 abbrev pub first_or_zero : List ℕ → ℕ
 first_or_zero [] = 0
 first_or_zero (n ∷ ns) = n
 
--- The EVSE of a transaction: the one that its live event of lowest number names which names one, else 0.
+-- The EVSE of a transaction: of its live events that name one, the one of lowest number names it; 0 if
+-- none does.
 abbrev pub evse_of : List ℕ → List Entry → ℕ
 evse_of tx es = first_or_zero (filter_map (λ e. e.1.event.evse) (live_of tx es))
 
@@ -20,14 +21,15 @@ evse_of tx es = first_or_zero (filter_map (λ e. e.1.event.evse) (live_of tx es)
 abbrev pub transactions_at : ℕ → List Entry → List (List ℕ)
 transactions_at evse es = filter (λ tx. evse_of tx es == evse) (transactions_of (live es))
 
--- The energy of an EVSE in one direction: that of its transactions, the readings of each in an order.
+-- The energy of an EVSE in one direction: that of its transactions, with the readings of each in the
+-- given order.
 abbrev pub energy_at_by : Order → Direction → ℕ → List Entry → Energy
 energy_at_by order d evse es = energy_over (flat_map (λ tx. pairs_by order d tx es) (transactions_at evse es))
 
--- The energies of an EVSE, in an order.
+-- The energies of an EVSE, with readings in the given order.
 abbrev pub flows_at_by : Order → ℕ → List Entry → Flows
 flows_at_by order evse es = record { flow = energy_at_by order Import evse es; export = energy_at_by order Export evse es }
 
--- The EVSEs of a station that are shown: each that has a transaction with a live event.
+-- The EVSEs that a station shows: each that has a transaction with a live event.
 abbrev pub evses : List Entry → List ℕ
 evses es = rising (map (λ tx. evse_of tx es) (transactions_of (live es)))

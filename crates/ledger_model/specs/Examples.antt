@@ -23,7 +23,8 @@ numbered seq = record { tx = codes "t1"; seq = seq }
 abbrev pub after_ten : ℕ → ℕ
 after_ten minutes = (1_772_359_200 + 60 * minutes) * 1_000_000_000
 
--- The delivery of an event of t1: its kind, its number, its moment in minutes after ten, and one reading of that moment in watt-hours.
+-- The delivery of an event of t1: its kind, its number, its moment in minutes after ten, and one reading of that moment
+-- in watt-hours.
 abbrev pub delivery : Kind → ℕ → ℕ → ℕ → Command
 delivery kind seq minutes wh = Deliver (numbered seq) (record {
   kind = kind;
@@ -57,7 +58,8 @@ late_event = first_run ++ delivery Updated 1 14 1_200 ∷ []
 abbrev pub conflict : List Command
 conflict = late_event ++ delivery Updated 1 14 1_200 ∷ delivery Updated 1 14 1_201 ∷ []
 
--- Then event 1 is voided, comes once more, is voided again; a missing one is voided, a live one erased; event 1 is restored, and restored again.
+-- Then event 1 is voided, comes once more, is voided again; a missing one is voided, a live one erased; event 1 is
+-- restored, and restored again.
 abbrev pub void_and_restore : List Command
 void_and_restore =
     conflict
@@ -80,7 +82,8 @@ void_and_restore_answers =
 abbrev pub falling_register : List Command
 falling_register = delivery Started 0 0 1_600 ∷ delivery Updated 1 5 100 ∷ delivery Updated 2 10 150 ∷ []
 
--- Two events, and a third that finds room neither at once nor when event 1 is voided, but when it is erased.
+-- Two events, and a third that finds no room at once, none after event 1 is voided, but room after event 1
+-- is erased.
 abbrev pub full_until_erased : List Command
 full_until_erased =
     delivery Started 0 0 1_000

@@ -18,7 +18,7 @@ gap_between p = if nat_lt (p.0 + 1) p.1 then Some (p.0 + 1, p.1 - 1) else None
 abbrev pub gaps : List ℕ → List Gap
 gaps numbers = filter_map gap_between (zip numbers (drop 1 numbers))
 
--- How many numbers lie in a gap.
+-- How many numbers are in a gap.
 abbrev pub gap_size : Gap → ℕ
 gap_size g = g.1 + 1 - g.0
 

@@ -9,12 +9,12 @@ abbrev pub put_in_time : {X : Type 0} → (X → ℕ) → X → List X → List 
 put_in_time when x [] = x ∷ []
 put_in_time when x (y ∷ ys) = if nat_lt (when y) (when x) then y ∷ put_in_time when x ys else x ∷ y ∷ ys
 
--- The elements by moment, and those of one moment in the order that they stand in: a stable sort.
+-- The elements by moment, and those of one moment in the order that they have: a stable sort.
 abbrev pub in_time : {X : Type 0} → (X → ℕ) → List X → List X
 in_time when [] = []
 in_time when (x ∷ xs) = put_in_time when x (in_time when xs)
 
--- The elements in an order: as they stand, or by moment.
+-- The elements in an order: as they are, or by moment.
 abbrev pub in_order : {X : Type 0} → Order → (X → ℕ) → List X → List X
 in_order Sequence when xs = xs
 in_order Moment when xs = in_time when xs
@@ -29,7 +29,8 @@ AreInTime when (x ∷ y ∷ ys) = (when x ≤ when y) × AreInTime when (y ∷ y
 abbrev pub in_pairs : {X : Type 0} → List X → List (X × X)
 in_pairs xs = zip xs (drop 1 xs)
 
--- How many runs of elements pass a test: stretches in a row that nothing lengthens. The first argument tells whether the element in front passes it.
+-- How many runs of elements pass a test: stretches that can't be made longer. The first argument
+-- says whether the element in front passes it.
 abbrev pub runs_behind : {X : Type 0} → Bool → (X → Bool) → List X → ℕ
 runs_behind front own [] = 0
 runs_behind front own (x ∷ xs) = (if own x && not front then 1 else 0) + runs_behind (own x) own xs
@@ -37,12 +38,13 @@ runs_behind front own (x ∷ xs) = (if own x && not front then 1 else 0) + runs_
 abbrev pub runs : {X : Type 0} → (X → Bool) → List X → ℕ
 runs own xs = runs_behind false own xs
 
--- A pair of an element with the one behind it, where there is one in front.
+-- The pair of the element in front and an element, if there is one in front.
 abbrev pub joined : {X : Type 0} → Option X → X → List (X × X)
 joined None y = []
 joined (Some x) y = (x, y) ∷ []
 
--- The pair across each run: of the element in front of the run, which does not pass the test, and the one behind it. The first arguments are the last element so far that does not pass, and whether one that passes came since.
+-- The pair across each run: of the element in front of the run, which does not pass the test, and the one behind it.
+-- The first arguments are the last element so far that does not pass, and whether one that passes came since.
 abbrev pub across_behind : {X : Type 0} → Option X → Bool → (X → Bool) → List X → List (X × X)
 across_behind front since own [] = []
 across_behind front since own (x ∷ xs) = if own x then across_behind front true own xs else (if since then joined front x else []) ++ across_behind (Some x) false own xs

@@ -7,7 +7,7 @@ use Rattle.std.specs.Prelude.{refl}
 use Rattle.ledger_model.specs.Ranges.{sequence_end}
 use Rattle.ledger_model.specs.TxId.{IsFoldedId}
 
--- What names an event of a station: the folded id of its transaction, and its sequence number.
+-- What identifies an event of a station: the folded id of its transaction, and its sequence number.
 pub record KeyName : Type 0 where
   pub tx : List ℕ
   pub seq : ℕ

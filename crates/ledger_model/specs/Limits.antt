@@ -8,7 +8,7 @@ pub record Bounds : Type 0 where
   pub readings : ℕ
   pub changes : ℕ
 
--- Each limit lies in its range.
+-- Each limit is in its range.
 pub record AreBounds (transactions events readings changes : ℕ) : Type 0 where
   pub some_transactions : 1 ≤ transactions
   pub most_transactions : transactions ≤ most_transactions
@@ -19,6 +19,6 @@ pub record AreBounds (transactions events readings changes : ℕ) : Type 0 where
   pub some_changes : 1 ≤ changes
   pub most_changes : changes ≤ most_changes
 
--- The limits of a station for which none are declared.
+-- The limits of a station that declares none.
 abbrev pub default_limits : Bounds
 default_limits = record { transactions = 1_024; events = 16_384; readings = 16_384; changes = most_changes }

@@ -8,10 +8,10 @@ first_moment = 946_684_800_000_000_000
 abbrev pub moments_end : ℕ
 moments_end = 4_102_444_800_000_000_000
 
--- A moment, as nanoseconds from 1970, lies in the years 2000 to 2099.
+-- A moment, as nanoseconds since 1970, is in the years 2000 to 2099.
 abbrev pub IsMoment : ℕ → Type 0
 IsMoment nanos = (first_moment ≤ nanos) × (nanos < moments_end)
 
--- Tells whether these nanoseconds are a moment.
+-- Whether these nanoseconds are a moment.
 abbrev pub is_moment : ℕ → Bool
 is_moment nanos = nat_le first_moment nanos && nat_lt nanos moments_end

@@ -4,11 +4,11 @@ use Rattle.ledger_model.specs.declared.figures.Figures.{Figures}
 use Rattle.ledger_model.specs.Figures.{no_figures}
 use Rattle.ledger_model.specs.Board.{plus_figures}
 
--- A post: the row of a station in its site's book, and the figures that are written there.
+-- A post: the row of a station in its site's book, and the figures that are written to it.
 abbrev pub Post : Type 0
 Post = ℕ × Figures
 
--- Tells whether something was posted for a row.
+-- Whether something was posted for a row.
 abbrev pub has_post : ℕ → List Post → Bool
 has_post row posts = list_any (λ p. p.0 == row) posts
 
@@ -17,7 +17,7 @@ abbrev pub row_after : ℕ → List Post → Figures
 row_after row [] = no_figures
 row_after row (p ∷ ps) = if has_post row ps then row_after row ps else (if p.0 == row then p.1 else no_figures)
 
--- The totals after posts: the sums over the rows, of each of which the last post counts.
+-- The totals after posts: the sums over the rows; for each row the last post counts.
 abbrev pub totals_after : List Post → Figures
 totals_after [] = no_figures
 totals_after (p ∷ ps) = if has_post p.0 ps then totals_after ps else plus_figures p.1 (totals_after ps)

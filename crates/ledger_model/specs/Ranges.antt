@@ -1,4 +1,4 @@
--- The greatest and the longest that a ledger's values may be (this product's profile).
+-- The bounds of a ledger's values (this product's profile).
 use Rattle.std.specs.Prelude.{ℕ, ◌^◌}
 
 -- The greatest reading, in milliwatt-hours: ten gigawatt-hours.
@@ -17,7 +17,7 @@ most_id_characters = 36
 abbrev pub most_name_characters : ℕ
 most_name_characters = 48
 
--- The first number that is above each sequence number.
+-- The first number above all sequence numbers.
 abbrev pub sequence_end : ℕ
 sequence_end = 2 ^ 31
 

@@ -1,4 +1,4 @@
--- What one event, or one reading, more changes of a transaction's readings, in either order.
+-- What one more event, or one more reading, changes in a transaction's readings, in either order.
 use Rattle.std.specs.Prelude.{ℕ, Bool, ◌≡◌, ◌≢◌, ◌==◌, ◌||◌, List, [], ◌∷◌, ◌++◌, All, false, map, filter}
 use Rattle.std.specs.List.{flat_map}
 use Rattle.ledger_model.specs.declared.order.Order.{Order}
@@ -25,11 +25,12 @@ numbered d e = map (λ r. (e.0.seq, r)) (toward d e.1.event.readings)
 abbrev pub numbered_by : Order → Direction → List ℕ → List Entry → List Numbered
 numbered_by order d tx es = in_order order (λ n. n.1.moment) (flat_map (numbered d) (live_of tx es))
 
--- Tells whether a reading is of the event of a number.
+-- Whether a reading belongs to the event of this number.
 abbrev pub is_own : ℕ → Numbered → Bool
 is_own seq n = n.0 == seq
 
--- How many runs the readings of an event stand in: stretches in a row that are all of that event.
+-- How many runs the readings of an event form: longest stretches of readings that all belong to
+-- that event.
 abbrev pub runs_of : Order → Direction → KeyName → List Entry → ℕ
 runs_of order d key es = runs (is_own key.seq) (numbered_by order d key.tx es)
 
@@ -37,15 +38,15 @@ runs_of order d key es = runs (is_own key.seq) (numbered_by order d key.tx es)
 abbrev pub bare : Numbered × Numbered → Pair
 bare p = (p.0.1, p.1.1)
 
--- The pairs of which a reading of the event is.
+-- The pairs that have a reading of the event.
 abbrev pub pairs_with : Order → Direction → KeyName → List Entry → List Pair
 pairs_with order d key es = map bare (filter (λ p. is_own key.seq p.0 || is_own key.seq p.1) (in_pairs (numbered_by order d key.tx es)))
 
--- The pairs across its runs, which stand where the event is not live.
+-- The pairs across its runs, which are there while the event is not live.
 abbrev pub pairs_across : Order → Direction → KeyName → List Entry → List Pair
 pairs_across order d key es = map bare (across_runs (is_own key.seq) (numbered_by order d key.tx es))
 
--- The second entries have one reading more, in one live event.
+-- The second entries have one more reading, in one live event.
 pub record IsOneReadingMore (es more : List Entry) (key : KeyName) (r : MeterReading) : Type 0 where
   pub front : List Entry
   pub back : List Entry

@@ -12,11 +12,11 @@ use Rattle.ledger_model.specs.Limits.{Bounds}
 use Rattle.ledger_model.specs.Admissible.{IsAdmissible}
 use Rattle.ledger_model.specs.Content.{Content, Stored, Entry, empty_content, entries, transactions_of, has_transaction}
 
--- How many readings the stored events have, those of voided events among them.
+-- How many readings the stored events have, voided events included.
 abbrev pub readings_stored : List Entry → ℕ
 readings_stored es = sum_by (λ e. length e.1.event.readings) es
 
--- One change more, where the limit of changes allows it.
+-- One more change, if the limit of changes allows it.
 abbrev pub accepted_within_limit : Bounds → Content → Answer
 accepted_within_limit limits c = if nat_le limits.changes c.changes then Refused ChangesExhausted else Accepted (c.changes + 1)
 
@@ -39,19 +39,19 @@ abbrev pub answer_to_voided : Bounds → Content → Option Stored → Answer
 answer_to_voided limits c None = Refused NoSuchEvent
 answer_to_voided limits c (Some stored) = if stored.voided then accepted_within_limit limits c else Refused NotVoided
 
--- What a ledger of these limits answers to a command; the first check that applies answers.
+-- What a ledger of these limits answers to a command; the first check that applies decides.
 abbrev pub answer : Bounds → Content → Command → Answer
 answer limits c (Deliver key event) = answer_to_deliver limits c key event (finite.get c.events key)
 answer limits c (Void key) = answer_to_void limits c (finite.get c.events key)
 answer limits c (Restore key) = answer_to_voided limits c (finite.get c.events key)
 answer limits c (Erase key) = answer_to_voided limits c (finite.get c.events key)
 
--- The events with the one under this key, which was looked up, voided, or not.
+-- The events with the one under this key marked as voided or not; that event was looked up before.
 abbrev pub marked_at : FinMap key_cmp Stored → KeyName → Bool → Option Stored → FinMap key_cmp Stored
 marked_at events key voided None = events
 marked_at events key voided (Some stored) = finite.insert events key (record { event = stored.event; voided = voided })
 
--- The events with the one under this key voided, or not.
+-- The events with the one under this key marked as voided or not.
 abbrev pub marked : FinMap key_cmp Stored → KeyName → Bool → FinMap key_cmp Stored
 marked events key voided = marked_at events key voided (finite.get events key)
 
@@ -62,7 +62,8 @@ events_after events (Void key) = marked events key true
 events_after events (Restore key) = marked events key false
 events_after events (Erase key) = finite.remove events key
 
--- The content that an answer leaves: an accepted command changes the events and is counted, any other answer changes nothing.
+-- The content that an answer leaves: an accepted command changes the events and is counted, any other answer changes
+-- nothing.
 abbrev pub content_after : Content → Command → Answer → Content
 content_after c command (Accepted n) = record { events = events_after c.events command; changes = n }
 content_after c command Repeat = c
@@ -72,7 +73,8 @@ content_after c command (Refused why) = c
 abbrev pub step : Bounds → Content → Command → Content × Answer
 step limits c command = (content_after c command (answer limits c command), answer limits c command)
 
--- A content that some list of n admissible commands, each accepted under these limits, leaves of the empty content.
+-- A content that some list of n admissible commands, each accepted under these limits, reaches from the empty
+-- content.
 abbrev pub Reached : Bounds → ℕ → Content → Type 0
 Reached limits zero c = c ≡ empty_content
 Reached limits (suc n) c =

@@ -16,7 +16,7 @@ pub record Station : Type 0 where
 abbrev pub World : Type 0
 World = List Station
 
--- A station after a command.
+-- The station after a command.
 abbrev pub station_after : Station → Command → Station
 station_after s command = record s { content = (step s.limits s.content command).0 }
 

@@ -14,7 +14,7 @@ use Rattle.ledger_model.specs.World.{Station, World, Happens}
 abbrev pub commands_on : List ℕ → List Happens → List Command
 commands_on name hs = filter_map (λ (h : Happens). if bytes_eq h.0 name then Some h.1 else None) hs
 
--- A station after all that a run asks of it.
+-- The station after all commands that a run gives to it.
 abbrev pub station_left : List Happens → Station → Station
 station_left hs s = record s { content = left_by s.limits s.content (commands_on s.name hs) }
 
@@ -25,7 +25,7 @@ IsDelivery (Void key) = ⊥
 IsDelivery (Restore key) = ⊥
 IsDelivery (Erase key) = ⊥
 
--- What was delivered, where this answers a delivery that is accepted.
+-- What a command delivered, if it is a delivery and this answer accepts it.
 abbrev pub delivered_by : Command → Answer → List Sent
 delivered_by (Deliver key event) (Accepted n) = (key, event) ∷ []
 delivered_by _ _ = []
@@ -35,7 +35,8 @@ abbrev pub accepted_deliveries : Bounds → Content → List Command → List Se
 accepted_deliveries limits c [] = []
 accepted_deliveries limits c (command ∷ commands) = delivered_by command (answer limits c command) ++ accepted_deliveries limits (step limits c command).0 commands
 
--- Two runs of deliveries whose accepted ones are, at each of these stations, the same in another order.
+-- Two runs of deliveries that have, at each of these stations, the same accepted deliveries in another
+-- order.
 pub record AreReordered (w : World) (one other : List Happens) : Type 0 where
   pub one_delivers : All (λ h. IsDelivery h.1) one
   pub other_delivers : All (λ h. IsDelivery h.1) other

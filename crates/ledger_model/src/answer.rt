@@ -3,9 +3,9 @@ ghost use Rattle.std.specs.Prelude.{◌≡◌};
 /// What a ledger answers to a command.
 #[derive(Clone, Copy, Debug, PartialEq, Eq)]
 pub enum Answer {
-    /// The command changed the content; this many changes were accepted so far.
+    /// The command changed the content; the number of changes accepted so far, this one included.
     Accepted(u64),
-    /// The very event is stored already; nothing changed.
+    /// An equal event is stored already; nothing changed.
     Repeat,
     /// The command is refused; nothing changed.
     Refused(Refusal),
@@ -14,15 +14,15 @@ pub enum Answer {
 /// Why a command is refused (this product's profile).
 #[derive(Clone, Copy, Debug, PartialEq, Eq)]
 pub enum Refusal {
-    /// Another event stands under this key.
+    /// An event with this key is stored and is not equal to the delivered one.
     ConflictingEvent,
     /// The transaction is new, and as many as the limit allows are stored.
     TooManyTransactions,
     /// As many events as the limit allows are stored.
     EventsFull,
-    /// The event's readings and those stored are more than the limit allows.
+    /// The readings stored and the event's are together more than the limit allows.
     ReadingsFull,
-    /// No event stands under this key.
+    /// No event with this key is stored.
     NoSuchEvent,
     /// The event is voided already.
     AlreadyVoided,

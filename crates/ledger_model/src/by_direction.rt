@@ -6,9 +6,9 @@ use crate::Direction;
 /// One value for each direction.
 #[derive(Clone, Copy, Debug, PartialEq, Eq)]
 pub struct ByDirection<T> {
-    /// That of the import register.
+    /// The value for the import register.
     pub import: T,
-    /// That of the export register.
+    /// The value for the export register.
     pub export: T,
 }
 

@@ -2,23 +2,24 @@ ghost use Rattle.std.specs.Prelude.{◌≡◌};
 
 use crate::{Event, Key};
 
-/// What may be asked of one station's ledger (this product's profile).
+/// What one station's ledger may be asked to do (this product's profile).
 #[derive(Debug, Drop)]
 pub enum Command {
-    /// Take an event that the station sent.
+    /// Store an event that the station sent; it counts.
     Deliver(Key, Event),
-    /// Leave an event out of all totals, and keep it.
+    /// Leave a live event out of all totals, but keep it stored.
     Void(Key),
     /// Count a voided event again.
     Restore(Key),
-    /// Forget a voided event.
+    /// Remove a voided event; its key and its room are free.
     Erase(Key),
 }
 
 impl Command {
     ghost use Rattle.ledger_model.specs.Admissible.{IsAdmissible, key_of};
 
-    /// Its parts are in range, as their types keep them. It does nothing: a caller names the fact by it.
+    /// Its parts are in range, as their types guarantee. The call does nothing; callers cite it for that
+    /// fact.
     pub fn keeps_ranges(&self)
         ensures { IsAdmissible self.now }
     {

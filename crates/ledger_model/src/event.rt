@@ -10,7 +10,7 @@ use std::marker::Model;
 pub const MAX_EVENT_READINGS: usize = 1_024;
 
 /// A transaction event: its kind, its moment, the EVSE that it names, and its counted readings in the
-/// order in which they were sent (TransactionEventRequest, OCPP 2.0.1 Part 2, block E).
+/// order sent (TransactionEventRequest, OCPP 2.0.1 Part 2, block E).
 #[derive(Debug, Drop)]
 pub struct Event {
     kind: Kind,
@@ -29,14 +29,14 @@ impl Model for Event {
     ghost invariant = { λ e. IsEventContent (record { kind = e.kind; moment = e.moment; evse = e.evse; readings = e.readings }) };
 }
 
-// Tells whether both lists have the same readings in the same order.
+// Returns whether both lists have the same readings in the same order.
 fn are_same(readings: &[Reading], others: &[Reading]) -> bool
     ensures { IsTrue result ↔ (readings.now ≡ others.now) }
 {
     readings == others
 }
 
-// Tells whether an EVSE is named by 0, as no event names one.
+// Returns whether the EVSE has number 0, which no event may name.
 fn names_none(evse: &Option<EvseId>) -> bool
     ensures none { IsTrue result ↔ (evse.now ≡ Some 0) }
     ensures range { IfSome evse.now (λ number. number ≤ greatest_evse) }
@@ -47,7 +47,7 @@ fn names_none(evse: &Option<EvseId>) -> bool
     }
 }
 
-// Reads a moment and the parts of each reading, which their types keep in range.
+// Reads a moment and the parts of each reading, which are in range by their types.
 fn read_parts(moment: Moment, readings: &[Reading])
     ensures moment { IsMoment moment }
     ensures readings { All IsMeterReading readings.now }
@@ -59,8 +59,8 @@ fn read_parts(moment: Moment, readings: &[Reading])
 }
 
 impl Event {
-    /// The event of these parts. The readings come back where they are more than 1,024, or where EVSE
-    /// 0 is named.
+    /// The event of these parts. The error gives the readings back: there are more than 1,024, or the
+    /// EVSE is 0.
     pub fn new(
         kind: Kind,
         moment: Moment,
@@ -86,21 +86,21 @@ impl Event {
         })
     }
 
-    // It is in range, as its type keeps it. It does nothing: a caller names the fact by it.
+    // It is in range, as its type guarantees. The call does nothing; callers cite it for that fact.
     pub(crate) fn keeps_ranges(&self)
         ensures { IsEventContent self.now }
     {
         let _ = &self.kind;
     }
 
-    /// What the event tells of its transaction.
+    /// Whether the event is Started, Updated or Ended.
     pub fn kind(&self) -> Kind
         ensures { result ≡ self.now.kind }
     {
         self.kind
     }
 
-    /// The moment of the event, as its station tells it.
+    /// The moment of the event, by its station's clock.
     pub fn moment(&self) -> Moment
         ensures value { result ≡ self.now.moment }
         ensures range { IsMoment result }
@@ -108,7 +108,7 @@ impl Event {
         self.moment
     }
 
-    /// The EVSE that the event names, 1 to 64.
+    /// The EVSE that the event names, 1 to 64, if it names one.
     pub fn evse(&self) -> Option<EvseId>
         ensures value { result ≡ self.now.evse }
         ensures named { result ≢ Some 0 }
@@ -117,7 +117,7 @@ impl Event {
         self.evse
     }
 
-    /// The counted readings, at most 1,024, in the order in which they were sent.
+    /// The counted readings, at most 1,024, in the order sent.
     pub fn readings(&self) -> &[Reading]
         ensures value { result.now ≡ self.now.readings }
         ensures few { length result.now ≤ most_event_readings }
@@ -133,7 +133,7 @@ impl Event {
         self.readings.into_vec()
     }
 
-    /// Tells whether both events have the same content.
+    /// Returns whether both events are equal: in kind, moment, EVSE and readings.
     pub fn is_same(&self, other: &Event) -> bool
         ensures { IsTrue result ↔ (self.now ≡ other.now) }
     {

@@ -7,7 +7,7 @@ use std::marker::Model;
 pub const GREATEST_EVSE: u8 = 64;
 
 /// The number of an EVSE of a station, 1 to 64 (EVSEType, OCPP 2.0.1 Part 2, block E). A board shows
-/// transactions that name no EVSE under 0; no event names that number.
+/// transactions that name no EVSE under 0; no event may name that number.
 #[derive(Clone, Copy, Debug, PartialEq, Eq, PartialOrd, Ord)]
 pub struct EvseId {
     number: u8,
@@ -27,7 +27,7 @@ impl Model for EvseId {
 }
 
 impl EvseId {
-    /// The EVSE of this number; `None` above 64.
+    /// The EVSE of this number, 0 to 64 (0 names none); `None` above 64.
     pub fn new(number: u8) -> Option<Self>
         ensures valid { IsSome result ↔ (number ≤ greatest_evse) }
         ensures value { IfSome result (λ e. e ≡ number) }
@@ -39,7 +39,7 @@ impl EvseId {
         }
     }
 
-    /// What stands for no EVSE: number 0.
+    /// Number 0, for no EVSE.
     pub fn unnamed() -> Self
         ensures { result ≡ 0 }
     {

@@ -9,11 +9,11 @@ pub struct Figures {
     pub events: u64,
     /// Events that are voided.
     pub voided: u64,
-    /// Transactions that have an event which is not voided.
+    /// Transactions with a live event, that is, one that is not voided.
     pub transactions: u64,
-    /// Transactions, among these, that are complete.
+    /// How many of these transactions are complete.
     pub complete: u64,
-    /// Sequence numbers that are missing, over these transactions.
+    /// How many sequence numbers are missing in these transactions.
     pub missing: u64,
     /// The rises of the import register over all transactions, in milliwatt-hours.
     pub up: u64,
@@ -45,7 +45,7 @@ impl Figures {
         }
     }
 
-    /// Tells whether a station of these limits can have such figures.
+    /// Returns whether a station of these limits can have such figures.
     pub fn within(&self, limits: &Limits) -> bool
         ensures { IsTrue result ↔ AreWithin limits.now self.now }
     {

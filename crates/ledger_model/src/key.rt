@@ -5,12 +5,12 @@ ghost use Rattle.ledger_model.specs.Ranges.{sequence_end};
 use crate::TxId;
 use std::marker::Model;
 
-/// The first number that is above each sequence number: 2^31 (this product's profile).
+/// The first number above all sequence numbers: 2^31 (this product's profile).
 pub const SEQUENCE_END: u32 = 1 << 31;
 
-/// What names an event of a station: its transaction and its sequence number, 0 to 2,147,483,647
-/// (`transactionId` and `seqNo` of TransactionEventRequest, OCPP 2.0.1 Part 2, block E). Keys are
-/// ordered by the bytes of the transaction id, then by the number.
+/// What identifies an event of a station: its transaction and its sequence number, 0 to
+/// 2,147,483,647 (`transactionId` and `seqNo` of TransactionEventRequest, OCPP 2.0.1 Part 2, block
+/// E). Keys are ordered by the bytes of the transaction id, then by the number.
 #[derive(Debug, PartialEq, Eq, PartialOrd, Ord, Drop)]
 pub struct Key {
     tx: TxId,
@@ -62,14 +62,15 @@ impl Key {
         self.seq
     }
 
-    // Its parts are in range, as their types keep them. It does nothing: a caller names the fact by it.
+    // Its parts are in range, as their types guarantee. The call does nothing; callers cite it for that
+    // fact.
     pub(crate) fn keeps_ranges(&self)
         ensures { IsKeyName self.now }
     {
         let _ = self.tx.text();
     }
 
-    /// The key once more, without memory.
+    /// A copy of the key. It takes no memory.
     pub fn copied(&self) -> Self
         ensures { result ≡ self.now }
     {

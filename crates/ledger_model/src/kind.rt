@@ -1,11 +1,11 @@
-/// What a transaction event tells: that its transaction started, went on or ended
+/// What a transaction event reports: its transaction started, went on or ended
 /// (TransactionEventRequest, OCPP 2.0.1 Part 2, block E).
 #[derive(Clone, Copy, Debug, PartialEq, Eq)]
 pub enum Kind {
-    /// The first event of a transaction.
+    /// The transaction started.
     Started,
-    /// An event in the course of a transaction.
+    /// The transaction went on.
     Updated,
-    /// The last event of a transaction.
+    /// The transaction ended.
     Ended,
 }

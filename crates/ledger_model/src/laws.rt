@@ -1,5 +1,5 @@
-//! Laws of the definitions, in the subject's own words. Each is the contract of a function with no
-//! parameters and nothing to do: what it ensures holds of every content, every limits and every
+//! Laws of the definitions, in the subject's own words. Each is the contract of a function that has
+//! no parameters and does nothing. What it ensures holds for every content, all limits and every
 //! command.
 
 mod board;

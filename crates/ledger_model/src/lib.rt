@@ -1,15 +1,15 @@
-//! The types of the transaction ledger, and what a reader has to believe about it.
+//! The types of the transaction ledger, and the definitions that a reader has to believe.
 //!
-//! A station sends transaction events ([`Event`]), each named by a [`Key`]: the id of its transaction
-//! and a sequence number (TransactionEventRequest, OCPP 2.0.1 Part 2, block E). An event carries
-//! counted [`Reading`]s of the active energy registers, each of a [`Direction`] (MeterValueType, block J); what
-//! there is of each direction is a [`ByDirection`]. A [`Command`] on a station's ledger gets one [`Answer`];
-//! what the ledger may keep is bounded by its [`Limits`], and [`Figures`] sum it up.
+//! A station sends transaction events ([`Event`]). A [`Key`] identifies each: the id of its transaction and a
+//! sequence number (TransactionEventRequest, OCPP 2.0.1 Part 2, block E). An event carries counted [`Reading`]s
+//! of the active energy registers, each of a [`Direction`] (MeterValueType, block J); a [`ByDirection`] has a
+//! value for each direction. A [`Command`] to a station's ledger gets one [`Answer`]. [`Limits`] bound what the
+//! ledger may keep, and [`Figures`] sum it up.
 //!
-//! The crate's one contract: a constructor answers `None` or `Err` exactly outside the limits, and
-//! what is read of a value is what was handed in, transaction ids folded to lower case. The
-//! definitions of content, step, energy, gaps, figures, boards, worlds and posts stand in `specs/`;
-//! the crates above compute what these say.
+//! The crate's contract: a constructor returns `None` or `Err` exactly outside the limits, and a
+//! value gives back what it was made of, transaction ids in lower case. The definitions of content,
+//! step, energy, gaps, figures, boards, worlds and posts are in `specs/`; the crates above compute
+//! what these say.
 //!
 //! ```text
 //! let key = Key::new(TxId::new("T1")?, 7)?;     // key.tx().text() is "t1", key.seq() is 7

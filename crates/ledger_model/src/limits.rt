@@ -48,8 +48,8 @@ impl Model for Limits {
 }
 
 impl Limits {
-    /// These limits; `None` where one is out of range: transactions 1 to 4,096, events and readings
-    /// 1 to 65,536, changes 1 to 2^63.
+    /// These limits; `None` if one is out of range: transactions 1 to 4,096, events and readings 1
+    /// to 65,536, changes 1 to 2^63.
     pub fn new(transactions: u64, events: u64, readings: u64, changes: u64) -> Option<Self>
         ensures valid { IsSome result ↔ AreBounds transactions events readings changes }
         ensures transactions { IfSome result (λ l. l.transactions ≡ transactions) }
@@ -73,7 +73,7 @@ impl Limits {
         }
     }
 
-    /// The limits once more, each in its range.
+    /// A copy of the limits, each in its range.
     pub fn copied(&self) -> Self
         ensures value { result ≡ self.now }
         ensures transactions { result.transactions ≤ most_transactions }
@@ -132,7 +132,7 @@ impl Default for Limits {
 
     ghost is_default = { λ l. l ≡ default_limits };
 
-    /// The limits of a station for which none are declared: 1,024 transactions, 16,384 events, 16,384
+    /// The limits of a station that declares none: 1,024 transactions, 16,384 events, 16,384
     /// readings, 2^63 changes.
     fn default() -> Self {
         Limits {

@@ -2,8 +2,8 @@ ghost use Rattle.std.specs.Prelude.{◌≡◌};
 
 use std::marker::Model;
 
-/// A list that a public type keeps, seen by contracts as a list. It is made from a `Vec` and gives it
-/// back, both without memory.
+/// A list that a public type keeps; contracts see it as a list. To make it from a `Vec` and to give
+/// that back takes no memory.
 #[derive(Debug, Drop)]
 pub struct Listed<T> {
     items: Vec<T>,

@@ -11,13 +11,13 @@ pub const FIRST_MOMENT: u64 = 946_684_800_000_000_000;
 /// The first nanosecond after the last moment: 2100-01-01T00:00:00Z, counted from 1970.
 pub const MOMENTS_END: u64 = 4_102_444_800_000_000_000;
 
-/// The quarter of the first moment, by the longest settlement period.
+/// The settlement period of the first moment, by the longest length (3,600 seconds).
 pub const FIRST_QUARTER: u32 = 262_968;
 
-/// The quarter of the last moment, by the shortest settlement period.
+/// The settlement period of the last moment, by the shortest length (300 seconds).
 pub const LAST_QUARTER: u32 = 13_674_815;
 
-/// An instant of the years 2000 to 2099, in nanoseconds from 1970-01-01T00:00:00Z.
+/// An instant of the years 2000 to 2099, in nanoseconds since 1970-01-01T00:00:00Z.
 #[derive(Clone, Copy, Debug, PartialEq, Eq, PartialOrd, Ord)]
 pub struct Moment {
     nanos: u64,
@@ -37,8 +37,8 @@ impl Model for Moment {
 }
 
 impl Moment {
-    /// The moment of these nanoseconds from 1970; `None` outside 2000-01-01T00:00:00Z up to, not
-    /// including, 2100-01-01T00:00:00Z.
+    /// The moment this many nanoseconds after 1970-01-01T00:00:00Z; `None` before 2000 and from
+    /// 2100-01-01T00:00:00Z on.
     pub fn new(nanos: u64) -> Option<Self>
         ensures valid { IsSome result ↔ IsMoment nanos }
         ensures value { IfSome result (λ m. m ≡ nanos) }
@@ -59,7 +59,7 @@ impl Moment {
         }
     }
 
-    /// The nanoseconds from 1970-01-01T00:00:00Z.
+    /// The nanoseconds since 1970-01-01T00:00:00Z.
     pub fn nanos(self) -> u64
         ensures value { result ≡ self }
         ensures range { IsMoment result }
@@ -68,8 +68,9 @@ impl Moment {
     }
 }
 
-/// One stretch of time that a market settles as one, by its number from 1970-01-01T00:00:00Z. How
-/// long it is, the [`Period`](crate::Period) says by which it was counted.
+/// One settlement period, by its number: how many whole ones of its length fit between
+/// 1970-01-01T00:00:00Z and its beginning. Its length is the [`Period`](crate::Period) that it was
+/// counted by.
 #[derive(Clone, Copy, Debug, PartialEq, Eq, PartialOrd, Ord)]
 pub struct Quarter {
     number: u32,
@@ -89,8 +90,8 @@ impl Model for Quarter {
 }
 
 impl Quarter {
-    /// The quarter of this number; `None` outside 262,968 to 13,674,815, the quarters that moments
-    /// fall into by some period.
+    /// The settlement period of this number; `None` outside 262,968 to 13,674,815, the numbers that
+    /// moments have by some length.
     pub fn new(number: u32) -> Option<Self>
         ensures valid { IsSome result ↔ IsQuarter number }
         ensures value { IfSome result (λ q. q ≡ number) }
@@ -102,7 +103,7 @@ impl Quarter {
         }
     }
 
-    /// The number of whole quarters from 1970-01-01T00:00:00Z to its beginning.
+    /// How many whole periods of its length fit between 1970-01-01T00:00:00Z and its beginning.
     pub fn number(self) -> u32
         ensures value { result ≡ self }
         ensures range { IsQuarter result }

@@ -30,7 +30,7 @@ impl Model for Name {
     ghost invariant = { λ n. is_name n.text.bytes ≡ true };
 }
 
-// Tells whether a name may have this byte.
+// Returns whether a name may have this byte.
 fn is_name_byte(byte: u8) -> bool
     ensures { result ≡ is_name_character byte }
 {
@@ -40,7 +40,7 @@ fn is_name_byte(byte: u8) -> bool
         || b"*-_=:+|@.".contains(&byte)
 }
 
-// Tells whether a name may have each byte.
+// Returns whether a name may have each byte.
 fn are_name_bytes(bytes: &[u8]) -> bool
     ensures { result ≡ list_all is_name_character bytes.now }
 {
@@ -48,7 +48,7 @@ fn are_name_bytes(bytes: &[u8]) -> bool
 }
 
 impl Name {
-    /// The name of this text; `None` where it is empty, longer than 48 characters, or has another
+    /// The name of this text; `None` if it is empty, longer than 48 characters, or has another
     /// character.
     pub fn new(text: &str) -> Option<Self>
         ensures valid { IsSome result ↔ (is_name text.now ≡ true) }
@@ -71,7 +71,7 @@ impl Name {
         self.text.as_str()
     }
 
-    /// The name once more, without memory.
+    /// A copy of the name. It takes no memory.
     pub fn copied(&self) -> Self
         ensures { result ≡ self.now }
     {

@@ -1,11 +1,11 @@
-/// In which order a site takes the readings of a transaction (MeterValueType, OCPP 2.0.1 Part 2, J02).
-/// What is equal, live, missing, complete or refused does not depend on it.
+/// The order in which a site takes the readings of a transaction (MeterValueType, OCPP 2.0.1 Part 2,
+/// J02). What is equal, live, missing, complete or refused does not depend on it.
 #[derive(Clone, Copy, Debug, PartialEq, Eq)]
 pub enum Order {
-    /// By the sequence numbers of their events, and those of one event as they were sent.
+    /// By the sequence numbers of their events, and within an event as sent.
     Sequence,
-    /// By their own moments, and those of one moment by sequence. A reading that a station repeats at
-    /// the end of a transaction then stands beside the one that it repeats.
+    /// By their own moments, and readings of one moment by sequence. A reading that a station lists
+    /// again at the end of a transaction is then beside the one that it repeats.
     Moment,
 }
 
@@ -15,7 +15,7 @@ impl Default for Order {
 
     ghost is_default = { λ order. order ≡ Sequence };
 
-    /// The order of a site for which none is declared: by sequence.
+    /// The order of a site that declares none: by sequence.
     fn default() -> Self {
         Order::Sequence
     }

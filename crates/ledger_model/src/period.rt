@@ -3,7 +3,7 @@ ghost use Rattle.ledger_model.specs.Quarter.{IsPeriod};
 
 use std::marker::Model;
 
-/// How long a market's settlement period is: 300, 900, 1,800 or 3,600 seconds.
+/// The length of a market's settlement period: 300, 900, 1,800 or 3,600 seconds.
 #[derive(Clone, Copy, Debug, PartialEq, Eq)]
 pub struct Period {
     seconds: u16,
@@ -23,7 +23,7 @@ impl Model for Period {
 }
 
 impl Period {
-    /// The period of so many seconds; `None` for any other number than 300, 900, 1,800 and 3,600.
+    /// The length of this many seconds; `None` for any other number than 300, 900, 1,800 and 3,600.
     pub fn new(seconds: u16) -> Option<Self>
         ensures valid { IsSome result ↔ IsPeriod seconds }
         ensures value { IfSome result (λ p. p ≡ seconds) }
@@ -34,7 +34,7 @@ impl Period {
         }
     }
 
-    /// The period once more, which is one of the four.
+    /// A copy of the length, which is one of the four.
     pub fn copied(self) -> Self
         ensures value { result ≡ self }
         ensures range { IsPeriod result }
@@ -44,7 +44,7 @@ impl Period {
         }
     }
 
-    /// How many seconds it has.
+    /// The length in seconds.
     pub fn seconds(self) -> u16
         ensures value { result ≡ self }
         ensures range { IsPeriod result }
@@ -59,7 +59,7 @@ impl Default for Period {
 
     ghost is_default = { λ p. p ≡ default_period };
 
-    /// The period of a site for which none is declared: 900 seconds.
+    /// The length for a site that declares none: 900 seconds.
     fn default() -> Self {
         Period { seconds: 900 }
     }

@@ -5,7 +5,8 @@ use crate::Moment;
 use energy_flow::Level;
 use std::marker::Model;
 
-/// The greatest reading, in milliwatt-hours: 10^13, ten gigawatt-hours (this product's profile).
+/// The greatest level of a reading, in milliwatt-hours: 10^13, which is ten gigawatt-hours (this
+/// product's profile).
 pub const GREATEST_READING: u64 = 10_000_000_000_000;
 
 /// Which active energy register a reading is of (the measurand of a SampledValueType, OCPP 2.0.1
@@ -42,7 +43,7 @@ impl Model for Reading {
 }
 
 impl Reading {
-    /// The reading of so many milliwatt-hours at a moment, of this direction's register; `None` above
+    /// The reading of `mwh` milliwatt-hours at a moment, of this direction's register; `None` above
     /// 10^13.
     pub fn new(moment: Moment, mwh: u64, direction: Direction) -> Option<Self>
         ensures valid { IsSome result ↔ (mwh ≤ greatest_reading) }

@@ -33,7 +33,7 @@ impl Model for TxId {
     ghost invariant = { λ t. IsFoldedId t.text.bytes };
 }
 
-// Tells whether each byte is a visible character.
+// Returns whether each byte is a visible character.
 fn are_visible(bytes: &[u8]) -> bool
     ensures { result ≡ list_all is_visible bytes.now }
 {
@@ -63,8 +63,8 @@ fn folded_text(bytes: &[u8]) -> ArrayString<MAX_TX_ID>
 }
 
 impl TxId {
-    /// The id of this text, folded to lower case; `None` where it is empty, longer than 36 characters,
-    /// or has a character outside 0x21 to 0x7E.
+    /// The id of this text, folded to lower case; `None` if it is empty, longer than 36 characters, or
+    /// has a character outside 0x21 to 0x7E.
     pub fn new(text: &str) -> Option<Self>
         ensures valid { IsSome result ↔ (is_tx_id text.now ≡ true) }
         ensures value { IfSome result (λ t. t ≡ folded text.now) }
@@ -78,7 +78,7 @@ impl TxId {
         })
     }
 
-    /// The folded text.
+    /// The text, in lower case.
     pub fn text(&self) -> &str
         ensures value { result.now ≡ self.now }
         ensures folded { IsFoldedId result.now }
@@ -86,7 +86,7 @@ impl TxId {
         self.text.as_str()
     }
 
-    /// The id once more, without memory.
+    /// A copy of the id. It takes no memory.
     pub fn copied(&self) -> Self
         ensures { result ≡ self.now }
     {

@@ -1,4 +1,4 @@
-//! The tests of the crates that a station's ledger stands on.
+//! The tests of the crates that a station's ledger is made of.
 #![tactic(auto)]
 
 #[cfg(test)]

@@ -31,7 +31,8 @@ pub record HasHead (bytes : List ℕ) (is : RequestHead → Type 0) : Type 0 whe
 abbrev pub IsGet : Request → RequestHead → Type 0
 IsGet request head = (head.method ≡ codes "GET") × AsksAt head.target request
 
--- What the bytes ask for: by the head of a request that they begin with; or there is none yet, or never one of at most 64 header lines.
+-- What the bytes ask for: by the head of a request that they begin with; or there is none yet, or
+-- there can be none with at most 64 header lines.
 abbrev pub IsAskedBy : List ℕ → Request → Type 0
 IsAskedBy bytes Unfinished = HasNoRequest bytes × MayBecomeRequest bytes
 IsAskedBy bytes Malformed = RequestOverflows 64 bytes

@@ -1,4 +1,4 @@
--- What a browser is answered to its request.
+-- The answer to a browser's request.
 use Rattle.std.specs.Prelude.{◌≡◌, ◌⊎◌, ◌++◌, ℕ, List, Option, None, Some, codes}
 use Rattle.std.specs.List.{flat_map, position}
 use Rattle.std.specs.Str.{bytes_eq}
@@ -16,7 +16,8 @@ pub record ShowsBoard (sites : List SitePlan) (places : List StationPlace) (site
   pub shown : IsRunningBoard sites places site text
   pub is : bytes ≡ response_bytes Found plain text
 
--- The answer to a request for the board of the site of this number, if there is one; 503 where there is no memory for it, or what lies behind a lock is not as it should be.
+-- The answer to a request for the board of the site of this number, if there is one; 503 if there
+-- is no memory for it, or if what is behind a lock is not as it should be.
 abbrev pub IsBoardAnswer : List SitePlan → List StationPlace → Option ℕ → List ℕ → Type 0
 IsBoardAnswer sites places None bytes = bytes ≡ status_bytes NotFound
 IsBoardAnswer sites places (Some site) bytes = ShowsBoard sites places site bytes ⊎ (bytes ≡ status_bytes NoMemory)

@@ -1,4 +1,4 @@
--- What a browser is answered (RFC 9110, RFC 9112).
+-- The bytes of answers to browsers (RFC 9110, RFC 9112).
 use Rattle.std.specs.Prelude.{ℕ, List, [], ◌∷◌, ◌++◌, codes, length}
 use Rattle.std.specs.Fmt.{decimal}
 use Rattle.live_server.specs.declared.reply.Status.{Status}
@@ -34,6 +34,6 @@ plain = codes "text/plain; charset=utf-8"
 abbrev pub html : List ℕ
 html = codes "text/html; charset=utf-8"
 
--- The bytes of an answer that tells its status alone.
+-- The bytes of an answer with only its status.
 abbrev pub status_bytes : Status → List ℕ
 status_bytes status = response_bytes status plain (status_text status)

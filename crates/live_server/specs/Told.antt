@@ -12,21 +12,22 @@ use Rattle.server_parts.specs.Ports.{listening}
 use Rattle.running_desk.specs.Replies.{AddsReplies}
 use Rattle.site_book.specs.Book.{Known}
 
--- The line that tells the port of 127.0.0.1 where browsers find boards.
+-- The line with the port of 127.0.0.1 where browsers find boards.
 abbrev pub boards_at : ℕ → List ℕ
 boards_at port = codes "boards 127.0.0.1:" ++ (decimal port ++ 10 ∷ [])
 
--- Where it listens: for stations, and for browsers, where it does.
+-- The lines of its ports: for stations, and for browsers if it listens for them.
 abbrev pub ports : ℕ → Option ℕ → List ℕ
 ports port None = listening port
 ports port (Some browsers) = listening port ++ boards_at browsers
 
--- The operator's bytes are those of the input; where a number of connections ends the server there are none.
+-- The operator's bytes are those of the input; if a number of connections ends the server, there are none.
 abbrev pub operator_input : Option ℕ → Option (List ℕ) → Option (List ℕ)
 operator_input None input = input
 operator_input (Some connections) input = Some []
 
--- Behind what stood before, it was written where the server listens, and then the answers to the operator's lines that come, up to the line `close`; and what was seen of the desk's journal with these answers was handed out.
+-- The lines of the server's ports were appended, and then the answers to the operator's lines that
+-- come, up to the line `close`; `handed` is what was seen of the desk's journal with these answers.
 pub record Tells {M : Type 0} (gives : ℕ → StationPlace → Command → Answer → Option Known → Option M → Type 0) (shows : ℕ → List (List ℕ × Board) → M → Type 0) (sites : List SitePlan) (places : List StationPlace) (coming : Option (List Line)) (before now : Option (List ℕ)) (handed : List M) : Type 0 where
   pub port : ℕ
   pub browsers : Option ℕ

@@ -1,4 +1,4 @@
-//! Where threads wait for connections, and how they are called away from it.
+//! The listeners where threads wait for connections, and how the end calls the threads away.
 use server_parts::Sockets;
 use std::net::{TcpListener, TcpStream};
 use std::sync::Wait;
@@ -6,16 +6,17 @@ use std::sync::atomic::{AtomicBool, AtomicU64, Ordering};
 use std::thread;
 use std::time::{Clock, Duration};
 
-// How long a thread waits after an accept that failed, as where descriptors run out.
+// How long a thread waits after a failed accept, for example when descriptors run out.
 const PAUSE_MILLIS: u64 = 100;
 
-// How long the end waits between two looks at the threads that have not left.
+// How long the end waits between two looks at the threads that have not left yet.
 const LOOK_MILLIS: u64 = 10;
 
-// How many connections the end makes to a listener at once. More than its queue holds would wait for a second and more.
+// How many connections the end makes to a listener at once. If there were more than its queue holds, they would wait
+// for a second or more.
 const MOST_WAKINGS: u64 = 32;
 
-// The listeners of a live server: that of stations, and that of browsers, where it has one.
+// The listeners of a live server: that of stations, and that of browsers, if it has one.
 #[derive(Drop)]
 pub(crate) struct Acceptors<'a> {
     pub(crate) stations: Acceptor<'a>,
@@ -23,7 +24,7 @@ pub(crate) struct Acceptors<'a> {
 }
 
 impl<'a> Acceptors<'a> {
-    // The acceptors of these listeners, at which nobody waits.
+    // The acceptors of these listeners; nobody waits there yet.
     pub(crate) fn open(stations: &'a TcpListener, browsers: Option<&'a TcpListener>) -> Self {
         let browsers = match browsers {
             Some(listener) => Some(Acceptor::new(listener)),
@@ -44,7 +45,7 @@ impl<'a> Acceptors<'a> {
     }
 }
 
-// A listener, and how many threads came to it, wait at it, and have left it for good.
+// A listener, and how many threads came to it, wait there, and have left it for good.
 #[derive(Drop)]
 pub(crate) struct Acceptor<'a> {
     listener: &'a TcpListener,
@@ -54,7 +55,7 @@ pub(crate) struct Acceptor<'a> {
 }
 
 impl<'a> Acceptor<'a> {
-    // The acceptor of a listener, at which nobody waits.
+    // The acceptor of a listener; nobody waits there yet.
     fn new(listener: &'a TcpListener) -> Self {
         Acceptor {
             listener,
@@ -85,7 +86,7 @@ impl<'a> Acceptor<'a> {
         unreachable!()
     }
 
-    // Notes that a thread was started, where it was, and tells whether.
+    // Notes that a thread was started, if it was; returns whether it was.
     pub(crate) fn is_entered(&self, is_started: bool) -> bool {
         if is_started {
             self.entered.fetch_add(1, Ordering::SeqCst);
@@ -110,7 +111,7 @@ impl<'a> Acceptor<'a> {
         }
     }
 
-    // Connects to the listener, once for each of the threads that wait there, so that they have something to accept.
+    // Connects to the listener, once for each thread that waits there, so each has something to accept.
     fn wake<R: Sockets>(&self, rt: &R) {
         let waiting = self.waiting.load(Ordering::SeqCst);
         for _ in 0..waiting.min(MOST_WAKINGS) {

@@ -1,4 +1,4 @@
-//! Boards in a browser: a listener of its own, one request at a time, and nothing that changes anything.
+//! Boards in a browser: a listener of its own, one request at a time, and no request changes anything.
 ghost use Rattle.std.specs.Prelude.{◌≡◌, ◌++◌, IfOk, OnOk};
 ghost use Rattle.std.specs.List.{position};
 ghost use Rattle.std.specs.Str.{bytes_eq};
@@ -28,13 +28,13 @@ use std::time::Clock;
 // How many bytes the head of a request may have.
 const MAX_HEAD: usize = 8_192;
 
-// How long a browser is waited for.
+// How long the server waits for a browser.
 const PATIENCE: Patience = Patience {
     opening: 5,
     writing: 5,
 };
 
-// How many reads of what a browser sent beyond its head are made at most.
+// The most reads of bytes that a browser sent beyond its head.
 const MAX_LAST_READS: u32 = 64;
 
 // The content types.
@@ -42,7 +42,7 @@ const TEXT: &str = "text/plain; charset=utf-8";
 
 const PAGE: &str = "text/html; charset=utf-8";
 
-// What is written where there is no memory for an answer.
+// The answer if there is no memory for another one.
 const NO_MEMORY: &[u8] =
     b"HTTP/1.1 503 Service Unavailable\r\nContent-Length: 0\r\nConnection: close\r\n\r\n";
 
@@ -96,14 +96,14 @@ impl<J: Naming, C: HasCell, M: Drop, S: Serves<J, C, M>, R: Wait + Clock, L: Wri
     }
 }
 
-// Tells a browser that nothing more comes.
+// Ends the output to a browser.
 fn end_answer<R: Clock>(stream: &mut ConnectionStream<'_, R>) -> io::Result<()> {
     stream.shut()?;
     read_rest(stream);
     Ok(())
 }
 
-// The request of a stream, once its head has come.
+// The request of a stream, read until its head has come.
 fn request_of<S: Read>(alloc: Global, stream: &mut S) -> io::Result<Request> {
     match room_of(alloc) {
         Ok(mut head) => read_head(stream, &mut head),
@@ -111,14 +111,14 @@ fn request_of<S: Read>(alloc: Global, stream: &mut S) -> io::Result<Request> {
     }
 }
 
-// The room of a head.
+// A buffer for a head.
 fn room_of(alloc: Global) -> Result<Vec<u8>, AllocError> {
     let mut head = Vec::new(alloc);
     head.resize(MAX_HEAD, 0)?;
     Ok(head)
 }
 
-// Reads a head into this room, as much as it needs.
+// Reads a head into this buffer, and no more than it needs.
 fn read_head<S: Read>(stream: &mut S, head: &mut [u8]) -> io::Result<Request> {
     let mut held = 0;
     for _ in 0..head.len() {
@@ -138,7 +138,8 @@ fn read_head<S: Read>(stream: &mut S, head: &mut [u8]) -> io::Result<Request> {
     Ok(Request::Malformed)
 }
 
-// Reads what a browser sent beyond its head: unread bytes would reset the connection before it has its answer.
+// Reads the bytes that a browser sent beyond its head: unread bytes would reset the connection before it has
+// its answer.
 fn read_rest<S: Read>(stream: &mut S) {
     let mut rest = [0; 256];
     for _ in 0..MAX_LAST_READS {
@@ -168,14 +169,15 @@ fn answer<J: Naming, C: HasCell, M: Drop, S: Serves<J, C, M>, R: Wait>(
     }
 }
 
-// An answer that tells its status alone.
+// An answer with only its status.
 fn told(alloc: Global, status: Status) -> Result<Vec<u8>, AllocError>
     ensures { IfOk result (λ bytes. bytes.items ≡ status_bytes status) }
 {
     response(alloc, status, TEXT, status.text().as_bytes())
 }
 
-// The board of the site of this name. It waits for no journal, so a browser is answered while a journal's output stalls.
+// The board of the site of this name. It waits for no journal, so a browser gets its answer while a journal's output
+// stalls.
 fn answer_board<J: Naming, C: HasCell, M: Drop, S: Serves<J, C, M>, R: Wait>(
     rt: &R,
     alloc: Global,
@@ -207,7 +209,7 @@ fn answer_sites(alloc: Global, plan: &Plan) -> Result<Vec<u8>, AllocError>
     response(alloc, Status::Found, PAGE, &page)
 }
 
-// Appends the link to a site's board. A name has no character that a page or a path has another meaning for.
+// Appends the link to a site's board. No character of a name has a special meaning in a page or a path.
 fn put_link(page: &mut Vec<u8>, name: &str) -> Result<(), AllocError>
     ensures { OnOk result (page.new.items ≡ page.old.items ++ site_link name.now) }
 {

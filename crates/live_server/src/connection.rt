@@ -1,4 +1,5 @@
-//! The time of one connection: how long its stream is waited for, and whether it is still wanted.
+//! The time of one connection: how long the server waits for its stream, and whether it is still
+//! wanted.
 ghost use Rattle.std.specs.Io.{ReadsAtMost, WritesAtMost};
 
 use station_link::{Attendant, Why};
@@ -9,24 +10,25 @@ use std::net::{Shutdown, TcpStream};
 use std::sync::atomic::{AtomicBool, Ordering};
 use std::time::{Clock, Duration, Instant};
 
-// How long a read or a write of the stream waits before it looks at the time, and whether the connection is still wanted.
+// How long a read or a write of the stream waits before it looks at the time, and whether the connection is still
+// wanted.
 const TICK_MILLIS: u64 = 250;
 
-// How many ticks a session waits for its station's next bytes, 600 seconds: twice the interval of heartbeats that a
-// BootNotification is answered with.
+// How many ticks a session waits for its station's next bytes, 600 seconds: twice the interval of heartbeats in the
+// reply to a BootNotification.
 const SILENT_TICKS: u64 = 4 * 600;
 
 // More ticks than any other limit has.
 const MOST_TICKS: u64 = 128;
 
-// How many bytes a write has at most whose time begins where it waits. Nearly none waits, and the clock is not asked
-// then.
+// The most bytes of a write for which the time begins only when it waits. Such a write hardly ever waits, and then
+// needs no clock.
 const SHORT_WRITE: usize = 1_024;
 
-// How long what the peer had sent is read after the last that it is told.
+// How long the server reads what the peer had sent, after its own last bytes.
 const LEAVING_SECONDS: u64 = 1;
 
-// How long a connection is waited for, in seconds.
+// How long the server waits for a connection, in seconds.
 #[derive(Clone, Copy)]
 pub(crate) struct Patience {
     // For its opening handshake, or its request.
@@ -35,28 +37,28 @@ pub(crate) struct Patience {
     pub(crate) writing: u64,
 }
 
-// Where a connection stands.
+// The phase of a connection.
 #[derive(Clone, Copy)]
 enum Phase {
-    // In its opening handshake, or its request, which began then.
+    // In its opening handshake or its request, which began at this time.
     Opening(Instant),
     // In its session, or its answer.
     Serving,
-    // Behind the last that it was told, which went then.
+    // After the server's last bytes, which went at this time.
     Leaving(Instant),
 }
 
-// One connection, as its stream and its session look at it.
+// The state of one connection, which its stream and its session share.
 #[derive(Drop)]
 pub(crate) struct Connection<'a, R: Clock> {
     rt: &'a R,
     closing: &'a AtomicBool,
-    // Whether it has to go.
+    // Whether the connection has to end.
     mark: &'a AtomicBool,
     patience: Patience,
     phase: Cell<Phase>,
     silent: Cell<u64>,
-    // Since when the write under way has its time.
+    // When the time of the write under way began.
     writing: Cell<Option<Instant>>,
 }
 
@@ -85,7 +87,7 @@ impl<'a, R: Clock> Connection<'a, R> {
         self.phase.set(Phase::Serving);
     }
 
-    // Tells whether it has been so many seconds since then, or the clock can't tell.
+    // Returns whether this many seconds have passed since then, or the clock fails.
     fn is_over(&self, since: Instant, seconds: u64) -> bool {
         match since.elapsed(self.rt) {
             Ok(elapsed) => elapsed >= Duration::from_secs(seconds),
@@ -93,7 +95,7 @@ impl<'a, R: Clock> Connection<'a, R> {
         }
     }
 
-    // Tells whether the write under way has to be given up.
+    // Returns whether the write under way has to be given up.
     fn is_write_over(&self) -> bool {
         let Some(since) = self.writing.get() else {
             return false;
@@ -104,7 +106,7 @@ impl<'a, R: Clock> Connection<'a, R> {
         }
     }
 
-    // From here on the write under way has its time, if it has not yet.
+    // Begins the time of the write under way, if it has not begun yet.
     fn times_write(&self) -> io::Result<()> {
         if self.writing.get().is_none() {
             self.writing.set(Some(Instant::now(self.rt)?));
@@ -112,7 +114,7 @@ impl<'a, R: Clock> Connection<'a, R> {
         Ok(())
     }
 
-    // Counts a tick without bytes, and tells whether it was one too many.
+    // Counts a tick without bytes, and returns whether it was one too many.
     fn is_silent(&self) -> bool {
         let ticks = self.silent.get().saturating_add(1);
         self.silent.set(ticks);
@@ -150,7 +152,7 @@ impl<R: Clock> Attendant for Connection<'_, R> {
     }
 }
 
-// Tells whether a read or a write gave up waiting, and may go on.
+// Returns whether a read or a write gave up waiting, and may go on.
 fn is_tick(moved: &io::Result<usize>) -> bool {
     match moved {
         Ok(_) => false,
@@ -158,7 +160,7 @@ fn is_tick(moved: &io::Result<usize>) -> bool {
     }
 }
 
-// Tells whether all of the bytes were written.
+// Returns whether all of the bytes were written.
 fn is_whole(written: &io::Result<usize>, bytes: &[u8]) -> bool {
     match written {
         Ok(count) => *count == bytes.len(),
@@ -166,8 +168,8 @@ fn is_whole(written: &io::Result<usize>, bytes: &[u8]) -> bool {
     }
 }
 
-// The stream of a connection. A read gives up with `WouldBlock` after a tick where a session may go on, and with another
-// error where the connection has to end.
+// The stream of a connection. A read gives up with `WouldBlock` after a tick if a session may go on, and with another
+// error if the connection has to end.
 #[derive(Drop)]
 pub(crate) struct ConnectionStream<'a, R: Clock> {
     connection: &'a Connection<'a, R>,
@@ -184,12 +186,12 @@ impl<'a, R: Clock> ConnectionStream<'a, R> {
         Ok(ConnectionStream { connection, stream })
     }
 
-    // Tells the peer that nothing more comes.
+    // Ends the output to the peer.
     pub(crate) fn shut(&self) -> io::Result<()> {
         self.stream.shutdown(Shutdown::Write)
     }
 
-    // A read of a handshake or a request, which ends where the connection is no longer wanted.
+    // A read of a handshake or a request, which ends if the connection is no longer wanted.
     fn read_opening(&mut self, since: Instant, buf: &mut [u8]) -> io::Result<usize>
         ensures { ReadsAtMost result buf.new }
     {
@@ -224,7 +226,7 @@ impl<'a, R: Clock> ConnectionStream<'a, R> {
         read
     }
 
-    // A read of what is left.
+    // A read of the bytes that are left.
     fn read_last(&mut self, since: Instant, buf: &mut [u8]) -> io::Result<usize>
         ensures { ReadsAtMost result buf.new }
     {

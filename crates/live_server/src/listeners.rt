@@ -1,4 +1,4 @@
-//! Where a live server listens, and how it tells that.
+//! The ports that a live server listens on, and their lines.
 ghost use Rattle.std.specs.Prelude.{◌≡◌, ℕ, Option, OnOk};
 ghost use Rattle.std.specs.Io.KnownBytes.{Appends};
 ghost use Rattle.live_server.specs.Told.{boards_at, ports};
@@ -11,7 +11,7 @@ use server_parts::{ServiceFault, Sockets, address_of, listen, tell_port};
 use std::io::Write;
 use std::net::TcpListener;
 
-// The listeners of a live server: that of stations, and that of browsers, where it is asked for.
+// The listeners of a live server: that of stations, and that of browsers, if it is asked for.
 #[derive(Drop)]
 pub(crate) struct Listeners {
     pub(crate) stations: TcpListener,
@@ -19,7 +19,8 @@ pub(crate) struct Listeners {
 }
 
 impl Listeners {
-    // The listeners that are asked for, once their ports are written; that of stations may be there already.
+    // The listeners that are asked for, after their ports are written; that of stations may be there
+    // already.
     pub(crate) fn open<R: Sockets, W: Write>(
         rt: &R,
         listener: Option<TcpListener>,
@@ -38,7 +39,7 @@ impl Listeners {
     }
 }
 
-// The listener of browsers, where a port is asked for.
+// The listener of browsers, if a port is asked for.
 fn listen_for_browsers<R: Sockets>(
     rt: &R,
     port: Option<u16>,
@@ -49,7 +50,7 @@ fn listen_for_browsers<R: Sockets>(
     }
 }
 
-// Writes the lines that tell the ports.
+// Writes the lines of the ports.
 fn tell<W: Write>(
     stations: &TcpListener,
     browsers: Option<&TcpListener>,
@@ -64,7 +65,7 @@ fn tell<W: Write>(
     }
 }
 
-// Writes the line that tells where browsers find boards.
+// Writes the line with the port where browsers find boards.
 fn tell_board_port<W: Write>(listener: &TcpListener, output: &mut W) -> Result<(), ServiceFault>
     ensures { OnOk result ((port : ℕ) × Appends (W.contents output.old) (W.contents output.new) (boards_at port)) }
 {
@@ -73,7 +74,7 @@ fn tell_board_port<W: Write>(listener: &TcpListener, output: &mut W) -> Result<(
     Ok(())
 }
 
-// The line that tells this port.
+// The line of this port.
 fn board_port_line(port: u16) -> ArrayString<32>
     ensures { result.bytes ≡ boards_at port }
 {

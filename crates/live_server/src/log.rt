@@ -1,15 +1,15 @@
-//! Where a live server tells of sessions, totals and limits.
+//! The lines in which a live server reports sessions, totals and limits.
 use arrayvec::ArrayString;
 use ledger_model::{MAX_NAME, Name};
 use station_link::Why;
 use std::io::Write;
 use std::sync::{Mutex, Wait};
 
-// Where sessions, totals and limits are told.
+// Writes the reports of sessions, totals and limits.
 #[derive(Drop)]
 pub(crate) struct Log<L: Write + Drop> {
     pub(crate) lines: Mutex<L>,
-    // Whether sessions are told.
+    // Whether sessions are reported.
     has_sessions: bool,
 }
 
@@ -21,7 +21,7 @@ impl<L: Write + Drop> Log<L> {
         }
     }
 
-    // Tells that so much of a station's limit of this name is used.
+    // Reports how much of a station's limit of this name is used.
     pub(crate) fn tell_near<R: Wait>(
         &self,
         rt: &R,
@@ -34,7 +34,7 @@ impl<L: Write + Drop> Log<L> {
         let _ = writeln!(self.lines.lock(rt), "near {name} {what} {used} of {limit}");
     }
 
-    // Tells that a session began.
+    // Reports that a session began.
     pub(crate) fn tell_begun<R: Wait>(&self, rt: &R, name: &Name) {
         if self.has_sessions {
             let name = name.text();
@@ -42,7 +42,7 @@ impl<L: Write + Drop> Log<L> {
         }
     }
 
-    // Tells how a session ended.
+    // Reports how a session ended.
     pub(crate) fn tell_ended<R: Wait>(
         &self,
         rt: &R,
@@ -61,7 +61,7 @@ impl<L: Write + Drop> Log<L> {
         }
     }
 
-    // Tells that a connection got no session, and what its path has in the place of a name.
+    // Reports that a connection got no session, with the part of its path where the name should be.
     pub(crate) fn tell_refused<R: Wait>(&self, rt: &R, why: Why, shown: &ArrayString<MAX_NAME>) {
         if self.has_sessions {
             let why = why.name();

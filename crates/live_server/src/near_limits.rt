@@ -1,4 +1,4 @@
-//! Limits of stations of which nine tenths are used, each of which is told once.
+//! Limits of stations that are nine tenths used; each is reported once.
 ghost use Rattle.std.specs.Prelude.{◌*◌, ◌≤◌, ◌↔◌, IsTrue};
 
 use crate::log::Log;
@@ -13,7 +13,7 @@ use std::sync::Wait;
 use std::sync::atomic::{AtomicBool, Ordering};
 use std::time::Clock;
 
-// The limits of a station, and of each whether it was told.
+// The limits of a station, and whether each was reported.
 #[derive(Drop)]
 struct StationLimits {
     limits: Limits,
@@ -24,7 +24,7 @@ struct StationLimits {
 }
 
 impl StationLimits {
-    // These limits, of which none was told.
+    // These limits; none was reported yet.
     fn of(limits: Limits) -> Self {
         StationLimits {
             limits,
@@ -43,7 +43,7 @@ pub(crate) struct NearLimits {
 }
 
 impl NearLimits {
-    // Those of this plan, of which none was told.
+    // The limits of this plan; none was reported yet.
     pub(crate) fn open(alloc: Global, plan: &Plan) -> Result<Self, AllocError> {
         let mut stations = Vec::with_capacity(alloc, plan.stations.len())?;
         for station in plan.stations.as_slice() {
@@ -52,7 +52,7 @@ impl NearLimits {
         Ok(NearLimits { stations })
     }
 
-    // Tells each limit of the station of this number and name of which nine tenths are used now, where it was not told yet.
+    // Reports each limit of the station of this number and name that is nine tenths used now and was not reported yet.
     fn tell<R: Wait, L: Write + Drop>(
         &self,
         rt: &R,
@@ -110,19 +110,19 @@ impl NearLimits {
     }
 }
 
-// Tells whether nine tenths of a limit are used, and that was not told yet.
+// Returns whether nine tenths of a limit are used and that was not reported yet.
 fn is_new(told: &AtomicBool, used: u64, limit: u64) -> bool {
     is_near(used, limit) && !told.swap(true, Ordering::SeqCst)
 }
 
-// Tells whether nine tenths of a limit are used.
+// Returns whether nine tenths of a limit are used.
 fn is_near(used: u64, limit: u64) -> bool
     ensures { IsTrue result ↔ (9 * limit ≤ 10 * used) }
 {
     limit - limit / 10 <= used
 }
 
-// Looks at the limits of a session's station behind each event that came to the desk.
+// Looks at the limits of a session's station after each event that came to the desk.
 #[derive(Drop)]
 pub(crate) struct LimitGate<'a, J: Naming, C: HasCell, L: Write + Drop> {
     pub(crate) desk: &'a Desk<J, C>,

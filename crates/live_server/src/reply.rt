@@ -1,4 +1,4 @@
-//! The bytes that a browser is answered.
+//! The bytes of the answer to a browser.
 ghost use Rattle.std.specs.Prelude.{◌≡◌, ◌++◌, IfOk, OnOk};
 ghost use Rattle.live_server.specs.Responses.{head_line, response_bytes, status_text};
 
@@ -8,11 +8,11 @@ use std::alloc::{AllocError, Global};
 /// How a browser's request went (RFC 9110).
 #[derive(Clone, Copy, Debug, PartialEq, Eq)]
 pub enum Status {
-    /// 200: here is what it asked for.
+    /// 200: the body is what it asked for.
     Found,
     /// 400: it is no request, or its head is too long.
     Malformed,
-    /// 404: nothing lies under this path.
+    /// 404: there is nothing under this path.
     NotFound,
     /// 405: it is no GET.
     NotAllowed,
@@ -45,7 +45,7 @@ fn put_head(bytes: &mut Vec<u8>, label: &str, text: &str) -> Result<(), AllocErr
     Ok(())
 }
 
-/// An answer with this status, content type and body, behind which the connection ends.
+/// An answer with this status, content type and body; the connection ends after it.
 pub fn response(
     alloc: Global,
     status: Status,

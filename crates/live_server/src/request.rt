@@ -8,7 +8,7 @@ use ledger_model::Name;
 // How many header lines a request may have.
 const MAX_HEADERS: usize = 64;
 
-// What the path of a board begins with.
+// The beginning of the path of a board.
 const BOARD_PATH: &[u8] = b"/board/";
 
 // What the bytes of a request ask for.
@@ -16,7 +16,7 @@ const BOARD_PATH: &[u8] = b"/board/";
 pub(crate) enum Request {
     // The head has not ended yet.
     Unfinished,
-    // No request, whatever comes.
+    // No request, whatever bytes follow.
     Malformed,
     // There was no room for its head.
     NoRoom,
@@ -26,11 +26,11 @@ pub(crate) enum Request {
     Sites,
     // The board of the site of this name.
     Board(Name),
-    // A path under which nothing lies.
+    // A path with nothing under it.
     Elsewhere,
 }
 
-// Reads the bytes that came of a request.
+// Reads the bytes of a request that have come.
 pub(crate) fn read_request(bytes: &[u8]) -> Request
     ensures { IsAskedBy bytes.now result }
 {

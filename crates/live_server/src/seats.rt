@@ -1,4 +1,4 @@
-//! Which worker serves whom, and who has to go.
+//! Which worker serves which connection, and which connection has to end.
 ghost use Rattle.std.specs.Prelude.{◌≡◌, ◌+◌, ◌%◌, ◌^◌, ◌<◌, IfOk, None, Some, length, replicate, slice_get, slice_set};
 ghost use Rattle.live_server.specs.Seated.{HasGreeted, HasBegun, IsOldestOf, IsTold, count_at, free, is_at, older_by, serving};
 
@@ -7,7 +7,7 @@ use std::alloc::{AllocError, Global};
 // How many sessions of one station may run at once.
 const MAX_SESSIONS: usize = 2;
 
-// How many workers are to be left for further connections.
+// How many workers should be left for further connections.
 const MIN_FREE: usize = 16;
 
 // A connection that a worker serves.
@@ -22,13 +22,13 @@ pub(crate) struct ServedConnection {
 /// Which worker serves a handshake, and which a session of which station.
 #[derive(Drop)]
 pub struct Seats {
-    // What each worker serves; a connection that was told to end counts no more.
+    // What each worker serves; a connection that was asked to end no longer counts.
     pub(crate) served: Vec<Option<ServedConnection>>,
     pub(crate) begun: u64,
 }
 
 impl Seats {
-    /// Seats for so many workers, who serve nobody.
+    /// Seats for `workers` workers, which serve nobody.
     pub fn open(alloc: Global, workers: usize) -> Result<Seats, AllocError>
         ensures { IfOk result (λ s. s.served.items ≡ replicate workers None) }
     {
@@ -37,7 +37,7 @@ impl Seats {
         Ok(Seats { served, begun: 0 })
     }
 
-    /// Notes that a worker's connection is in its handshake, and gives the worker of the oldest handshake where fewer
+    /// Notes that a worker's connection is in its handshake, and returns the worker of the oldest handshake if fewer
     /// than 16 workers were left.
     pub fn greet(&mut self, worker: usize) -> Option<usize>
         ensures greeted { HasGreeted worker self.new.begun self.old.served.items result self.new.served.items }
@@ -52,8 +52,8 @@ impl Seats {
         oldest
     }
 
-    /// Notes that a worker's session of this station begins, and gives the worker of the station's oldest session where
-    /// it is now one too many.
+    /// Notes that a worker's session of this station begins, and returns the worker of the station's oldest session if
+    /// there is now one too many.
     pub fn begin(&mut self, worker: usize, station: u16) -> Option<usize>
         ensures begun { HasBegun worker station self.new.begun self.old.served.items result self.new.served.items }
         ensures number { self.new.begun ≡ (self.old.begun + 1) % 2 ^ 64 }
@@ -87,7 +87,8 @@ impl Seats {
         }
     }
 
-    // The worker of the oldest session of a station, or of the oldest handshake, which counts no more.
+    // The worker of the oldest session of a station, or of the oldest handshake; that no longer
+    // counts.
     fn take_oldest(&mut self, station: Option<u16>) -> Option<usize>
         ensures told { IsTold station self.old.served.items result self.new.served.items }
         ensures begun { self.new.begun ≡ self.old.begun }
@@ -123,7 +124,7 @@ impl Seats {
     }
 }
 
-// Tells whether a worker has a session of this station, or a handshake where there is none.
+// Returns whether a worker has a session of this station, or a handshake if there is none.
 fn is_at(station: Option<u16>, row: &Option<ServedConnection>) -> bool
     ensures { result ≡ is_at station row.now }
 {
@@ -133,8 +134,8 @@ fn is_at(station: Option<u16>, row: &Option<ServedConnection>) -> bool
     }
 }
 
-// The worker of the oldest session of a station, or of the oldest handshake, among those up to this worker, where this
-// one is the oldest of those before.
+// The worker of the oldest session of a station, or of the oldest handshake, among the workers up to this one;
+// `oldest` is that of those before it.
 fn older_of(
     rows: &[Option<ServedConnection>],
     worker: usize,
@@ -157,7 +158,8 @@ fn older_of(
     }
 }
 
-// The first of these workers, unless it has a greater number than this one, which the second has.
+// The first of these workers, unless it serves nobody or its number is greater than this one, the
+// second worker's.
 fn oldest_of_two(
     rows: &[Option<ServedConnection>],
     first: usize,

@@ -1,4 +1,4 @@
-//! A live server at a desk that is handed in.
+//! A live server at a desk that the caller hands in.
 ghost use Rattle.std.specs.Prelude.{◌≡◌, ◌≤◌, IfOk, sum_by};
 ghost use Rattle.std.specs.Thread.{IsSend, IsSync};
 ghost use Rattle.ledger_model.specs.Ranges.{most_plan_readings};
@@ -36,14 +36,14 @@ const SMALL_STACK: usize = 1024 * 1024;
 // How many workers wait for connections while every station has two sessions.
 const SPARE_WORKERS: usize = 32;
 
-/// What a live server is asked to do.
+/// The options of a live server.
 #[derive(Clone, Copy, Debug)]
 pub struct Live {
     /// The port of 127.0.0.1 that it listens on; for 0 the system chooses one.
     pub port: u16,
     /// How often it glances at the totals of each site, a second apart.
     pub glances: u16,
-    /// Whether it tells which sessions begin and end.
+    /// Whether it reports which sessions begin and end.
     pub is_logged: bool,
     /// The port of 127.0.0.1 where browsers find boards, if any; for 0 the system chooses one.
     pub board_port: Option<u16>,
@@ -52,48 +52,50 @@ pub struct Live {
 /// Which connections a live server serves.
 #[derive(Drop)]
 pub struct Clients {
-    /// A listener for stations that is there already, instead of one at the port that is asked for.
+    /// A listener for stations that is there already, in place of one at the port of the options.
     pub listener: Option<TcpListener>,
-    /// After how many connections the server ends, without an operator; `None` where its operator's lines end it.
+    /// After how many connections the server ends, without an operator; `None` if its operator's lines end it.
     pub connections: Option<u8>,
 }
 
-/// What a live server is made of.
+/// The parts of a live server.
 #[derive(Drop)]
 pub struct Run<'a, R> {
     /// Threads, locks, the clock and sockets.
     pub rt: &'a R,
-    /// Where memory is taken.
+    /// The allocator.
     pub alloc: Global,
     /// The plan that is served.
     pub plan: &'a Plan,
-    /// What the server is asked to do.
+    /// The options.
     pub live: Live,
     /// Which connections it serves.
     pub clients: Clients,
 }
 
-/// What is left when all threads have ended.
+/// The result of a server, after all threads have ended.
 #[derive(Drop)]
 pub struct Ran<J: Naming, M, W: Write + Drop> {
-    /// All passes that were laid back.
+    /// All passes in the desk's pool.
     pub passes: Vec<Pass>,
     /// The viewers.
     pub viewers: Vec<Viewer<J>>,
-    /// How the operator's lines ended, or why no connection was served; with what was seen of the desk's journal with the
-    /// answers to these lines.
+    /// How the operator's lines ended, or why no connection was served; after Ok, what was seen of the desk's journal
+    /// with the answers to these lines.
     pub ended: Result<Vec<M>, ServiceFault>,
     /// The output.
     pub output: W,
 }
 
-/// Listens, writes `listening 127.0.0.1:<port>` to `output`, and serves connections, two sessions of each station at once,
-/// at the desk that is handed in, until the operator's lines end or say `close`, or the desk accepts no change any more,
-/// which is a `WriteFault`. Meanwhile it answers the lines of `input`, each answer out before the next line is read. At the
-/// end it ends all sessions. Where a number of connections is asked for it reads no line, and ends when so many have ended.
-/// What it reports of sessions and totals goes to `lines`. The passes that were given out before lie in the desk's pool.
+/// Listens, writes `listening 127.0.0.1:<port>` to `output`, and serves connections at the desk that is handed in, up
+/// to two sessions of each station at once. It goes on until the operator's lines end or say `close`, or until the desk
+/// accepts no change any more, which is a `WriteFault`. Meanwhile it answers the lines of `input`; each answer is out
+/// before the next line is read. At the end it ends all sessions. If it has to serve a number of connections, it reads
+/// no line, and ends when so many have ended. It reports sessions and totals to `lines`. The passes that were given out
+/// before are in the desk's pool.
 ///
-/// Condition: the desk was opened for this plan, whose limits allow no more than 1,048,576 readings in all.
+/// Condition: the desk was opened for this plan, and the plan's limits allow no more than 1,048,576
+/// readings in all.
 pub fn serve_plan_at<
     J: Naming + Send + Sync,
     C: HasCell + Send,
@@ -171,10 +173,10 @@ fn serve_all<
     }
 }
 
-// What is left at the end of the threads: how the operator's lines ended, the viewers, and the output.
+// The result at the end of the threads: how the operator's lines ended, the viewers, and the output.
 type Ended<J, M, W> = (Result<Vec<M>, ServiceFault>, Vec<Viewer<J>>, W);
 
-// Serves on threads while this one answers the operator's lines, and then ends them all.
+// Serves on threads while this thread answers the operator's lines, and then ends them all.
 fn serve_beside<
     J: Naming + Send + Sync,
     C: HasCell + Send,
@@ -217,8 +219,8 @@ fn serve_beside<
     )
 }
 
-// Starts the threads at both acceptors, answers the operator's lines or waits for as many connections as are served, and
-// then waits until the threads have left.
+// Starts the threads at both acceptors, answers the operator's lines or waits until as many connections have ended as
+// it serves, and then waits until the threads have left.
 fn serve_until_end<
     's,
     E: 's,
@@ -250,7 +252,7 @@ fn serve_until_end<
     ended
 }
 
-// Answers the operator's lines to their end, or waits until as many connections have ended as are served.
+// Answers the operator's lines to their end, or waits until as many connections have ended as it serves.
 fn answer_lines<
     J: Naming,
     C: HasCell,
@@ -277,7 +279,7 @@ fn answer_lines<
     }
 }
 
-// Starts the threads at both acceptors, and tells whether all could start.
+// Starts the threads at both acceptors, and returns whether all could start.
 fn start_all<
     's,
     E: 's,
@@ -303,7 +305,7 @@ fn start_all<
     }
 }
 
-// Starts a worker, and tells whether it could start.
+// Starts a worker, and returns whether it could start.
 fn start_worker<
     's,
     E: 's,
@@ -330,7 +332,7 @@ fn start_worker<
     acceptor.is_entered(started.is_ok())
 }
 
-// Starts the thread that answers browsers, and tells whether it could start.
+// Starts the thread that answers browsers, and returns whether it could start.
 fn start_boards<
     's,
     E: 's,

@@ -20,7 +20,7 @@ use std::thread::Threads;
 use std::time::Clock;
 use tungstenite::{NoMask, WebSocket};
 
-// How long a station is waited for.
+// How long the server waits for a station.
 const PATIENCE: Patience = Patience {
     opening: 10,
     writing: 30,
@@ -34,7 +34,8 @@ impl<
     R: Threads + Wait + Clock,
     L: Write + Drop,
 > Shared<'_, J, C, M, S, R, L> {
-    // Accepts connections and serves each, until the server closes or as many came as it serves.
+    // Accepts connections and serves each, until the server closes or as many connections came as
+    // it serves.
     pub(crate) fn work(&self, acceptor: &Acceptor<'_>, worker: usize, mark: &AtomicBool) {
         for _ in self.rt.forever() {
             let Some(stream) = acceptor.next(self.rt, &self.workers.closing) else {
@@ -51,7 +52,7 @@ impl<
         }
     }
 
-    // Serves a connection: its handshake, and what comes behind it.
+    // Serves a connection: its handshake, and the session after it.
     fn serve_one(&self, worker: usize, mark: &AtomicBool, stream: TcpStream) {
         let closing = &self.workers.closing;
         let Ok(connection) = Connection::open(self.rt, closing, mark, PATIENCE) else {
@@ -66,7 +67,7 @@ impl<
         }
     }
 
-    // Serves the session of a client behind its handshake, where it is let in.
+    // Serves the session of a client after its handshake, if the client is let in.
     fn receive(
         &self,
         worker: usize,
@@ -116,7 +117,7 @@ impl<
         self.finish(name, before, end);
     }
 
-    // Reports how a session ended that began with so many changes, and lays its pass back.
+    // Reports how a session ended, which began with this many changes, and puts its pass back.
     fn finish(&self, name: &Name, before: u64, end: SessionEnd) {
         let SessionEnd {
             why,

@@ -1,4 +1,4 @@
-//! What all threads of a live server look at.
+//! The values that all threads of a live server share.
 ghost use Rattle.std.specs.Prelude.{◌≡◌, IfOk};
 
 use crate::log::Log;
@@ -11,7 +11,7 @@ use station_cell::Pass;
 use std::alloc::{AllocError, Global};
 use std::io::Write;
 
-// What all threads of a live server look at.
+// The values that all threads of a live server share.
 #[derive(Drop)]
 pub(crate) struct Shared<
     'a,
@@ -25,7 +25,7 @@ pub(crate) struct Shared<
     pub(crate) rt: &'a R,
     pub(crate) alloc: Global,
     pub(crate) running: Running<'a, J, C, M, S>,
-    // After how many connections the server ends; `None` where its operator's lines end it.
+    // After how many connections the server ends; `None` if its operator's lines end it.
     pub(crate) connections: Option<u8>,
     pub(crate) workers: Workers,
     pub(crate) log: Log<L>,
@@ -41,7 +41,7 @@ impl<'a, J: Naming, C: HasCell, M: Drop, S: Serves<J, C, M>, R, L: Write + Drop>
     R,
     L,
 > {
-    // A running desk, so many workers who serve nobody, and where it reports.
+    // A running desk, its workers, which serve nobody yet, and the log.
     pub(crate) fn open(
         rt: &'a R,
         alloc: Global,
@@ -67,7 +67,7 @@ impl<'a, J: Naming, C: HasCell, M: Drop, S: Serves<J, C, M>, R, L: Write + Drop>
         })
     }
 
-    // All passes that were laid back.
+    // All passes in the desk's pool.
     pub(crate) fn into_passes(self) -> Vec<Pass> {
         self.running.desk.into_passes()
     }

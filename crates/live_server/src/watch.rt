@@ -10,7 +10,7 @@ use std::sync::atomic::Ordering;
 use std::thread;
 use std::time::{Clock, Duration};
 
-// How long it is from one glance to the next.
+// The time from one glance to the next.
 const SECONDS_BETWEEN: u64 = 1;
 
 impl<J: Naming, C: HasCell, M: Drop, S: Serves<J, C, M>, R: Wait + Clock, L: Write + Drop> Shared<
@@ -22,8 +22,8 @@ impl<J: Naming, C: HasCell, M: Drop, S: Serves<J, C, M>, R: Wait + Clock, L: Wri
     R,
     L,
 > {
-    // Glances so often at the totals of each viewer's site, a second apart, and reports them. Where an operator ends the
-    // server, it glances until then.
+    // Glances `glances` times at the totals of each viewer's site, a second apart, and reports them. If an operator
+    // ends the server, it glances until then.
     pub(crate) fn watch(&self, glances: u16, mut viewers: Vec<Viewer<J>>) -> Vec<Viewer<J>> {
         for glance in 0..glances {
             if glance > 0 {

@@ -1,4 +1,4 @@
-//! The workers of a live server: who has to go, and whether the server closes.
+//! The workers of a live server: which connections have to end, and whether the server closes.
 use crate::seats::Seats;
 use std::alloc::{AllocError, Global};
 use std::sync::atomic::{AtomicBool, AtomicU64, Ordering};
@@ -6,25 +6,25 @@ use std::sync::{Mutex, Wait};
 use std::thread;
 use std::time::{Clock, Duration};
 
-// How long the end of all connections is waited for between two looks.
+// The time between two looks at whether all connections have ended.
 const LOOK_MILLIS: u64 = 10;
 
-// What the workers look at while they wait.
+// The state that workers look at while they wait.
 #[derive(Drop)]
 pub(crate) struct Workers {
     // Whether the server closes.
     pub(crate) closing: AtomicBool,
-    // Of each worker, whether its connection has to go.
+    // For each worker, whether its connection has to end.
     pub(crate) marks: Vec<AtomicBool>,
     seats: Mutex<Seats>,
-    // How many connections are served in all, how many came, and how many have ended.
+    // How many connections the server serves in all, how many came, and how many have ended.
     most: u64,
     came: AtomicU64,
     ended: AtomicU64,
 }
 
 impl Workers {
-    // So many workers, who serve nobody, for so many connections in all, or without end.
+    // So many workers, which serve nobody, for so many connections in all, or without end.
     pub(crate) fn open(
         alloc: Global,
         workers: usize,
@@ -47,12 +47,12 @@ impl Workers {
         })
     }
 
-    // Counts a connection that came, and tells whether it is served.
+    // Counts a connection that came, and returns whether to serve it.
     pub(crate) fn takes_one(&self) -> bool {
         self.came.fetch_add(1, Ordering::SeqCst) < self.most
     }
 
-    // Waits until as many connections have ended as are served in all.
+    // Waits until as many connections have ended as the server serves in all.
     pub(crate) fn wait_for_all<R: Wait + Clock>(&self, rt: &R) {
         for _ in rt.forever() {
             if self.ended.load(Ordering::SeqCst) >= self.most {
@@ -62,7 +62,7 @@ impl Workers {
         }
     }
 
-    // A worker's handshake begins; where few workers are left, the oldest one has to go.
+    // A worker's handshake begins; if few workers are left, the oldest handshake has to end.
     pub(crate) fn greet<R: Wait>(&self, rt: &R, worker: usize) {
         let mut seats = self.seats.lock(rt);
         self.mark(worker, false);
@@ -71,7 +71,7 @@ impl Workers {
         }
     }
 
-    // A worker's session of this station begins; the oldest of three has to go.
+    // A worker's session of this station begins; the oldest of three has to end.
     pub(crate) fn begin<R: Wait>(&self, rt: &R, worker: usize, station: u16) {
         let mut seats = self.seats.lock(rt);
         self.mark(worker, false);
@@ -86,7 +86,7 @@ impl Workers {
         self.ended.fetch_add(1, Ordering::SeqCst);
     }
 
-    // Notes whether a worker's connection has to go.
+    // Notes whether a worker's connection has to end.
     fn mark(&self, worker: usize, has_to_go: bool) {
         if let Some(mark) = self.marks.get(worker) {
             mark.store(has_to_go, Ordering::SeqCst);

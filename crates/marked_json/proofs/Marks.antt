@@ -22,7 +22,7 @@ pub with_front-nil : (m : Marks) → with_front [] m ≡ m
 with_front-nil (Ok zs) = refl
 with_front-nil (Err e) = refl
 
--- where a string stands, by whether a backslash was just before
+-- where a string is, by whether a backslash was just before
 abbrev pub place_of : Bool → BytePlace
 place_of true = after_backslash
 place_of false = in_string
@@ -95,7 +95,7 @@ marked-at_number (c ∷ cs) some first =
 
 -- the steps, on what was written and what is left
 
--- a byte that stands for itself needs no mark
+-- a byte that means itself needs no mark
 pub completed-plain : (old new rest : List ℕ) (at : ℕ) → at < length rest → eqb (get_or rest at 0) 34 ≡ false → begins_number (get_or rest at 0) ≡ false → new ≡ old ++ get_or rest at 0 ∷ [] → completed new (drop (at + 1) rest) ≡ completed old (drop at rest)
 completed-plain old new rest at within no_quote no_number added =
     let c = get_or rest at 0 in
@@ -139,7 +139,7 @@ token_is_some text at n some begins is =
       by true k h e = omega arith
       by false k h e = cc
 
--- no number stands behind a token
+-- no number is behind a token
 pub token_is_whole : (text : List ℕ) (at n : ℕ) → n ≡ prefix_len goes_on_number (drop at text) → at + n < length text → begins_number (get_or text (at + n) 0) ≡ true → ⊥
 token_is_whole text at n is more begins =
     let stops : goes_on_number (get_or (drop at text) (prefix_len goes_on_number (drop at text)) 0) ≡ false = prefix_len_stops goes_on_number (drop at text) 0 (omega (arith, is, length-drop at text)) in
@@ -239,7 +239,7 @@ take_front len n k new old ys short within put =
     ∙ ap (λ i. take (i + k) (take len old ++ ys)) (sym long)
     ∙ take-append-add (take len old) ys k
 
--- what a search for a quote or a backslash tells of a string
+-- what a search for a quote or a backslash says about a string
 
 neither : (cs : List ℕ) (j : ℕ) → (is_byte2 34 92 (get_or cs j 0) ≡ true → ⊥) → (eqb (get_or cs j 0) 34 || eqb (get_or cs j 0) 92) ≡ false
 neither cs j none = false_from_ne_true _ none

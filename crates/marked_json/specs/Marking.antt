@@ -1,11 +1,12 @@
--- The marked text of a text. Both are bytes of UTF-8: all that is looked for is ASCII, and no byte of another character is.
+-- The marked text of a text. Both are bytes of UTF-8: all that is looked for is ASCII, and no byte of another character
+-- is.
 use Rattle.std.specs.Prelude.{◌||◌, ◌==◌, ℕ, List, [], ◌∷◌, ◌++◌, drop, Bool, false, not, Option, Some, None, if◌then◌else◌, Result, Ok, Err}
 use Rattle.std.specs.List.{prefix_len, take_while, find}
 use Rattle.marked_json.specs.declared.fault.JsonFault.{JsonFault}
 use Rattle.marked_json.specs.declared.fault.JsonFault.TheVariants.{BadNumber, NumberAsKey}
 use Rattle.marked_json.specs.Number.{is_digit, is_number}
 
--- where in a text a byte stands
+-- where in a text a byte is
 pub data BytePlace : Type 0 where
   outside : BytePlace
   in_number : BytePlace
@@ -42,14 +43,15 @@ is_colon (Some c) = c == 58
 abbrev pub is_before_colon : List ℕ → Bool
 is_before_colon cs = is_colon (find (λ c. not (is_blank c)) cs)
 
--- a token as a string behind `#`, where it is a number and no key
+-- a token as a string behind `#`, if it is a number and no key
 abbrev pub marked_token : List ℕ → List ℕ → Marks → Marks
 marked_token token rest more =
     if not (is_number token) then Err BadNumber
     else (if is_before_colon rest then Err NumberAsKey
     else with_front (34 ∷ 35 ∷ (token ++ 34 ∷ [])) more)
 
--- the byte c outside strings and numbers: `$` goes behind an opening quote, a number is the longest run, all else is copied
+-- the byte c outside strings and numbers: `$` goes behind an opening quote, a number is the longest run, all else is
+-- copied
 abbrev pub marked_outside : ℕ → List ℕ → (BytePlace → Marks) → Marks
 marked_outside c cs more =
     if c == 34 then with_front (34 ∷ 36 ∷ []) (more in_string)

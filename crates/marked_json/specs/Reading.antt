@@ -11,7 +11,7 @@ use Rattle.marked_json.specs.declared.node.Node.{Node}
 use Rattle.marked_json.specs.declared.node.Items.{Items as ItemsLeft}
 use Rattle.marked_json.specs.Marking.{Marks, marked, outside}
 
--- the tree that `serde_json` reads, or that there is none
+-- the tree that `serde_json` reads, or the fault if there is none
 abbrev pub tree_or_fault : Option Data → Result Data JsonFault
 tree_or_fault (Some tree) = Ok tree
 tree_or_fault None = Err NotJson
@@ -29,15 +29,15 @@ marked_reading text = tree_of (marked outside text)
 abbrev pub tree : Marked → Data
 tree m = view m.value
 
--- the place in the tree at which a node stands
+-- the place in the tree where a node is
 abbrev pub node : Node → Data
 node n = view n.value.now
 
--- the items that are still to come
+-- the items still to come
 abbrev pub left_of : ItemsLeft → List Data
 left_of items = map view items.rest.now
 
--- the string behind the mark, where it begins with that mark
+-- the string behind the mark, if it begins with that mark
 abbrev pub behind_mark : ℕ → List ℕ → Option (List ℕ)
 behind_mark mark [] = None
 behind_mark mark (c ∷ cs) = if c == mark then Some cs else None
@@ -72,7 +72,7 @@ unless_null (string s) = Some (string s)
 unless_null (array items) = Some (array items)
 unless_null (object members) = Some (object members)
 
--- the member of that name, which stands under the name behind `$`
+-- the member of that name, kept under `$` and the name
 abbrev pub member_of : List ℕ → Members → Option Data
 member_of name members = option_and_then unless_null (get_member (36 ∷ name) members)
 

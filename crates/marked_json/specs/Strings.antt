@@ -1,9 +1,9 @@
--- What stands between the quotes of a string.
+-- What is between the quotes of a string.
 use Rattle.std.specs.Prelude.{◌≡◌, ◌&&◌, ◌==◌, ℕ, List, [], ◌∷◌, Bool, true, false, not, Some, None}
 use Rattle.serde_json.specs.Data.{Data}
 use Rattle.marked_json.specs.Reading.{text_of, number_of, items_of, is_object}
 
--- no quote stands here but behind a backslash, and no backslash is left alone; `escaped` tells that one was just before
+-- each quote is behind a backslash, and no backslash is last; `escaped` says that a backslash was just before
 abbrev pub is_content_after : Bool → List ℕ → Bool
 is_content_after escaped [] = not escaped
 is_content_after true (c ∷ cs) = is_content_after false cs

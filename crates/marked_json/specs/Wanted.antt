@@ -27,7 +27,7 @@ first_of wanted = option_map node wanted.first
 abbrev pub found : Wanted → Option Data
 found wanted = option_and_then unless_null (first_of wanted)
 
--- a member is taken that has the name, if none was taken before
+-- a member that has the name is taken, if none was taken before
 abbrev pub offered : List ℕ → Node → Wanted → Wanted
 offered key member wanted =
     if bytes_eq key (36 ∷ wanted.name.now) && is_none wanted.first then record wanted { first = Some member } else wanted

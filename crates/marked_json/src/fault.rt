@@ -6,16 +6,17 @@ use std::alloc::AllocError;
 use std::error::Error;
 use std::fmt;
 
-/// Why a text was not read. The first fault in the text answers; for one number `BadNumber` comes first.
+/// Why a text was not read. The first fault in the text is reported; for one number `BadNumber` comes
+/// before `NumberAsKey`.
 #[derive(Clone, Copy, Debug, PartialEq, Eq)]
 pub enum JsonFault {
     /// A number token that is outside the number grammar of RFC 8259.
     BadNumber = 1,
-    /// A number token that a colon follows, but for blanks.
+    /// A number token with a colon behind it, blanks apart.
     NumberAsKey = 2,
     /// The marked text is no JSON, or nests deeper than 127.
     NotJson = 3,
-    /// A growth of memory was refused.
+    /// The allocator refused memory.
     OutOfMemory = 4,
 }
 

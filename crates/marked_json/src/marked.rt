@@ -24,9 +24,9 @@ impl Marked {
     }
 }
 
-/// Reads JSON (RFC 8259), each number as its text. `BadNumber` and `NumberAsKey` tell the first such number in the
-/// text, `NotJson` that the text is no JSON otherwise or nests deeper than 127, and `OutOfMemory` that a growth was
-/// refused.
+/// Reads JSON (RFC 8259), each number as its text. `BadNumber` and `NumberAsKey` report the first such number in
+/// the text; `NotJson` says that the text is otherwise no JSON or nests deeper than 127; `OutOfMemory` says that
+/// the allocator refused memory.
 pub fn read_marked(alloc: Global, text: &str) -> Result<Marked, JsonFault>
     ensures ok { IfOk result (λ marked. spec.marked_reading text.now ≡ Ok (spec.tree marked)) }
     ensures err { IfErr result (λ fault. fault ≢ OutOfMemory → spec.marked_reading text.now ≡ Err fault) }

@@ -1,4 +1,4 @@
-//! The marking of a text, which is what `serde_json` reads in its place.
+//! The marking of a text: `serde_json` reads the marked text in its place.
 ghost use Rattle.std.specs.Prelude.{◌≡◌, ◌≢◌, not, ◌<◌, ◌+◌, ◌*◌, ◌++◌, [], ◌∷◌, take, drop, ℕ, length, map, slice_index, string_bytes, ◌≤◌, true, false, Ok, Err, IfOk, IfErr, OnOk, IfSome, Some};
 ghost use Rattle.std.specs.List.{prefix_len, find};
 ghost use Rattle.std.specs.Simd.Lanes.{mask_l};
@@ -24,7 +24,7 @@ pub(crate) fn marked_text(alloc: Global, text: &str) -> Result<String, JsonFault
     Ok(unsafe { String::from_utf8_unchecked(out) })
 }
 
-// Puts the marked text in the place of room for it.
+// Puts the marked text into an empty buffer that has room for it.
 fn mark_whole(out: &mut Vec<u8>, text: &str) -> Result<(), JsonFault>
     requires { 5 * length text.now + 3 ≤ 2 * length out.old.items }
     ensures ok { OnOk result (spec.marked spec.outside text.now ≡ Ok out.new.items) }
@@ -35,8 +35,8 @@ fn mark_whole(out: &mut Vec<u8>, text: &str) -> Result<(), JsonFault>
     Ok(())
 }
 
-// Room for the marked text of a text. A string, of a byte or more, gets one byte, and a number, which stands at least
-// one byte before the next, gets three.
+// Room for the marked text of a text. A string has at least one byte and gets one more; a number is at least one byte
+// before the next and gets three more.
 fn room_for(alloc: Global, text_len: usize) -> Result<Vec<u8>, AllocError>
     ensures { IfOk result (λ out. 5 * text_len + 3 ≤ 2 * length out.items) }
 {
@@ -46,7 +46,7 @@ fn room_for(alloc: Global, text_len: usize) -> Result<Vec<u8>, AllocError>
     Vec::from_elem(alloc, 0, halves / 2 + 2)
 }
 
-// Puts the marked text where there is room for it, and tells its length.
+// Puts the marked text into room for it, and returns its length.
 fn mark_all(out: &mut [u8], text: &[u8]) -> Result<usize, JsonFault>
     requires { 5 * length text.now + 3 ≤ 2 * length out.old }
     ensures ok { IfOk result (λ len. spec.marked spec.outside text.now ≡ Ok (take len out.new)) }
@@ -66,8 +66,8 @@ fn mark_all(out: &mut [u8], text: &[u8]) -> Result<usize, JsonFault>
     Ok(len)
 }
 
-// One step outside strings, at a place, where `len` bytes are put. What it gives is how many are put then, and the
-// place behind what they are from.
+// One step outside strings, at a place, with `len` bytes put so far. It returns how many bytes are put then, and
+// the place behind what it took.
 #[inline(always)]
 fn mark_next(
     out: &mut [u8],
@@ -108,8 +108,8 @@ fn mark_string(out: &mut [u8], len: usize, text: &[u8], at: usize) -> (usize, us
     (len + 2 + count, at + 1 + count)
 }
 
-// Puts what is left of a string, with its closing quote, and tells how long that is. Most strings end within 32 bytes,
-// all of which are put at once.
+// Puts what is left of a string, with its closing quote, and returns how long that is. Most strings end within 32
+// bytes, which are put at once.
 #[inline(always)]
 fn put_string(out: &mut [u8], len: usize, rest: &[u8]) -> usize
     requires { len + length rest.now ≤ length out.old }
@@ -205,7 +205,7 @@ fn put_bytes(out: &mut [u8], len: usize, bytes: &[u8])
 fn begins_number(byte: u8) -> bool
     ensures { result ≡ spec.begins_number byte }
 {
-    // Most bytes that are asked for stand behind the digits.
+    // Most bytes asked about are greater than the digits.
     byte <= b'9' && (byte == b'-' || byte.is_ascii_digit())
 }
 
@@ -246,7 +246,8 @@ fn first_but_blanks(bytes: &[u8]) -> Option<u8>
     bytes.iter().copied().find(|byte| !is_blank(*byte))
 }
 
-/// The length of what is left of a string, with its closing quote; of all, where none closes it.
+/// The length of what is left of a string, with its closing quote; of all bytes, if no quote closes
+/// it.
 #[inline(never)]
 fn string_len(bytes: &[u8]) -> usize
     ensures value { result ≡ steps.string_len false bytes.now }
@@ -263,7 +264,8 @@ fn string_len(bytes: &[u8]) -> usize
     bytes.len()
 }
 
-// The first quote or backslash. Most strings end within one load, for which a search of any length is slow to begin.
+// The first quote or backslash. Most strings end within one load of 32 bytes; a general search takes longer to
+// begin.
 fn first_stop(bytes: &[u8]) -> Option<usize>
     ensures { IsFirstByte (is_byte2 34 92) bytes.now result }
 {
@@ -273,7 +275,7 @@ fn first_stop(bytes: &[u8]) -> Option<usize>
     }
 }
 
-// The first quote or backslash, where it is one of the first 32 bytes of 32 or more.
+// The first quote or backslash, if it is one of the first 32 bytes and there are 32 or more.
 #[inline(always)]
 fn near_stop(bytes: &[u8]) -> Option<usize>
     ensures first { IfSome result (λ stop. IsFirstByte (is_byte2 34 92) bytes.now (Some stop)) }
@@ -289,7 +291,7 @@ fn near_stop(bytes: &[u8]) -> Option<usize>
     Some(found.trailing_zeros() as usize)
 }
 
-// Which of 32 bytes are quotes or backslashes: a bit for each byte, that of the first one lowest.
+// Which of 32 bytes are quotes or backslashes: a bit for each byte, the lowest for the first byte.
 #[inline(always)]
 fn stops(v: u8x32) -> u64
     ensures { result ≡ mask_l (map (is_byte2 34 92) v) }

@@ -57,7 +57,7 @@ impl<'a> Node<'a> {
     }
 }
 
-// The member whose name stands behind a mark.
+// The member of this name, kept under `$` and the name.
 fn member_named<'a>(members: &'a Map<String, Value>, name: &str) -> Option<&'a Value>
     ensures { option_map (λ v. view v.now) result ≡ get_member (36 ∷ name.now) (members_view members.now.entries) }
 {
@@ -69,11 +69,11 @@ fn member_named<'a>(members: &'a Map<String, Value>, name: &str) -> Option<&'a V
     None
 }
 
-// Whether a key is the name behind a mark.
+// Whether a key is `$` and the name.
 pub(crate) fn is_marked(key: &str, name: &str) -> bool
     ensures { IsTrue result ↔ (key.now ≡ 36 ∷ name.now) }
 {
-    // Most keys have another length; their bytes are not looked at.
+    // Most keys have another length, and then their bytes are not looked at.
     if key.len() != name.len() + 1 {
         return false;
     }

@@ -1,4 +1,4 @@
-//! Members of an object that are looked for by their names, all in one walk.
+//! Members of an object, found by their names in one walk.
 ghost use Rattle.std.specs.Prelude.{◌≡◌, [], map, option_map, None, All};
 ghost use Rattle.serde_json.specs.View.{members_view};
 ghost use Rattle.marked_json.specs.Reading.{node, field_of};
@@ -15,7 +15,7 @@ pub struct Wanted<'n, 'a> {
 }
 
 impl<'n, 'a> Wanted<'n, 'a> {
-    /// A member of that name, not found so far.
+    /// Looks for a member of that name; none is found so far.
     pub fn new(name: &'n str) -> Wanted<'n, 'a>
         ensures name { spec.name_of result ≡ name.now }
         ensures first { spec.first_of result ≡ None }
@@ -43,7 +43,7 @@ impl<'n, 'a> Wanted<'n, 'a> {
     }
 }
 
-// Offers a member to each.
+// Offers a member to each of the wanted names.
 fn offer_each<'a>(wanted: &mut [Wanted<'_, 'a>], key: &str, member: Node<'a>)
     ensures { wanted.new ≡ map (spec.offered key.now member.entry) wanted.old }
 {
@@ -64,7 +64,7 @@ fn find_among<'a>(wanted: &mut [Wanted<'_, 'a>], members: &'a Map<String, Value>
 impl<'a> Node<'a> {
     /// Finds members of an object by their names, all in one walk. Each is then as [`Node::field`] gives it.
     ///
-    /// Condition: none of them was found so far.
+    /// None of them may have been found before.
     pub fn find(self, wanted: &mut [Wanted<'_, 'a>])
         requires { All (λ w. spec.first_of w ≡ None) wanted.old }
         ensures { map spec.found wanted.new ≡ map (λ w. field_of (spec.name_of w) (node self.entry)) wanted.old }

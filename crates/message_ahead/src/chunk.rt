@@ -13,25 +13,25 @@ use std::alloc::{AllocError, Global};
 use std::sync::Arc;
 use transaction_event::{Asked, Delivery, read_message};
 
-// About how many bytes a line with an event has.
+// About the number of bytes of a line with an event.
 const USUAL_LINE: usize = 256;
 
-/// The events that were found in a piece of lines, in two blocks: one of events, and one of the readings of all.
+/// The events that were found in a piece of lines, in two blocks: one of events, and one of all their readings.
 #[derive(Drop)]
 pub struct Chunk {
     alloc: Global,
     pieces: Arc<Pieces, Global>,
-    // The last first.
+    // The last event first.
     found: Vec<FoundEvent>,
     readings: Vec<Reading>,
-    // Whether a growth was refused.
+    // Whether the allocator refused memory.
     is_short: bool,
     ghost read: { All (IsFound (arc_value pieces).bytes.items readings.items) found.items },
 }
 
 impl Chunk {
-    /// Reads the events of a piece of these lines, before the first of which `room` bytes may be read. Where memory runs
-    /// out, those that were found by then are the last ones.
+    /// Reads the events of a piece of these lines; `room` bytes may still be read before the first line. If memory runs
+    /// out, the chunk has the events that were found by then.
     pub fn read(alloc: Global, pieces: Arc<Pieces, Global>, piece: usize, room: usize) -> Chunk {
         let (begin, end) = pieces.bounds(piece);
         let mut found = Vec::new(alloc);
@@ -58,13 +58,13 @@ impl Chunk {
         }
     }
 
-    /// Whether a growth was refused while the chunk was read.
+    /// Whether the allocator refused memory while the chunk was read.
     pub fn is_short(&self) -> bool {
         self.is_short
     }
 
-    /// The event of the line before which `room` bytes may be read, if it was found, its line has these bytes, and it was
-    /// not taken; those of lines before it are dropped.
+    /// The event of the line that begins where `room` bytes may still be read, if it was found and not taken, and if
+    /// its line has these bytes. Events of earlier lines are dropped.
     pub fn take(&mut self, room: usize, line: &[u8]) -> Option<SentEvent>
         ensures { IfSome result (λ s. Sends line.now s.station s.delivery) }
     {
@@ -134,7 +134,7 @@ fn find(
     Ok(())
 }
 
-// Where the line begins that follows these bytes' last line feed.
+// The place behind these bytes' last line feed, where a line begins.
 fn line_start(bytes: &[u8]) -> usize
     ensures { result ≤ length bytes.now }
 {
@@ -144,7 +144,7 @@ fn line_start(bytes: &[u8]) -> usize
     }
 }
 
-// The event that the line from `start` to `end` sends, where its line feed stands.
+// The event that the line from `start` to `end` sends; its line feed is at `end`.
 fn event_of_line(
     alloc: Global,
     bytes: &[u8],
@@ -168,7 +168,7 @@ fn event_of_line(
     }
 }
 
-// Where a line ends whose line feed stands at `end`: before its carriage return, if it has one.
+// The end of a line with its line feed at `end`: before its carriage return, if it has one.
 fn line_end(bytes: &[u8], start: usize, end: usize) -> usize
     requires { (start ≤ end) × (end ≤ length bytes.now) }
     ensures { (start ≤ result) × (result ≤ end) }

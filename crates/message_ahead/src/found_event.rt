@@ -1,4 +1,4 @@
-//! An event of a piece of lines, of which all readings stand in one vector.
+//! An event of a piece of lines; one vector has the readings of all events of the piece.
 ghost use Rattle.std.specs.Prelude.{◌≡◌, ◌≤◌, length, IfOk, IfSome, slice_range};
 ghost use Rattle.message_ahead.specs.Ahead.{Extends, HasRange, found_delivery};
 
@@ -10,13 +10,13 @@ use transaction_event::Delivery;
 /// An event that a line sends.
 #[derive(Drop)]
 pub struct SentEvent {
-    /// The name of the station whose message it is.
+    /// The name of the station that sent it.
     pub station: Name,
-    /// What the message asks to deliver.
+    /// The delivery that the message asks for.
     pub delivery: Delivery,
 }
 
-/// An event of a line, and where the line and the event's readings stand.
+/// An event of a line, and the places of the line and of the event's readings.
 #[derive(Drop)]
 pub struct FoundEvent {
     /// How many bytes may still be read where its line begins.
@@ -25,13 +25,13 @@ pub struct FoundEvent {
     pub from: usize,
     /// Where its line ends among them, before its carriage return or its line feed.
     pub to: usize,
-    /// The name of the station whose message it is.
+    /// The name of the station that sent it.
     pub station: Name,
     /// The id of the call.
     pub id: ArrayString<144>,
     /// The event's key.
     pub key: Key,
-    /// What the event tells of its transaction.
+    /// Whether the event is Started, Updated or Ended.
     pub kind: Kind,
     /// The moment of the event.
     pub moment: Moment,
@@ -46,7 +46,7 @@ pub struct FoundEvent {
 }
 
 impl FoundEvent {
-    /// The event that the line between these places sends. Its readings are put behind those of its piece.
+    /// The event that the line between these places sends. Its readings are added to those of its piece.
     pub(crate) fn put(
         room: usize,
         from: usize,
@@ -85,7 +85,7 @@ impl FoundEvent {
         })
     }
 
-    /// The event with readings of its own; None where no memory was found for them.
+    /// The event with readings of its own; None if there was no memory for them.
     pub(crate) fn into_sent(self, alloc: Global, readings: &[Reading]) -> Option<SentEvent>
         requires { HasRange readings.now self }
         ensures { IfSome result (λ s. (s.station ≡ self.station) × (s.delivery ≡ found_delivery readings.now self)) }
@@ -117,7 +117,7 @@ impl FoundEvent {
     }
 }
 
-// The event of these parts, with readings of its own; None where no memory was found for them.
+// The event of these parts, with readings of its own; None if there was no memory for them.
 fn event_of(
     alloc: Global,
     kind: Kind,

@@ -1,4 +1,4 @@
-//! Threads that read ahead, and what was found.
+//! Threads that read ahead, and the events that they found.
 ghost use Rattle.std.specs.Prelude.{◌≤◌, ◌<◌, length, IfSome};
 ghost use Rattle.message_ahead.specs.Ahead.{Sends};
 
@@ -12,43 +12,45 @@ use std::sync::atomic::{AtomicBool, Ordering};
 use std::thread;
 use std::thread::{JoinHandle, Threads};
 
-// How many bytes of lines a piece has, at most and at least.
+// The most and the least bytes of lines that a piece has.
 const MOST_OF_PIECE: usize = 16_384;
 
 const LEAST_OF_PIECE: usize = 4_096;
 
-// Of how many pieces a window has at least so many, where its pieces are not the shortest.
+// The least number of pieces of a window, unless its pieces are the shortest.
 const PIECES: usize = 12;
 
-// The shortest run of lines for which threads are started, and the shortest for which all are.
+// The fewest bytes of lines for which threads are started, and the fewest for which all are
+// started.
 const SHORTEST: usize = 16_384;
 
 const LONG: usize = 262_144;
 
-// How many threads read at once, at most, and in a window that is not long.
+// How many threads read at once: at most, and in a window that is not long.
 const MAX_THREADS: usize = 3;
 
 const FEW_THREADS: usize = 2;
 
 /// Threads that read events of lines to come, and the events that were found.
 ///
-/// Places in the input are told by how many bytes may still be read there, which falls from line to line.
+/// A place in the input is given by how many bytes may still be read there; this number falls from line
+/// to line.
 #[derive(Drop)]
 pub struct Lookahead {
     alloc: Global,
-    // At the line under way.
+    // The room at the line under way.
     room: usize,
-    // Where the bytes end that the last look was shown.
+    // Where the bytes of the last look end.
     seen: usize,
-    // How many threads may read at once; None before the first is wanted.
+    // How many threads may read at once; None before the first is needed.
     threads: Option<usize>,
     // The lines that are read ahead.
     window: Option<Window>,
     // What was read of the piece under way.
     ready: Option<Chunk>,
-    // The threads that have not ended, for all that is known.
+    // The threads that are not known to have ended.
     running: Vec<Running>,
-    // Whether a growth was refused.
+    // Whether the allocator refused memory.
     is_short: bool,
 }
 
@@ -74,14 +76,14 @@ impl Lookahead {
         }
     }
 
-    /// Whether a growth of memory was refused, here or to a thread whose lines were reached. Nothing is wrong
-    /// with what was read then.
+    /// Whether the allocator refused memory, here or to a thread whose lines were reached. The events that
+    /// were read are right all the same.
     pub fn is_short(&self) -> bool {
         self.is_short
     }
 
-    /// Tells that the next line begins where `room` bytes may still be read, and whether a look at the bytes to
-    /// come is due.
+    /// Notes that the next line begins where `room` bytes may still be read. Returns whether a look at the
+    /// bytes to come is due.
     pub fn is_due(&mut self, room: usize) -> bool {
         self.room = room;
         room <= self.seen || self.is_passing()
@@ -95,8 +97,9 @@ impl Lookahead {
         }
     }
 
-    /// Takes over what was read of the lines from here on, reads some where it is not there yet, and starts threads for
-    /// the lines in `shown`, the bytes that come next, where none of them was shown before.
+    /// Takes over the events of the lines from here on that were read, and reads some lines itself if they are not
+    /// there yet. If no byte of `shown`, the bytes that come next, was shown before, it starts threads for the lines in
+    /// it.
     pub fn look<X: Threads>(&mut self, rt: &X, shown: &[u8]) {
         if self.room <= self.seen {
             self.open(rt, shown);
@@ -128,7 +131,7 @@ impl Lookahead {
         }
     }
 
-    // The place of the lines that were read ahead last, or one with no room where threads may still read those.
+    // The buffer of the lines that were read ahead last; an empty one if threads may still read those.
     fn place(&mut self) -> Vec<u8> {
         self.ready = None;
         let place = match self.window.take() {
@@ -141,7 +144,7 @@ impl Lookahead {
         }
     }
 
-    // Joins the threads that have told that they are done.
+    // Joins the threads that have reported their end.
     fn join<X: Threads>(&mut self, rt: &X) {
         for place in (0..self.running.len()).rev() {
             let is_done = match self.running.get(place) {
@@ -155,7 +158,7 @@ impl Lookahead {
         }
     }
 
-    // Opens a window of lines, which are kept in the place of these bytes, and starts its threads.
+    // Opens a window of lines, kept in this buffer, and starts its threads.
     fn begin<X: Threads>(
         &mut self,
         rt: &X,
@@ -179,7 +182,7 @@ impl Lookahead {
         Ok(())
     }
 
-    // Starts a thread of a window, and tells whether one could be started.
+    // Starts a thread of a window, and returns whether one could be started.
     fn start<X: Threads>(&mut self, rt: &X, window: &mut Window) -> Result<bool, AllocError> {
         let alloc = self.alloc;
         let work = window.work(alloc)?;
@@ -212,7 +215,7 @@ impl Lookahead {
         }
     }
 
-    // Takes over what came of the piece under way since it was reached.
+    // Takes over the events of the piece under way that came since it was reached.
     fn take_late(&mut self) {
         self.ready = match &mut self.window {
             Some(window) => window.arrived(),
@@ -222,7 +225,7 @@ impl Lookahead {
     }
 }
 
-// Whether memory ran out where this was read.
+// Whether memory ran out when this was read.
 fn is_short(ready: &Option<Chunk>) -> bool {
     match ready {
         Some(chunk) => chunk.is_short(),
@@ -230,14 +233,14 @@ fn is_short(ready: &Option<Chunk>) -> bool {
     }
 }
 
-// How many bytes a piece of so many bytes of lines has.
+// How many bytes a piece has, for this many bytes of lines.
 fn piece_size(bytes: usize) -> usize
     ensures { 0 < result }
 {
     (bytes / PIECES).clamp(LEAST_OF_PIECE, MOST_OF_PIECE)
 }
 
-// The whole lines with which `shown` begins.
+// The whole lines at the front of `shown`.
 fn whole_lines(shown: &[u8]) -> &[u8] {
     match memrchr(b'\n', shown) {
         Some(feed) => &shown[..feed + 1],

@@ -1,4 +1,4 @@
-//! Lines to come, cut into pieces that are claimed one by one.
+//! Lines to come, cut into pieces that threads claim one by one.
 ghost use Rattle.std.specs.Prelude.{◌≤◌, ◌<◌, length};
 
 use memchr::memchr;
@@ -17,10 +17,10 @@ pub struct Pieces {
 }
 
 impl Pieces {
-    /// Cuts lines, of which a line feed ends the last, into pieces of about so many bytes each, or of one line where that
-    /// is longer. They are kept in the place of these bytes.
+    /// Cuts lines, the last of them ended by a line feed, into pieces of about `size` bytes each, or of one line if
+    /// that is longer. It keeps them in the given buffer.
     ///
-    /// Condition: a piece has a byte.
+    /// Condition: `size` is not 0.
     pub fn cut(
         alloc: Global,
         place: Vec<u8>,
@@ -50,12 +50,12 @@ impl Pieces {
         self.bytes
     }
 
-    /// How many there are.
+    /// How many pieces there are.
     pub fn count(&self) -> usize {
         self.ends.len()
     }
 
-    /// The number of a piece that nobody had claimed, which is the caller's from then on; None where all are claimed.
+    /// The number of a piece that nobody had claimed; it is the caller's from then on. `None` if all are claimed.
     pub fn claim(&self) -> Option<usize> {
         let piece = self.claims.fetch_add(1, Ordering::SeqCst);
         if piece < self.ends.len() {
@@ -65,7 +65,8 @@ impl Pieces {
         }
     }
 
-    /// Where the piece of this number begins and ends, both at the lines' end where there is none.
+    /// Where the piece of this number begins and ends, both at the lines' end if there is no such
+    /// piece.
     pub fn bounds(&self, piece: usize) -> (usize, usize)
         ensures { (result.0 ≤ result.1) × (result.1 ≤ length self.now.bytes.items) }
     {
@@ -85,7 +86,7 @@ impl Pieces {
     }
 }
 
-// Where the piece ends that begins here.
+// The end of the piece that begins here.
 fn piece_end(lines: &[u8], start: usize, size: usize) -> usize
     requires { (start < length lines.now) × (0 < size) }
     ensures { (start < result) × (result ≤ length lines.now) }

@@ -14,20 +14,20 @@ pub(crate) struct PieceRead {
     chunk: Chunk,
 }
 
-/// Lines to come, and what was read of them. Whoever reads claims a piece before, and so does the caller: where the piece
-/// that it reaches is not read yet, it reads another one that nobody has begun, and looks again.
+/// Lines to come, and the events read from them. A thread claims a piece before it reads it, and so does the caller: if
+/// the piece that it reaches is not read yet, it reads another one that nobody has begun, and looks again.
 #[derive(Drop)]
 pub(crate) struct Window {
     pieces: Arc<Pieces, Global>,
     // How many bytes may still be read where its lines begin.
     room: usize,
-    // What the threads have read, each by a ring of its own.
+    // The pieces that the threads have read; each thread has a ring of its own.
     rings: Vec<Consumer<PieceRead>>,
-    // What was read and not reached, by the piece.
+    // The chunks that were read and not reached yet, by piece.
     chunks: Vec<Option<Chunk>>,
     // The piece under way.
     at: usize,
-    // Whether its lines were claimed by the caller, which reads them as they come.
+    // Whether the caller claimed its lines and reads them as they come.
     is_own: bool,
 }
 
@@ -40,8 +40,8 @@ pub(crate) struct Work {
 }
 
 impl Window {
-    /// These lines, in pieces of about so many bytes, before the first of which `room` bytes may be read. They are kept in
-    /// the place of these bytes.
+    /// These lines, in pieces of about `size` bytes; `room` bytes may still be read before the first line. They are
+    /// kept in the given buffer.
     pub(crate) fn open(
         alloc: Global,
         place: Vec<u8>,
@@ -66,7 +66,7 @@ impl Window {
         })
     }
 
-    /// The place of its lines, where no thread reads them any more.
+    /// The buffer of its lines, if no thread reads them any more.
     pub(crate) fn into_place(self) -> Option<Vec<u8>> {
         let Window {
             pieces,
@@ -74,7 +74,7 @@ impl Window {
             chunks,
             ..
         } = self;
-        // What they hold was read of these lines.
+        // The rings hold what was read of these lines.
         drop(rings);
         drop(chunks);
         match Arc::into_inner(pieces) {
@@ -83,7 +83,7 @@ impl Window {
         }
     }
 
-    /// The work of one thread more.
+    /// The work for one more thread.
     pub(crate) fn work(&mut self, alloc: Global) -> Result<Work, AllocError> {
         let pieces = Arc::try_clone(&self.pieces)?;
         let (ring, own) = RingBuffer::new(alloc, self.pieces.count())?;
@@ -100,13 +100,14 @@ impl Window {
         self.pieces.count()
     }
 
-    /// Whether the line before which so many bytes may be read begins another piece than the one under way.
+    /// Whether the line that begins where `room` bytes may still be read is in another piece than the one
+    /// under way.
     pub(crate) fn is_passed(&self, room: usize) -> bool {
         self.pieces.bounds(self.at).1 <= self.offset(room)
     }
 
-    /// What was read of the piece of this line, where somebody did. Where nobody has begun it, and where others have begun
-    /// all that is left, there is nothing.
+    /// The chunk of the piece of this line, if somebody has read it. There is none if nobody has begun the piece, or if
+    /// others have begun all that are left.
     pub(crate) fn reach(&mut self, alloc: Global, room: usize) -> Option<Chunk> {
         self.pass(room);
         for _ in 0..self.pieces.count() {
@@ -127,7 +128,7 @@ impl Window {
         None
     }
 
-    /// What was read of the piece under way, where it came since.
+    /// The chunk of the piece under way, if it came since.
     pub(crate) fn arrived(&mut self) -> Option<Chunk> {
         if self.is_own {
             return None;
@@ -158,7 +159,7 @@ impl Window {
         }
     }
 
-    // Takes what threads have read.
+    // Takes the chunks that threads have read.
     fn collect(&mut self) {
         for ring in self.rings.iter_mut() {
             for _ in 0..self.pieces.count() {
@@ -174,13 +175,13 @@ impl Window {
         put(&mut self.chunks, read);
     }
 
-    // How many bytes of its lines stand before the line.
+    // How many bytes of its lines are in front of the line.
     fn offset(&self, room: usize) -> usize {
         self.room.saturating_sub(room)
     }
 }
 
-// Keeps what was read at its piece.
+// Keeps a chunk at the place of its piece.
 fn put(chunks: &mut [Option<Chunk>], read: PieceRead) {
     let PieceRead { piece, chunk } = read;
     if let Some(place) = chunks.get_mut(piece) {

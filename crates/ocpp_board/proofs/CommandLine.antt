@@ -1,4 +1,4 @@
--- A program with options and commands is one of which the parser's definition gives the matches.
+-- The parser's definition gives the matches of a program with options and commands.
 use Rattle.std.proofs.Common.{◌≡◌, ◌∙◌, ◌+◌, ◌==◌, ◌&&◌, ◌||◌, ℕ, Bool, min, cond, true, false, not, refl, sym, ap, List, [], ◌∷◌, ◌++◌, map, Some, is_some, true≢false, Result, Ok, Err}
 use Rattle.std.specs.Prelude.{IfOk}
 use Rattle.std.specs.List.{count_by, list_all, list_any}
@@ -227,7 +227,7 @@ placed_last old new a adds placed takes =
       local = adds.globals ∙ or_none _ _ takes.local placed.local;
     }
 
--- a command with options alone
+-- a command with only options
 pub no_words : (c : Command) → TakesOptions c → IsCommand c
 no_words c takes = record { command = and _ _ takes.leaf (and _ _ takes.plain (and _ _ (ap not takes.fresh) (options_readable (app_of c).top.rules takes.options))); local = takes.local }
 

@@ -17,7 +17,7 @@ named_rows (Some p) name rows e f =
     let second = ap (λ o. unwrap_or o rows) f in
     λ i. Some (first i, second i)
 
--- the name that stands beside the rows
+-- the name that is beside the rows
 name_beside : {Z : Type 0} (o : Option (Box SubCommand Z)) → option_map (λ p. p.0) (subcommand_rows o) ≡ option_map (λ b. (out-SubCommand (box_value b)).name.now) o
 name_beside None = refl
 name_beside (Some b) = refl

@@ -62,7 +62,7 @@ on_through : {E F : Type 0} (kept : Result (Unit {0}) E) (served : Result (Unit 
 on_through (Ok _) served P well h = of_ok served tt P well h
 on_through (Err _) served P well h = well
 
--- what a new run told, by the end of what kept it
+-- the answers of a new run, by the end of what kept it
 pub new_through : (kept : Result (Unit {0}) JournalFault) (served : Result (Unit {0}) ServiceFault) (sites : List SitePlan) (stations : List StationPlan) (before : Option (List ℕ)) (left : Left) (input told now : Option (List ℕ)) → OnOk kept (served ≡ Ok tt)
     → IsNewRun sites stations before left (TellsNew served stations input told now) → IsNewRun sites stations before left (TellsNew kept stations input told now)
 new_through kept served sites stations before left input told now well r = record {
@@ -73,7 +73,7 @@ new_through kept served sites stations before left input told now well r = recor
   script = telling _ _ _ _ _ _ _ _ (λ log t. on_through kept served (IsToldOf r.read stations (contents_of r.firsts) log (lines_in input) told now) well t) r.script;
 }
 
--- what a restored run told, by the end of what kept it
+-- the answers of a restored run, by the end of what kept it
 pub restored_through : (kept : Result (Unit {0}) JournalFault) (served : Result (Unit {0}) ServiceFault) (allows : Bool) (input before : Option (List ℕ)) (left : Left) (told now : Option (List ℕ)) → OnOk kept (served ≡ Ok tt)
     → IsRestoredRun allows input before left (TellsRestored served told now) → IsRestoredRun allows input before left (TellsRestored kept told now)
 restored_through kept served allows input before left told now well r = record {

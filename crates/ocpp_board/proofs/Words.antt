@@ -18,7 +18,7 @@ abbrev second : Option (List ℕ × List ℕ) → List ℕ
 second None = []
 second (Some p) = p.1
 
--- the names of a word are what stands before and behind its `/`
+-- the names of a word are what is before and behind its `/`
 names_of : (word site station : List ℕ) → station_word word ≡ Some (site, station) → (site_of word ≡ site) × (station_of word ≡ station)
 names_of word site station e = at (is_name (site_of word) && is_name (station_of word)) e
   where

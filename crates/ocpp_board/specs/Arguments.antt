@@ -1,4 +1,4 @@
--- What the program can be asked to do, and what its words ask for.
+-- What the program can do, and what its words ask for.
 use Rattle.std.specs.Prelude.{◌≡◌, ◌≢◌, ℕ, ◌<◌, ◌≤◌, ◌^◌, ⊤, Bool, true, false, List, [], Option, None, Some, codes, nat_lt, if◌then◌else◌, option_map, unwrap_or}
 use Rattle.core.specs.Str.Parse.{IsNumeral, digits_value, without_leading_plus}
 use Rattle.clap.specs.Matches.{first_value, matched_of, one_text, raw_values}
@@ -35,25 +35,27 @@ IsAskable (ServeJournalled plan journalling) = ⊤
 IsAskable (ServeRestored restoring journalled) = ⊤
 IsAskable (Simulate stations events) = IsSimulated stations events
 
--- An option gives this number: what its text says, where that is a decimal below this power of 2, and the other where it has no text.
+-- An option gives this number: that of its text, if the text is a decimal below this power of 2;
+-- the other number if it has no text.
 pub record Gives (found : Found) (option : List ℕ) (bits other number : ℕ) : Type 0 where
   pub read : (text : List ℕ) → one_text found option ≡ Some text → IsNumeral 10 (without_leading_plus text) → digits_value 10 (without_leading_plus text) < 2 ^ bits
       → number ≡ digits_value 10 (without_leading_plus text)
   pub none : one_text found option ≡ None → number ≡ other
 
--- An option gives this number where the number is in this range.
+-- An option gives this number, if the number is in this range.
 pub record GivesWithin (found : Found) (option : List ℕ) (bits other least most number : ℕ) : Type 0 where
   pub given : ℕ
   pub gives : Gives found option bits other given
   pub within : least ≤ given → given ≤ most → number ≡ given
 
--- A flag is set where it is used, and else not.
+-- A flag is set if it is used, and not set if it is not used.
 pub record IsFlag (found : Found) (option : List ℕ) (flag : Bool) : Type 0 where
   pub none : one_text found option ≡ None → flag ≡ false
   pub set : one_text found option ≡ Some (codes "true") → flag ≡ true
   pub unset : one_text found option ≡ Some (codes "false") → flag ≡ false
 
--- An option gives a number where it has a text: what that says, where it is a decimal below this power of 2.
+-- An option gives the number of its text, if the text is a decimal below this power of 2, and none
+-- if it has no text.
 pub record GivesSome (found : Found) (option : List ℕ) (bits : ℕ) (number : Option ℕ) : Type 0 where
   pub read : (text : List ℕ) → one_text found option ≡ Some text → IsNumeral 10 (without_leading_plus text) → digits_value 10 (without_leading_plus text) < 2 ^ bits
       → number ≡ Some (digits_value 10 (without_leading_plus text))
@@ -71,7 +73,7 @@ pub record AsksJournalling (found : Found) (journalling : Journalling) : Type 0 
   pub live : AsksLive found journalling.live
   pub receipt_times : IsFlag found (codes "receipt-times") journalling.has_receipt_times
 
--- A server that lives is asked for.
+-- The words ask for a live server.
 abbrev pub is_live : Asked → Bool
 is_live Replay = false
 is_live (Serve plan service) = false
@@ -80,7 +82,7 @@ is_live (ServeJournalled plan journalling) = true
 is_live (ServeRestored restoring journalled) = true
 is_live (Simulate stations events) = false
 
--- What the options of `serve` ask for where it does not live.
+-- What the options of `serve` without `--live` ask for.
 pub record AsksService (found : Found) (service : Service) : Type 0 where
   pub port : Gives found (codes "port") 16 0 service.port
   pub connections : GivesWithin found (codes "connections") 8 1 1 64 service.connections
@@ -102,7 +104,7 @@ pub record AsksPeriod (found : Found) (period : Periods) : Type 0 where
   pub length : AsksLength found period.length
   pub rule : period.rule ≡ asked_rule (first_value found (codes "settle"))
 
--- The order of readings that a word asks for: the one that it names, and by sequence where it names none or there is no word.
+-- The order of readings that a word asks for: the one that it names; by sequence if it names none or there is no word.
 abbrev pub asked_order : Option (List ℕ) → Order
 asked_order None = Sequence
 asked_order (Some word) = unwrap_or (order_word word) Sequence
@@ -111,7 +113,7 @@ asked_order (Some word) = unwrap_or (order_word word) Sequence
 abbrev pub AsksOrder : Found → Order → Type 0
 AsksOrder found order = order ≡ asked_order (first_value found (codes "order"))
 
--- The words of an option, where it is used.
+-- The words of an option, if it is used.
 abbrev pub option_words : Found → List ℕ → Option (List (List ℕ))
 option_words found option = option_map raw_values (matched_of found option)
 
@@ -124,16 +126,16 @@ abbrev pub AsksStations : Found → ℕ → Option Bounds → Result Plan WordFa
 AsksStations found glances None plan = plan ≡ Err BadLimits
 AsksStations found glances (Some limits) plan = (period : Periods) × (AsksPeriod found period × ((order : Order) × (AsksOrder found order × AnswersWords plan (if nat_lt 0 glances then 1 else 0) period order limits (station_words found))))
 
--- The plan of a server is that of its words, under the limits that are asked for.
+-- The plan of a server is that of its words, under the limits that the options ask for.
 abbrev pub AsksPlan : Found → ℕ → Result Plan WordFault → Type 0
 AsksPlan found glances plan = (limits : Option Bounds) × (AsksLimits (option_words found (codes "limits")) limits × AsksStations found glances limits plan)
 
--- Whether a server that lives has a journal, and whether it is restored.
+-- Whether a live server has a journal, and whether it is restored.
 pub record AsksKept (found : Found) (journal restore : Bool) : Type 0 where
   pub journals : IsFlag found (codes "journal") journal
   pub restores : IsFlag found (codes "restore") restore
 
--- A server is asked for with what its options say, and the plan of its words, or of a script.
+-- The words ask for a server with these options, and with the plan of its words or of a script.
 abbrev pub AsksServe : Found → Asked → Type 0
 AsksServe found Replay = ⊥
 AsksServe found (Serve plan service) = AsksService found service × AsksPlan found service.glances plan
@@ -142,7 +144,7 @@ AsksServe found (ServeJournalled plan journalling) = AsksJournalling found journ
 AsksServe found (ServeRestored restoring journalled) = AsksJournalling found restoring.journalling × AsksKept found journalled true × IsFlag found (codes "allow-left-out") restoring.allows_left_out
 AsksServe found (Simulate stations events) = ⊥
 
--- A simulation is asked for.
+-- The words ask for a simulation.
 abbrev pub AsksSimulate : Found → Asked → Type 0
 AsksSimulate found Replay = ⊥
 AsksSimulate found (Serve plan service) = ⊥
@@ -155,7 +157,7 @@ AsksSimulate found (Simulate stations events) = GivesWithin found (codes "statio
 pub record IsFound (rows : List Row) (found : Found) : Type 0 where
   pub same : rows_of found ≡ rows
 
--- The command that words name, if they name one, is asked for: `serve` and `sim` by the rows of their options, and else a replay.
+-- The words ask for the command that they name: `serve` or `sim` by the rows of their options, else a replay.
 pub record IsAskedBy (named : Option (List ℕ × List Row)) (asked : Asked) : Type 0 where
   pub serves : (rows : List Row) → named ≡ Some (codes "serve", rows) → (found : Found) × IsFound rows found × AsksServe found asked
   pub simulates : (rows : List Row) → named ≡ Some (codes "sim", rows) → (found : Found) × IsFound rows found × AsksSimulate found asked

@@ -1,4 +1,4 @@
--- What the parser of words has to know of commands and options, to give the matches that its definition says.
+-- Conditions on commands and options under which the parser of words gives the matches of its definition.
 use Rattle.std.specs.Prelude.{◌≡◌, ◌&&◌, Bool, true, false, not, List, [], ◌∷◌, is_some, if◌then◌else◌}
 use Rattle.std.specs.List.{list_all}
 use Rattle.clap.specs.Simple.{App, Shape, app_of, is_positional}
@@ -11,14 +11,14 @@ use Rattle.clap.specs.declared.builder.command.Command.TheViews.{out-Command}
 abbrev pub is_plain_rule : Rule → Bool
 is_plain_rule r = r.is_simple && not (is_some r.index)
 
--- Such an argument with a long name, and not by its place.
+-- Such an argument, with a long name and not given by its place.
 abbrev pub is_option_rule : Rule → Bool
 is_option_rule r = is_plain_rule r && not (is_positional r)
 
 abbrev pub are_options : List Rule → Bool
 are_options = list_all is_option_rule
 
--- Options, and words by their place at one place alone, the last.
+-- The arguments are options, with at most one of words by their place.
 abbrev pub are_readable : List Rule → Bool
 are_readable [] = true
 are_readable (r ∷ rules) = is_plain_rule r && (if is_positional r then are_options rules else are_readable rules)

@@ -1,4 +1,5 @@
--- What a run of the program leaves: its output, its console, its exit status, and its report on standard error.
+-- The result of a run of the program: its output, its console, its exit status, and its report on standard
+-- error.
 use Rattle.std.specs.Prelude.{◌≡◌, ◌≢◌, ◌⊎◌, ℕ, Bool, true, false, List, [], ◌++◌, Option, None, Some, IfSome, OnOk, is_some, codes, if◌then◌else◌}
 use Rattle.std.specs.Io.KnownBytes.{Appends}
 use Rattle.std.specs.declared.result.Result.{Result}
@@ -41,7 +42,7 @@ service_name service.PassMissing = codes "PassMissing"
 service_name service.ViewerMissing = codes "ViewerMissing"
 service_name service.Torn = codes "Torn"
 
--- The name of a fault of a script that is restored.
+-- The name of a fault of a script to restore.
 abbrev pub restore_name : RestoreFault → List ℕ
 restore_name restored.NotRestored = codes "NotRestored"
 restore_name restored.NotMarked = codes "NotMarked"
@@ -61,7 +62,7 @@ word_name BadLimits = codes "BadLimits"
 word_name (BadStation word) = codes "BadStation"
 word_name (PlanLimit word) = codes "PlanLimit"
 
--- The exit status after a fault of a server: 2 where its plan has a fault, else 1.
+-- The exit status after a fault of a server: 2 if its plan has a fault, else 1.
 abbrev pub fault_status : JournalFault → ℕ
 fault_status (Service service.PlanLimit) = 2
 fault_status (Service service.StationTwice) = 2
@@ -86,14 +87,16 @@ abbrev pub IsServerReport : Result (Unit {0}) JournalFault → List ℕ → Type
 IsServerReport (Ok _) text = text ≡ []
 IsServerReport (Err fault) text = (cause : List ℕ) × (text ≡ fault_report (server_name fault) ++ cause)
 
--- A server that ended so has this exit status, and its report is on standard error.
+-- A server with this end has its exit status, and its report is on standard error.
 pub record IsServerEnd {W E : Type 0} (reports : E → Option (List ℕ)) (errors : E) (run : Ended W E) (ended : Result (Unit {0}) JournalFault) : Type 0 where
   pub status : run.status ≡ server_status ended
   pub text : List ℕ
   pub report : IsServerReport ended text
   pub written : Writes (reports errors) (reports run.errors) run.reported text
 
--- A server with a journal, which its output took. Where the output is given back the journal is as it has to be, and after Ok it is given back. Then the console took what it has to, which is told of the journal's lines, and then the boards.
+-- A server with a journal on its output. If the output comes back, the journal is as it has to be;
+-- after Ok it comes back. The console then took what it has to, which belongs to the journal's
+-- lines, and then the boards.
 pub record IsJournalRun {W C E : Type 0} (contents : W → Option (List ℕ)) (consoles : C → Option (List ℕ)) (reports : E → Option (List ℕ)) (errors : E) (ran : Ran W C E) (holds : Left → Result (Unit {0}) JournalFault → Option (List ℕ) → Type 0) : Type 0 where
   pub ended : Result (Unit {0}) JournalFault
   pub end : IsServerEnd reports errors ran.ended ended
@@ -104,17 +107,19 @@ pub record IsJournalRun {W C E : Type 0} (contents : W → Option (List ℕ)) (c
       × OnOk ended (HasOutput consoles ran.console (λ now. Appends answered now boards)))
   pub given : OnOk ended (is_some ran.ended.output ≡ true)
 
--- A server without a journal. After Ok there is a list of lines as that of a journal, which is not written, and the output took what a console has to take, and then the boards.
+-- A server without a journal. After Ok there is a list of lines like that of a journal, which is
+-- not written; the output took what a console has to take, and then the boards.
 abbrev pub IsUnwrittenRun : {W C E : Type 0} → (W → Option (List ℕ)) → (E → Option (List ℕ)) → E → Ran W C E → (Left → Result (Unit {0}) JournalFault → Option (List ℕ) → Type 0) → Type 0
 IsUnwrittenRun contents reports errors ran holds =
     (ended : Result (Unit {0}) JournalFault) × IsServerEnd reports errors ran.ended ended
     × OnOk ended ((left : Left) × (answered : Option (List ℕ)) × holds left ended answered × (left.passes ≡ ran.passes.items) × HasOutput contents ran.ended.output (λ now. Appends answered now left.boards))
 
--- A server that is not begun since its words make no plan: the exit status is 2, nothing is written to its output, and standard error has `fault <name>` and a line with the cause.
+-- A server that does not begin, since its words make no plan: the exit status is 2, nothing is
+-- written to its output, and standard error has `fault <name>` and a line with the cause.
 abbrev pub IsWordMistake : {W E : Type 0} → (E → Option (List ℕ)) → WordFault → W → E → Ended W E → Type 0
 IsWordMistake reports fault output errors run = (cause : List ℕ) × IsMistake reports (fault_report (word_name fault) ++ cause) output errors run
 
--- A run of what is asked for, with this input, output, console and standard error.
+-- A run of what the words ask for, with this input, output, console and standard error.
 abbrev pub Runs : {W C E : Type 0} → (W → Option (List ℕ)) → (C → Option (List ℕ)) → (E → Option (List ℕ)) → Asked → Option (List ℕ) → W → C → E → Ran W C E → Type 0
 Runs contents consoles reports Replay input output console errors ran = IsReplayRun contents reports input output errors ran.ended
 Runs contents consoles reports (Serve (Err fault) service) input output console errors ran = IsWordMistake reports fault output errors ran.ended
@@ -133,24 +138,27 @@ Runs contents consoles reports (ServeRestored restoring false) input output cons
 Runs contents consoles reports (Simulate stations events) input output console errors ran =
     IsUnwrittenRun contents reports errors ran (λ left ended answered. (answered ≡ contents output) × IsSimulatedRun stations left)
 
--- Help or the version is asked for.
+-- The words ask for help or the version.
 abbrev pub IsHelp : ErrorKind → Type 0
 IsHelp kind = (kind ≡ DisplayHelp) ⊎ (kind ≡ DisplayVersion)
 
--- A run of words that the program's options don't take, for this reason: there was no memory; or the text of help or of the version is written; or the mistake is written to standard error, and the exit status is 2.
+-- A run of words that the program's options don't take, for this reason: there was no memory; or the text of help or of
+-- the version is written; or the mistake is written to standard error, and the exit status is 2.
 abbrev pub IsRefusal : {W E : Type 0} → (W → Option (List ℕ)) → (E → Option (List ℕ)) → ErrorKind → W → E → Ended W E → Type 0
 IsRefusal contents reports kind output errors run =
     IsReported reports errors run (Err replay.OutOfMemory)
     ⊎ (IsHelp kind × ((text : List ℕ) × Shows contents reports text output errors run)
     ⊎ ((kind ≢ DisplayHelp) × (kind ≢ DisplayVersion) × ((text : List ℕ) × IsMistake reports text output errors run)))
 
--- A run of a program of these commands and options: of what its words ask for, where they take them, else a refusal.
+-- A run of a program of these commands and options: of what its words ask for if the options take them, else a
+-- refusal.
 abbrev pub IsRun : {W C E : Type 0} → (W → Option (List ℕ)) → (C → Option (List ℕ)) → (E → Option (List ℕ)) → App → List (List ℕ) → Option (List ℕ) → W → C → E → Ran W C E → Type 0
 IsRun contents consoles reports app words input output console errors ran =
     ((asked : Asked) × IsAskedBy (subcommand_of app words) asked × Runs contents consoles reports asked input output console errors ran)
     ⊎ ((kind : ErrorKind) × IsRefusal contents reports kind output errors ran.ended × (takes app words ≡ true → IsReported reports errors ran.ended (Err replay.OutOfMemory)))
 
--- A run of the program: there was no memory for its commands and options, or it is a run by such a definition of them.
+-- A run of the program: there was no memory for its commands and options, or it is a run by some definition of
+-- commands and options.
 abbrev pub IsProgramRun : {W C E : Type 0} → (W → Option (List ℕ)) → (C → Option (List ℕ)) → (E → Option (List ℕ)) → List (List ℕ) → Option (List ℕ) → W → C → E → Ran W C E → Type 0
 IsProgramRun contents consoles reports words input output console errors ran =
     IsReported reports errors ran.ended (Err replay.OutOfMemory)

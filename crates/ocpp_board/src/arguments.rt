@@ -10,7 +10,7 @@ use crate::asked::{Asked, serve_asked, sim_asked};
 use clap::{ArgMatches, Command, Error};
 use std::convert::AsStr;
 
-/// What these words ask for, the first of which is the program's name, where they fit the [`program`] that is handed in.
+/// What these words ask for, if they fit the [`program`] that is handed in. The first word is the program's name.
 pub fn read_arguments<'a, S: AsStr>(
     program: Command<'a>,
     words: &'a [S],

@@ -27,11 +27,11 @@ pub enum Asked<'a> {
     ServeJournalled(Result<Plan, WordFault<'a>>, Journalling),
     /// To serve the stations of a script that standard input begins with, and whether with a journal.
     ServeRestored(Restoring, bool),
-    /// To play so many simulated stations, 1 to 64, each with so many events, 2 to 64.
+    /// To play simulated stations: how many, 1 to 64, and how many events each has, 2 to 64.
     Simulate(u16, u32),
 }
 
-/// What `serve` is asked for.
+/// What the words of `serve` ask for.
 pub fn serve_asked<'a>(matches: &ArgMatches<'a>) -> Asked<'a>
     ensures range { IsAskable result }
     ensures asked { AsksServe (found_of matches.now) result }
@@ -45,7 +45,7 @@ pub fn serve_asked<'a>(matches: &ArgMatches<'a>) -> Asked<'a>
     }
 }
 
-// What `serve --live` is asked for.
+// What the words of `serve --live` ask for.
 fn live_asked<'a>(matches: &ArgMatches<'a>) -> Asked<'a>
     ensures range { IsAskable result }
     ensures asked { AsksServe (found_of matches.now) result }
@@ -71,7 +71,7 @@ fn live_asked<'a>(matches: &ArgMatches<'a>) -> Asked<'a>
     }
 }
 
-// The plan of the words of `serve`, with a viewer for each site where its totals are glanced at so often.
+// The plan of the words of `serve`, with a viewer for each site if its totals are watched.
 fn plan_asked<'a>(matches: &ArgMatches<'a>, glances: u16) -> Result<Plan, WordFault<'a>>
     ensures { AsksPlan (found_of matches.now) glances result }
 {
@@ -104,8 +104,8 @@ pub fn live_of(matches: &ArgMatches<'_>) -> Live
     }
 }
 
-/// What the options of `serve` ask for. The number of connections is in range already, which the checker sees by
-/// the clamp.
+/// What the options of `serve` ask for. The number of connections is in range already; the clamp shows it to the
+/// checker.
 pub fn service_of(matches: &ArgMatches<'_>) -> Service
     ensures range { (1 ≤ result.connections) × (result.connections ≤ 64) }
     ensures asked { AsksService (found_of matches.now) result }
@@ -168,7 +168,8 @@ fn order_of_word(word: Option<&str>) -> Order
     }
 }
 
-/// What `sim` is asked for. Its numbers are in range already, which the checker sees by the clamps.
+/// What the words of `sim` ask for. The numbers are in range already; the clamps show it to the
+/// checker.
 pub fn sim_asked<'a>(matches: &ArgMatches<'a>) -> Asked<'a>
     ensures range { IsAskable result }
     ensures asked { AsksSimulate (found_of matches.now) result }

@@ -25,12 +25,13 @@ use std::alloc::Global;
 use std::io;
 use std::io::{BufWriter, Read, Write};
 
-/// How a server with a journal ended, with what it left.
+/// How a server with a journal ended, and its result.
 #[derive(Drop)]
 pub struct Kept<W, C> {
-    /// The output, which took the journal; `None` where the server ended before it closed its desk.
+    /// The output, which took the journal; `None` if the server ended before it closed its desk.
     pub output: Option<W>,
-    /// What a failed write left in the journal's buffer. It is not written later: its change was refused.
+    /// The bytes that a failed write left in the journal's buffer. They are not written later, since
+    /// their change was refused.
     pub unwritten: Vec<u8>,
     /// Whether a write of the journal failed.
     pub is_broken: bool,
@@ -212,8 +213,8 @@ fn restored_through<
     }
 }
 
-/// Serves the stations of the script that the input begins with, without a journal. Its output takes what the console of
-/// a server with one takes.
+/// Serves the stations of the script that the input begins with, without a journal. Its output takes what the console
+/// of a server with a journal takes.
 pub fn restored_live<
     X: AllocGlobal + Host,
     R: Read + Readiness + Drop,
@@ -259,7 +260,7 @@ fn restored_nowhere<
     }
 }
 
-/// Hands on all that a console took.
+/// Hands on all bytes that a console took.
 pub fn close_kept<W: Write + Drop, N: Drop>(alloc: Global, kept: Kept<N, BufWriter<W>>) -> Closed<W>
     ensures ended { OnOk result.ended (kept.ended ≡ Ok tt) }
     ensures passes { OnOk result.ended (result.passes.items ≡ kept.passes.items) }

@@ -1,11 +1,11 @@
-//! The words of a server for what its stations may keep.
+//! The words of a server for its stations' limits.
 ghost use Rattle.std.specs.Prelude.{◌≡◌, ℕ, IfSome, None, map, option_map};
 ghost use Rattle.ocpp_board.specs.LimitWords.{AsksLimits, Says, StateLimits};
 
 use ledger_model::Limits;
 
-/// The limits of each station: those that these words state, and the default ones where there are no words. `None`
-/// where words are not four decimals, each in its range.
+/// The limits of each station: those that these words state, or the default ones if there are no words. `None` if
+/// words are not four decimals, each in its range.
 pub fn limits_of(words: Option<&[&str]>) -> Option<Limits>
     ensures { AsksLimits (option_map (λ w. map (λ t. t.now) w.now) words.entry) result }
 {

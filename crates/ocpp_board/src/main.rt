@@ -1,11 +1,11 @@
 //! `ocpp_board`, the program: its words, and what they start.
 //!
-//! `ocpp_board` or `ocpp_board replay` answers a script from standard input on standard output, by
-//! `script_replay`; `serve` and `sim` run a server of stations, and simulated ones, by `journal_server`.
-//! `options` has its commands and options, and `arguments`, `asked`, `limit_words` and `station_words` say what they ask
-//! for. What the program does is one function, `run` of `run`, over any words and streams: `serving` and `journalling` run
-//! its servers, and `report` has exit statuses and what standard error is told of a fault. `main` hands it the words and
-//! the streams of the process.
+//! `ocpp_board` or `ocpp_board replay` answers a script from standard input on standard output, by `script_replay`;
+//! `serve` and `sim` run a server of stations, and simulated ones, by `journal_server`. `options` has its commands and
+//! options, and `arguments`, `asked`, `limit_words` and `station_words` say what words ask for. One function, `run` of
+//! `run`, is the whole program, over any words and streams: `serving` and `journalling` run its servers, and `report`
+//! has the exit statuses and the reports of faults on standard error. `main` hands `run` the words and the streams of
+//! the process.
 #![tactic(auto)]
 
 mod arguments;

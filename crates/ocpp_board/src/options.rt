@@ -179,7 +179,7 @@ fn with_numbers<'a>(alloc: Global, command: Command<'a>) -> Result<Command<'a>, 
     with_option(command, limits_option(alloc))
 }
 
-// The command with the options of a server that lives.
+// The command with the options of a live server.
 fn with_life<'a>(alloc: Global, command: Command<'a>) -> Result<Command<'a>, AllocError>
     requires { TakesOptions command }
     ensures { IfOk result TakesOptions }
@@ -193,7 +193,7 @@ fn with_life<'a>(alloc: Global, command: Command<'a>) -> Result<Command<'a>, All
     with_option(command, board_port_option(alloc)?)
 }
 
-// An option that has a value, and this one where it is not used.
+// An option with a value; this is its value if it is not used.
 fn option<'a>(
     alloc: Global,
     name: &'a str,

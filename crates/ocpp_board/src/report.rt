@@ -18,7 +18,7 @@ use std::alloc::Global;
 use std::io;
 use std::io::Write;
 
-// The exit status where a server stopped before its end.
+// The exit status if a server stopped before its end.
 const STOPPED: u8 = 1;
 
 /// Ends the run of a server with its exit status and, after a fault, with `fault <name>` and the line of its cause on
@@ -41,7 +41,7 @@ pub fn end_server<W, E: Write>(
     }
 }
 
-// Writes `fault <name>` and its cause where a server ended with a fault.
+// Writes `fault <name>` and its cause if a server ended with a fault.
 fn report_server<E: Write>(
     errors: &mut E,
     ended: Result<(), JournalFault>,
@@ -55,7 +55,7 @@ fn report_server<E: Write>(
     }
 }
 
-// Writes a line, and the lines behind it where it was written.
+// Writes a line, and if that succeeds the lines behind it.
 fn report_lines<E: Write>(errors: &mut E, line: &[u8], cause: &[u8]) -> Result<(), WriteStopped>
     ensures { Writes (E.contents errors.old) (E.contents errors.new) result (line.now ++ cause.now) }
 {
@@ -65,7 +65,7 @@ fn report_lines<E: Write>(errors: &mut E, line: &[u8], cause: &[u8]) -> Result<(
     }
 }
 
-// The exit status of a server that ended so.
+// The exit status of a server by its end.
 fn status_of(ended: Result<(), JournalFault>) -> u8
     ensures { result ≡ server_status ended }
 {
@@ -118,8 +118,8 @@ fn restore_line(fault: RestoreFault) -> &'static [u8]
     }
 }
 
-/// The line that gives the cause of a fault of a server with this plan at this port: which station is there twice, or the
-/// system's words for the port. It is empty where there is no more to say, or no memory for it.
+/// The line that gives the cause of a fault of a server with this plan at this port: which station is there twice, or
+/// the system's words for the port. It is empty if there is nothing more to say, or no memory for it.
 pub fn cause_of(alloc: Global, plan: &Plan, port: u16, ended: Result<(), JournalFault>) -> Vec<u8> {
     let mut cause = Vec::new(alloc);
     match ended {
@@ -137,7 +137,7 @@ pub fn cause_of(alloc: Global, plan: &Plan, port: u16, ended: Result<(), Journal
     cause
 }
 
-/// Ends a run whose words make no plan.
+/// Ends a run with words that make no plan.
 pub fn refuse_plan<R: Drop, W: Drop, C: Drop, E: Write, L: Drop>(
     alloc: Global,
     fault: WordFault<'_>,
@@ -177,7 +177,7 @@ fn word_line(fault: WordFault<'_>) -> &'static [u8]
     }
 }
 
-// The line that says why words make no plan. It is empty where there is no memory for it.
+// The line that says why words make no plan. It is empty if there is no memory for it.
 fn cause_of_word(alloc: Global, fault: WordFault<'_>) -> Vec<u8> {
     let mut cause = Vec::new(alloc);
     let _ = match fault {

@@ -29,38 +29,38 @@ use std::convert::AsStr;
 use std::io::{ErrorKind, Read, Write};
 use std::random::RandomSource;
 
-// What is written for a word that is no UTF-8, as `clap` has it.
+// The text for a word that is no UTF-8, as `clap` writes it.
 const NO_TEXT: &[u8] =
     b"error: invalid UTF-8 was detected in one or more arguments\n\nFor more information, try '--help'.\n";
 
-/// What a run reads and writes.
+/// The inputs and outputs of a run.
 #[derive(Drop)]
 pub struct Streams<R, W, C, E, L> {
     /// Standard input.
     pub input: R,
     /// Standard output.
     pub output: W,
-    /// Where a server whose output is a journal says where it listens, answers its operator and writes its boards:
-    /// standard error.
+    /// Standard error. A server with a journal on its output writes here its ports, the answers to its operator,
+    /// and its boards.
     pub console: C,
-    /// Where a run reports how it ended: standard error.
+    /// Standard error. A run reports here how it ended.
     pub errors: E,
-    /// Where a server shows totals and logs sessions: standard error.
+    /// Standard error. A server shows totals and logs sessions here.
     pub lines: L,
 }
 
-/// What a run leaves.
+/// The result of a run.
 #[derive(Drop)]
 pub struct Ran<W, C, E> {
     /// The output, standard error, and the exit status.
     pub ended: Ended<W, E>,
-    /// The console; `None` where a server with a journal ended before it closed its desk.
+    /// The console; `None` if a server with a journal ended before it closed its desk.
     pub console: Option<C>,
     /// The passes of a server's desk. Each counted the commands that were accepted with it.
     pub passes: Vec<Pass>,
 }
 
-/// Runs the program, by the commands and options of [`program`]: does what its words ask for, the first of which is its
+/// Runs the program, by the commands and options of [`program`]: does what its words ask for; the first word is its
 /// name.
 pub fn run<
     X: AllocGlobal + Host + RandomSource,
@@ -103,7 +103,7 @@ fn end_without_memory<R: Drop, W: Drop, C: Drop, E: Write, L: Drop>(
     }
 }
 
-// Ends a run whose words don't fit the program's options.
+// Ends a run if its words don't fit the program's options.
 fn refuse_words<R: Drop, W: Write, C: Drop, E: Write, L: Drop>(
     alloc: Global,
     streams: Streams<R, W, C, E, L>,
@@ -126,7 +126,7 @@ fn refuse_words<R: Drop, W: Write, C: Drop, E: Write, L: Drop>(
     }
 }
 
-// Does what is asked for.
+// Does what the words ask for.
 fn run_asked<
     X: AllocGlobal + Host + RandomSource,
     R: Read + Readiness + Drop,
@@ -149,7 +149,7 @@ fn run_asked<
     }
 }
 
-// Serves over so many connections, where the words make a plan.
+// Serves a number of connections, if the words make a plan.
 fn serve_words<
     X: AllocGlobal + Host,
     R: Read + Drop,
@@ -171,7 +171,7 @@ fn serve_words<
     }
 }
 
-// Serves until the operator's lines end, where the words make a plan.
+// Serves until the operator's lines end, if the words make a plan.
 fn live_words<
     X: AllocGlobal + Host,
     R: Read + Readiness + Drop,
@@ -193,7 +193,7 @@ fn live_words<
     }
 }
 
-// Serves with a journal, where the words make a plan.
+// Serves with a journal, if the words make a plan.
 fn journalled_words<
     X: AllocGlobal + Host,
     R: Read + Readiness + Drop,
@@ -240,8 +240,8 @@ fn replay<
     }
 }
 
-// Ends a run whose words don't fit the program's options: with the text of help or of the version, where that is asked
-// for, or with what is wrong with them on standard error.
+// Ends a run if its words don't fit the program's options: with the text of help or of the version if they ask for
+// that, else with what is wrong with them on standard error.
 fn refuse_error<W: Write, E: Write>(
     alloc: Global,
     output: W,
@@ -262,7 +262,7 @@ fn refuse_error<W: Write, E: Write>(
     }
 }
 
-/// Ends a run whose words can't be read: one of them is no UTF-8, or there is no memory for them.
+/// Ends a run with words that can't be read: one is no UTF-8, or there is no memory for them.
 pub fn refuse_unread<R: Drop, W, C: Drop, E: Write, L: Drop>(
     streams: Streams<R, W, C, E, L>,
     why: ErrorKind,

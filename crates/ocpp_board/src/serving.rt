@@ -23,10 +23,10 @@ use std::alloc::Global;
 use std::io::{BufWriter, Read, Write};
 use std::random::RandomSource;
 
-/// How a server ended that writes to its output, with the output and its passes.
+/// How a server without a journal ended, with its output and its passes.
 #[derive(Drop)]
 pub struct Closed<W> {
-    /// The output; `None` where the server ended with a fault.
+    /// The output; `None` if the server ended with a fault.
     pub output: Option<W>,
     /// The passes.
     pub passes: Vec<Pass>,
@@ -34,7 +34,7 @@ pub struct Closed<W> {
     pub ended: Result<(), JournalFault>,
 }
 
-/// A server that ended well: the output takes all that was written.
+/// A server that ended well: the output takes all bytes that were written.
 pub fn close_well<W: Write + Drop>(
     alloc: Global,
     mut writer: BufWriter<W>,
@@ -89,7 +89,7 @@ pub fn end_closed<W, C, E: Write>(
     }
 }
 
-/// Serves a plan over so many connections.
+/// Serves a number of connections of a plan's stations.
 pub fn serve<
     X: AllocGlobal + Host,
     R: Read + Drop,
@@ -112,7 +112,7 @@ pub fn serve<
     end_closed(closed, &cause, console, errors)
 }
 
-// Serves a plan over so many connections, through buffers.
+// Serves a number of connections of a plan's stations, through buffers.
 fn serve_through<X: AllocGlobal + Host, R: Read + Drop, W: Write + Drop, L: Write + Send + Drop>(
     rt: &X,
     plan: &Plan,

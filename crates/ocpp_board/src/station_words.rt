@@ -7,12 +7,13 @@ use site_desk::Plan;
 use std::fmt;
 use std::fmt::{Display, Formatter};
 
-/// Why words make no plan, and the word that tells it. The first that applies answers.
+/// Why words make no plan, with the word at fault. The first fault that applies, in this order, is
+/// reported.
 #[derive(Clone, Copy, Debug)]
 pub enum WordFault<'a> {
     /// The words of the limits are not four decimals, each in its range.
     BadLimits,
-    /// This word is not two names parted by one `/`.
+    /// This word is not two names with one `/` between them.
     BadStation(&'a str),
     /// With this word there are more sites or stations than a plan may have.
     PlanLimit(&'a str),
@@ -30,7 +31,7 @@ impl Display for WordFault<'_> {
 
 /// The plan of the stations that these words name, in their order, under these limits. A site begins at its first
 /// mention, and has so many viewers, these settlement periods and this order of readings. Names of stations that stand
-/// twice are left to the desk to refuse.
+/// of a station that is there twice.
 pub fn plan_of<'a>(
     words: &[&'a str],
     viewers: u16,
@@ -63,7 +64,8 @@ fn first_bad<'a>(words: &[&'a str]) -> Option<&'a str>
     }
 }
 
-// Declares the stations of words that all name one, up to the first that is one too many, which it gives.
+// Declares the stations of words that all name one, up to the first that is one too many, and returns
+// that word.
 fn declare_words<'a>(
     plan: &mut Plan,
     words: &[&'a str],
@@ -88,7 +90,7 @@ fn declare_words<'a>(
     declare_words(plan, rest, viewers, period, order, limits)
 }
 
-/// The site and the station of a word `SITE/STATION`.
+/// The site and the station of a word `SITE/STATION`; `None` if the word is not of that form.
 pub fn station_word(word: &str) -> Option<(Name, Name)>
     ensures { result ≡ station_word word.now }
 {

@@ -1,4 +1,5 @@
--- What a run of the program leaves: its output, its exit status, and its report on standard error.
+-- The result of a run of the program: its output, its exit status, and its report on standard
+-- error.
 use Rattle.std.specs.Prelude.{ℕ, List, Option}
 use Rattle.script_replay.specs.Whole.{IsMistake, IsReplayRun, Shows}
 use Rattle.script_replay.specs.declared.whole.Ended.{Ended}
@@ -6,7 +7,8 @@ use Rattle.ocpp_replay.specs.declared.words.TheConstants.{HELP, USAGE, VERSION}
 use Rattle.ocpp_replay.specs.declared.words.Asked.{Asked}
 use Rattle.ocpp_replay.specs.declared.words.Asked.TheVariants.{Replay, Help, Version, Unknown}
 
--- The run of a program that is asked for this, with an input, an output and standard error: a replay, its help, its version, or the usage.
+-- The run of a program that was asked for this, with an input, an output and standard error: a
+-- replay, its help, its version, or the usage.
 abbrev pub IsRun : {W E : Type 0} → (W → Option (List ℕ)) → (E → Option (List ℕ)) → Asked → Option (List ℕ) → W → E → Ended W E → Type 0
 IsRun contents reports Replay input output errors run = IsReplayRun contents reports input output errors run
 IsRun contents reports Help input output errors run = Shows contents reports HELP.now output errors run

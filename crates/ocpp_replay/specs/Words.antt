@@ -20,7 +20,7 @@ word_meaning word =
 abbrev pub two_meaning : List ℕ → List ℕ → Asked
 two_meaning word other = if bytes_eq word (codes "replay") && asks_help other then Help else Unknown
 
--- What words ask for, the first of which is the program's name.
+-- What words ask for. The first word is the program's name.
 abbrev pub words_meaning : List (List ℕ) → Asked
 words_meaning [] = Replay
 words_meaning (name ∷ []) = Replay

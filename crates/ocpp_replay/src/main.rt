@@ -1,9 +1,9 @@
 //! `ocpp_replay`, the program that replays and does nothing else.
 //!
-//! It answers a script from standard input on standard output, by `script_replay`, as `ocpp_board replay` does, with
-//! the same faults and exit statuses. Its words are `replay`, which may be left out, `--help` and `--version`. It opens
-//! no socket, and uses neither the servers nor `clap`. What it does is one function, `run` of `program`, over any words,
-//! input, output and standard error; `main` hands it those of the process.
+//! It answers a script from standard input on standard output, by `script_replay`, with the same faults and exit
+//! statuses as `ocpp_board replay`. Its words are `replay`, which may be left out, `--help` and `--version`. It opens
+//! no socket, and uses neither the servers nor `clap`. One function, `run` of `program`, does all of it, over any
+//! words, input, output and standard error; `main` hands it those of the process.
 #![tactic(auto)]
 
 mod program;

@@ -12,8 +12,8 @@ use std::convert::AsStr;
 use std::io::{ErrorKind, Read, Write};
 use std::thread::Threads;
 
-/// Runs the program: does what its words ask for, the first of which is its name, with an input, an output and standard
-/// error.
+/// Runs the program: does what its words ask for, with an input, an output and standard error. The first word is the
+/// program's name.
 pub fn run<X: AllocGlobal + Threads, S: AsStr, R: Read + Drop, W: Write + Drop, E: Write + Drop>(
     rt: &X,
     words: &[S],
@@ -31,7 +31,7 @@ pub fn run<X: AllocGlobal + Threads, S: AsStr, R: Read + Drop, W: Write + Drop, 
     }
 }
 
-/// Ends a run whose words can't be read: one of them is no UTF-8, or there is no memory for them.
+/// Ends a run with words that can't be read: one is no UTF-8, or there is no memory for them.
 pub fn refuse_words<W, E: Write>(output: W, errors: E, why: ErrorKind) -> Ended<W, E>
     ensures mistake { why ≡ ErrorKind.InvalidData → IsMistake E.contents USAGE.now output errors result }
     ensures memory { why ≢ ErrorKind.InvalidData → IsReported E.contents errors result (Err ReplayFault.OutOfMemory) }

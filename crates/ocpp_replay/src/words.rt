@@ -12,18 +12,18 @@ pub enum Asked {
     Help,
     /// The program's name and version.
     Version,
-    /// Nothing that there is.
+    /// Nothing that the program does.
     Unknown,
 }
 
 /// What `--version` writes.
 pub const VERSION: &str = "ocpp_replay 0.3.0\n";
 
-/// What words that ask for nothing are answered.
+/// The answer to words that ask for nothing that the program does.
 pub const USAGE: &str =
     "ocpp_replay takes the words replay, --help and --version; it answers the script that it reads from standard input\n";
 
-/// What `--help` writes: of the text of `ocpp_board --help` the part on `replay`.
+/// What `--help` writes: the part on `replay` of the text of `ocpp_board --help`.
 pub const HELP: &str = "\
 Answers a script from standard input on standard output, as `ocpp_board replay` does
 
@@ -56,7 +56,7 @@ Exit status: 0; 1 with `fault <name>` on standard error where the replay stopped
 end (ReadFault, WriteFault, TooMuchInput, OutOfMemory); 2 for a fault of the arguments.
 ";
 
-/// What these words ask for, the first of which is the program's name.
+/// What these words ask for. The first word is the program's name.
 pub fn read_words<S: AsStr>(words: &[S]) -> Asked
     ensures { result ≡ words_meaning (map S.text words.now) }
 {

@@ -65,7 +65,7 @@ found_passes : (test : Action → Bool) (found : Action) (actions : List Action)
 found_passes test found [] e = absurd (cc)
 found_passes test found (action ∷ actions) e = passes_next test action found actions (test action) refl (found_passes test found actions) e
 
--- an action is found by its name alone
+-- an action is found only by its name
 action_of-Some : (name : List ℕ) (action : Action) → action_of name ≡ Some action → name ≡ action_name action
 unfolding action_of
 action_of-Some name action e =

@@ -1,4 +1,4 @@
--- A text is a call or an answer exactly where the frame says so.
+-- A text is a call or an answer exactly if the frame says so.
 use Rattle.std.proofs.Common.{◌≡◌, ◌≤◌, ◌∙◌, ◌↔◌, ℕ, length, List, [], ◌∷◌, Bool, true, false, Some, None, Result, Ok, Err, ◌⊎◌, inl, inr, refl, ap}
 use Rattle.std.specs.Prelude.{not, nat_lt, if◌then◌else◌, option_and_then, codes}
 use Rattle.std.proofs.lemmas.Bool.{le-ltb, le-leb, ltb-false}
@@ -109,10 +109,10 @@ frame-from_IsAnswer : (text : List ℕ) → IsAnswer text → frame text ≡ Sil
 frame-from_IsAnswer text answer =
     read_frame_of text _ answer.length_ok answer.reading ∙ silence_of answer.kind (list_of answer.rest) answer.is_three_or_four
 
--- a text asks for a call exactly where it is one
+-- a text asks for a call exactly if it is one
 pub frame-Called : (text id : List ℕ) (action : Action) (payload : Data) → (frame text ≡ Called id action payload) ↔ IsCall text id action payload
 frame-Called text id action payload = (IsCall-from_frame text id action payload, frame-from_IsCall text id action payload)
 
--- a text asks for silence exactly where it is an answer
+-- a text asks for silence exactly if it is an answer
 pub frame-Silence : (text : List ℕ) → (frame text ≡ Silence) ↔ IsAnswer text
 frame-Silence text = (IsAnswer-from_frame text, frame-from_IsAnswer text)

@@ -18,7 +18,7 @@ use Rattle.serde_json.specs.Data.{Data, string}
 use Rattle.serde_json.specs.Read.{read, of_json, max_depth}
 use Rattle.ocppj_frame.specs.Reply.{escaped, json_string}
 
--- what stands in a string is read as this text, whatever follows it
+-- what is in a string is read as this text, whatever follows it
 record Passes (written text : List ℕ) : Type 0 where
   told : (r : List ℕ) → content plain (written ++ r) ≡ prepend text (content plain r)
   lexed : (r : List ℕ) → lex in_string (written ++ r) ≡ lex in_string r

@@ -15,7 +15,7 @@ same_ends [] (c ∷ b) xs ys same e = absurd (omega (arith, ap length e, length-
 same_ends (c ∷ a) [] xs ys same e = absurd (omega (arith, ap length e, length-append a xs))
 same_ends (c ∷ a) (d ∷ b) xs ys same e = same_ends a b xs ys same (ap (drop 1) e)
 
--- what stands before the last letter of the description
+-- what is before the last letter of the description
 front : List ℕ → ErrorCode → List ℕ → List ℕ
 front id code start = ((((codes "[4," ++ json_string id) ++ codes ",\"") ++ code_name code) ++ codes "\",\"") ++ start
 
@@ -33,13 +33,14 @@ same_last_letter id other_id code other_code start other_start letter other_lett
     (sym (error_bytes-ends id code start letter) ∙ e ∙ error_bytes-ends other_id other_code other_start other_letter) in
     cc
 
--- a reply whose description does not end in `y` does not tell OutOfMemory, with whatever id
+-- a reply with a description that does not end in `y` does not report OutOfMemory, whatever its id
+-- is
 pub other_last_letter : (id other : List ℕ) (code : ErrorCode) (start : List ℕ) (letter : ℕ) → letter ≢ 121 →
     error_bytes id code (start ++ letter ∷ []) ≡ error_bytes other InternalError (codes "OutOfMemory") → ⊥
 other_last_letter id other code start letter differs e =
     differs (same_last_letter id other code InternalError start (codes "OutOfMemor") letter 121 e)
 
--- no reply that tells of a fault tells OutOfMemory
+-- no reply to a fault reports OutOfMemory
 pub fault_is_not_memory : (id : List ℕ) (fault : FrameFault) → error_bytes id (fault_code fault) (fault_name fault) ≡ memory_bytes → ⊥
 fault_is_not_memory id TextTooLong e = other_last_letter id (codes "-1") (fault_code TextTooLong) (codes "TextTooLon") 103 (omega arith) e
 fault_is_not_memory id NotJson e = other_last_letter id (codes "-1") (fault_code NotJson) (codes "NotJso") 110 (omega arith) e

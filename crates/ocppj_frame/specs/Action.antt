@@ -3,7 +3,7 @@ use Rattle.std.specs.Str.{bytes_eq}
 use Rattle.ocppj_frame.specs.declared.action.Action.{Action}
 use Rattle.ocppj_frame.specs.declared.action.Action.TheVariants.{BootNotification, Heartbeat, StatusNotification, MeterValues, TransactionEvent}
 
--- The name of an action, as it stands in a CALL.
+-- The name of an action, as a CALL has it.
 abbrev pub action_name : Action → List ℕ
 action_name BootNotification = codes "BootNotification"
 action_name Heartbeat = codes "Heartbeat"

@@ -2,7 +2,7 @@ use Rattle.std.specs.Prelude.{ℕ, List, codes}
 use Rattle.ocppj_frame.specs.declared.error_code.ErrorCode.{ErrorCode}
 use Rattle.ocppj_frame.specs.declared.error_code.ErrorCode.TheVariants.{FormatViolation, OccurrenceConstraintViolation, TypeConstraintViolation, PropertyConstraintViolation, GenericError, InternalError, RpcFrameworkError, MessageTypeNotSupported, NotImplemented}
 
--- The code, as it stands in a CALLERROR.
+-- The code as a CALLERROR has it.
 abbrev pub code_name : ErrorCode → List ℕ
 code_name FormatViolation = codes "FormatViolation"
 code_name OccurrenceConstraintViolation = codes "OccurrenceConstraintViolation"

@@ -5,7 +5,7 @@ use Rattle.ocppj_frame.specs.declared.error_code.ErrorCode.TheVariants.{RpcFrame
 use Rattle.ocppj_frame.specs.declared.frame_fault.FrameFault.{FrameFault}
 use Rattle.ocppj_frame.specs.declared.frame_fault.FrameFault.TheVariants.{TextTooLong, NotJson, NotACall, MessageType, UnknownAction, Format}
 
--- The code of the CALLERROR that tells of a fault.
+-- The code of the CALLERROR that reports a fault.
 abbrev pub fault_code : FrameFault → ErrorCode
 fault_code TextTooLong = RpcFrameworkError
 fault_code NotJson = RpcFrameworkError

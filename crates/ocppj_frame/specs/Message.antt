@@ -7,8 +7,8 @@ use Rattle.ocppj_frame.specs.Action.{action_name}
 use Rattle.ocppj_frame.specs.Reply.{character_count}
 use Rattle.ocppj_frame.specs.Ranges.{longest_message, longest_message_id}
 
--- A CALL is `[2,<id>,<action>,<payload>]` no longer than a message may be: the id is a text no longer than an id may be, the
--- action is the name of one of the five, the payload is an object.
+-- A CALL is `[2,<id>,<action>,<payload>]` no longer than a message may be: the id is a text no longer than an id may
+-- be, the action is the name of one of the five, the payload is an object.
 pub record IsCall (text id : List ℕ) (action : Action) (payload : Data) : Type 0 where
   pub kind : Data
   pub second : Data

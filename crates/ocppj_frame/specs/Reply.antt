@@ -52,7 +52,7 @@ abbrev pub error_bytes : List ℕ → ErrorCode → List ℕ → List ℕ
 error_bytes id code description =
     codes "[4," ++ (json_string id ++ (codes ",\"" ++ (code_name code ++ (codes "\",\"" ++ (description ++ codes "\",{}]")))))
 
--- The CALLERROR that tells OutOfMemory while a text is read.
+-- The CALLERROR that reports OutOfMemory while a text is read.
 abbrev pub memory_bytes : List ℕ
 memory_bytes = error_bytes (codes "-1") InternalError (codes "OutOfMemory")
 

@@ -1,25 +1,25 @@
 ghost use Rattle.std.specs.Prelude.{◌≡◌};
 
-/// The actions of a station that are answered (OCPP 2.0.1 Part 2; which of them, is this product's
-/// profile).
+/// The actions of a station that this product answers (OCPP 2.0.1 Part 2; the choice is this
+/// product's profile).
 #[derive(Clone, Copy, Debug, PartialEq, Eq)]
 pub enum Action {
     /// The station has started.
     BootNotification,
-    /// The station is there, and asks for the time.
+    /// The station is alive and asks for the time.
     Heartbeat,
     /// The status of a connector has changed.
     StatusNotification,
     /// Meter values outside a transaction.
     MeterValues,
-    /// What happened in a transaction.
+    /// A transaction started, went on or ended.
     TransactionEvent,
 }
 
 impl Action {
     ghost use Rattle.ocppj_frame.specs.Action.{action_of};
 
-    // The action of that name.
+    // The action of that name, if it is one of the five.
     #[tactic(auto, unfolding(crate::specs::Action::action_of))]
     pub(crate) fn of(name: &str) -> Option<Action>
         ensures { result ≡ action_of name.now }

@@ -9,11 +9,11 @@ use arrayvec::ArrayString;
 pub enum Body {
     /// An object with no member.
     Empty,
-    /// A TransactionEventResponse that takes the id token as it is.
+    /// A TransactionEventResponse with `idTokenInfo`: the id token is accepted unchecked.
     TokenAccepted,
     /// A HeartbeatResponse with this moment.
     Now(ArrayString<20>),
-    /// A BootNotificationResponse with this moment, an interval of 300 seconds, accepted.
+    /// A BootNotificationResponse: accepted, with this moment and an interval of 300 seconds.
     Boot(ArrayString<20>),
 }
 

@@ -8,7 +8,7 @@ use crate::action::Action;
 use crate::message_id::MessageId;
 use marked_json::{Marked, Node};
 
-/// A CALL (OCPP 2.0.1 Part 4) of a known action, with the tree that it was read into.
+/// A CALL (OCPP 2.0.1 Part 4) of a known action, with the JSON tree that was read.
 #[derive(Drop)]
 pub struct Call {
     pub(crate) id: MessageId,
@@ -30,7 +30,7 @@ impl Call {
         self.id.as_str()
     }
 
-    /// What the station asks for.
+    /// The action that the station asks for.
     pub fn action(&self) -> Action
         ensures { result ≡ action_of self.now }
     {

@@ -4,17 +4,17 @@ ghost use Rattle.std.specs.Prelude.{◌≡◌, ◌≤◌, length};
 /// code is this product's profile.
 #[derive(Clone, Copy, Debug, PartialEq, Eq)]
 pub enum ErrorCode {
-    /// The payload is not of the form that the action wants.
+    /// The payload is no object, or is not of the action's form.
     FormatViolation,
-    /// A member is missing, or stands too often.
+    /// A member is missing, or there are too many of it.
     OccurrenceConstraintViolation,
     /// A member is of another JSON kind.
     TypeConstraintViolation,
     /// A member's value is out of its range.
     PropertyConstraintViolation,
-    /// The message contradicts what is stored.
+    /// The message contradicts a stored event.
     GenericError,
-    /// The server could not take the message in.
+    /// The server had no room or no memory for the message.
     InternalError,
     /// The text is no frame.
     RpcFrameworkError,
@@ -27,7 +27,7 @@ pub enum ErrorCode {
 impl ErrorCode {
     ghost use Rattle.ocppj_frame.specs.ErrorCode.{code_name};
 
-    /// The code, as it stands in a CALLERROR.
+    /// The code as a CALLERROR has it.
     pub fn name(self) -> &'static str
         ensures name { result.now ≡ code_name self }
         ensures short { length result.now ≤ 29 }

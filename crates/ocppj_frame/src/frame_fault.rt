@@ -4,7 +4,7 @@ ghost use Rattle.ocppj_frame.specs.Reply.{is_letter};
 
 use crate::error_code::ErrorCode;
 
-// Why a text is no call that is taken.
+// Why a text is no call that the reader takes.
 #[derive(Clone, Copy)]
 pub(crate) enum FrameFault {
     TextTooLong,
@@ -18,7 +18,7 @@ pub(crate) enum FrameFault {
 impl FrameFault {
     ghost use Rattle.ocppj_frame.specs.FrameFault.{fault_code, fault_name};
 
-    // The code of the CALLERROR that tells of it.
+    // The code of the CALLERROR that reports it.
     pub(crate) fn code(self) -> ErrorCode
         ensures { result ≡ fault_code self }
     {

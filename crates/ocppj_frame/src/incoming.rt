@@ -18,40 +18,40 @@ use std::alloc::Global;
 /// How many bytes the text of a message may have (this product's profile).
 pub const MAX_MESSAGE: usize = 262_144;
 
-/// What a text asks for.
+/// What a station's text asks for.
 #[derive(Drop)]
 pub enum Incoming {
-    /// A call, which is to be answered.
+    /// A call, which needs a reply.
     Call(Call),
-    /// An answer, which gets none.
+    /// An answer to a call, which gets no reply.
     Silent,
-    /// A ready reply.
+    /// A ready reply to a text that is no call of a known action.
     Reply {
         /// The reply.
         text: ArrayString<512>,
-        /// Whether it tells OutOfMemory.
+        /// Whether it reports OutOfMemory.
         memory: bool,
     },
 }
 
-/// What a text asks for, where the text of a ready reply was put into one that was lent: an answer of less room than
-/// an [`Incoming`].
+/// As [`Incoming`], but the text of a ready reply is in the caller's buffer, so the value is smaller.
 #[derive(Drop)]
 pub enum Framed {
-    /// A call, which is to be answered.
+    /// A call, which needs a reply.
     Call(Call),
-    /// An answer, which gets none.
+    /// An answer to a call, which gets no reply.
     Silent,
-    /// A ready reply, whose text is the lent one.
+    /// A ready reply; its text is in the caller's buffer.
     Reply {
-        /// Whether it tells OutOfMemory.
+        /// Whether it reports OutOfMemory.
         memory: bool,
     },
 }
 
-/// Reads a text as an OCPP-J frame (OCPP 2.0.1 Part 4). The first check that fails answers: a text above
-/// 262,144 bytes, no JSON, no call, an answer (silence), another type, another action, a payload that is
-/// no object. Running out of memory while reading is a ready reply too, the one with `memory` set.
+/// Reads a text as an OCPP-J frame (OCPP 2.0.1 Part 4). The first check that fails decides: a text above
+/// 262,144 bytes, no JSON, no frame, an answer (silence), another type, another action, a payload that
+/// is no object. If memory runs out while the text is read, that is a ready reply too, with `memory`
+/// set.
 pub fn read_frame(alloc: Global, text: &str) -> Incoming
     ensures meaning { Reads (frame text.now) result }
     ensures memory { IsMemoryTold result }
@@ -69,8 +69,8 @@ pub fn read_frame(alloc: Global, text: &str) -> Incoming
     }
 }
 
-/// Reads a text as [`read_frame`] does, and puts the text of a ready reply into `reply`, in the place of what it had;
-/// what it holds after another answer has no meaning.
+/// Reads a text as [`read_frame`] does. It puts the text of a ready reply into `reply`, in place of what was there;
+/// after any other result, what `reply` has means nothing.
 pub fn read_frame_into(alloc: Global, text: &str, reply: &mut ArrayString<512>) -> Framed
     ensures meaning { Reads (frame text.now) (with_reply result reply.new) }
     ensures memory { IsMemoryTold (with_reply result reply.new) }
@@ -91,7 +91,7 @@ pub fn read_frame_into(alloc: Global, text: &str, reply: &mut ArrayString<512>) 
     read_tree(marked, reply)
 }
 
-// What a text asks for that was read.
+// What a text asks for, after it was read.
 fn read_tree(marked: Marked, reply: &mut ArrayString<512>) -> Framed
     ensures meaning { Reads (frame_of (elements_of (tree marked))) (with_reply result reply.new) }
     ensures memory { IsMemoryTold (with_reply result reply.new) }
@@ -109,7 +109,7 @@ fn read_tree(marked: Marked, reply: &mut ArrayString<512>) -> Framed
     })
 }
 
-// Puts the reply that tells of a fault into the text.
+// Puts the reply that reports a fault into the text.
 fn refusal(id: Option<FrameId<'_>>, fault: FrameFault, reply: &mut ArrayString<512>) -> Framed
     ensures meaning { Reads (refused id.entry fault) (with_reply result reply.new) }
     ensures memory { IsMemoryTold (with_reply result reply.new) }
@@ -120,7 +120,7 @@ fn refusal(id: Option<FrameId<'_>>, fault: FrameFault, reply: &mut ArrayString<5
     Framed::Reply { memory: false }
 }
 
-// The reply that tells OutOfMemory.
+// The reply that reports OutOfMemory.
 fn memory_text() -> ArrayString<512>
     ensures { result.bytes ≡ memory_bytes }
 {

@@ -15,7 +15,7 @@ fn hex_digit(value: u32) -> char
     char::from_digit(value, 16).unwrap()
 }
 
-// Puts a character behind the text, as it stands in a JSON string.
+// Appends a character as a JSON string has it.
 fn push_escaped(text: &mut ArrayString<512>, character: char)
     requires { array_string_len text.old + 6 ≤ 512 }
     ensures { text.new.bytes ≡ text.old.bytes ++ escaped character }
@@ -35,7 +35,7 @@ fn push_escaped(text: &mut ArrayString<512>, character: char)
     }
 }
 
-// Puts a text of at most 36 characters behind another, as a JSON string.
+// Appends a text of at most 36 characters as a JSON string.
 pub(crate) fn push_json_string(out: &mut ArrayString<512>, text: &str)
     requires short { character_count text.now ≤ longest_message_id }
     requires room { array_string_len out.old + 218 ≤ 512 }

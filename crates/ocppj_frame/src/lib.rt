@@ -1,14 +1,13 @@
 //! Frames of OCPP-J (OCPP 2.0.1 Part 4): texts of a station read into calls, and the texts of replies.
 //!
-//! A CALL is `[2,<id>,<action>,<payload>]`. [`read_frame`] takes a text and gives the [`Call`], silence for an
-//! answer (CALLRESULT `[3,..]` or CALLERROR `[4,..]`), or the ready reply that tells of the first check that
-//! failed; [`read_frame_into`] does the same with a reply that was lent. [`result_text`] and [`error_text`] write the
-//! replies to a call, without blanks.
+//! A CALL is `[2,<id>,<action>,<payload>]`. [`read_frame`] takes a text and gives the [`Call`], silence for an answer
+//! (CALLRESULT `[3,..]` or CALLERROR `[4,..]`), or the ready reply that reports the first failed check.
+//! [`read_frame_into`] does the same with a buffer that the caller lends for the reply. [`result_text`] and
+//! [`error_text`] write the replies to a call, without blanks.
 //!
-//! The crate's one contract: what a text asks for is the function `frame` of `specs/Frame.antt`, which names the
-//! checks in their order on the tree that the text is read into; `read_frame` gives that and nothing else, but
-//! for running out of memory, which is a reply of its own. A reply is, byte for byte, what `specs/Reply.antt` says, and
-//! always fits 512 bytes.
+//! The crate's contract: the function `frame` of `specs/Frame.antt` says what a text asks for. It names the checks, in
+//! their order, on the tree that the text is read into. `read_frame` gives just that, except that a lack of memory has
+//! a reply of its own. A reply is, byte for byte, what `specs/Reply.antt` says, and always fits in 512 bytes.
 //!
 //! ```text
 //! read_frame(alloc, r#"[2,"a","Heartbeat",{}]"#)   // Call: id "a", Heartbeat, an object

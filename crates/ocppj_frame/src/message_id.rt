@@ -6,11 +6,12 @@ ghost use Rattle.ocppj_frame.specs.Ranges.{longest_message_id};
 use arrayvec::ArrayString;
 use std::marker::Model;
 
-/// How many characters the id of a message may have, which are Unicode scalar values (OCPP 2.0.1 Part 4).
+/// How many characters, counted as Unicode scalar values, the id of a message may have (OCPP 2.0.1 Part
+/// 4).
 pub const MAX_MESSAGE_ID: usize = 36;
 
-/// Whether a text can be the id of a message: it has at most 36 characters, which are Unicode scalar values
-/// (OCPP 2.0.1 Part 4).
+/// Whether a text can be the id of a message: it has at most 36 characters, counted as Unicode scalar
+/// values (OCPP 2.0.1 Part 4).
 pub fn is_message_id(text: &str) -> bool
     ensures { IsTrue result ↔ (count_of text.now ≤ longest_message_id) }
 {
@@ -25,7 +26,7 @@ fn character_count(text: &str) -> usize
     text.chars().count()
 }
 
-// The id of a message where it stands in a frame: a text of at most 36 characters.
+// The id of a message, borrowed from its frame: a text of at most 36 characters.
 #[derive(Drop)]
 pub(crate) struct FrameId<'a> {
     text: &'a str,
@@ -44,7 +45,7 @@ impl<'a> Model for FrameId<'a> {
 }
 
 impl<'a> FrameId<'a> {
-    // The id of this text; `None` where it has more than 36 characters.
+    // The id of this text; `None` if it has more than 36 characters.
     pub(crate) fn new(text: &'a str) -> Option<Self>
         ensures { result ≡ message_id text.now }
     {

@@ -8,7 +8,7 @@ use crate::error_code::ErrorCode;
 use crate::json_string::push_json_string;
 use arrayvec::ArrayString;
 
-/// A CALLRESULT without blanks (OCPP 2.0.1 Part 4). The id has at most 36 characters, which are
+/// A CALLRESULT without blanks (OCPP 2.0.1 Part 4). The id has at most 36 characters, counted as
 /// Unicode scalar values.
 pub fn result_text(id: &str, body: Body) -> ArrayString<512>
     requires { character_count id.now ≤ longest_message_id }
@@ -19,7 +19,7 @@ pub fn result_text(id: &str, body: Body) -> ArrayString<512>
     text
 }
 
-/// Puts a CALLRESULT, as [`result_text`] gives it, into a text, in the place of what it had.
+/// Puts a CALLRESULT, as [`result_text`] gives it, into a text, in place of what was there.
 pub fn put_result(text: &mut ArrayString<512>, id: &str, body: Body)
     requires { character_count id.now ≤ longest_message_id }
     ensures { text.new.bytes ≡ result_bytes id.now body }
@@ -32,8 +32,8 @@ pub fn put_result(text: &mut ArrayString<512>, id: &str, body: Body)
     text.push_str("]");
 }
 
-/// A CALLERROR without blanks and details (OCPP 2.0.1 Part 4). The id has at most 36 characters, which
-/// are Unicode scalar values, and the description at most 32, each a letter from A to Z or a to z.
+/// A CALLERROR without blanks and details (OCPP 2.0.1 Part 4). The id has at most 36 characters,
+/// counted as Unicode scalar values. The description has at most 32 letters from A to Z or a to z.
 pub fn error_text(id: &str, code: ErrorCode, description: &str) -> ArrayString<512>
     requires id { character_count id.now ≤ longest_message_id }
     requires short { length description.now ≤ 32 }

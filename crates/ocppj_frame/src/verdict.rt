@@ -11,21 +11,21 @@ use marked_json::{Items, Node};
 // What the elements of a frame ask for.
 #[derive(Drop)]
 pub(crate) enum Verdict<'a> {
-    // An action is asked for by a call of this id.
+    // A call of this id asks for an action.
     Call {
         id: FrameId<'a>,
         action: Action,
     },
-    // An answer gets none.
+    // An answer, which gets no reply.
     Silent,
-    // The first check that failed, and the id, where there is one.
+    // The first check that failed, and the id, if there is one.
     Refused {
         id: Option<FrameId<'a>>,
         fault: FrameFault,
     },
 }
 
-// What a tree asks for.
+// What the tree of a frame asks for.
 pub(crate) fn verdict_on<'a>(root: Node<'a>) -> Verdict<'a>
     ensures { Says (frame_of (elements_of (node root.entry))) result }
 {

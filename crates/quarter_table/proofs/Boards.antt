@@ -1,4 +1,4 @@
--- The rows of pairs of readings, and the quarters of a board.
+-- The rows of pairs of readings, and the periods of a board.
 use Rattle.std.proofs.Common.{◌≡◌, ℕ, ◌+◌, ◌==◌, cond, List, [], ◌∷◌, ◌++◌, map, refl, sym, ap, ◌∙◌, arith}
 use Rattle.std.specs.List.{filter, sum_by}
 use Rattle.std.proofs.lemmas.List.{map-append}
@@ -20,7 +20,7 @@ map_map : {X Y Z : Type 0} (f : Y → Z) (g : X → Y) (xs : List X) → map f (
 map_map f g [] = refl
 map_map f g (x ∷ xs) = ap (λ ys. f (g x) ∷ ys) (map_map f g xs)
 
--- What the pairs of a quarter in one direction add up to, by a measure of what they show.
+-- What the pairs of a period in one direction add up to, by a measure of what they show.
 quarter_sum : (measure : Flows → ℕ) (period : Periods) (d : Direction) (q : ℕ) (ps : List Pair)
     → sum_by (λ f. measure f.1) (filter (λ f. f.0 == q) (flows_of period d ps)) ≡ sum_by (λ p. measure (flows_toward d (difference p))) (filter (λ p. quarter_of period p == q) ps)
 quarter_sum measure period d q ps =
@@ -28,7 +28,7 @@ quarter_sum measure period d q ps =
     ∙ sum_by-map (λ (f : Flowed). cond (f.0 == q) (measure f.1) 0) (λ p. (quarter_of period p, flows_toward d (difference p))) ps
     ∙ sym (passed_sum (λ p. measure (flows_toward d (difference p))) (λ p. quarter_of period p == q) ps)
 
--- The pairs of a quarter in one direction.
+-- The pairs of a period in one direction.
 abbrev of_quarter : Order → Periods → ℕ → Direction → List Entry → List Pair
 of_quarter order period q d es = filter (λ p. quarter_of period p == q) (all_pairs_by order d es)
 
@@ -41,11 +41,11 @@ part_sum order measure period q es =
     ∙ sum_by-append (λ (f : Flowed). measure f.1) (filter (λ f. f.0 == q) a) (filter (λ f. f.0 == q) b)
     ∙ (λ i. quarter_sum measure period Import q (all_pairs_by order Import es) i + quarter_sum measure period Export q (all_pairs_by order Export es) i)
 
--- The line of a quarter with these energies.
+-- The line of a period with these energies.
 abbrev line : ℕ → Flows → Flowed
 line q flows = (q, flows)
 
--- The sums over a quarter's pairs are the energies of the quarter: pairs of one direction count nothing in the other.
+-- The sums over a period's pairs are the energies of the period: pairs of one direction count nothing in the other.
 quarter_flows : (order : Order) (period : Periods) (es : List Entry) (q : ℕ) → total (filter (λ f. f.0 == q) (station_flows_by order period es)) ≡ flows_in_by order period q es
 quarter_flows order period es q =
     let own = filter (λ f. f.0 == q) (station_flows_by order period es) in
@@ -56,14 +56,14 @@ quarter_flows order period es q =
     let export_down : (total own).export.down ≡ (flows_in_by order period q es).export.down = omega (arith, part_sum order (λ f. f.export.down) period q es, none_in) in
     λ i. record { flow = record { up = up i; down = down i }; export = record { up = export_up i; down = export_down i } }
 
--- The quarters of a station's pairs, of both directions.
+-- The periods of a station's pairs, of both directions.
 quarters_of : (order : Order) (period : Periods) (es : List Entry) → map (λ f. f.0) (station_flows_by order period es) ≡ map (quarter_of period) (all_pairs_by order Import es ++ all_pairs_by order Export es)
 quarters_of order period es =
     map-append (λ (f : Flowed). f.0) (flows_of period Import (all_pairs_by order Import es)) (flows_of period Export (all_pairs_by order Export es))
     ∙ (λ i. map_map (λ (f : Flowed). f.0) (λ p. line (quarter_of period p) (flows_toward Import (difference p))) (all_pairs_by order Import es) i ++ map_map (λ (f : Flowed). f.0) (λ p. line (quarter_of period p) (flows_toward Export (difference p))) (all_pairs_by order Export es) i)
     ∙ sym (map-append (quarter_of period) (all_pairs_by order Import es) (all_pairs_by order Export es))
 
--- The rows of a station's pairs are the quarters of its board.
+-- The rows of a station's pairs are the periods of its board.
 pub lines_of_station : (order : Order) (period : Periods) (es : List Entry) → map line_of (rows_of (station_flows_by order period es)) ≡ (board_by order period es).quarters
 lines_of_station order period es =
     let fs = station_flows_by order period es in

@@ -1,4 +1,4 @@
--- What a pair added or taken out does to the rows, at the place of its quarter.
+-- What a pair added or taken out does to the rows, at the place of its period.
 use Rattle.std.proofs.Common.{◌≡◌, ℕ, ◌+◌, ◌-◌, ◌<◌, List, get_or, set, unwrap_or, sym, ap, ◌∙◌, arith}
 use Rattle.std.specs.List.{insert, remove}
 use Rattle.std.proofs.lemmas.Option.{unwrap_or-slice_get}
@@ -9,7 +9,7 @@ use Rattle.quarter_table.specs.Rows.{no_row, row_at, with_pair, without_pair, se
 use Rattle.quarter_table.specs.Kept.{StandsAt, BelongsAt}
 use Rattle.quarter_table.proofs.Replaced.{row_written, row_inserted, row_removed}
 
--- The row read at the place of a quarter is the quarter's.
+-- The row read at the place of a period is the period's.
 pub row_read : (q : ℕ) (rs : List QuarterRow) (at : ℕ) (r : QuarterRow) → StandsAt q rs at → r ≡ get_or rs at r → r ≡ row_at q rs
 row_read q rs at r s read = read ∙ sym (unwrap_or-slice_get rs at r) ∙ ap (λ o. unwrap_or o r) s.row
 
@@ -30,7 +30,7 @@ from_none e =
     let down : e.down ≡ 0 + e.down = omega arith in
     λ i. record { up = up i; down = down i }
 
--- The first pair of a quarter.
+-- The first pair of a period.
 pub added_new : (q : ℕ) (flow : Flows) (rs : List QuarterRow) (at : ℕ) (sum export : Energy) → BelongsAt q rs at → sum ≡ flow.flow → export ≡ flow.export
     → insert rs at (record { quarter = q; pairs = 1; flow = sum; export = export }) ≡ set_row (with_pair flow (row_at q rs)) rs
 added_new q flow rs at sum export b is too =
@@ -50,6 +50,6 @@ removed_there q flow rs at r sum export s read is too more =
     let written : record { quarter = q; pairs = r.pairs - 1; flow = sum; export = export } ≡ without_pair flow (row_at q rs) = λ i. record { quarter = sym s.quarter_is i; pairs = (same i).pairs - 1; flow = whole i; export = exported i } in
     ap (set rs at) written ∙ row_written q (without_pair flow (row_at q rs)) rs at s s.quarter_is (omega arith)
 
--- The last pair of a quarter.
+-- The last pair of a period.
 pub removed_last : (q : ℕ) (flow : Flows) (rs : List QuarterRow) (at : ℕ) → StandsAt q rs at → (row_at q rs).pairs ≡ 1 → remove rs at ≡ set_row (without_pair flow (row_at q rs)) rs
 removed_last q flow rs at s one = row_removed q (without_pair flow (row_at q rs)) rs at s s.quarter_is (omega arith)

@@ -1,4 +1,4 @@
--- Rows are determined by the row of each quarter.
+-- Rows are determined by the row of each period.
 use Rattle.std.proofs.Common.{◌≡◌, ◌≢◌, ℕ, ◌<◌, ◌≤◌, ◌⊎◌, ⊎_elim, List, [], ◌∷◌, ◌++◌, refl, sym, ap, ◌∙◌, arith, inl, inr}
 use Rattle.std.proofs.lemmas.Bool.{cases_lt, cases_eq, cases_order}
 use Rattle.quarter_table.specs.declared.row.QuarterRow.{QuarterRow}
@@ -6,22 +6,22 @@ use Rattle.quarter_table.specs.Rows.{no_row, row_at, earlier, later, if_any, set
 use Rattle.quarter_table.proofs.Orders.{earlier_on, earlier_past, later_on, later_past, row_here, row_other, after_less, after_missing}
 use Rattle.quarter_table.proofs.Replaced.{some_row, none_row, AreBefore, earlier_before, later_after}
 
--- A row that has a pair is not that of a quarter without any.
+-- A row that has a pair is not that of a period without any.
 not_none : (r : QuarterRow) (q : ℕ) → 0 < r.pairs → r ≢ no_row q
 not_none r q some e = let none : r.pairs ≡ 0 = ap (λ (x : QuarterRow). x.pairs) e in absurd (omega arith)
 
--- Where the first rows differ in their quarter, the earlier one is missing on the other side.
+-- Where the first rows differ in their period, the earlier one is missing on the other side.
 first_missing : (x y : QuarterRow) (ys : List QuarterRow) → x.quarter < y.quarter → AreInOrder (y ∷ ys) → row_at x.quarter (y ∷ ys) ≡ no_row x.quarter
 first_missing x y ys lt order = after_missing x.quarter (y ∷ ys) (lt, after_less x.quarter y.quarter ys (omega arith) order.0)
 
--- Behind two first rows of one quarter the other rows agree too.
+-- Behind two first rows of one period the other rows agree too.
 behind_first : (x y : QuarterRow) (xs ys : List QuarterRow) → x.quarter ≡ y.quarter → AreInOrder (x ∷ xs) → AreInOrder (y ∷ ys) → ((q : ℕ) → row_at q (x ∷ xs) ≡ row_at q (y ∷ ys)) → (q : ℕ) → row_at q xs ≡ row_at q ys
 behind_first x y xs ys e xo yo same q = elim (cases_lt x.quarter q) [
   | inl after ↦ sym (row_other q x xs (λ is. absurd (omega arith))) ∙ same q ∙ row_other q y ys (λ is. absurd (omega arith))
   | inr le ↦ after_missing q xs (after_less q x.quarter xs le xo.0) ∙ sym (after_missing q ys (after_less q y.quarter ys (omega arith) yo.0))
 ]
 
--- Rows in order that have pairs, with the same row for each quarter, are the same.
+-- Rows in order that have pairs, with the same row for each period, are the same.
 pub rows_alike : (xs ys : List QuarterRow) → AreInOrder xs → HavePairs xs → AreInOrder ys → HavePairs ys → ((q : ℕ) → row_at q xs ≡ row_at q ys) → xs ≡ ys
 rows_alike [] [] xo xp yo yp same = refl
 rows_alike [] (y ∷ ys) xo xp yo yp same = absurd (not_none y y.quarter yp.0 (sym (row_here y.quarter y ys refl) ∙ sym (same y.quarter)))
@@ -37,12 +37,12 @@ rows_alike (x ∷ xs) (y ∷ ys) xo xp yo yp same = ⊎_elim
     o)
     (cases_order x.quarter y.quarter)
 
--- Rows of earlier quarters are passed over.
+-- Rows of earlier periods are passed over.
 skip_before : (q k : ℕ) (xs ys : List QuarterRow) → AreBefore q xs → q ≤ k → row_at k (xs ++ ys) ≡ row_at k ys
 skip_before q k [] ys before le = refl
 skip_before q k (x ∷ xs) ys before le = row_other k x (xs ++ ys) (λ is. absurd (omega (arith, before.0))) ∙ skip_before q k xs ys before.1 le
 
--- Rows that lack a quarter, put behind others, change nothing for it.
+-- Rows that lack a period, put behind others, change nothing for it.
 skip_missing : (k : ℕ) (xs ys : List QuarterRow) → row_at k ys ≡ no_row k → row_at k (xs ++ ys) ≡ row_at k xs
 skip_missing k [] ys none = none
 skip_missing k (x ∷ xs) ys none = elim (cases_eq x.quarter k) [
@@ -50,7 +50,7 @@ skip_missing k (x ∷ xs) ys none = elim (cases_eq x.quarter k) [
   | inr not ↦ row_other k x (xs ++ ys) not ∙ skip_missing k xs ys none ∙ sym (row_other k x xs not)
 ]
 
--- The row of an earlier quarter is found among the earlier ones.
+-- The row of an earlier period is found among the earlier ones.
 among_earlier : (q k : ℕ) (rs : List QuarterRow) → k < q → row_at k (earlier q rs) ≡ row_at k rs
 among_earlier q k [] lt = refl
 among_earlier q k (r ∷ rs) lt = elim (cases_lt r.quarter q) [
@@ -61,7 +61,7 @@ among_earlier q k (r ∷ rs) lt = elim (cases_lt r.quarter q) [
   | inr past ↦ ap (row_at k) (earlier_past q r rs past) ∙ among_earlier q k rs lt ∙ sym (row_other k r rs (λ is. absurd (omega arith)))
 ]
 
--- The row of a later quarter is found among the later ones.
+-- The row of a later period is found among the later ones.
 among_later : (q k : ℕ) (rs : List QuarterRow) → q < k → row_at k (later q rs) ≡ row_at k rs
 among_later q k [] lt = refl
 among_later q k (r ∷ rs) lt = elim (cases_lt q r.quarter) [
@@ -72,7 +72,7 @@ among_later q k (r ∷ rs) lt = elim (cases_lt q r.quarter) [
   | inr past ↦ ap (row_at k) (later_past q r rs past) ∙ among_later q k rs lt ∙ sym (row_other k r rs (λ is. absurd (omega arith)))
 ]
 
--- The row of the quarter that was set.
+-- The row of the period that was set.
 pub row_at-set_same : (row : QuarterRow) (rs : List QuarterRow) → (row.pairs ≡ 0 → row ≡ no_row row.quarter) → row_at row.quarter (set_row row rs) ≡ row
 row_at-set_same row rs none =
     let q = row.quarter in
@@ -81,7 +81,7 @@ row_at-set_same row rs none =
       | inr zero_pairs ↦ let e : row.pairs ≡ 0 = omega arith in ap (λ any. row_at q (any ++ later q rs)) (none_row row e) ∙ after_missing q (later q rs) (later_after q rs) ∙ sym (none e)
     ])
 
--- The set row and the later ones lack each earlier quarter.
+-- The set row and the later ones lack each earlier period.
 tail_missing : (k : ℕ) (row : QuarterRow) (rs : List QuarterRow) → k < row.quarter → row_at k (if_any row ++ later row.quarter rs) ≡ no_row k
 tail_missing k row rs lt =
     let after = after_less k row.quarter (later row.quarter rs) (omega arith) (later_after row.quarter rs) in
@@ -90,14 +90,14 @@ tail_missing k row rs lt =
       | inr zero_pairs ↦ ap (λ any. row_at k (any ++ later row.quarter rs)) (none_row row (omega arith)) ∙ after_missing k (later row.quarter rs) after
     ]
 
--- The set row is passed over for a later quarter.
+-- The set row is passed over for a later period.
 tail_later : (k : ℕ) (row : QuarterRow) (rs : List QuarterRow) → row.quarter < k → row_at k (if_any row ++ later row.quarter rs) ≡ row_at k (later row.quarter rs)
 tail_later k row rs lt = elim (cases_lt 0 row.pairs) [
   | inl some ↦ ap (λ any. row_at k (any ++ later row.quarter rs)) (some_row row some) ∙ row_other k row (later row.quarter rs) (λ is. absurd (omega arith))
   | inr zero_pairs ↦ ap (λ any. row_at k (any ++ later row.quarter rs)) (none_row row (omega arith))
 ]
 
--- The row of another quarter stays.
+-- The row of another period stays.
 pub row_at-set_other : (k : ℕ) (row : QuarterRow) (rs : List QuarterRow) → k ≢ row.quarter → row_at k (set_row row rs) ≡ row_at k rs
 row_at-set_other k row rs apart =
     let q = row.quarter in

@@ -15,7 +15,7 @@ use Rattle.quarter_table.proofs.Parts.{Part, same_flows}
 use Rattle.quarter_table.proofs.Replaced.{order_set, pairs_set}
 use Rattle.quarter_table.proofs.Determined.{rows_alike, row_at-set_same, row_at-set_other}
 
--- The pairs of a quarter.
+-- The pairs of a period.
 abbrev own : ℕ → List Flowed → List Flowed
 own q flows = filter (λ f. f.0 == q) flows
 
@@ -23,15 +23,15 @@ own q flows = filter (λ f. f.0 == q) flows
 abbrev row_with : ℕ → List Flowed → QuarterRow
 row_with q flows = record { quarter = q; pairs = length flows; flow = (total flows).flow; export = (total flows).export }
 
--- A pair of the quarter is its own.
+-- A pair of the period is its own.
 own_same : (q : ℕ) (f : Flowed) (fs : List Flowed) → f.0 ≡ q → own q (f ∷ fs) ≡ f ∷ own q fs
 own_same q f fs e = ap (λ b. cond b (f ∷ own q fs) (own q fs)) (eq-eqb f.0 q e)
 
--- A pair of another quarter is not.
+-- A pair of another period is not.
 own_other : (q : ℕ) (f : Flowed) (fs : List Flowed) → f.0 ≢ q → own q (f ∷ fs) ≡ own q fs
 own_other q f fs ne = ap (λ b. cond b (f ∷ own q fs) (own q fs)) (ne_eqb f.0 q ne)
 
--- A quarter among those of pairs has a pair.
+-- A period among those of pairs has a pair.
 some_own : (q : ℕ) (fs : List Flowed) → IsIn q (map (λ f. f.0) fs) → 0 < (row_of q fs).pairs
 some_own q [] there = absurd there
 some_own q (f ∷ fs) there = elim (cases_eq f.0 q) [
@@ -39,7 +39,7 @@ some_own q (f ∷ fs) there = elim (cases_eq f.0 q) [
   | inr not ↦ subst (λ fl. 0 < length fl) (sym (own_other q f fs not)) (some_own q fs (⊎_elim {C = IsIn q (map (λ f. f.0) fs)} (λ (e : q ≡ f.0). absurd (not (sym e))) (λ (rest : IsIn q (map (λ f. f.0) fs)). rest) there))
 ]
 
--- A quarter is among those of pairs, or has none.
+-- A period is among those of pairs, or has none.
 in_or_none : (q : ℕ) (fs : List Flowed) → IsIn q (map (λ f. f.0) fs) ⊎ (own q fs ≡ [])
 in_or_none q [] = inr refl
 in_or_none q (f ∷ fs) = elim (cases_eq f.0 q) [
@@ -52,7 +52,7 @@ rising_less : (n m : ℕ) (ks : List ℕ) → AreRising (n ∷ m ∷ ks) → Are
 rising_less n m [] up = tt
 rising_less n m (k ∷ ks) up = (let a : n < m = up.0 in let b : m < k = up.1.0 in omega arith, up.1.1)
 
--- The rows of rising quarters are after the first.
+-- The rows of rising periods are after the first.
 rows_after : (n : ℕ) (ks : List ℕ) (fs : List Flowed) → AreRising (n ∷ ks) → AreAfter n (map (λ k. row_of k fs) ks)
 rows_after n [] fs up = tt
 rows_after n (k ∷ ks) fs up = (up.0, rows_after n ks fs (rising_less n k ks up))
@@ -62,12 +62,12 @@ rising_tail : (n : ℕ) (ks : List ℕ) → AreRising (n ∷ ks) → AreRising k
 rising_tail n [] up = tt
 rising_tail n (k ∷ ks) up = up.1
 
--- The rows of rising quarters are in order.
+-- The rows of rising periods are in order.
 rows_in_order : (ks : List ℕ) (fs : List Flowed) → AreRising ks → AreInOrder (map (λ k. row_of k fs) ks)
 rows_in_order [] fs up = tt
 rows_in_order (k ∷ ks) fs up = (rows_after k ks fs up, rows_in_order ks fs (rising_tail k ks up))
 
--- The rows of quarters among those of pairs have pairs.
+-- The rows of periods among those of pairs have pairs.
 rows_have_pairs : (ks : List ℕ) (fs : List Flowed) → ((k : ℕ) → IsIn k ks → IsIn k (map (λ f. f.0) fs)) → HavePairs (map (λ k. row_of k fs) ks)
 rows_have_pairs [] fs among = tt
 rows_have_pairs (k ∷ ks) fs among = (some_own k fs (among k (inl refl)), rows_have_pairs ks fs (λ j there. among j (inr there)))
@@ -80,7 +80,7 @@ made_in_order fs = rows_in_order (rising (map (λ f. f.0) fs)) fs (rising-AreRis
 pub made_have_pairs : (fs : List Flowed) → HavePairs (rows_of fs)
 made_have_pairs fs = rows_have_pairs (rising (map (λ f. f.0) fs)) fs (λ k there. (rising-IsIn k (map (λ f. f.0) fs)).0 there)
 
--- The row of a quarter that is listed.
+-- The row of a period that is listed.
 listed_row : (q : ℕ) (ks : List ℕ) (fs : List Flowed) → IsIn q ks → row_at q (map (λ k. row_of k fs) ks) ≡ row_of q fs
 listed_row q [] fs there = absurd there
 listed_row q (k ∷ ks) fs there = elim (cases_eq k q) [
@@ -88,7 +88,7 @@ listed_row q (k ∷ ks) fs there = elim (cases_eq k q) [
   | inr not ↦ row_other q (row_of k fs) (map (λ k. row_of k fs) ks) not ∙ listed_row q ks fs (⊎_elim {C = IsIn q ks} (λ (e : q ≡ k). absurd (not (sym e))) (λ (rest : IsIn q ks). rest) there)
 ]
 
--- The row of a quarter that has no pair, among any.
+-- The row of a period that has no pair, among any.
 missing_row : (q : ℕ) (ks : List ℕ) (fs : List Flowed) → row_of q fs ≡ no_row q → row_at q (map (λ k. row_of k fs) ks) ≡ row_of q fs
 missing_row q [] fs none = sym none
 missing_row q (k ∷ ks) fs none = elim (cases_eq k q) [
@@ -96,11 +96,11 @@ missing_row q (k ∷ ks) fs none = elim (cases_eq k q) [
   | inr not ↦ row_other q (row_of k fs) (map (λ k. row_of k fs) ks) not ∙ missing_row q ks fs none
 ]
 
--- A quarter that has no pair has no sum.
+-- A period that has no pair has no sum.
 own_none : (q : ℕ) (fs : List Flowed) → own q fs ≡ [] → row_of q fs ≡ no_row q
 own_none q fs none = ap (row_with q) none
 
--- The row of a quarter among the rows of pairs is what its pairs make.
+-- The row of a period among the rows of pairs is what its pairs make.
 pub made_row : (q : ℕ) (fs : List Flowed) → row_at q (rows_of fs) ≡ row_of q fs
 made_row q fs = ⊎_elim
     (λ (there : IsIn q (map (λ f. f.0) fs)). listed_row q (rising (map (λ f. f.0) fs)) fs ((rising-IsIn q (map (λ f. f.0) fs)).1 there))
@@ -122,7 +122,7 @@ row_as q pairs flows = record { quarter = q; pairs = pairs; flow = flows.flow; e
 same_row : (q m n : ℕ) (a b : Flows) → m ≡ n → ((p : Part) → p.measure a ≡ p.measure b) → row_as q m a ≡ row_as q n b
 same_row q m n a b pairs each = let flows = same_flows a b each in λ i. row_as q (pairs i) (flows i)
 
--- Pairs that add up the same, by whatever measure, have the same row for each quarter.
+-- Pairs that add up the same, by whatever measure, have the same row for each period.
 pub row_alike : (q : ℕ) (xs ys : List Flowed) → ((measure : Flowed → ℕ) → sum_by measure xs ≡ sum_by measure ys) → row_of q xs ≡ row_of q ys
 row_alike q xs ys same =
     let part : (measure : Flowed → ℕ) → sum_by measure (own q xs) ≡ sum_by measure (own q ys) = λ measure. passed_sum measure (λ f. f.0 == q) xs ∙ same (λ f. cond (f.0 == q) (measure f) 0) ∙ sym (passed_sum measure (λ f. f.0 == q) ys) in
@@ -134,14 +134,14 @@ pub made_alike : (xs ys : List Flowed) → ((measure : Flowed → ℕ) → sum_b
 made_alike xs ys same =
     rows_alike (rows_of xs) (rows_of ys) (made_in_order xs) (made_have_pairs xs) (made_in_order ys) (made_have_pairs ys) (λ q. made_row q xs ∙ row_alike q xs ys same ∙ sym (made_row q ys))
 
--- A pair more, in front, in the row of its quarter.
+-- A pair more, in front, in the row of its period.
 row_more : (q : ℕ) (flow : Flows) (fs : List Flowed) → row_of q ((q, flow) ∷ fs) ≡ with_pair flow (row_of q fs)
 row_more q flow fs =
     let mine = own q fs in
     ap (row_with q) (own_same q (q, flow) fs refl) ∙ same_row q (suc (length mine)) (length mine + 1) (total ((q, flow) ∷ mine)) (plus_flows (total mine) flow) (omega arith)
     (λ p. omega (arith, p.total_of ((q, flow) ∷ mine), sum_by-cons (λ (f : Flowed). p.measure f.1) (q, flow) mine, p.plus_of (total mine) flow, p.total_of mine))
 
--- A pair more, in front, in the row of another quarter.
+-- A pair more, in front, in the row of another period.
 row_else : (k q : ℕ) (flow : Flows) (fs : List Flowed) → k ≢ q → row_of k ((q, flow) ∷ fs) ≡ row_of k fs
 row_else k q flow fs apart = ap (row_with k) (own_other k (q, flow) fs (λ e. apart (sym e)))
 
@@ -157,15 +157,15 @@ moved_front front f back measure =
     let a = sum_by-append measure front (f ∷ back) in let b = sum_by-cons measure f back in let d = sum_by-cons measure f (front ++ back) in let e = sum_by-append measure front back in
     omega (arith, a, b, d, e)
 
--- A pair more among others, in the row of its quarter.
+-- A pair more among others, in the row of its period.
 pub row_with_pair : (front : List Flowed) (q : ℕ) (flow : Flows) (back : List Flowed) → row_of q (front ++ (q, flow) ∷ back) ≡ with_pair flow (row_of q (front ++ back))
 row_with_pair front q flow back = row_alike q (front ++ (q, flow) ∷ back) ((q, flow) ∷ (front ++ back)) (moved_front front (q, flow) back) ∙ row_more q flow (front ++ back)
 
--- A pair more among others, in the row of another quarter.
+-- A pair more among others, in the row of another period.
 pub row_without_pair : (front : List Flowed) (k q : ℕ) (flow : Flows) (back : List Flowed) → k ≢ q → row_of k (front ++ (q, flow) ∷ back) ≡ row_of k (front ++ back)
 row_without_pair front k q flow back apart = row_alike k (front ++ (q, flow) ∷ back) ((q, flow) ∷ (front ++ back)) (moved_front front (q, flow) back) ∙ row_else k q flow (front ++ back) apart
 
--- The rows with one set are those of other pairs, where that is so for its quarter and no other is touched.
+-- The rows with one set are those of other pairs, where that is so for its period and no other is touched.
 set_made : (q : ℕ) (row : QuarterRow) (xs ys : List Flowed) → row ≡ row_of q ys → ((k : ℕ) → k ≢ q → row_of k xs ≡ row_of k ys) → set_row row (rows_of xs) ≡ rows_of ys
 set_made q row xs ys is others =
     let quarter : row.quarter ≡ q = ap (λ (r : QuarterRow). r.quarter) is in

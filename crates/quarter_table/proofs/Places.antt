@@ -1,4 +1,4 @@
--- Where the row of a quarter stands among rows in order, or belongs.
+-- Where the row of a period is among rows in order, or belongs.
 use Rattle.std.proofs.Common.{◌≡◌, ◌≢◌, ℕ, zero, suc, ◌<◌, List, [], ◌∷◌, length, get_or, Some, refl, sym, ap, ◌∙◌, subst, arith, inl, inr}
 use Rattle.std.proofs.lemmas.Bool.{cases_lt}
 use Rattle.quarter_table.specs.declared.row.QuarterRow.{QuarterRow}
@@ -6,7 +6,7 @@ use Rattle.quarter_table.specs.Rows.{earlier, AreAfter, AreInOrder}
 use Rattle.quarter_table.specs.Kept.{StandsAt, BelongsAt}
 use Rattle.quarter_table.proofs.Orders.{earlier_on, later_past, row_here, row_other, after_at, after_less, after_later, after_missing, none_earlier}
 
--- Behind the rows of earlier quarters stands the row of the quarter, if any.
+-- Behind the rows of earlier periods is the row of the period, if there is one.
 pub stands : (q : ℕ) (rs : List QuarterRow) (d : QuarterRow) → AreInOrder rs → length (earlier q rs) < length rs → (get_or rs (length (earlier q rs)) d).quarter ≡ q → StandsAt q rs (length (earlier q rs))
 stands q [] d order lt is = absurd (omega arith)
 stands q (r ∷ rs) d order lt is = elim (cases_lt r.quarter q) [
@@ -33,7 +33,7 @@ stands q (r ∷ rs) d order lt is = elim (cases_lt r.quarter q) [
       })
 ]
 
--- Where none stands there, none stands anywhere.
+-- Where none is there, none is anywhere.
 pub belongs : (q : ℕ) (rs : List QuarterRow) (d : QuarterRow) → AreInOrder rs → (length (earlier q rs) < length rs → (get_or rs (length (earlier q rs)) d).quarter ≢ q) → BelongsAt q rs (length (earlier q rs))
 belongs q [] d order not = record { absent = refl; within = omega arith; front = refl; back = refl }
 belongs q (r ∷ rs) d order not = elim (cases_lt r.quarter q) [
@@ -59,7 +59,7 @@ belongs q (r ∷ rs) d order not = elim (cases_lt r.quarter q) [
       })
 ]
 
--- As many rows are earlier as stand in front of the quarter's.
+-- As many rows are earlier as are in front of the period's.
 in_front : (q : ℕ) (rs : List QuarterRow) (at : ℕ) (d : QuarterRow) → AreInOrder rs → at < length rs → (get_or rs at d).quarter ≡ q → length (earlier q rs) ≡ at
 in_front q [] at d order lt is = absurd (omega arith)
 in_front q (r ∷ rs) zero d order lt is = ap length (none_earlier q r rs order (omega (arith, is)))
@@ -67,7 +67,7 @@ in_front q (r ∷ rs) (suc at) d order lt is =
     let within : at < length rs = omega arith in let small : r.quarter < q = omega (arith, is, after_at r.quarter rs at d order.0 within) in
     ap length (earlier_on q r rs small) ∙ ap suc (in_front q rs at d order.1 within is)
 
--- Where the quarter's row is found, it stands.
+-- The period's row is where it is found.
 pub stands_there : (q : ℕ) (rs : List QuarterRow) (at : ℕ) (d : QuarterRow) → AreInOrder rs → at < length rs → (get_or rs at d).quarter ≡ q → StandsAt q rs at
 stands_there q rs at d order lt is =
     let e = in_front q rs at d order lt is in

@@ -21,15 +21,15 @@ set_cut [] i x lt = absurd (omega arith)
 set_cut (y ∷ xs) zero x lt = refl
 set_cut (y ∷ xs) (suc i) x lt = ap (λ l. y ∷ l) (set_cut xs i x (omega arith))
 
--- A row that has a pair stands between the earlier rows and the later ones.
+-- A row that has a pair is between the earlier rows and the later ones.
 set_some : (q : ℕ) (row : QuarterRow) (rs : List QuarterRow) → row.quarter ≡ q → 0 < row.pairs → set_row row rs ≡ earlier q rs ++ row ∷ later q rs
 set_some q row rs is some = ap (λ any. earlier row.quarter rs ++ (any ++ later row.quarter rs)) (some_row row some) ∙ ap (λ n. earlier n rs ++ row ∷ later n rs) is
 
--- A row written over that of its quarter.
+-- A row written over that of its period.
 pub row_written : (q : ℕ) (row : QuarterRow) (rs : List QuarterRow) (at : ℕ) → StandsAt q rs at → row.quarter ≡ q → 0 < row.pairs → set rs at row ≡ set_row row rs
 row_written q row rs at s is some = set_cut rs at row s.within ∙ ap (λ l. l ++ row ∷ drop (suc at) rs) s.front ∙ ap (λ l. earlier q rs ++ row ∷ l) s.back ∙ sym (set_some q row rs is some)
 
--- A row put in where its quarter had none.
+-- A row put in where its period had none.
 pub row_inserted : (q : ℕ) (row : QuarterRow) (rs : List QuarterRow) (at : ℕ) → BelongsAt q rs at → row.quarter ≡ q → 0 < row.pairs → insert rs at row ≡ set_row row rs
 row_inserted q row rs at b is some = ap (λ l. l ++ row ∷ drop at rs) b.front ∙ ap (λ l. earlier q rs ++ row ∷ l) b.back ∙ sym (set_some q row rs is some)
 
@@ -39,7 +39,7 @@ row_removed q row rs at s is none =
     ap (λ l. l ++ drop (suc at) rs) s.front ∙ ap (λ l. earlier q rs ++ l) s.back
     ∙ sym (ap (λ any. earlier row.quarter rs ++ (any ++ later row.quarter rs)) (none_row row none) ∙ ap (λ n. earlier n rs ++ later n rs) is)
 
--- Rows after a quarter, without some of them.
+-- Rows after a period, without some of them.
 after_filter : (p : QuarterRow → Bool) (q : ℕ) (rs : List QuarterRow) → AreAfter q rs → AreAfter q (filter p rs)
 after_filter p q [] after = tt
 after_filter p q (r ∷ rs) after = elim (p r) as (λ b. AreAfter q (cond b (r ∷ filter p rs) (filter p rs))) [ true ↦ (after.0, after_filter p q rs after.1) | false ↦ after_filter p q rs after.1 ]
@@ -59,17 +59,17 @@ pub pairs_both : (xs ys : List QuarterRow) → HavePairs xs → HavePairs ys →
 pairs_both [] ys a b = b
 pairs_both (x ∷ xs) ys a b = (a.0, pairs_both xs ys a.1 b)
 
--- Each row is of an earlier quarter.
+-- Each row is of an earlier period.
 abbrev pub AreBefore : ℕ → List QuarterRow → Type 0
 AreBefore q [] = Unit {0}
 AreBefore q (r ∷ rs) = (r.quarter < q) × AreBefore q rs
 
--- Each row is of the quarter or a later one.
+-- Each row is of the period or a later one.
 abbrev pub AreFrom : ℕ → List QuarterRow → Type 0
 AreFrom q [] = Unit {0}
 AreFrom q (r ∷ rs) = (q ≤ r.quarter) × AreFrom q rs
 
--- The rows of earlier quarters are that.
+-- The rows of earlier periods are that.
 pub earlier_before : (q : ℕ) (rs : List QuarterRow) → AreBefore q (earlier q rs)
 earlier_before q [] = tt
 earlier_before q (r ∷ rs) = elim (cases_lt r.quarter q) [
@@ -77,7 +77,7 @@ earlier_before q (r ∷ rs) = elim (cases_lt r.quarter q) [
   | inr le ↦ rw (earlier_past q r rs le) (earlier_before q rs)
 ]
 
--- The rows of later quarters are that.
+-- The rows of later periods are that.
 pub later_after : (q : ℕ) (rs : List QuarterRow) → AreAfter q (later q rs)
 later_after q [] = tt
 later_after q (r ∷ rs) = elim (cases_lt q r.quarter) [
@@ -85,22 +85,22 @@ later_after q (r ∷ rs) = elim (cases_lt q r.quarter) [
   | inr le ↦ rw (later_past q r rs le) (later_after q rs)
 ]
 
--- Rows after a quarter are from it on.
+-- Rows after a period are from it on.
 pub after_from : (q : ℕ) (rs : List QuarterRow) → AreAfter q rs → AreFrom q rs
 after_from q [] after = tt
 after_from q (r ∷ rs) after = (omega (arith, after.0), after_from q rs after.1)
 
--- Rows from a quarter on are after an earlier one.
+-- Rows from a period on are after an earlier one.
 from_after : (m n : ℕ) (rs : List QuarterRow) → m < n → AreFrom n rs → AreAfter m rs
 from_after m n [] lt from = tt
 from_after m n (r ∷ rs) lt from = (omega (arith, from.0), from_after m n rs lt from.1)
 
--- Rows after a quarter, in two lists.
+-- Rows after a period, in two lists.
 after_both : (q : ℕ) (xs ys : List QuarterRow) → AreAfter q xs → AreAfter q ys → AreAfter q (xs ++ ys)
 after_both q [] ys a b = b
 after_both q (x ∷ xs) ys a b = (a.0, after_both q xs ys a.1 b)
 
--- Rows in order before a quarter, and rows in order from it on, are in order together.
+-- Rows in order before a period, and rows in order from it on, are in order together.
 order_both : (q : ℕ) (xs ys : List QuarterRow) → AreInOrder xs → AreInOrder ys → AreBefore q xs → AreFrom q ys → AreInOrder (xs ++ ys)
 order_both q [] ys a b before from = b
 order_both q (x ∷ xs) ys a b before from = (after_both x.quarter xs ys a.0 (from_after x.quarter q ys before.0 from), order_both q xs ys a.1 b before.1 from)

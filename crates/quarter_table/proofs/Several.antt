@@ -57,7 +57,7 @@ rows_more period es more front e back one =
     made_alike (station_flows period more) (came_flows period front e back ++ kept_flows period es front e back) (λ measure.
     both_sides measure (flows_of period Import (pairs Import more)) (flows_of period Import (came_by Import front e back)) (flows_of period Import (kept_by Import es front e back)) (flows_of period Export (pairs Export more)) (flows_of period Export (came_by Export front e back)) (flows_of period Export (kept_by Export es front e back)) (side Import measure) (side Export measure))
 
--- One live event more: the pairs that it takes away are taken out, and those that it brings are added.
+-- One more live event: the pairs that it takes away are taken out, and those that it brings are added.
 pub rows_event_more : (period : Periods) (es more front : List Entry) (e : Entry) (back : List Entry) → IsOneMore es more front e back
     → rows_with (came_flows period front e back) (rows_without (gone_flows period front e back) (rows_of (station_flows period es))) ≡ rows_of (station_flows period more)
 rows_event_more period es more front e back one =

@@ -20,29 +20,31 @@ total flows = record {
   export = record { up = sum_by (λ f. f.1.export.up) flows; down = sum_by (λ f. f.1.export.down) flows };
 }
 
--- The row of a quarter: how many of the pairs are of it, and what they add up to.
+-- The row of a period: how many of the pairs belong to it, and their sums.
 abbrev pub row_of : ℕ → List Flowed → QuarterRow
 row_of quarter flows =
     let own = filter (λ f. f.0 == quarter) flows in
     record { quarter = quarter; pairs = length own; flow = (total own).flow; export = (total own).export }
 
--- The rows of pairs, each given by its quarter and its difference: one for each quarter that has a pair, rising.
+-- The rows of pairs: one for each period that has a pair, in rising order. A pair is given by its period and its
+-- difference.
 abbrev pub rows_of : List Flowed → List QuarterRow
 rows_of flows = map (λ quarter. row_of quarter flows) (rising (map (λ f. f.0) flows))
 
--- Pairs of readings of one direction, each by its quarter and its difference.
+-- Pairs of readings of one direction, each given by its period and its difference.
 abbrev pub flows_of : Periods → Direction → List Pair → List Flowed
 flows_of period d pairs = map (λ p. (quarter_of period p, flows_toward d (difference p))) pairs
 
--- The pairs of a station, of both directions, the readings of each transaction in an order.
+-- The pairs of a station in both directions, with the readings of each transaction in the given
+-- order.
 abbrev pub station_flows_by : Order → Periods → List Entry → List Flowed
 station_flows_by order period es = flows_of period Import (all_pairs_by order Import es) ++ flows_of period Export (all_pairs_by order Export es)
 
--- The pairs of a station, of both directions, by sequence.
+-- The pairs of a station in both directions, by sequence.
 abbrev pub station_flows : Periods → List Entry → List Flowed
 station_flows period es = station_flows_by Sequence period es
 
--- The pairs that go with one live event more.
+-- The pairs that go with one more live event.
 abbrev pub gone_flows : Periods → List Entry → Entry → List Entry → List Flowed
 gone_flows period front e back = flows_of period Import (gone_by Import front e back) ++ flows_of period Export (gone_by Export front e back)
 
@@ -72,7 +74,8 @@ abbrev pub rows_without : List Flowed → List QuarterRow → List QuarterRow
 rows_without [] rows = rows
 rows_without (f ∷ fs) rows = rows_without fs (rows_minus f rows)
 
--- A row has a pair of this difference: it counts it, its sums hold it in each direction, and are just that where it counts no other.
+-- A row has a pair of this difference: it counts the pair, its sums include the difference in each direction, and are
+-- just that difference if it counts no other pair.
 pub record HasPair (flows : Flows) (row : QuarterRow) : Type 0 where
   pub there : 0 < row.pairs
   pub within : CanMinus row.flow flows.flow
@@ -80,7 +83,8 @@ pub record HasPair (flows : Flows) (row : QuarterRow) : Type 0 where
   pub last : row.pairs ≡ 1 → row.flow ≡ flows.flow
   pub last_export : row.pairs ≡ 1 → row.export ≡ flows.export
 
--- With one live event more, the rows follow where the pairs that go are taken out and those that come are added; with one less, the other way round.
+-- With one more live event, the new rows are the old ones with the pairs that go taken out and
+-- those that come added; with one less, the other way round.
 pub record RowsFollow (period : Periods) (es more front : List Entry) (e : Entry) (back : List Entry) : Type 0 where
   pub one_more : rows_with (came_flows period front e back) (rows_without (gone_flows period front e back) (rows_of (station_flows period es)))
       ≡ rows_of (station_flows period more)

@@ -1,14 +1,14 @@
--- Rows of a table, one for each quarter that has a pair.
+-- Rows of a table, one for each settlement period that has a pair.
 use Rattle.std.specs.Prelude.{ℕ, ◌+◌, ◌-◌, ◌<◌, ◌==◌, nat_lt, if◌then◌else◌, List, [], ◌∷◌, ◌++◌, filter}
 use Rattle.energy_flow.specs.Flow.{no_energy, plus, minus}
 use Rattle.ledger_model.specs.Energy.{Flows}
 use Rattle.quarter_table.specs.declared.row.QuarterRow.{QuarterRow}
 
--- What stands for a quarter that has no pair.
+-- The row of a period that has no pair.
 abbrev pub no_row : ℕ → QuarterRow
 no_row quarter = record { quarter = quarter; pairs = 0; flow = no_energy; export = no_energy }
 
--- The row of a quarter.
+-- The row of a period.
 abbrev pub row_at : ℕ → List QuarterRow → QuarterRow
 row_at quarter [] = no_row quarter
 row_at quarter (row ∷ rows) = if row.quarter == quarter then row else row_at quarter rows
@@ -21,28 +21,28 @@ with_pair flows row = record { quarter = row.quarter; pairs = row.pairs + 1; flo
 abbrev pub without_pair : Flows → QuarterRow → QuarterRow
 without_pair flows row = record { quarter = row.quarter; pairs = row.pairs - 1; flow = minus row.flow flows.flow; export = minus row.export flows.export }
 
--- The rows of earlier quarters.
+-- The rows of earlier periods.
 abbrev pub earlier : ℕ → List QuarterRow → List QuarterRow
 earlier quarter rows = filter (λ r. nat_lt r.quarter quarter) rows
 
--- The rows of later quarters.
+-- The rows of later periods.
 abbrev pub later : ℕ → List QuarterRow → List QuarterRow
 later quarter rows = filter (λ r. nat_lt quarter r.quarter) rows
 
--- A row by itself, where it has a pair.
+-- A list of the row, if it has a pair; else none.
 abbrev pub if_any : QuarterRow → List QuarterRow
 if_any row = if row.pairs == 0 then [] else row ∷ []
 
--- The rows with that of one quarter replaced, or left out where it has no pair.
+-- The rows with the row of one period replaced, or left out if it has no pair.
 abbrev pub set_row : QuarterRow → List QuarterRow → List QuarterRow
 set_row row rows = earlier row.quarter rows ++ (if_any row ++ later row.quarter rows)
 
--- Each row is of a later quarter.
+-- Each row is of a later period.
 abbrev pub AreAfter : ℕ → List QuarterRow → Type 0
 AreAfter quarter [] = Unit {0}
 AreAfter quarter (row ∷ rows) = (quarter < row.quarter) × AreAfter quarter rows
 
--- Each row is of a later quarter than those before it.
+-- Each row is of a later period than those before it.
 abbrev pub AreInOrder : List QuarterRow → Type 0
 AreInOrder [] = Unit {0}
 AreInOrder (row ∷ rows) = AreAfter row.quarter rows × AreInOrder rows

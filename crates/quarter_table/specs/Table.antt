@@ -2,7 +2,7 @@
 use Rattle.std.specs.Prelude.{ℕ, List}
 use Rattle.quarter_table.specs.declared.row.QuarterRow.{QuarterRow}
 
--- The rows by rising quarter, and how many there may be.
+-- The rows by rising period, and how many there may be.
 pub record Table : Type 0 where
   pub rows : List QuarterRow
   pub capacity : ℕ

@@ -1,4 +1,4 @@
-//! Laws of rows, each the contract of a function with nothing to do. A pair is given by its quarter
+//! Laws of rows, each the contract of a function that does nothing. A pair is given by its period
 //! and its difference in each direction.
 ghost use Rattle.std.specs.Prelude.{◌≡◌, ◌≢◌, ◌≤◌, ℕ, List, [], ◌∷◌, ◌++◌, length, map, sum_by};
 ghost use Rattle.ledger_model.specs.Periods.{Periods};
@@ -10,9 +10,9 @@ ghost use Rattle.ledger_model.specs.Energy.{Flows};
 ghost use Rattle.quarter_table.specs.Pairs.{total, row_of, rows_of, rows_minus, rows_plus, rows_with, rows_without, station_flows_by, line_of, HasPair, RowsFollow};
 ghost use Rattle.quarter_table.specs.Rows.{no_row, row_at, with_pair};
 
-/// The rows of pairs, after a pair was added or taken out wherever it stood among them, are those of
-/// the pairs that are then there. The order of the pairs makes no difference, nor does anything that
-/// no sum over them shows.
+/// After a pair was added or taken out, at any place among the pairs, the rows are those of the
+/// pairs that are then there. Lists of pairs have the same rows if every sum over them is the same,
+/// so the order of the pairs makes no difference.
 pub fn rows_follow_pairs()
     ensures empty { rows_of [] ≡ [] }
     ensures added { (front : List Flowed) (f : Flowed) (back : List Flowed) → rows_plus f (rows_of (front ++ back)) ≡ rows_of (front ++ f ∷ back) }
@@ -20,9 +20,9 @@ pub fn rows_follow_pairs()
     ensures alike { (xs ys : List Flowed) → ((measure : Flowed → ℕ) → sum_by measure xs ≡ sum_by measure ys) → rows_of xs ≡ rows_of ys }
 {}
 
-/// The row of a quarter counts and adds up the quarter's pairs: it has one pair more where a pair of
-/// the quarter is added, wherever that stands, stays where a pair of another quarter is, and has no
-/// sum where it has no pair.
+/// The row of a period counts and adds up the period's pairs. It has one pair more if a pair of its
+/// period is added at any place, stays the same if a pair of another period is added, and has no
+/// energy if it has no pair.
 pub fn each_row_is_of_its_pairs()
     ensures row { (quarter : ℕ) (flows : List Flowed) → row_at quarter (rows_of flows) ≡ row_of quarter flows }
     ensures same_quarter { (front : List Flowed) (quarter : ℕ) (flow : Flows) (back : List Flowed) → row_of quarter (front ++ (quarter, flow) ∷ back) ≡ with_pair flow (row_of quarter (front ++ back)) }
@@ -30,8 +30,8 @@ pub fn each_row_is_of_its_pairs()
     ensures none { (quarter : ℕ) (flows : List Flowed) → (row_of quarter flows).pairs ≡ 0 → row_of quarter flows ≡ no_row quarter }
 {}
 
-/// A pair that is there may be taken out: the row of its quarter counts it, its sum holds the
-/// difference, and that is all of it where no other pair is left.
+/// A pair that is there may be taken out: the row of its period counts it, the row's sum includes
+/// the difference, and the sum is just that difference if no other pair is left.
 pub fn pair_may_be_taken_out()
     ensures { (front : List Flowed) (f : Flowed) (back : List Flowed) → HasPair f.1 (row_at f.0 (rows_of (front ++ f ∷ back))) }
 {}
@@ -46,16 +46,16 @@ pub fn rows_are_within_pairs()
     ensures export_down { (quarter : ℕ) (flows : List Flowed) → (row_of quarter flows).export.down ≤ (total flows).export.down }
 {}
 
-/// The rows of a station's pairs, of both directions, follow its events. With one live event more, the
+/// The rows of a station's pairs, of both directions, follow its events. With one more live event, the
 /// pairs that go are taken out and those that come are added, one after the other; with one less, the
-/// other way round. Of a direction of which the event has no reading none goes or comes.
+/// other way round. No pair goes or comes in a direction in which the event has no reading.
 pub fn rows_follow_events()
     ensures several_added { (flows others : List Flowed) → rows_with flows (rows_of others) ≡ rows_of (flows ++ others) }
     ensures several_removed { (flows others : List Flowed) → rows_without flows (rows_of (flows ++ others)) ≡ rows_of others }
     ensures events { (period : Periods) (es more front : List Entry) (e : Entry) (back : List Entry) → IsOneMore es more front e back → RowsFollow period es more front e back }
 {}
 
-/// The rows of a station's pairs are the quarters of its board, in either order.
+/// The rows of a station's pairs are the periods of its board, in either order.
 pub fn rows_are_quarters_of_board()
     ensures { (order : Order) (period : Periods) (es : List Entry) → map line_of (rows_of (station_flows_by order period es)) ≡ (board_by order period es).quarters }
 {}

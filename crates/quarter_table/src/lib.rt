@@ -1,15 +1,16 @@
-//! How many pairs of readings each quarter has, and what their differences add up to in each direction.
+//! How many pairs of readings each settlement period has, and the sums of their differences in each
+//! direction.
 //!
-//! A pair is a reading and the one that follows it in its direction; it counts for the quarter of the
-//! later one. A quarter has a row exactly while it has a pair, even one of difference zero, and rows
-//! stand in rising order. All memory is taken by [`QuarterTable::reserve`]. A pair of a quarter that has
-//! a row costs one binary search, or none where that row was changed last; a row that comes or goes
-//! moves those behind it, and none where quarters come in the order of time.
+//! A pair is a reading and the one that follows it in its direction; it counts for the period of the
+//! later one. A period has a row exactly while it has a pair, even one of difference zero. Rows are in
+//! rising order. Only [`QuarterTable::reserve`] takes memory. A pair of a period that has a row costs
+//! one binary search, or none if that row was the last one changed. A row that comes or goes moves those
+//! behind it: none if periods come in the order of time.
 //!
-//! The crate's one contract: after any pairs were added and others removed, the rows are those of the
-//! pairs that are left, whatever the order, each with their number and their sum. [`laws`] says so of
+//! The crate's contract: after some pairs were added and others removed, in any order, the rows are
+//! those of the pairs that are left, each with their number and their sum. [`laws`] says so of
 //! [`QuarterTable::add`] and [`QuarterTable::remove`], and that the rows of a station's pairs are the
-//! quarters of its board.
+//! periods of its board.
 //!
 //! ```text
 //! let mut table = QuarterTable::reserve(rt.alloc(), 1)?;

@@ -1,4 +1,4 @@
-//! Where rows stand, and how they are changed there.
+//! The places of rows, and changes at them.
 ghost use Rattle.std.specs.Prelude.{◌≡◌, ◌<◌, ◌≤◌, ◌+◌, ◌-◌, IfOk, IfErr, length, get_or, slice_get, Some, slice_set};
 ghost use Rattle.std.specs.List.{insert, remove};
 ghost use Rattle.std.specs.Vec.{vec_len, vec_capacity};
@@ -8,7 +8,7 @@ ghost use Rattle.quarter_table.specs.Kept.{StandsAt, BelongsAt};
 use crate::row::QuarterRow;
 use ledger_model::Quarter;
 
-// How many rows are of earlier quarters.
+// How many rows are of earlier periods.
 fn earlier_rows(rows: &Vec<QuarterRow>, quarter: Quarter) -> usize
     requires { AreInOrder rows.now.items }
     ensures { result ≡ length (earlier quarter rows.now.items) }
@@ -27,7 +27,7 @@ fn earlier_rows(rows: &Vec<QuarterRow>, quarter: Quarter) -> usize
     low
 }
 
-// Where the row of a quarter stands, or else where it belongs.
+// The place of the row of a period; the error says where it belongs.
 fn place_of(rows: &Vec<QuarterRow>, quarter: Quarter) -> Result<usize, usize>
     requires { AreInOrder rows.now.items }
     ensures stands { IfOk result (λ at. StandsAt quarter rows.now.items at) }
@@ -41,7 +41,8 @@ fn place_of(rows: &Vec<QuarterRow>, quarter: Quarter) -> Result<usize, usize>
     }
 }
 
-/// Where the row of a quarter stands, or else where it belongs; the row at this place is looked at first.
+/// The place of the row of a period; the error says where it belongs. The call looks at the place `near`
+/// first.
 pub(crate) fn place_near(
     rows: &Vec<QuarterRow>,
     near: usize,

@@ -1,11 +1,11 @@
 use energy_flow::Flow;
 use ledger_model::Quarter;
 
-/// A quarter with the number of its pairs, of both directions together, and what their differences add
-/// up to in each direction. In a table the number is above 0.
+/// A settlement period with the number of its pairs in both directions together, and the sums of their
+/// differences in each. In a table the number is above 0.
 #[derive(Clone, Copy, Debug, PartialEq, Eq)]
 pub struct QuarterRow {
-    /// The quarter of the later reading of each pair.
+    /// The period of the later reading of each pair.
     pub quarter: Quarter,
     /// How many pairs there are.
     pub pairs: u32,

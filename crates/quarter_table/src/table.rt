@@ -11,14 +11,13 @@ use ledger_model::{Direction, Quarter};
 use std::alloc::{AllocError, Global};
 use std::marker::Model;
 
-/// The quarters that have pairs of readings, each with their number and their sums, of imports and of
-/// exports. Contracts see the rows by
-/// rising quarter, and how many there may be.
+/// The settlement periods that have pairs of readings, each with the number of its pairs and their
+/// sums, of import and of export. Contracts see the rows by rising period, and how many there may be.
 #[derive(Drop)]
 pub struct QuarterTable {
     rows: Vec<QuarterRow>,
     capacity: u32,
-    // Where the row stands that was changed last: it saves a search, and changes no answer.
+    // The place of the row that was changed last: it saves a search, and changes no answer.
     near: usize,
 }
 
@@ -34,7 +33,8 @@ impl Model for QuarterTable {
 }
 
 impl QuarterTable {
-    /// A table without rows, and room for so many.
+    /// A table without rows, with room for `capacity`; the error says that the allocator refused
+    /// memory.
     pub fn reserve(alloc: Global, capacity: u32) -> Result<Self, AllocError>
         ensures { IfOk result (λ t. t ≡ table [] capacity) }
     {
@@ -46,7 +46,7 @@ impl QuarterTable {
         })
     }
 
-    /// The rows, by rising quarter. Each has a pair.
+    /// The rows, by rising period. Each has a pair.
     pub fn rows(&self) -> &[QuarterRow]
         ensures rows { result.now ≡ self.now.rows }
         ensures rising { AreInOrder self.now.rows }
@@ -55,14 +55,14 @@ impl QuarterTable {
         self.rows.as_slice()
     }
 
-    /// How many rows more there may be.
+    /// How many more rows there is room for.
     pub fn room(&self) -> u32
         ensures { result + length self.now.rows ≡ self.now.capacity }
     {
         self.capacity - self.rows.len() as u32
     }
 
-    /// The row of a quarter; one of no pairs where the quarter has none.
+    /// The row of a period; a row without pairs if the period has none.
     pub fn row(&self, quarter: Quarter) -> QuarterRow
         ensures { result ≡ row_at quarter self.now.rows }
     {
@@ -77,15 +77,16 @@ impl QuarterTable {
         }
     }
 
-    /// Tells whether a quarter has a pair.
+    /// Returns whether a period has a pair.
     pub fn holds(&self, quarter: Quarter) -> bool
         ensures { IsTrue result ↔ (0 < (row_at quarter self.now.rows).pairs) }
     {
         self.row(quarter).pairs > 0
     }
 
-    /// Adds a pair of this direction and difference. The quarter has a row, or there is room for one;
-    /// the number and the sums stay in range. [`QuarterTable::row`] and [`QuarterTable::room`] tell.
+    /// Adds a pair of this direction and difference. The period must have a row, or there must be
+    /// room for one; the number and the sums must stay in range. [`QuarterTable::row`] and
+    /// [`QuarterTable::room`] show this.
     pub fn add(&mut self, quarter: Quarter, direction: Direction, flow: Flow)
         requires room { (row_at quarter self.old.rows).pairs ≡ 0 → length self.old.rows < self.old.capacity }
         requires number { (row_at quarter self.old.rows).pairs + 1 < 2 ^ 32 }
@@ -124,9 +125,9 @@ impl QuarterTable {
         }
     }
 
-    /// Takes a pair of this direction and difference out. The quarter has a row, and its sum of the
-    /// direction holds the difference; where no other pair is left, the sums are all of it.
-    /// [`QuarterTable::row`] tells.
+    /// Takes out a pair of this direction and difference. The period must have a row, and its sum
+    /// of the direction must include the difference; if no other pair is left, the sums must be
+    /// just that. [`QuarterTable::row`] shows this.
     pub fn remove(&mut self, quarter: Quarter, direction: Direction, flow: Flow)
         requires there { 0 < (row_at quarter self.old.rows).pairs }
         requires import { CanMinus (row_at quarter self.old.rows).flow (flows_toward direction flow).flow }
@@ -159,7 +160,7 @@ impl QuarterTable {
     }
 }
 
-// What a difference of this direction counts for among imports, and among exports.
+// What a difference of this direction adds to imports, and what to exports.
 fn parted(direction: Direction, flow: Flow) -> (Flow, Flow)
     ensures import { result.0 ≡ (flows_toward direction flow).flow }
     ensures export { result.1 ≡ (flows_toward direction flow).export }

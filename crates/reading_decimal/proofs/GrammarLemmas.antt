@@ -1,4 +1,4 @@
--- The scan of a token takes it whole exactly where the token is a number of RFC 8259.
+-- The scan of a token takes it whole exactly if the token is a number of RFC 8259.
 use Rattle.std.proofs.Common.{◌≡◌, ℕ, ◌+◌, ◌-◌, ◌<◌, ◌≤◌, Bool, true, false, cond, not, ◌&&◌, ◌||◌, eqb, ltb, List, [], ◌∷◌, ◌++◌, length, get_or, take, drop, slice_range, inl, inr, refl, sym, ap, ◌∙◌, subst, arith, true≢false, length-drop}
 use Rattle.std.proofs.Math.Bool.{or-true}
 use Rattle.std.proofs.Math.Nat.{sub-zero}
@@ -36,7 +36,7 @@ digits_len-all (x ∷ xs) h = rw (is_digit x h.0, digits_len-all xs h.1, one-add
 abbrev exponent_len : List ℕ → ℕ
 exponent_len rest = cond (has_exponent rest 0) (digits_end rest (exponent_start rest 0)) 0
 
--- an index of a text is one of what stands from another index on
+-- an index of a text is one of what is from another index on
 pub digits_end-drop : (bs : List ℕ) (b k : ℕ) → digits_end bs (b + k) ≡ b + digits_end (drop b bs) k
 digits_end-drop bs b k = rw (drop-drop) (omega arith)
 
@@ -115,7 +115,7 @@ exp_of (c ∷ cs) h =
       | inr e ↦ absurd (omega (arith, rw e at h))
     ]
 
--- what stands behind the whole part: a fraction and an exponent
+-- what is behind the whole part: a fraction and an exponent
 record IsEnding (text : List ℕ) : Type 0 where
   frac_part : List ℕ
   exp_part : List ℕ
@@ -217,7 +217,7 @@ exp_stops rest no_exp = (refl, refl)
 exp_stops rest (lower sign digits s n) = (refl, refl)
 exp_stops rest (upper sign digits s n) = (refl, refl)
 
--- what the scan tells of a text, from what is in it
+-- what the scan says about a text, from what is in it
 abbrev is_read : List ℕ → Bool → List ℕ → ℕ → ℕ → Bool
 is_read whole point fraction len all =
     ((ltb 0 (length whole) && (eqb (length whole) 1 || not (eqb (get_or whole 0 0) 48))) && (not point || ltb 0 (length fraction))) && eqb len all

@@ -17,14 +17,14 @@ digits_behind front digits all =
     let count : digits_end (front ++ digits) (length front) - length front ≡ length digits = omega (arith, ap digits_len there ∙ digits_len-all digits all) in
     ap (λ n. take n (drop (length front) (front ++ digits))) count ∙ ap (take (length digits)) there ∙ take_all (length digits) digits (omega arith)
 
--- the digits of the exponent that stands at a place, and whether its sign is `-`
+-- the digits of the exponent that is at a place, and whether its sign is `-`
 abbrev exponent_at : List ℕ → ℕ → List ℕ
 exponent_at u b = cond (has_exponent u b) (slice_range u (exponent_start u b) (digits_end u (exponent_start u b))) []
 
 abbrev negative_at : List ℕ → ℕ → Bool
 negative_at u b = has_exponent u b && eqb (get_or u (b + 1) 0) 45
 
--- what is read from a place on is read of what stands there
+-- what is read from a place on is read of what is there
 slice_behind : (u : List ℕ) (b i j : ℕ) → slice_range u (b + i) (b + j) ≡ slice_range (drop b u) i j
 slice_behind u b i j =
     let count : (b + j) - (b + i) ≡ j - i = omega arith in

@@ -1,4 +1,4 @@
--- A decimal of RFC 8259, and the whole milliwatt-hours that it stands for.
+-- A decimal of RFC 8259, and its whole milliwatt-hours.
 use Rattle.std.specs.Prelude.{ℕ, ◌+◌, ◌*◌, ◌/◌, ◌^◌, ◌≤◌, Bool, not, ◌&&◌, ◌||◌, List, length, drop, ◌==◌, nat_lt, nat_le, if◌then◌else◌, slice_index, ℤ, pos, negsuc, Option, Some, None, Result, Err}
 use Rattle.std.specs.Option.{ok_or}
 use Rattle.std.specs.Float.Numeral.{Parts, scan_numeral, numeral_digits, tens_up, tens_down}
@@ -21,7 +21,8 @@ unsigned token = drop (if is_negative token then 1 else 0) token
 abbrev pub parts : List ℕ → Parts
 parts token = scan_numeral (unsigned token)
 
--- A digit, and no 0 before another; a point has a digit behind it; nothing of the text's len bytes is left over.
+-- There is a digit, and no 0 in front of another; a point has a digit behind it; none of the text's len bytes is
+-- left over.
 abbrev pub is_decimal_of : Parts → ℕ → Bool
 is_decimal_of p len =
     ((nat_lt 0 (length p.whole) && (length p.whole == 1 || not (slice_index p.whole 0 == 48)))
@@ -62,7 +63,7 @@ pub record IsMwh (p : Parts) (multiplier : ℤ) (unit : EnergyUnit) (n : ℕ) : 
   pub within : n * 10 ^ tens_left p multiplier ≤ right_side p multiplier unit
   pub greatest : (m : ℕ) → m * 10 ^ tens_left p multiplier ≤ right_side p multiplier unit → m ≤ n
 
--- n, where a register can show it
+-- n, if a register can show it
 abbrev pub within_register : ℕ → Option ℕ
 within_register n = if nat_le n greatest_reading then Some n else None
 
@@ -74,7 +75,8 @@ longest_decimal = 36
 abbrev pub greatest_exponent : ℕ
 greatest_exponent = 99
 
--- A decimal has ASCII bytes alone, so that its characters are counted by its bytes. Minus zero is 0.
+-- The reading of a decimal. A decimal has only ASCII bytes, so its bytes count its characters. Minus
+-- zero is 0.
 abbrev pub mwh_reading : List ℕ → ℤ → EnergyUnit → Result ℕ DecimalFault
 mwh_reading token multiplier unit =
     if not (is_decimal token) then Err NotADecimal

@@ -7,7 +7,7 @@ pub data Minus : List ℕ → Type 0 where
   no_minus : Minus []
   minus : Minus (45 ∷ [])
 
--- `int`: digits, and 0 stands first only where it stands alone
+-- `int`: digits, and the first is 0 only if it is the only one
 pub record IsInt (text : List ℕ) : Type 0 where
   pub digits : IsNumeral 10 text
   pub zero_alone : slice_index text 0 ≡ 48 → length text ≡ 1
@@ -29,7 +29,7 @@ pub data Exp : List ℕ → Type 0 where
   lower : (sign digits : List ℕ) → Sign sign → IsNumeral 10 digits → Exp (101 ∷ (sign ++ digits))
   upper : (sign digits : List ℕ) → Sign sign → IsNumeral 10 digits → Exp (69 ∷ (sign ++ digits))
 
--- the whole text is the four parts, one behind the other
+-- the whole text is the four parts, one after the other
 pub record IsNumber (text : List ℕ) : Type 0 where
   pub minus_part : List ℕ
   pub int_part : List ℕ
@@ -41,7 +41,7 @@ pub record IsNumber (text : List ℕ) : Type 0 where
   pub is_exp : Exp exp_part
   pub is_text : text ≡ minus_part ++ (int_part ++ (frac_part ++ exp_part))
 
--- the digits of a `frac`, none where it is left out
+-- the digits of a `frac`, none if it is left out
 abbrev pub frac_digits : {text : List ℕ} → Frac text → List ℕ
 frac_digits no_frac = []
 frac_digits (frac digits _) = digits
@@ -52,7 +52,7 @@ is_negative_sign no_sign = false
 is_negative_sign plus = false
 is_negative_sign negative = true
 
--- the digits of an `exp`, none where it is left out
+-- the digits of an `exp`, none if it is left out
 abbrev pub exp_digits : {text : List ℕ} → Exp text → List ℕ
 exp_digits no_exp = []
 exp_digits (lower sign digits _ _) = digits

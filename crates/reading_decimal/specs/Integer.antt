@@ -7,6 +7,6 @@ use Rattle.std.specs.List.{list_all}
 abbrev pub without_minus : List ℕ → List ℕ
 without_minus token = drop (if slice_index token 0 == 45 then 1 else 0) token
 
--- Digits alone, but for a leading `-`.
+-- Only digits, with or without a leading `-`.
 abbrev pub is_integer : List ℕ → Bool
 is_integer token = nat_lt 0 (length (without_minus token)) && list_all is_ascii_digit (without_minus token)

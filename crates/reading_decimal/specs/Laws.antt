@@ -15,7 +15,7 @@ use Rattle.reading_decimal.specs.Quarter.{IsStart, quarter_start}
 abbrev pub RoundsDown : Type 0
 RoundsDown = (p : Parts) (multiplier : ℤ) (unit : EnergyUnit) → IsMwh p multiplier unit (mwh p multiplier unit)
 
--- for each period, and each of its quarters that moments fall into
+-- for each length of a settlement period, and each period of it that moments fall into
 abbrev pub StartsQuarters : Type 0
 StartsQuarters = (period number : ℕ) → IsPeriod period → IsQuarterOf period number → IsStart period number (quarter_start period number)
 

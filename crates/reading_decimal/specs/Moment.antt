@@ -5,12 +5,12 @@ use Rattle.ledger_model.specs.Moment.{is_moment}
 use Rattle.reading_decimal.specs.declared.moment.MomentFault.{MomentFault}
 use Rattle.reading_decimal.specs.declared.moment.MomentFault.TheVariants.{NotATime, MomentRange}
 
--- an instant in nanoseconds from 1970, where it is a moment
+-- an instant in nanoseconds since 1970, if it is a moment
 abbrev pub moment_at : ℤ → Result ℕ MomentFault
 moment_at (pos nanos) = if is_moment nanos then Ok nanos else Err MomentRange
 moment_at (negsuc n) = Err MomentRange
 
--- what a reader gave, as nanoseconds from 1970, where it is a moment
+-- what a reader gave, as nanoseconds since 1970, if it is a moment
 abbrev pub moment_within : Result ℤ Error → Result ℕ MomentFault
 moment_within (Err e) = Err NotATime
 moment_within (Ok nanos) = moment_at nanos

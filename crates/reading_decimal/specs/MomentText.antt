@@ -3,14 +3,16 @@ use Rattle.std.specs.Prelude.{ℕ, zero, suc, ◌+◌, ◌-◌, ◌*◌, ◌/◌
 use Rattle.jiff.specs.Words.{days_in_year, days_in_month}
 use Rattle.jiff_core.specs.declared.civil.datetime.DateTime.{DateTime}
 
--- The year that the given day from the start of a year on lies in, and the day's place in it from 0, where that year is one of the next few.
+-- The year of a day, and the day's place in it from 0. The day is given by its distance from the
+-- start of a year; its year must be one of the next few.
 unfoldable pub year_after : ℕ → ℕ → ℕ → ℕ × ℕ
 year_after zero year day = (year, day)
 year_after (suc few) year day =
     if nat_lt day (days_in_year (pos year)) then (year, day)
     else year_after few (year + 1) (day - days_in_year (pos year))
 
--- The month of a year that the given day from the start of a month on lies in, and the day's place in it from 0, where that month is one of the next few.
+-- The month of a day, and the day's place in it from 0. The day is given by its distance from the
+-- start of a month; its month must be one of the next few.
 unfoldable pub month_after : ℕ → ℕ → ℕ → ℕ → ℕ × ℕ
 month_after year zero month day = (month, day)
 month_after year (suc few) month day =

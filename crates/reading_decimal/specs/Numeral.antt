@@ -15,7 +15,7 @@ parts_of n = record {
   len = n.len;
 }
 
--- each part has digits alone, and so few that its number fits a u128
+-- each part has only digits, and so few that its number fits in a u128
 pub record IsShort (p : Parts) : Type 0 where
   pub whole_digits : AllDigits 10 p.whole
   pub fraction_digits : AllDigits 10 p.fraction

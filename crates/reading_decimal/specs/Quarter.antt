@@ -3,7 +3,7 @@ use Rattle.std.specs.Prelude.{◌≡◌, ℕ, ◌*◌, ◌≤◌}
 use Rattle.ledger_model.specs.Moment.{IsMoment}
 use Rattle.ledger_model.specs.Quarter.{quarter_at}
 
--- the first nanosecond from 1970 of a period of so many seconds, by its number
+-- the first nanosecond, counted from 1970, of the period of this number and of so many seconds
 abbrev pub quarter_start : ℕ → ℕ → ℕ
 quarter_start period number = number * period * 1_000_000_000
 

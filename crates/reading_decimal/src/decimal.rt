@@ -8,13 +8,14 @@ use crate::scale::scaled;
 /// The unit of a sampled value of energy (OCPP 2.0.1 Part 2, J02).
 #[derive(Clone, Copy, Debug, PartialEq, Eq)]
 pub enum Unit {
-    /// Watt-hours, the unit where a sampled value names none.
+    /// Watt-hours, the unit if a sampled value names none.
     Wh,
     /// Thousands of watt-hours.
     KWh,
 }
 
-/// Why a token is no reading of a register; the first that applies, in this order.
+/// Why a token is no reading of a register. The first fault that applies, in this order, is
+/// reported.
 #[derive(Clone, Copy, Debug, PartialEq, Eq)]
 pub enum DecimalFault {
     /// The token is no number of RFC 8259.
@@ -35,16 +36,17 @@ const MAX_CHARACTERS: usize = 36;
 // The greatest exponent that a decimal may write, whatever its sign.
 const MAX_EXPONENT: u128 = 99;
 
-/// Whether a multiplier, the power of ten that a unit of measure names, is from -12 to 12.
+/// Whether a multiplier is from -12 to 12. It is the power of ten that a unit of measure names
+/// (UnitOfMeasureType, OCPP 2.0.1 Part 2, J02).
 pub fn multiplier_ok(multiplier: i8) -> bool
     ensures { IsTrue result ↔ ((negsuc 11 ≤ℤ multiplier) × (multiplier ≤ℤ pos 12)) }
 {
     -12 <= multiplier && multiplier <= 12
 }
 
-/// The whole milliwatt-hours that a decimal of RFC 8259, in a unit and times the power of ten that
-/// the multiplier names, stands for, rounded down: 0 to 10^13. Minus zero is 0. The multiplier is from
-/// -12 to 12 (test: `multiplier_ok`).
+/// The milliwatt-hours of a decimal of RFC 8259 in a unit, times the power of ten that the multiplier
+/// names; rounded down to a whole number, 0 to 10^13. Minus zero is 0. The multiplier must be from -12
+/// to 12 (`multiplier_ok` tests it). The error is the first [`DecimalFault`] that applies.
 pub fn mwh_of(token: &str, multiplier: i8, unit: Unit) -> Result<u64, DecimalFault>
     requires low { negsuc 11 ≤ℤ multiplier }
     requires high { multiplier ≤ℤ pos 12 }
@@ -115,7 +117,7 @@ fn tenths_of(multiplier: i8) -> u32
     }
 }
 
-// The tens in the milliwatt-hours of one unit.
+// How many powers of ten turn one unit into milliwatt-hours.
 fn tens_of_unit(unit: Unit) -> u32
     ensures value { spec.watt_hours unit * 1000 ≡ 10 ^ result }
     ensures few { result ≤ 6 }

@@ -4,8 +4,8 @@ ghost use Rattle.std.specs.Char.{is_ascii_digit};
 ghost use Rattle.std.specs.List.{list_all};
 ghost use Rattle.reading_decimal.specs.Integer as spec;
 
-/// Whether a number of RFC 8259 is an integer, without a point and without an exponent: digits alone,
-/// but for a leading minus. `1.0` and `1e0` are none.
+/// Whether a number of RFC 8259 is an integer without a point and without an exponent: only digits,
+/// with or without a leading minus. `1.0` and `1e0` are none.
 pub fn is_integer(token: &str) -> bool
     ensures { result ≡ spec.is_integer token.now }
 {

@@ -1,8 +1,8 @@
 // What the definitions of this crate mean together, each as the contract of a call without a body.
 ghost use Rattle.reading_decimal.specs.Laws.{ClosesQuarters, ReadsBack, ReadsNumbers, ReadsParts, RoundsDown, StartsQuarters};
 
-/// The milliwatt-hours of a decimal are the greatest whole number that is not above its value, with
-/// both sides times the power of ten that makes them whole.
+/// The milliwatt-hours of a decimal are the greatest whole number that is not above its value.
+/// (Both sides are multiplied by the power of ten that makes them whole.)
 pub fn rounds_down()
     ensures { RoundsDown }
 {}
@@ -24,13 +24,13 @@ pub fn reads_back()
     ensures { ReadsBack }
 {}
 
-/// A token is a decimal exactly where it is a number by the grammar of RFC 8259.
+/// A token is a decimal exactly if it is a number by the grammar of RFC 8259.
 pub fn reads_numbers()
     ensures { ReadsNumbers }
 {}
 
-/// The digits before and behind the point and the exponent with its sign, from which the value is
-/// computed, are those that the grammar of RFC 8259 writes there.
+/// The value is computed from the digits before and behind the point and the exponent with its
+/// sign; these are those that the grammar of RFC 8259 has there.
 pub fn reads_parts()
     ensures { ReadsParts }
 {}

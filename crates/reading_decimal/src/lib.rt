@@ -3,11 +3,11 @@
 //! A reading of an energy register comes as a decimal of RFC 8259 with a [`Unit`] and a multiplier, a
 //! power of ten (SampledValueType, OCPP 2.0.1 Part 2, J02). [`mwh_of`] turns the three into whole
 //! milliwatt-hours, without a float and without rounding to nearest. An instant comes as a time with
-//! its offset (RFC 3339); [`moment_of`] reads it and [`moment_text`] writes it. [`quarter`] tells the
+//! its offset (RFC 3339); [`moment_of`] reads it and [`moment_text`] writes it. [`quarter`] gives the
 //! settlement period that a moment falls into, by periods of one of four lengths, [`settled_quarter`] the one
 //! in which a difference counts that ends there, and [`quarter_start`] where a period begins. [`is_integer`] tells the numbers that are integers.
 //!
-//! The crate's one contract: each call gives the very value, or the very fault, that a short
+//! The crate's contract: each call gives exactly the value, or exactly the fault, that a short
 //! definition gives for its text. The laws say what the definitions mean: a decimal is what the
 //! grammar of RFC 8259 calls a number ([`reads_numbers`]), the milliwatt-hours are the greatest whole
 //! number that is not above the value ([`rounds_down`]), a moment's text reads back as its whole

@@ -6,7 +6,7 @@ use jiff::Timestamp;
 use ledger_model::Moment;
 use std::str::FromStr;
 
-/// Why a text is no moment; the first that applies, in this order.
+/// Why a text is no moment. The first fault that applies, in this order, is reported.
 #[derive(Clone, Copy, Debug, PartialEq, Eq)]
 pub enum MomentFault {
     /// The text is no instant with its offset.
@@ -15,9 +15,10 @@ pub enum MomentFault {
     MomentRange,
 }
 
-/// The instant of a time with its offset, as RFC 3339 writes it. What `jiff` reads as a `Timestamp`
-/// is read, so the wider forms of ISO 8601 too; an annotation in brackets doesn't move the instant,
-/// and second 60 reads as 59.
+/// The instant of a time with its offset, as RFC 3339 writes it. It reads what `jiff` reads as a
+/// `Timestamp`, so also wider forms of ISO 8601. An annotation in brackets doesn't move the
+/// instant, and second 60 is read as 59. Errors: `NotATime`, and `MomentRange` outside the years
+/// 2000 to 2099.
 pub fn moment_of(text: &str) -> Result<Moment, MomentFault>
     ensures { result ≡ spec.moment_reading text.now }
 {

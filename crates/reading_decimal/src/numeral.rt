@@ -3,7 +3,7 @@ ghost use Rattle.std.specs.Prelude.{◌≡◌, ◌+◌, ◌≤◌, ◌<◌, ◌*
 ghost use Rattle.std.specs.Float.Numeral.{scan_numeral, has_exponent, exponent_start, digits_end, numeral_digits, tens_up, tens_down};
 ghost use Rattle.std.specs.Str.Parse.{AllDigits, digits_value, digits_value_after};
 
-// The longest run of digits, point and exponent at the front of a text.
+/// The longest run of digits, point and exponent at the front of a text, in its parts.
 #[derive(Drop)]
 pub struct Numeral<'a> {
     pub whole: &'a [u8],
@@ -18,6 +18,7 @@ impl<'a> Numeral<'a> {
     ghost use Rattle.reading_decimal.specs.Numeral.{parts_of, IsShort};
     ghost use Rattle.reading_decimal.specs.Decimal.{is_decimal_of};
 
+    /// The numeral at the front of these bytes; its digits may be none.
     pub fn scan(bytes: &'a [u8]) -> Numeral<'a>
         ensures { parts_of result ≡ scan_numeral bytes.now }
     {
@@ -30,7 +31,7 @@ impl<'a> Numeral<'a> {
         Numeral::with_exponent(bytes, whole, true, &bytes[whole_end + 1..end], end)
     }
 
-    // The numeral whose exponent, if it has one, begins at an index.
+    // The numeral with an exponent, if it has one, that begins at an index.
     fn with_exponent(
         bytes: &'a [u8],
         whole: &'a [u8],
@@ -74,7 +75,7 @@ impl<'a> Numeral<'a> {
         }
     }
 
-    // Whether the whole text, of a length in bytes, is a number of RFC 8259.
+    /// Whether the whole text, of a length in bytes, is a number of RFC 8259, its sign apart.
     pub fn is_decimal(&self, len: usize) -> bool
         ensures { result ≡ is_decimal_of (parts_of self.now) len }
     {
@@ -83,6 +84,7 @@ impl<'a> Numeral<'a> {
         whole && fraction && self.len == len
     }
 
+    /// The number in the exponent, without its sign; 0 if there is no exponent.
     pub fn exponent_value(&self) -> u128
         requires { IsShort (parts_of self.now) }
         ensures { result ≡ digits_value 10 self.now.exponent.now }
@@ -90,7 +92,7 @@ impl<'a> Numeral<'a> {
         value_after(0, self.exponent)
     }
 
-    // The digits before and after the point as one number.
+    /// The digits before and after the point, read as one number.
     pub fn digits_value(&self) -> u128
         requires { IsShort (parts_of self.now) }
         ensures { result ≡ numeral_digits (parts_of self.now) }
@@ -98,6 +100,7 @@ impl<'a> Numeral<'a> {
         value_after(value_after(0, self.whole), self.fraction)
     }
 
+    /// The power of ten that the numeral multiplies its digits by, given its exponent without sign.
     pub fn tens_up(&self, exponent: u32) -> u32
         requires { exponent ≡ digits_value 10 self.now.exponent.now }
         ensures { result ≡ tens_up (parts_of self.now) }
@@ -105,6 +108,7 @@ impl<'a> Numeral<'a> {
         if self.exponent_negative { 0 } else { exponent }
     }
 
+    /// The power of ten that the numeral divides its digits by, given its exponent without sign, at most 99.
     pub fn tens_down(&self, exponent: u32) -> u32
         requires value { exponent ≡ digits_value 10 self.now.exponent.now }
         requires few { exponent ≤ 99 }
@@ -151,7 +155,7 @@ fn exponent_start(bytes: &[u8], at: usize) -> usize
     }
 }
 
-// Whether an `e` or `E` stands at an index, with a digit after it or after its sign.
+// Whether an `e` or `E` is at an index, with a digit after it or after its sign.
 fn has_exponent(bytes: &[u8], at: usize) -> bool
     requires { at ≤ length bytes.now }
     ensures value { result ≡ has_exponent bytes.now at }
@@ -163,7 +167,7 @@ fn has_exponent(bytes: &[u8], at: usize) -> bool
     }
 }
 
-// The number that the digits write when they follow those of another.
+// The number that the digits make when they follow those of another number.
 fn value_after(front: u128, digits: &[u8]) -> u128
     requires all { AllDigits 10 digits.now }
     requires fits { (front + 1) * 10 ^ length digits.now ≤ 2 ^ 128 }

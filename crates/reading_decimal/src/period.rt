@@ -9,8 +9,8 @@ use ledger_model::{FIRST_MOMENT, MOMENTS_END, Moment, Period, Periods, Quarter, 
 
 const NANOS_PER_SECOND: u64 = 1_000_000_000;
 
-/// The quarter that a moment falls into, by periods of this length, counted from
-/// 1970-01-01T00:00:00Z.
+/// The settlement period that a moment falls into, by periods of this length: its number, counted
+/// from 1970-01-01T00:00:00Z.
 pub fn quarter(moment: Moment, period: Period) -> Quarter
     ensures value { result ≡ quarter_at period moment }
     ensures own { IsQuarterOf period result }
@@ -41,7 +41,8 @@ fn moment_before(moment: Moment) -> Moment
     }
 }
 
-/// Tells whether a quarter is one of this period's: whether it begins at a moment.
+/// Returns whether the period of this number, by this length, begins at a moment of the years 2000
+/// to 2099.
 pub fn is_of(quarter: Quarter, period: Period) -> bool
     ensures { IsTrue result ↔ IsQuarterOf period quarter }
 {
@@ -49,7 +50,7 @@ pub fn is_of(quarter: Quarter, period: Period) -> bool
     (FIRST_MOMENT / NANOS_PER_SECOND..MOMENTS_END / NANOS_PER_SECOND).contains(&seconds)
 }
 
-/// The first moment of a quarter of this period.
+/// The first moment of a settlement period of this length. `is_of` tests that there is one.
 pub fn quarter_start(quarter: Quarter, period: Period) -> Moment
     requires { IsQuarterOf period quarter }
     ensures { result ≡ quarter_start period quarter }

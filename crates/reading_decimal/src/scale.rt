@@ -5,7 +5,7 @@ ghost use Rattle.reading_decimal.specs.Decimal.{within_register};
 
 use ledger_model::GREATEST_READING;
 
-// `n * 10^up / 10^down`, rounded down, where a register can show it.
+/// `n * 10^up / 10^down`, rounded down; `None` if it is more than a register can show.
 pub fn scaled(n: u128, up: u32, down: u32) -> Option<u64>
     ensures { result ≡ within_register (n * 10 ^ up / 10 ^ down) }
 {

@@ -23,7 +23,7 @@ pub ranked : (es : List E) → AreRising es → AreRising (map with_rank es)
 ranked [] rising = tt
 ranked (e ∷ es) rising = (behind_above e.0 es rising.0, ranked es rising.1)
 
--- An entry is put in where its rank stands.
+-- An entry is put in at the place of its rank.
 pub put_in : (r : ℕ) (f : Filed MeterReading) (es : List E) → map with_rank (below r es ++ (r, f) ∷ from r es) ≡ put_in_time (λ (t : Timed). t.0) (r, f.value) (map with_rank es)
 put_in r f [] = refl
 put_in r f (e ∷ es) =
@@ -50,7 +50,7 @@ none_behind : (r n : ℕ) (es : List E) → r ≤ n → AreAbove n es → has_ra
 none_behind r n [] le above = refl
 none_behind r n (e ∷ es) le above = or_from (eqb e.0 r) (has_rank r (map with_rank es)) (ne_eqb e.0 r (λ same. absurd (let up = above.0 in omega (arith, le, same, up)))) (none_behind r n es le above.1)
 
--- Something is filed under a rank exactly where a reading has it.
+-- Something is filed under a rank exactly if a reading has it.
 pub filed_rank : (r : ℕ) (es : List E) → AreRising es → is_some (filed_at r (from r es)) ≡ has_rank r (map with_rank es)
 filed_rank r [] rising = refl
 filed_rank r (e ∷ es) rising = ⊎_elim
@@ -150,7 +150,7 @@ first_behind r (e ∷ es) rising =
     strictly : {m n : ℕ} → m ≤ n → (n ≡ m → ⊥) → m < n
     strictly {m} {n} le apart = ⊎_elim (λ (same : n ≡ m). absurd (apart same)) (λ (other : n ≡ m → ⊥). omega (arith, le, other)) (cases_eq n m)
 
--- Nothing stands in front of a rank where all are from it on.
+-- Nothing is in front of a rank where all are from it on.
 no_front : (r n o : ℕ) (es : List E) → r ≤ n → AreAbove n es → in_front r (owned o (map with_rank es)) ≡ []
 no_front r n o [] le above = refl
 no_front r n o (e ∷ es) le above = skip (eqb (owner_of e.0) o) ∙ no_front r n o es le above.1
@@ -163,7 +163,7 @@ in_front_on : (r : ℕ) (b : Bool) (e : Timed) (ts : List Timed) → e.0 < r →
 in_front_on r true e ts lt = ap (λ b. cond b (e ∷ in_front r ts) (in_front r ts)) (lt-ltb e.0 r lt)
 in_front_on r false e ts lt = refl
 
--- A last entry in front of a rank is below it, and above what stands in front of all.
+-- A last entry in front of a rank is below it, and above what is in front of all.
 record IsLastBelow (r n : ℕ) (l : E) : Type 0 where
   under : l.0 < r
   over : n < l.0

@@ -1,4 +1,5 @@
--- Where a reading stands in an index: by its owner, then by its moment, then by the sequence number of its event, then by its place there.
+-- The order of readings in an index: by owner, then by moment, then by the sequence number of their
+-- event, then by their place in it.
 use Rattle.std.specs.Prelude.{ℕ, ◌+◌, ◌*◌, ◌/◌, ◌%◌, ◌^◌}
 use Rattle.ledger_model.specs.declared.reading.Direction.{Direction}
 use Rattle.ledger_model.specs.declared.reading.Direction.TheVariants.{Import, Export}

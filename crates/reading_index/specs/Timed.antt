@@ -16,27 +16,27 @@ pub record TimedReadings : Type 0 where
   pub entries : List Timed
   pub capacity : ℕ
 
--- The readings of an owner.
+-- The readings of one owner.
 abbrev pub owned : ℕ → List Timed → List Timed
 owned owner es = filter (λ e. owner_of e.0 == owner) es
 
--- Those in front of a rank.
+-- The readings in front of a rank.
 abbrev pub in_front : ℕ → List Timed → List Timed
 in_front r es = filter (λ e. nat_lt e.0 r) es
 
--- Those from a rank on.
+-- The readings from a rank on.
 abbrev pub from_on : ℕ → List Timed → List Timed
 from_on r es = filter (λ e. not (nat_lt e.0 r)) es
 
--- Those of another rank.
+-- The readings that don't have this rank.
 abbrev pub without : ℕ → List Timed → List Timed
 without r es = filter (λ e. not (e.0 == r)) es
 
--- Tells whether a reading has this rank.
+-- Whether a reading has this rank.
 abbrev pub has_rank : ℕ → List Timed → Bool
 has_rank r es = list_any (λ e. e.0 == r) es
 
--- The reading, where its owner is this one.
+-- The reading, if this is its owner.
 abbrev pub only_owned : ℕ → Option Timed → Option Timed
 only_owned owner None = None
 only_owned owner (Some e) = if owner_of e.0 == owner then Some e else None

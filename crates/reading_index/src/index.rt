@@ -9,11 +9,11 @@ use ledger_model::Reading;
 use std::alloc::{AllocError, Global};
 use std::marker::Model;
 
-/// Readings by owner and moment. Contracts see them by rising rank, and how many there may be.
+/// Readings by owner and moment. Contracts see them by rising rank, and how many it may hold.
 #[derive(Drop)]
 pub struct ReadingIndex {
     index: KeyIndex<MomentKey, Reading>,
-    // Where the reading that was put in last stands: it saves searches, and changes no answer.
+    // The place of the reading that was put in last: it saves searches, and changes no answer.
     near: KeyPlace,
 }
 
@@ -43,7 +43,8 @@ fn owned_by(owner: u128, entry: Option<Entry<MomentKey, Reading>>) -> Option<(Mo
 }
 
 impl ReadingIndex {
-    /// An index of no readings, with room for so many.
+    /// An empty index with room for `capacity` readings; the error says that the allocator refused
+    /// memory.
     pub fn open(alloc: Global, capacity: u32) -> Result<Self, AllocError>
         ensures entries { IfOk result (λ i. i.entries ≡ []) }
         ensures capacity { IfOk result (λ i. i.capacity ≡ capacity) }
@@ -78,8 +79,8 @@ impl ReadingIndex {
         self.index.get(place, key).is_some()
     }
 
-    /// The readings of the key's owner on either side of the key: the last one in front of it, and the
-    /// first one from it on.
+    /// The readings of the key's owner on either side of the key: the last in front of it, and the
+    /// first from it on.
     pub fn around(
         &self,
         key: MomentKey,
@@ -94,7 +95,8 @@ impl ReadingIndex {
         (before, behind)
     }
 
-    /// Puts a reading in at the place of its key, of which there is none. There is room.
+    /// Puts in a reading under its key. The index must have no reading of this key, and must have
+    /// room.
     pub fn put(&mut self, key: MomentKey, reading: Reading)
         requires absent { has_rank key self.old.entries ≡ false }
         requires room { length self.old.entries < self.old.capacity }
@@ -110,7 +112,7 @@ impl ReadingIndex {
         self.index.insert(place, key, filed);
     }
 
-    /// Takes out the reading of a key; nothing where there is none.
+    /// Takes out the reading of a key; does nothing if there is none.
     pub fn take(&mut self, key: MomentKey)
         ensures entries { self.new.entries ≡ without key self.old.entries }
         ensures capacity { self.new.capacity ≡ self.old.capacity }

@@ -5,9 +5,9 @@ use key_index::Ranked;
 use ledger_model::{Direction, Moment};
 use std::marker::Model;
 
-/// Where a reading stands: by the slot of its transaction and its direction, then by its moment, then by
-/// the sequence number of its event, then by its place among the event's readings of that direction.
-/// Contracts see a key as its rank.
+/// The place of a reading among all: by the slot of its transaction and its direction, then by its
+/// moment, then by the sequence number of its event, then by its place among the event's readings of
+/// that direction. Contracts see a key as its rank.
 #[derive(Clone, Copy, Debug, PartialEq, Eq)]
 pub struct MomentKey {
     joined: u128,
@@ -23,7 +23,7 @@ impl Model for MomentKey {
     ghost inverse = { λ n. record { joined = n } };
 }
 
-// The readings of a transaction's slot and a direction have one owner.
+// The owner of the readings of a transaction, by its slot, in one direction.
 fn owner_at(slot: u32, direction: Direction) -> u64
     ensures value { result ≡ owner slot direction }
     ensures small { result < 2 ^ 33 }
@@ -36,7 +36,7 @@ fn owner_at(slot: u32, direction: Direction) -> u64
 
 impl MomentKey {
     /// The key of a reading: the slot of its transaction, below 2^24, and its direction; its moment; the
-    /// sequence number of its event, below 2^31; and its place there, below 1,024.
+    /// sequence number of its event, below 2^31; and its place in that event, below 1,024.
     pub fn new(slot: u32, direction: Direction, moment: Moment, number: u32, place: u16) -> Self
         requires slot { slot < 2 ^ 24 }
         requires number { number < 2 ^ 31 }
@@ -58,7 +58,7 @@ impl MomentKey {
         self.joined / (1 << 10) / (1 << 31) / (1 << 62)
     }
 
-    /// Tells whether a key stands in front of another.
+    /// Returns whether a key comes before another.
     pub fn is_in_front(self, other: Self) -> bool
         ensures { result ≡ nat_lt self other }
     {

@@ -76,7 +76,7 @@ readings_cut d es front back e is =
     ∙ flat_map-append (λ (x : Entry). toward d x.1.event.readings) (own front) (own (e ∷ back))
     ∙ ap (λ b. told (own front) ++ told (cond b (e ∷ own back) (own back))) (same_text e.0.tx)
 
--- What makes a reading a repeat, by the readings of its moment alone.
+-- What makes a reading a repeat, only by the readings of its moment.
 record Repeats (r : MeterReading) (rs : List MeterReading) : Type 0 where
   there : of_moment taken_when r.moment rs ≡ [] → ⊥
   level : AllByRecursion (λ s. s.mwh ≡ r.mwh) (of_moment taken_when r.moment rs)
@@ -225,7 +225,7 @@ repeat_stays es more key r s one repeat other =
     subst (λ rs. IsRepeat s (in_time taken_when rs)) (sym same) other)
     (same_or_apart d r.direction)
 
--- Readings more in one live event, each of which repeats others, change no energy.
+-- More readings in one live event change no energy if each repeats others.
 pub readings_more : (d : Direction) (rs : List MeterReading) (es more : List Entry) (key : KeyName) → AreReadingsMore es more key rs → AreRepeats key.tx es rs → HaveSameEnergies d es more
 readings_more d [] es more key m repeats =
     same_live d es more (m.more_live ∙ ap (λ rs. m.front ++ live_under key (record m.event { readings = rs }) ∷ m.back) (sym m.readings) ∙ sym m.less_live)
@@ -312,7 +312,7 @@ module _ (es more : List Entry) (e : Entry) (m : IsOneMoreOfRepeats es more e) w
     station = same_energy _ _ (sums_stay d (λ p. (difference p).up)) (sums_stay d (λ p. (difference p).down));
   }
 
-  -- Then its readings are put in, all of which repeat others.
+  -- Then its readings are put in; all repeat others.
   is_live : e ≡ live_under e.0 e.1.event
   is_live =
       let all = are_live more (m.front ++ e ∷ m.back) m.one_more.more_live in
@@ -336,7 +336,7 @@ module _ (es more : List Entry) (e : Entry) (m : IsOneMoreOfRepeats es more e) w
   its_repeats = All-weaker (λ r. IsRepeat r (readings_by Moment r.direction e.0.tx es)) (λ r. IsRepeat r (readings_by Moment r.direction e.0.tx bare))
       (λ r repeat. subst (λ rs. IsRepeat r (in_time taken_when rs)) (sym (readings_stay r.direction e.0.tx)) repeat) e.1.event.readings m.repeats
 
-  -- One live event more, each of whose readings repeats others, changes no sum.
+  -- One more live event changes no sum if each of its readings repeats others.
   pub event_more : (d : Direction) → HaveSameSums d es more
   event_more d =
       let one = bare_sums d in let other = readings_more d e.1.event.readings bare more e.0 its_readings its_repeats in

@@ -12,11 +12,12 @@ use Rattle.ledger_model.specs.Event.{EventContent, MeterReading}
 use Rattle.ledger_model.specs.Key.{key_cmp, KeyName}
 use Rattle.ledger_model.specs.ReadingOrder.{IsRepeat}
 
--- Each of these readings repeats live readings of the transaction in its direction: some have its moment, and all that have it show its level.
+-- Each of these readings repeats live readings of the transaction in its direction: some have its moment, and all that
+-- have it show its level.
 abbrev pub AreRepeats : List ℕ → List Entry → List MeterReading → Type 0
 AreRepeats tx es rs = All (λ r. IsRepeat r (readings_by Moment r.direction tx es)) rs
 
--- The second entries have one live event more, and each of its readings repeats others of its transaction.
+-- The second entries have one more live event, and each of its readings repeats others of its transaction.
 pub record IsOneMoreOfRepeats (es more : List Entry) (e : Entry) : Type 0 where
   pub front : List Entry
   pub back : List Entry
@@ -29,7 +30,7 @@ pub record BringsRepeats (es : List Entry) (key : KeyName) (event : EventContent
   pub new : find key_cmp key es ≡ None
   pub repeats : AreRepeats key.tx es event.readings
 
--- The second entries have these readings more, in a row in one live event.
+-- The second entries have these additional readings, in a row in one live event.
 pub record AreReadingsMore (es more : List Entry) (key : KeyName) (rs : List MeterReading) : Type 0 where
   pub front : List Entry
   pub back : List Entry
@@ -40,7 +41,8 @@ pub record AreReadingsMore (es more : List Entry) (key : KeyName) (rs : List Met
   pub less_live : live es ≡ front ++ (key, record { event = event; voided = false }) ∷ back
   pub more_live : live more ≡ front ++ (key, record { event = record event { readings = first ++ (rs ++ last) }; voided = false }) ∷ back
 
--- The second entries have the energies by moment of the first: of each transaction and each quarter, and of the station.
+-- The second entries have the same energies by moment as the first: of each transaction and each period, and of the
+-- station.
 pub record HaveSameSums (d : Direction) (es more : List Entry) : Type 0 where
   pub transaction : (tx : List ℕ) → energy_of_by Moment d tx more ≡ energy_of_by Moment d tx es
   pub quarter : (period : Periods) (q : ℕ) → energy_in_by Moment d period q more ≡ energy_in_by Moment d period q es

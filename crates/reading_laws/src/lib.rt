@@ -1,11 +1,12 @@
 //! Laws about the readings of a transaction, in the subject's own words.
 //!
-//! A station often lists readings again: an Ended event repeats what the transaction's earlier events
-//! carried (TransactionEventRequest, OCPP 2.0.1 Part 2, block E). The definitions of the ledger say what
-//! energy is; the laws here say that such repeats change none of it, and what a run of readings is.
+//! A station often lists readings again: an Ended event repeats the readings of the transaction's
+//! earlier events (TransactionEventRequest, OCPP 2.0.1 Part 2, block E). The definitions of the ledger
+//! say what energy is; the laws here say that such repeats change no energy, and they say what a run of
+//! readings is.
 //!
-//! The crate's one contract: each function has no parameters and nothing to do. What it ensures holds of
-//! all stored events and all readings. No crate needs these functions to run.
+//! The crate's contract: each function has no parameters and does nothing. What it ensures holds for all
+//! stored events and all readings. No crate needs these functions to run.
 #![tactic(auto)]
 
 mod repeats;

@@ -12,12 +12,12 @@ ghost use Rattle.ledger_model.specs.OrderLaws.{HaveSameEnergies};
 ghost use Rattle.reading_laws.specs.RepeatExamples.{end_with_repeats, ended_with_repeats};
 ghost use Rattle.reading_laws.specs.Repeats.{AreReadingsMore, AreRepeats, BringsRepeats, HaveSameSums, IsOneMoreOfRepeats};
 
-/// An event that lists readings of its transaction again changes no energy by moment: neither a
-/// transaction's, nor a quarter's, nor the station's, imported or exported. It may list any number of
+/// An event that lists readings of its transaction again changes no energy by moment: not a
+/// transaction's, a period's or the station's, imported or exported. It may list any number of
 /// readings in any order. Each must have the moment of some live readings of its direction, and all of
 /// these must show its level. The same holds when such an event is delivered under a new key. An EVSE
-/// keeps its energy where the transaction keeps its EVSE, and where a live event gets such readings. A
-/// quarter of zero energy may come to be shown. The last clause has an example: an end that lists two
+/// keeps its energy if the transaction keeps its EVSE, and if a live event gets such readings. A board
+/// may come to show a period of zero energy. The last clause has an example: an end that lists two
 /// readings again.
 pub fn repeated_readings_change_no_sum()
     ensures one_event_more { (d : Direction) (es more : List Entry) (e : Entry) → IsOneMoreOfRepeats es more e → HaveSameSums d es more }

@@ -1,4 +1,4 @@
-//! Laws of the runs that an event's readings stand in.
+//! Laws of the runs that an event's readings form.
 ghost use Rattle.std.specs.Prelude.{◌≡◌, Bool, List, length};
 ghost use Rattle.ledger_model.specs.InTime.{runs};
 ghost use Rattle.ledger_model.specs.ReadingOrder.{Numbered};

@@ -8,7 +8,7 @@ use Rattle.std.proofs.lemmas.Option.{get_or_from_slice_get, slice_get_read}
 use Rattle.station_cell.specs.Cell.{Held}
 use Rattle.running_desk.specs.Pooled.{IsTaken, Pooled}
 
--- the pass that lay at the place that was found
+-- the pass at the place that was found
 pub taken : (before now : Pooled) (o : Option ℕ) (place : ℕ) (p : Held) → Some place ≡ o → place < length before.passes → p ≡ get_or before.passes place p → now.passes ≡ remove before.passes place
     → now.room ≡ before.room + 1 → IsTaken o before (Some p) now
 taken before now o place p at within value items more =

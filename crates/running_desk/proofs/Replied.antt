@@ -1,4 +1,4 @@
--- An operator's answers, from what the desk tells.
+-- An operator's answers, from the desk's answers.
 use Rattle.std.proofs.Common.{◌≡◌, ℕ, zero, Bool, true, false, ◌⊎◌, inl, inr, List, [], ◌++◌, Option, Some, Result, Ok, Err, refl, ap, sym, subst, ◌∙◌, codes, slice_get}
 use Rattle.std.specs.Prelude.{OnOk, unwrap_or}
 use Rattle.board_report.specs.Texts.{total_text}
@@ -60,7 +60,7 @@ stepped at p command (Refused NoSuchEvent) p' told h = inl (step_of at p command
 stepped at p command (Refused AlreadyVoided) p' told h = inl (step_of at p command (Refused AlreadyVoided) p' told h)
 stepped at p command (Refused NotVoided) p' told h = inl (step_of at p command (Refused NotVoided) p' told h)
 
--- totals of a station are those that a replay tells
+-- totals of a station are those that a replay prints
 pub totals_told : (asked : Asked) (places : List StationPlace) (name : List ℕ) (f : figures.Figures) (e x : Energy) → AreTotalsOfName places name f e x → AreTotals places name asked (totals_line asked f e x)
 unfolding stands_with
 totals_told Figures places name f e x h =

@@ -21,7 +21,7 @@ use Rattle.running_desk.specs.Ordered.{AreAnswered, Comes, before_close, ends, i
 use Rattle.running_desk.specs.Replied.{IsReplyOrMemory}
 use Rattle.running_desk.specs.Replies.{AddsReplies, AddsReply, Replied, if_seen}
 
--- of the lines that came first, those that were answered stand in front of what is answered of those that come now
+-- of the lines that came first, those that were answered are in front of what is answered of those that come now
 abbrev pub Stands : Option (List Line) → Option (List Line) → List Line → Type 0
 Stands None now done = ⊤
 Stands (Some all) None done = ⊥
@@ -92,7 +92,7 @@ module _ {M : Type 0} (gives : ℕ → StationPlace → Command → Answer → O
         all = so_far.all;
       }
 
-  -- one line more stands in front of what comes next
+  -- one more line is in front of what comes next
   stands_more : (line : Line) (first now next : Option (List Line)) (done : List Line) → is_close line ≡ false → Stands first now done
       → Comes now kind.Line line next → Stands first next (done ++ line ∷ [])
   stands_more line None now next done goes s comes = tt
@@ -129,7 +129,7 @@ module _ {M : Type 0} (gives : ℕ → StationPlace → Command → Answer → O
   goes_on kind.LastLine line first now next w0 w1 w2 handed more seen goes so_far comes a kept = answered line first now next w0 w1 w2 handed more seen goes so_far (as_line line now next comes) a kept
   goes_on kind.End line first now next w0 w1 w2 handed more seen goes so_far comes a kept = cc
 
-  -- behind the last line no line stands
+  -- no line is behind the last line
   none_behind : (line : Line) (first now next : Option (List Line)) (before done : List Line) → Stands first now before → Stands first next done → Comes now kind.LastLine line next → AreAnswered first done
   none_behind line None now next before done s0 s comes = tt
   none_behind line (Some all) None next before done s0 s comes = absurd s0

@@ -1,11 +1,11 @@
--- An operator's lines, as they are read.
+-- The lines of an operator, as they are read.
 use Rattle.std.specs.Prelude.{ℕ, List, Option}
 use Rattle.script_lines.specs.Lines.{Line}
 use Rattle.script_lines.specs.Reading.{line_of}
 use Rattle.running_desk.specs.declared.orders.Orders.{Orders}
 use Rattle.running_desk.specs.Ordered.{lines_in}
 
--- The lines of what is left of the reader.
+-- The lines of the reader's remaining bytes.
 abbrev pub orders_coming : {I S R : Type 0} → (I → Option (List ℕ)) → Orders I S R → Option (List Line)
 orders_coming remaining o = lines_in (remaining o.reader.input.now)
 

@@ -1,4 +1,4 @@
--- What an operator's line is answered: what a replay answers to the same line once it has the desk's stations.
+-- The answer to an operator's line: a replay's answer to the same line when it has the desk's stations.
 use Rattle.std.specs.Prelude.{◌≡◌, ◌⊎◌, ℕ, Bool, false, List, [], Option, None, Some, codes, unwrap_or}
 use Rattle.std.specs.List.{list_any, position}
 use Rattle.std.specs.Str.{bytes_eq}
@@ -34,7 +34,8 @@ use Rattle.transaction_event.specs.Message.{Meaning, Event, Ready, Silence, mess
 use Rattle.transaction_event.specs.MessageMeaning.{IsMemoryReply}
 use Rattle.transaction_event.specs.Reply.{event_reply_bytes}
 
--- A replay may have this station under the name: the desk has one of the name, of these limits, and some accepted commands lead to its content.
+-- A replay may have this station under the name: the desk has a station of the name with these
+-- limits, and some accepted commands lead to its content.
 pub record IsStationOf (places : List StationPlace) (name : List ℕ) (s : Station) : Type 0 where
   pub number : ℕ
   pub named : IsNamed places name number
@@ -43,7 +44,8 @@ pub record IsStationOf (places : List StationPlace) (name : List ℕ) (s : Stati
   pub changes : ℕ
   pub reached : Reached s.limits changes s.content
 
--- What a replay may have under the name: no station, where the desk has none of it.
+-- What a replay may have under the name: one of these stations, or no station if the desk has none
+-- of the name.
 abbrev pub MayStand : List StationPlace → List ℕ → Option Station → Type 0
 MayStand places name None = list_any (λ p. bytes_eq name p.name) places ≡ false
 MayStand places name (Some s) = IsStationOf places name s
@@ -54,7 +56,7 @@ pub record IsOf (places : List StationPlace) (name : List ℕ) (answer : Option 
   pub stands : MayStand places name station
   pub is : text ≡ answer station
 
--- What lies behind a lock is not as it should be, which no run meets.
+-- What is behind a lock is not as it should be, which no run meets.
 abbrev pub torn : List ℕ
 torn = ended_line (codes "fault Torn")
 
@@ -64,7 +66,8 @@ asked_answer Figures order station = total_answer (λ _. order) station
 asked_answer Import order station = energy_answer (λ _. order) station
 asked_answer Export order station = export_answer (λ _. order) station
 
--- The order of readings of what a replay may have under the name: that of the station's place, and by sequence where there is no station.
+-- The order of readings of the station that a replay may have under the name: that of the station's
+-- place; by sequence if there is no station.
 abbrev pub order_under : (places : List StationPlace) (name : List ℕ) (station : Option Station) → MayStand places name station → Order
 order_under places name None none = Sequence
 order_under places name (Some s) stands = stands.named.place.order
@@ -75,7 +78,8 @@ pub record AreTotals (places : List StationPlace) (name : List ℕ) (asked : Ask
   pub stands : MayStand places name station
   pub is : text ≡ asked_answer asked (order_under places name station stands) station
 
--- The line of the totals that are asked for, of these figures and energies, imported and exported.
+-- The line of the totals that a line asks for, from these figures and imported and exported
+-- energies.
 abbrev pub totals_line : Asked → figures.Figures → Energy → Energy → List ℕ
 totals_line Figures f e x = ended_line (total_text f)
 totals_line Import f e x = energy_line e
@@ -85,7 +89,9 @@ totals_line Export f e x = export_line x
 abbrev pub IsTotals : List StationPlace → List ℕ → Asked → List ℕ → Type 0
 IsTotals places name asked text = AreTotals places name asked text ⊎ (text ≡ torn)
 
--- The text is that of the board over boards of the site's stations, each once and in the plan's order, of which each is made by a content that accepted commands leave; and what was seen is of these boards.
+-- The text is that of the board over boards of the site's stations, each once and in the plan's
+-- order. Each of these is the board of a content that accepted commands reach. What was seen
+-- belongs to these boards.
 pub record IsShownBoard {M : Type 0} (shows : ℕ → List (List ℕ × Board) → M → Type 0) (sites : List SitePlan) (places : List StationPlace) (site : ℕ) (text : List ℕ) (seen : Option M) : Type 0 where
   pub boards : List (List ℕ × Board)
   pub of_site : AreBoardsAt places site boards
@@ -99,7 +105,8 @@ abbrev pub IsBoard : {M : Type 0} → (ℕ → List (List ℕ × Board) → M �
 IsBoard shows sites places None text seen = text ≡ fault_line UnknownSite
 IsBoard shows sites places (Some site) text seen = IsShownBoard shows sites places site text seen ⊎ (text ≡ torn)
 
--- A command was submitted with a pass at a station of this place, the line tells the answer to it, and what was seen is of that answer.
+-- A command was submitted with a pass at a station of this place, the line has the answer to it,
+-- and what was seen belongs to that answer.
 pub record IsCommandLine {M : Type 0} (gives : Command → Answer → Option Known → Option M → Type 0) (at : StationPlace) (p : Held) (command : Command) (p' : Held) (line : List ℕ) (seen : Option M) : Type 0 where
   pub answer : Answer
   pub told : Option Known
@@ -107,17 +114,18 @@ pub record IsCommandLine {M : Type 0} (gives : Command → Answer → Option Kno
   pub given : gives command answer told seen
   pub is : line ≡ ended_line (answer_text answer)
 
--- The command was submitted with a pass of the station of this name, and the text is the desk's answer to it; or there is no such station, and the text says so.
+-- The command was submitted with a pass of the station of this name, and the text is the desk's answer to it; or there
+-- is no such station, and the text says so.
 abbrev pub IsSubmitted : {M : Type 0} → (ℕ → StationPlace → Command → Answer → Option Known → Option M → Type 0) → List StationPlace → List ℕ → Command → List ℕ → Option M → Type 0
 IsSubmitted gives places name command text seen =
     ((p p' : Held) × (named : IsNamed places name p.station) × IsCommandLine (gives p.station named.place) named.place p command p' text seen)
     ⊎ ((list_any (λ s. bytes_eq name s.name) places ≡ false) × (text ≡ fault_line UnknownStation))
 
--- The answer to a command, which may be that changes are exhausted whatever the content is.
+-- The answer to a command; it may be ChangesExhausted whatever the content is.
 abbrev pub IsCommanded : List StationPlace → List ℕ → Command → List ℕ → Type 0
 IsCommanded places name command text = IsOf places name (λ station. (commanded_to station start command).1) text ⊎ (text ≡ ended_line (answer_text (Refused ChangesExhausted)))
 
--- The reply to an event, that changes are exhausted.
+-- The reply to an event with ChangesExhausted.
 abbrev pub IsExhausted : Meaning → List ℕ → Type 0
 IsExhausted (Event id request) text = text ≡ ended_line (event_reply_bytes id request.token (Refused ChangesExhausted))
 IsExhausted (Ready reply) text = ⊥
@@ -129,13 +137,15 @@ pub record TellsMemory (words text : List ℕ) : Type 0 where
   pub tells : IsMemoryReply (frame words) reply
   pub is : text ≡ ended_line reply
 
--- The answer to a station's words at a moment, which may also be that changes are exhausted whatever the content is, or that there was no memory to read them.
+-- The answer to a station's words at a moment; it may also be ChangesExhausted whatever the content
+-- is, or that there was no memory to read the words.
 abbrev pub IsSent : List StationPlace → List ℕ → List ℕ → ℕ → List ℕ → Type 0
 IsSent places name words moment text =
     IsOf places name (λ station. (sent_to station (record start { moment = moment }) words).1) text
     ⊎ (IsExhausted (message words moment) text ⊎ TellsMemory words text)
 
--- A station's words were answered with a pass at some moment, the line tells that answer, and what was seen is of it.
+-- A station's words were answered with a pass at some moment, the line has that answer, and what was seen belongs to
+-- it.
 pub record IsMessageLine {M : Type 0} (gives : ℕ → StationPlace → Command → Answer → Option Known → Option M → Type 0) (places : List StationPlace) (p : Held) (words : List ℕ) (p' : Held) (line : List ℕ) (seen : Option M) : Type 0 where
   pub moment : ℕ
   pub text : Option (List ℕ)
@@ -150,7 +160,9 @@ IsMessaged gives places name words text seen =
     ((p p' : Held) × IsNamed places name p.station × IsMessageLine gives places p words p' text seen)
     ⊎ ((list_any (λ s. bytes_eq name s.name) places ≡ false) × (text ≡ fault_line UnknownStation))
 
--- What an operator's line is answered at a desk of these sites and stations, by what it says, and what was seen of the desk's journal then: of an answer to a command it gives that, and of a site's boards it shows that. A moment is the clock's, so a line that tells one is at fault.
+-- The answer to an operator's line at a desk of these sites and stations, by what the line says,
+-- and what was seen of the desk's journal then: `gives` with an answer to a command, `shows` with a
+-- site's boards. Moments come from the clock, so a line that gives one is at fault.
 abbrev pub IsReply : {M : Type 0} → (ℕ → StationPlace → Command → Answer → Option Known → Option M → Type 0) → (ℕ → List (List ℕ × Board) → M → Type 0) → List SitePlan → List StationPlace → LineMeaning → List ℕ → Option M → Type 0
 IsReply gives shows sites places nothing text seen = text ≡ []
 IsReply gives shows sites places (fails fault) text seen = text ≡ fault_line fault
@@ -167,6 +179,6 @@ IsReply gives shows sites places (asks_export name) text seen = IsTotals places 
 IsReply gives shows sites places (asks_total name) text seen = IsTotals places name Figures text
 IsReply gives shows sites places (asks_board name) text seen = IsBoard shows sites places (position (λ s. bytes_eq name s.name) sites) text seen
 
--- An operator's line is answered so, or by `fault OutOfMemory`.
+-- An operator's line gets this answer, or `fault OutOfMemory`.
 abbrev pub IsReplyOrMemory : {M : Type 0} → (ℕ → StationPlace → Command → Answer → Option Known → Option M → Type 0) → (ℕ → List (List ℕ × Board) → M → Type 0) → List SitePlan → List StationPlace → LineMeaning → List ℕ → Option M → Type 0
 IsReplyOrMemory gives shows sites places meaning text seen = IsReply gives shows sites places meaning text seen ⊎ (text ≡ ended_line (codes "fault OutOfMemory"))

@@ -1,4 +1,4 @@
--- What an operator's lines are answered, one behind the other.
+-- The answers to an operator's lines, one after the other.
 use Rattle.std.specs.Prelude.{◌≡◌, ℕ, List, [], ◌∷◌, Option, None, Some, All, map}
 use Rattle.std.specs.Io.KnownBytes.{Appends}
 use Rattle.std.specs.List.{flat_map}
@@ -19,12 +19,14 @@ pub record Replied (M : Type 0) : Type 0 where
   pub text : List ℕ
   pub seen : Option M
 
--- A list of what there is, or of nothing.
+-- A list of the value, if there is one; else none.
 abbrev pub if_seen : {M : Type 0} → Option M → List M
 if_seen None = []
 if_seen (Some m) = m ∷ []
 
--- Behind what stood before, the answers to the operator's lines that come were written, up to the line that says `close`, one behind the other, and nothing else. Each line is there with its answer and with what was seen of the desk's journal, which is all that was handed out.
+-- The answers to the operator's lines that come, up to the line that says `close`, were appended
+-- one after the other, and nothing else. `lines` has each line with its answer and with what was
+-- seen of the desk's journal, and `handed` is all that was seen.
 pub record AddsReplies {M : Type 0} (gives : ℕ → StationPlace → Command → Answer → Option Known → Option M → Type 0) (shows : ℕ → List (List ℕ × Board) → M → Type 0) (sites : List SitePlan) (places : List StationPlace) (coming : Option (List Line)) (before now : Option (List ℕ)) (handed : List M) : Type 0 where
   pub lines : List (Replied M)
   pub those : AreAnswered coming (map (λ l. l.line) lines)

@@ -1,4 +1,4 @@
-//! A reader that waits only while there is something to wait for.
+//! A reader that waits for bytes only while changes are accepted.
 ghost use Rattle.std.specs.Prelude.{◌≡◌};
 
 use crate::serves::MayBreak;
@@ -10,7 +10,7 @@ use std::sync::Wait;
 // How long it waits for bytes before it looks whether changes are still accepted, in milliseconds.
 const PATIENCE_MILLIS: u16 = 100;
 
-// A reader that waits for bytes while changes are accepted, and then gives a fault. To a contract it is its input.
+// A reader that waits for bytes while changes are accepted, and then gives a fault. Contracts see its input.
 #[derive(Drop)]
 pub(crate) struct Attentive<'a, I, S, R> {
     pub(crate) input: &'a mut I,

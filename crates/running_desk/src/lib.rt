@@ -1,15 +1,16 @@
-//! A desk while it is served: passes that are taken up again, boards, and an operator's lines.
+//! A desk while it is served: passes that are used again, boards, and an operator's lines.
 //!
-//! A [`Running`] desk is the desk of a plan with a pool of passes ([`PooledDesk`], [`PassPool`]), where a session lays its
-//! pass at its end, and from where a later one of the same station takes it back, so that a station is given no more passes
-//! than stood at once. An operator's line borrows one in the same way. What lies behind it is anything that [`Serves`]: a
-//! desk, or one that keeps more. [`operate`] answers an operator's lines, one after the other, each answer out before the next
-//! line is read.
+//! A [`Running`] desk is the desk of a plan with a pool of passes ([`PooledDesk`], [`PassPool`]). A session puts its
+//! pass into the pool at its end, and a later session of the same station takes it from there. So a station gives out
+//! only as many passes as it needed at one time. An operator's line borrows a pass in the same way. The desk is anything
+//! that [`Serves`]: a plain one, or one that keeps more. [`operate`] answers an operator's lines, one after the other;
+//! each answer is out before the next line is read.
 //!
-//! The crate's one contract: [`operate`] writes the answers to the lines that come, in their order, up to a line `close`
-//! (`AddsReplies` of `specs/Replies.antt`). Where the bytes of the reader are known, these lines are its lines. Each answer is what a replay answers to the same line at contents that accepted commands reach
-//! (`IsReply` of `specs/Replied.antt`), and a command is answered by the desk's answer to that very command, with a pass of
-//! the station that the line names. A board is that of the site that was asked for.
+//! The crate's contract: [`operate`] writes the answers to the lines that come, in their order, up to a line `close`
+//! (`AddsReplies` of `specs/Replies.antt`). If the bytes of the reader are known, these lines are its lines. Each
+//! answer is a replay's answer to the same line at contents that accepted commands reach (`IsReply` of
+//! `specs/Replied.antt`). The answer to a command is the desk's answer to just that command, with a pass of the station
+//! that the line names. A board is that of the site that the line names.
 //!
 //! ```text
 //! let running = Running::open(&plan, &desk, passes);

@@ -37,18 +37,20 @@ use std::time::Clock;
 // The line that ends a live server.
 const CLOSE: &[u8] = b"close";
 
-// What a line is answered for which there is no memory.
+// The answer to a line for which there is no memory.
 const NO_MEMORY: &[u8] = b"fault OutOfMemory\n";
 
-// How long the answer to a message or a command is at most; room for it is made before anything changes.
+// The greatest length of the answer to a message or a command; room for it is made before anything
+// changes.
 const MOST_ANSWER: usize = 513;
 
-// What a line is answered whose station or site does not stand behind its lock as it should, which no run meets.
+// The answer to a line if what is behind its station's or its site's locks is not as it should be, which no run
+// meets.
 const TORN: &str = "fault Torn";
 
-/// Answers line after line of the input until it ends, a line says `close`, or no change is accepted any more, which is a
-/// `WriteFault`. An answer is out before the next line is read. While no line is there it looks ten times a second whether
-/// changes are still accepted. It gives what was seen of the desk's journal with the answers, in their order.
+/// Answers line after line of the input until it ends, a line says `close`, or no change is accepted any more, which is
+/// a `WriteFault`. An answer is out before the next line is read. While there is no line, it looks ten times a second
+/// whether changes are still accepted. It returns what was seen of the desk's journal with the answers, in their order.
 pub fn operate<
     J: Naming,
     C: HasCell,
@@ -86,7 +88,7 @@ pub fn operate<
     unreachable!()
 }
 
-// Keeps what was seen with an answer, if anything was, behind what was seen before.
+// Appends what was seen with an answer, if anything was, to what was seen before.
 fn keep<M: Drop>(seen: &mut Vec<M>, own: Option<M>) -> Result<(), AllocError>
     ensures { OnOk result (seen.new.items ≡ seen.old.items ++ if_seen own) }
 {
@@ -96,7 +98,8 @@ fn keep<M: Drop>(seen: &mut Vec<M>, own: Option<M>) -> Result<(), AllocError>
     Ok(())
 }
 
-// Tells whether what came ends the server: a line that says `close`, or the end of the input and nothing else.
+// Returns whether what came ends the server: a line that says `close`, or the end of the input and
+// nothing else.
 fn is_last(came: Came, line: Option<&[u8]>) -> bool
     ensures { result ≡ ends came (line_bytes line.entry) }
 {
@@ -106,7 +109,7 @@ fn is_last(came: Came, line: Option<&[u8]>) -> bool
     }
 }
 
-// Tells whether a line says `close`.
+// Returns whether a line says `close`.
 fn says_close(line: Option<&[u8]>) -> bool
     ensures { result ≡ is_close (line_bytes line.entry) }
 {
@@ -143,8 +146,8 @@ fn put_reply<
     Ok(seen)
 }
 
-// Appends the answer to an operator's line, which is that of a script's line after its declarations. A moment is the
-// clock's, so a line that tells one is `BadLine`.
+// Appends the answer to an operator's line, which is that of a script's line after its declarations. Moments come
+// from the clock, so a line that gives one is `BadLine`.
 fn answer_line<J: Naming, C: HasCell, M: Drop, S: Serves<J, C, M>, R: Threads + Wait + Clock>(
     rt: &R,
     alloc: Global,
@@ -327,7 +330,7 @@ fn put_totals<J: Naming, C: HasCell, M: Drop, S: Serves<J, C, M>, R: Wait>(
     }
 }
 
-// Appends the line of the totals that are asked for: of the figures, of what was imported, and of what was exported.
+// Appends the line of the totals that the line asks for: the figures, the imported or the exported energy.
 fn put_total(
     reply: &mut Vec<u8>,
     asked: Asked,

@@ -12,14 +12,14 @@ use std::alloc::Global;
 use std::io::BufRead;
 use std::sync::Wait;
 
-/// What came of an operator's lines.
+/// What came from an operator.
 #[derive(Clone, Copy, Debug, PartialEq, Eq)]
 pub enum Came {
     /// A line.
     Line,
-    /// The last line, which no line feed ends.
+    /// The last line, without a line feed.
     LastLine,
-    /// Nothing, and nothing will.
+    /// The end of the input.
     End,
 }
 
@@ -35,7 +35,7 @@ pub(crate) struct Orders<'a, I, S, R> {
 impl<'a, I: BufRead + Readiness, S: MayBreak, R: Wait> Orders<'a, I, S, R> {
     ghost use Rattle.running_desk.specs.Reading.{orders_coming, orders_last};
 
-    // The lines of a reader, which are waited for while changes are accepted there.
+    // The lines of a reader; it waits for them while changes are accepted.
     pub(crate) fn open(rt: &'a R, alloc: Global, input: &'a mut I, serves: &'a S) -> Self
         ensures coming { orders_coming I.remaining result ≡ lines_in (I.remaining input.old) }
     {
@@ -46,7 +46,7 @@ impl<'a, I: BufRead + Readiness, S: MayBreak, R: Wait> Orders<'a, I, S, R> {
         }
     }
 
-    // Waits for the next line. Where no change is accepted any more it is a `WriteFault`.
+    // Waits for the next line. If no change is accepted any more, that is a `WriteFault`.
     pub(crate) fn next(&mut self) -> Result<Came, ServiceFault>
         ensures { IfOk result (λ came. Comes (orders_coming I.remaining self.old) came (orders_last self.new) (orders_coming I.remaining self.new)) }
     {
@@ -60,7 +60,7 @@ impl<'a, I: BufRead + Readiness, S: MayBreak, R: Wait> Orders<'a, I, S, R> {
         }
     }
 
-    // The line that came last, without its end; `None` where it has more than 262,400 bytes.
+    // The line that came last, without its end; `None` if it has more than 262,400 bytes.
     pub(crate) fn line(&self) -> Option<&[u8]>
         ensures { line_bytes result ≡ orders_last self.now }
     {
@@ -68,7 +68,7 @@ impl<'a, I: BufRead + Readiness, S: MayBreak, R: Wait> Orders<'a, I, S, R> {
     }
 }
 
-// What a line is that was read to this end.
+// Which kind of line ends like this.
 fn ending_of(lines: &LineReader, end: LineEnd) -> Came
     ensures { result ≡ came_of end lines.now.held.items }
 {
@@ -79,7 +79,7 @@ fn ending_of(lines: &LineReader, end: LineEnd) -> Came
     }
 }
 
-// Why no line more is read.
+// Why no further line is read.
 fn fault_of(fault: ReplayFault) -> ServiceFault {
     match fault {
         ReplayFault::ReadFault | ReplayFault::TooMuchInput => ServiceFault::ReadFault,

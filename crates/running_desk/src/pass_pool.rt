@@ -7,8 +7,8 @@ use station_cell::Pass;
 use std::alloc::AllocError;
 use std::marker::Model;
 
-/// Where a session lays its pass, and from where a later one of the same station takes it back. Contracts see the passes
-/// that lie there, and how many more have room.
+/// Keeps the passes of ended sessions for later sessions of the same stations. Contracts see the passes in it, and how
+/// many more have room.
 #[derive(Drop)]
 pub struct PassPool {
     passes: Vec<Pass>,
@@ -37,7 +37,7 @@ impl PassPool {
         PassPool { passes, given }
     }
 
-    /// Makes room for one pass more. Where there is no memory for it, nothing changes.
+    /// Makes room for one more pass. If there is no memory for it, nothing changes.
     pub fn reserve(&mut self) -> Result<(), AllocError>
         ensures { IsReserved self.old result self.new }
     {
@@ -49,7 +49,7 @@ impl PassPool {
         Ok(())
     }
 
-    /// Takes the first pass of this station that lies there.
+    /// Takes the first pass of this station out of the pool.
     pub fn take(&mut self, station: u16) -> Option<Pass>
         ensures { IsTaken (position (λ p. p.station == station) self.old.passes) self.old result self.new }
     {
@@ -59,7 +59,7 @@ impl PassPool {
         }
     }
 
-    // Where the first pass of this station lies.
+    // The place of the first pass of this station.
     fn place_of(&self, station: u16) -> Option<usize>
         ensures { result ≡ position (λ p. p.station == station) self.now.passes }
     {
@@ -69,7 +69,7 @@ impl PassPool {
             .position(|pass| pass.station() == station)
     }
 
-    /// Lays a pass behind the others. It comes back where there is no room for it.
+    /// Puts a pass behind the others. The error gives it back if there is no room for it.
     pub fn lay(&mut self, pass: Pass) -> Result<(), Pass>
         ensures { IsLaid pass self.old result self.new }
     {
@@ -82,7 +82,7 @@ impl PassPool {
         }
     }
 
-    /// All passes that lie there.
+    /// All passes in the pool.
     pub fn into_passes(self) -> Vec<Pass>
         ensures { result.items ≡ self.passes }
     {

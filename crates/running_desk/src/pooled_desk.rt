@@ -1,4 +1,4 @@
-//! A running desk whose passes are taken up again.
+//! A running desk that uses its passes again.
 ghost use Rattle.std.specs.Prelude.{◌≡◌, Err, IfErr, IfOk, IfSome, false};
 ghost use Rattle.std.specs.List.{list_any};
 ghost use Rattle.std.specs.Str.{bytes_eq};
@@ -13,14 +13,14 @@ use station_cell::{Pass, StationCell};
 use std::sync::{Mutex, Wait};
 use std::thread::Threads;
 
-/// Why no pass is given.
+/// Why there is no pass.
 #[derive(Clone, Copy, Debug, PartialEq, Eq)]
 pub enum PassFault {
     /// No station of the desk has this name.
     UnknownStation,
     /// The station gave out 65,536 passes.
     TooManyPasses,
-    /// There is no memory to lay it back.
+    /// There is no memory to put it back into the pool later.
     OutOfMemory,
 }
 
@@ -33,7 +33,7 @@ pub struct PooledDesk<'a, J: Naming, C: HasCell = StationCell> {
 }
 
 impl<'a, J: Naming, C: HasCell> PooledDesk<'a, J, C> {
-    /// The desk, with the passes in the pool that were given out before.
+    /// The desk, with the passes that were given out before in the pool.
     pub fn open(desk: &'a Desk<J, C>, passes: Vec<Pass>) -> Self
         ensures { result.desk.now ≡ desk.now }
     {
@@ -43,8 +43,8 @@ impl<'a, J: Naming, C: HasCell> PooledDesk<'a, J, C> {
         }
     }
 
-    /// A pass of the station of this name: one that lies in the pool, or else a new one, for which there is room there
-    /// from then on. It may wait for the station's lock.
+    /// A pass of the station of this name: one from the pool, or else a new one; then the pool has room for it from
+    /// now on. It may wait for the station's lock.
     pub fn pass_of<R: Wait + Threads>(&self, rt: &R, name: &Name) -> Result<Pass, PassFault>
         ensures unknown { result ≡ Err PassFault.UnknownStation → list_any (λ s. bytes_eq name.now s.name) self.now.desk.now.stations ≡ false }
         ensures named { IfOk result (λ p. IsNamed self.now.desk.now.stations name.now p.station) }
@@ -58,7 +58,7 @@ impl<'a, J: Naming, C: HasCell> PooledDesk<'a, J, C> {
         }
     }
 
-    // A pass of this station that lies in the pool.
+    // A pass of this station from the pool.
     fn left_pass<R: Wait>(&self, rt: &R, station: u16) -> Option<Pass>
         ensures { IfSome result (λ p. p.station ≡ station) }
     {
@@ -80,15 +80,15 @@ impl<'a, J: Naming, C: HasCell> PooledDesk<'a, J, C> {
         }
     }
 
-    /// Lays a pass back, for the next one that asks for its station. It comes back where there is no room for it, which no
-    /// run meets: room is made before a pass is given out.
+    /// Puts a pass back into the pool, for the next session of its station. The error gives it back if there is no room
+    /// for it, which no run meets: room is made before a pass is given out.
     pub fn lay<R: Wait>(&self, rt: &R, pass: Pass) -> Result<(), Pass>
         ensures { IfErr result (λ back. back ≡ pass) }
     {
         self.pool.lock(rt).lay(pass)
     }
 
-    /// All passes that were laid back.
+    /// All passes in the pool.
     pub fn into_passes(self) -> Vec<Pass> {
         self.pool.into_inner().into_passes()
     }

@@ -37,9 +37,10 @@ pub struct Running<'a, J: Naming, C: HasCell, M, S: Serves<J, C, M>> {
 }
 
 impl<'a, J: Naming, C: HasCell, M: Drop, S: Serves<J, C, M>> Running<'a, J, C, M, S> {
-    /// The desk of this plan, with the passes in the pool that were given out before.
+    /// The desk of this plan, with the passes that were given out before in the pool.
     ///
-    /// Conditions: the desk was opened for this plan, whose limits allow no more than 1,048,576 readings in all.
+    /// Conditions: the desk was opened for this plan, and the plan's limits allow no more than 1,048,576
+    /// readings in all.
     pub fn open(plan: &'a Plan, serves: &'a S, passes: Vec<Pass>) -> Self
         requires opened { AreNewPlaces plan.now.sites.items plan.now.stations.items (S.roster serves.now).stations }
         requires readings { sum_by (λ s. s.limits.readings) plan.now.stations.items ≤ most_plan_readings }
@@ -71,10 +72,10 @@ impl<'a, J: Naming, C: HasCell, M: Drop, S: Serves<J, C, M>> Running<'a, J, C, M
         }
     }
 
-    /// The text of the board of the site of this number, from 0, with what was seen of the journal then. It waits for the
-    /// locks of the site, and behind a write to the journal.
+    /// The text of the board of the site of this number, counted from 0, with what was seen of the journal then. It
+    /// waits for the locks of the site, and for a write to the journal that is under way.
     ///
-    /// Condition: the plan has the site ([`site_of`] tells).
+    /// Condition: the plan has the site ([`site_of`] tests it).
     pub fn board<R: Wait>(
         &self,
         rt: &R,
@@ -103,7 +104,7 @@ fn why_of(fault: PassFault) -> Why
     }
 }
 
-/// The number of the site of this name.
+/// The number of the site of this name, if there is one.
 pub fn site_of(plan: &Plan, name: &Name) -> Option<u16>
     ensures is { result ≡ position (λ s. bytes_eq name.now s.name) plan.now.sites.items }
     ensures there { IfSome result (λ site. site < length plan.now.sites.items) }

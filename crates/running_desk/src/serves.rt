@@ -1,4 +1,4 @@
-//! What a live server serves.
+//! The desk that a live server serves.
 ghost use Rattle.std.specs.Prelude.{◌≡◌, Some, slice_get};
 
 use ledger_model::{Answer, Command, Figures, Name};
@@ -11,17 +11,18 @@ use std::alloc::Global;
 use std::sync::Wait;
 use std::time::Clock;
 
-/// What may come to accept no change any more, whatever comes; a server then ends.
+/// A desk that may at some time stop accepting changes for good; a server then ends.
 pub trait MayBreak {
-    /// Tells whether it is so. It waits for nobody.
+    /// Returns whether it has stopped accepting changes. It waits for nobody.
     fn is_broken(&self) -> bool;
 }
 
 /// The boards of a site's stations, the sums of their figures, and what was seen of the journal then (M).
 pub type Seen<M> = (Vec<(Name, StationBoard)>, Figures, M);
 
-/// A desk that a live server serves: how it takes what stations send and what an operator commands, and the boards of its
-/// sites. With the boards of a site it hands out what it saw of its journal then; `shows` says what that tells of them.
+/// A desk that a live server serves: it takes what stations send and what an operator commands, and makes the boards of
+/// its sites. With the boards of a site it returns what it saw of its journal then; `shows` is what that says of the
+/// boards.
 pub trait Serves<J: Naming, C: HasCell, M>: Delivers<J, M> + MayBreak {
     ghost use Rattle.std.specs.Prelude.{◌≡◌, ℕ, List, Some, IfOk, map, slice_get};
     ghost use Rattle.ledger_model.specs.Board.{Board, sum_of_figures};
@@ -37,15 +38,16 @@ pub trait Serves<J: Naming, C: HasCell, M>: Delivers<J, M> + MayBreak {
 
     ghost shows: { Self → ℕ → List (List ℕ × Board) → M → Type 0 };
 
-    /// The desk, of which boards and totals are read.
+    /// The desk, for its boards and totals.
     fn desk(&self) -> &Desk<J, C>
         ensures desk { result.now ≡ roster self.now }
         ensures stations { result.now.stations ≡ Self.stations self.now };
 
-    /// Takes an operator's command with a pass of the station of this name and answers it, as
-    /// [`Desk::submit`](site_desk::Desk::submit) does.
+    /// Takes an operator's command with a pass of the station of this name and returns the answer,
+    /// as [`Desk::submit`](site_desk::Desk::submit) does.
     ///
-    /// Conditions: the pass is of that station, and the line is the operator's, which says the command.
+    /// Conditions: the pass belongs to that station, and the line is the operator's line with the
+    /// command.
     fn command<R: Wait + Clock>(
         &self,
         rt: &R,
@@ -59,8 +61,8 @@ pub trait Serves<J: Naming, C: HasCell, M>: Delivers<J, M> + MayBreak {
         ensures settled { (at : StationPlace) → slice_get (roster self.now).stations pass.old.station ≡ Some at → Submitted at pass.old what result.0 pass.new result.1 }
         ensures given { IsGivenAt (Self.gives self.now) (roster self.now).stations pass.old.station what result.0 result.1 result.2 };
 
-    /// The boards of the stations of the site of this number, as [`Desk::site_boards`](site_desk::Desk::site_boards) gives
-    /// them.
+    /// The boards of the stations of the site of this number, as [`Desk::site_boards`](site_desk::Desk::site_boards)
+    /// gives them.
     fn boards<R: Wait>(&self, rt: &R, alloc: Global, site: u16) -> Result<Seen<M>, BoardFault>
         ensures boards { IfOk result (λ r. AreBoardsAt (roster self.now).stations site r.0.items) }
         ensures totals { IfOk result (λ r. r.1 ≡ sum_of_figures (map (λ s. s.1.figures) r.0.items)) }

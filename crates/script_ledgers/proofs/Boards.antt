@@ -92,7 +92,7 @@ none_at (m ∷ names) n (suc k) none less = none_at names n k (neither (bytes_eq
 differ : (m n : List ℕ) → bytes_eq m n ≡ false → m ≡ n → ⊥
 differ m n apart same = false≢true (sym apart ∙ (bytes_eq-Decides m n).1 same)
 
--- names that stand once stand in one place
+-- names that occur once are in one place
 pub one_place : (names : List (List ℕ)) (j k : ℕ) → has_twice names ≡ false → j < length names → k < length names → get_or names j [] ≡ get_or names k [] → j ≡ k
 one_place [] j k once lj lk same = absurd (omega arith)
 one_place (m ∷ names) zero zero once lj lk same = refl
@@ -100,7 +100,7 @@ one_place (m ∷ names) zero (suc k) once lj lk same = absurd (differ m (get_or 
 one_place (m ∷ names) (suc j) zero once lj lk same = absurd (differ m (get_or names j []) (none_at names m j (neither (list_any (bytes_eq m) names) (has_twice names) once).0 (omega (arith, lj))) (sym same))
 one_place (m ∷ names) (suc j) (suc k) once lj lk same = ap suc (one_place names j k (neither (list_any (bytes_eq m) names) (has_twice names) once).1 (omega (arith, lj)) (omega (arith, lk)) same)
 
--- what has a name that stands once is found by it
+-- what has a name that occurs once is found by it
 pub found_once : {X : Type 0} (f : X → List ℕ) (xs : List X) (k : ℕ) (name : List ℕ) → has_twice (map f xs) ≡ false → k < length xs → get_or (map f xs) k [] ≡ name → position (λ x. bytes_eq name (f x)) xs ≡ Some k
 found_once {X} f xs k name once less named = at (position (λ (x : X). bytes_eq name (f x)) xs) refl
   where

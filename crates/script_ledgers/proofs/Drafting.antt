@@ -81,7 +81,7 @@ site_kept sites stations name kept room none =
       unviewed = All-append (λ (s : SitePlan). s.viewers ≡ 0) sites (new ∷ []) kept.unviewed (All-cons (λ (s : SitePlan). s.viewers ≡ 0) new [] refl (All-nil (λ (s : SitePlan). s.viewers ≡ 0)));
     }
 
--- the sites once a new one is mentioned, and one that stands already
+-- the sites after a new one is mentioned, and after one that is there already
 sites_more : (name : List ℕ) (sites : List SitePlan) → position (λ s. bytes_eq name s.name) sites ≡ None
     → map (λ s. s.name) (sites ++ record { name = name; viewers = 0; period = default_periods; order = Sequence } ∷ []) ≡ sites_with name (map (λ s. s.name) sites)
 sites_more name sites none =

@@ -44,7 +44,7 @@ enlisted_step old items i passes more x c p all less items_are passes_are cell_i
       more_is ∙ (λ j. passes_are j ++ pass j ∷ []) ∙ sym (ap (map to) (take_more old i x less) ∙ map-append to (take i old) (get_or old i x ∷ [])),
     )
 
--- what a call that succeeded tells
+-- what a call that succeeded ensures
 pub told_ok : {T E : Type 0} (r : Result T E) (x : T) (P : Type 0) → r ≡ Ok x → OnOk r P → P
 told_ok r x P e h = subst (λ s. OnOk s P) e h
 

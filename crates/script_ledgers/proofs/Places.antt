@@ -1,4 +1,4 @@
--- Names in lists, and the places where they stand.
+-- Names in lists, and their places.
 use Rattle.std.proofs.Common.{◌≡◌, ℕ, suc, ◌+◌, ◌<◌, ◌||◌, Bool, true, false, cond, List, [], ◌∷◌, ◌++◌, None, Some, length, map, get_or, refl, subst, ap, sym, ◌∙◌, bytes_eq, arith}
 use Rattle.std.specs.List.{list_any, position, position_from}
 use Rattle.std.specs.Prelude.{slice_get}
@@ -29,7 +29,7 @@ none_behind (x ∷ names) m n none apart =
     let p = neither (bytes_eq m x) (list_any (bytes_eq m) names) none in
     both_no (bytes_eq m x) (list_any (bytes_eq m) (names ++ n ∷ [])) p.0 (none_behind names m n p.1 apart)
 
--- a new name behind names that stand once
+-- a new name behind names that occur once
 pub once_behind : (names : List (List ℕ)) (n : List ℕ) → has_twice names ≡ false → list_any (bytes_eq n) names ≡ false → has_twice (names ++ n ∷ []) ≡ false
 once_behind [] n once new = refl
 once_behind (m ∷ names) n once new =
@@ -44,7 +44,7 @@ AreAlike f [] (s ∷ ss) = ⊥
 AreAlike f (x ∷ xs) [] = ⊥
 AreAlike f (x ∷ xs) (s ∷ ss) = (f x ≡ s.name) × AreAlike f xs ss
 
--- ---- where a name stands
+-- ---- where a name is
 
 module _ {X : Type 0} (f : X → List ℕ) (name : List ℕ) where
   -- the place of an element of this name

@@ -14,7 +14,7 @@ use Rattle.script_lines.specs.Texts.{fault_line}
 use Rattle.script_ledgers.specs.Drafts.{Drafted, IsPlan, planned}
 use Rattle.script_ledgers.specs.Script.{is_period, lasting, new_station, order_of, order_to, ordered_by, period_of, period_to, settled_by, site_number}
 
--- a site stands at one place in the plan and in the list of names
+-- a site is at one place in the plan and in the list of names
 from_alike : (name : List ℕ) (i : ℕ) (sites : List SitePlan) → position_from (bytes_eq name) i (map (λ s. s.name) sites) ≡ position_from (λ (s : SitePlan). bytes_eq name s.name) i sites
 from_alike name i [] = refl
 from_alike name i (s ∷ sites) = ap (cond (bytes_eq name s.name) (Some i)) (from_alike name (i + 1) sites)
@@ -90,7 +90,7 @@ module _ (change : SitePlan → SitePlan) (named : (s : SitePlan) → (change s)
     unviewed = unviewed_kept n sites kept.unviewed;
   }
 
-  -- the script is another in its periods and orders alone
+  -- the script differs only in its periods and orders
   planned_with : (d : Drafted) (n : ℕ) → let sites = sites_changed change n d.sites in
       planned (record d { sites = sites }) ≡ record (planned d) { periods = map (λ (s : SitePlan). s.period) sites; orders = map (λ (s : SitePlan). s.order) sites }
   planned_with d n =

@@ -1,4 +1,4 @@
--- What a running script makes of a message that was read.
+-- What a running script does with a message.
 use Rattle.std.specs.Prelude.{◌≡◌, ℕ, true, false, List, IfSome, codes, slice_get}
 use Rattle.ledger_model.specs.declared.command.Command.TheVariants.{Deliver}
 use Rattle.ledger_model.specs.Step.{answer}
@@ -9,7 +9,8 @@ use Rattle.transaction_event.specs.Reply.{event_reply_bytes}
 use Rattle.script_lines.specs.Texts.{ended_line}
 use Rattle.script_ledgers.specs.Script.{Script}
 
--- an event takes the station's step and gets the answer's reply; all else leaves the script, and a reply that tells OutOfMemory is none
+-- an event takes the station's step and gets the answer's reply; any other message leaves the
+-- script as it was; a reply that reports OutOfMemory does not occur
 abbrev pub TakesMessage : Script → Script → Station → Message → List ℕ → Type 0
 TakesMessage old new s (message.Event id key event token) reply =
     (new ≡ record old { world = world_after old.world (s.name, Deliver key event) })
@@ -18,6 +19,6 @@ TakesMessage old new s (message.Reply text true) reply = ⊥
 TakesMessage old new s (message.Reply text false) reply = (new ≡ old) × (reply ≡ ended_line text.bytes)
 TakesMessage old new s message.Silent reply = (new ≡ old) × (reply ≡ ended_line (codes "silent"))
 
--- a message is taken so by the station of this number, where there is one
+-- the same for a message to the station of this number, if there is one
 abbrev pub TakesMessageAt : ℕ → Script → Script → Message → List ℕ → Type 0
 TakesMessageAt number old new m reply = IfSome (slice_get old.world number) (λ s. TakesMessage old new s m reply)

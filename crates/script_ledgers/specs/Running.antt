@@ -1,4 +1,4 @@
--- How the opened ledgers of a script are kept, and how they are seen as its state.
+-- How the opened ledgers of a script are kept, and the state that they make.
 use Rattle.std.specs.Prelude.{◌≡◌, ℕ, true, List, [], ◌∷◌, length, map, sum_by, Some, IfSome, slice_get}
 use Rattle.ledger_model.specs.declared.answer.Answer.{Answer}
 use Rattle.ledger_model.specs.declared.command.Command.{Command}
@@ -14,13 +14,13 @@ use Rattle.station_cell.specs.Settle.{Holds, Tied}
 use Rattle.script_ledgers.specs.Drafts.{Drafted, IsPlan, planned_world}
 use Rattle.script_ledgers.specs.Script.{Script}
 
--- Stations with the contents of their cells.
+-- The stations, with the contents of their cells.
 abbrev pub filled : World → List Cell → World
 filled [] cells = []
 filled (s ∷ ss) [] = []
 filled (s ∷ ss) (c ∷ cells) = record s { content = c.content } ∷ filled ss cells
 
--- A script whose ledgers are opened.
+-- A script with its ledgers opened.
 abbrev pub running : Drafted → List Cell → Script
 running d cells = record { limits = d.limits; sites = map (λ s. s.name) d.sites; periods = map (λ s. s.period) d.sites; orders = map (λ s. s.order) d.sites; world = filled (planned_world d.sites d.stations) cells; opened = true; moment = d.moment }
 
@@ -28,7 +28,7 @@ running d cells = record { limits = d.limits; sites = map (λ s. s.name) d.sites
 abbrev pub posts_in : List Book → ℕ
 posts_in books = sum_by (λ b. length b.posts) books
 
--- A cell is that of the station of this number, by its site's settlement period and order.
+-- A cell is that of the station of this number, with its site's length of periods and order.
 pub record IsPlaced (sites : List SitePlan) (stations : List StationPlan) (number : ℕ) (s : StationPlan) (c : Cell) : Type 0 where
   pub station : c.station ≡ number
   pub site : c.site ≡ s.site
@@ -37,12 +37,14 @@ pub record IsPlaced (sites : List SitePlan) (stations : List StationPlan) (numbe
   pub period : c.period ≡ period_at sites s.site
   pub order : c.order ≡ order_at sites s.site
 
--- A cell's row stands in its site's book, and shows the figures of its content.
+-- A cell's row is in its site's book, and shows the figures of its content.
 pub record IsShown (c : Cell) (b : Book) : Type 0 where
   pub held : Holds c b
   pub tied : Tied c b
 
--- What the opened ledgers keep: a cell and a pass for each station and a book for each site, in the plan's order; each cell knows its pass, and its row in its site's book, which no other cell has, shows the figures of its content.
+-- What the opened ledgers keep: a cell and a pass for each station and a book for each site, in the
+-- plan's order; each cell knows its pass; its row in its site's book belongs to no other cell and
+-- shows the figures of its content.
 pub record IsRunning (sites : List SitePlan) (stations : List StationPlan) (cells : List Cell) (books : List Book) (passes : List Held) : Type 0 where
   pub plan : IsPlan sites stations
   pub all_cells : length cells ≡ length stations
@@ -59,11 +61,12 @@ pub record Settles (old new : Script) (s : Station) (command : Command) (a : Ans
   pub answer_is : a ≡ answer s.limits s.content command
   pub script_is : new ≡ record old { world = world_after old.world (s.name, command) }
 
--- A command was settled so on the station of this number, where there is one.
+-- The same for the station of this number, if there is one.
 abbrev pub SettlesAt : ℕ → Script → Script → Command → Answer → Type 0
 SettlesAt number old new command a = IfSome (slice_get old.world number) (λ s. Settles old new s command a)
 
--- These are the passes of the cells, one of each in their order: a pass is of its cell's station, and its cell counts as many changes for it as it made.
+-- These are the passes of the cells, one for each, in their order: a pass belongs to its cell's
+-- station, and the cell counts as many changes for it as it made.
 pub record AreTheirPasses (cells : List Cell) (passes : List Held) : Type 0 where
   pub count : length passes ≡ length cells
   pub known : (k : ℕ) (c : Cell) (p : Held) → slice_get cells k ≡ Some c → slice_get passes k ≡ Some p → Knows c p

@@ -38,7 +38,7 @@ pub record Script : Type 0 where
   pub opened : Bool
   pub moment : ℕ
 
--- the sites of a script stay, with their settlement periods and their orders of readings
+-- the sites of a script stay the same, with their lengths of periods and their orders of readings
 pub record KeepsSites (old new : Script) : Type 0 where
   pub sites : new.sites ≡ old.sites
   pub periods : new.periods ≡ old.periods
@@ -57,7 +57,7 @@ abbrev pub station_named : List ℕ → World → Option Station
 station_named name [] = None
 station_named name (s ∷ ss) = if bytes_eq name s.name then Some s else station_named name ss
 
--- whether the name stands among these
+-- whether the name is among these
 abbrev pub is_among : List ℕ → List (List ℕ) → Bool
 is_among name names = list_any (λ n. bytes_eq name n) names
 
@@ -73,7 +73,7 @@ energy_line flow = ended_line (energy_text flow)
 abbrev pub export_line : Energy → List ℕ
 export_line flow = ended_line (export_text flow)
 
--- each limit lies in its range
+-- each limit is in its range
 abbrev pub are_limits : ℕ → ℕ → ℕ → ℕ → Bool
 are_limits transactions events readings changes =
     (nat_le 1 transactions && nat_le transactions most_transactions)
@@ -88,7 +88,7 @@ limited_to s transactions events readings changes =
     then (record s { limits = record { transactions = transactions; events = events; readings = readings; changes = changes } }, [])
     else (s, fault_line PlanLimit)
 
--- the sites once this one is mentioned: one begins at its first mention
+-- the sites after this one is mentioned: a site begins at its first mention
 abbrev pub sites_with : List ℕ → List (List ℕ) → List (List ℕ)
 sites_with site sites = if is_among site sites then sites else sites ++ site ∷ []
 
@@ -96,7 +96,7 @@ sites_with site sites = if is_among site sites then sites else sites ++ site ∷
 abbrev pub periods_with : List ℕ → List (List ℕ) → List Periods → List Periods
 periods_with site sites periods = if is_among site sites then periods else periods ++ default_periods ∷ []
 
--- the orders of readings of these sites, one for each, once this one is mentioned: one that begins goes by sequence
+-- the orders of readings of these sites, one for each, after this site is mentioned: a new one goes by sequence
 abbrev pub orders_with : List ℕ → List (List ℕ) → List Order → List Order
 orders_with site sites orders = if is_among site sites then orders else orders ++ Sequence ∷ []
 
@@ -138,7 +138,7 @@ abbrev pub order_of : Option ℕ → List Order → Order
 order_of None orders = Sequence
 order_of (Some number) orders = get_or orders number Sequence
 
--- another order of readings for the site of this number, where there is one
+-- another order of readings for the site of this number, if there is one
 abbrev pub ordered_by : Option ℕ → Script → Order → Script × List ℕ
 ordered_by None s order = (s, fault_line UnknownSite)
 ordered_by (Some number) s order = (record s { orders = slice_set s.orders number order }, [])
@@ -147,14 +147,15 @@ ordered_by (Some number) s order = (record s { orders = slice_set s.orders numbe
 abbrev pub order_to : Script → List ℕ → Order → Script × List ℕ
 order_to s site order = ordered_by (site_number site s.sites) s order
 
--- one station more, of this site, would be more than a plan may have: of stations, of readings, or of sites
+-- with one more station, of this site, a plan would have more than it may: of stations, of readings, or of
+-- sites
 abbrev pub is_past_plan : Script → List ℕ → Bool
 is_past_plan s site =
     nat_le most_stations (length s.world)
     || (nat_lt most_plan_readings (sum_by (λ station. station.limits.readings) s.world + s.limits.readings)
     || nat_lt most_sites (length (sites_with site s.sites)))
 
--- one station more, where no other has its name
+-- one more station, if no other has its name
 abbrev pub joined_by : Option Station → Script → List ℕ → List ℕ → Script × List ℕ
 joined_by None s site name = (record s { sites = sites_with site s.sites; periods = periods_with site s.sites s.periods; orders = orders_with site s.sites s.orders; world = s.world ++ new_station s.limits site name ∷ [] }, [])
 joined_by (Some _) s site name = (s, fault_line StationTwice)
@@ -169,12 +170,13 @@ commanded_to None s command = (record s { opened = true }, fault_line UnknownSta
 commanded_to (Some station) s command =
     (record s { opened = true; world = world_after s.world (station.name, command) }, ended_line (answer_text (answer station.limits station.content command)))
 
--- the energy that a station imported, computed from all its events; each site, by its name, has an order of readings
+-- the imported energy of a station, computed from all its events; the first argument gives each site's order of
+-- readings by the site's name
 abbrev pub energy_answer : (List ℕ → Order) → Option Station → List ℕ
 energy_answer order None = fault_line UnknownStation
 energy_answer order (Some station) = energy_line (energy_by (order station.site) Import (entries station.content))
 
--- the energy that a station exported, computed from all its events
+-- the exported energy of a station, computed from all its events
 abbrev pub export_answer : (List ℕ → Order) → Option Station → List ℕ
 export_answer order None = fault_line UnknownStation
 export_answer order (Some station) = export_line (energy_by (order station.site) Export (entries station.content))
@@ -206,11 +208,11 @@ order_named s site = order_of (site_number site s.sites) s.orders
 abbrev pub board_of_site : Script → List ℕ → NamedBoard
 board_of_site s site = shown_site site (order_named s site) (period_named s site) (stations_of site s.world)
 
--- the text of a site's board, where there is a site of this name
+-- the text of a site's board, if there is a site of this name
 abbrev pub board_answer : Script → List ℕ → List ℕ
 board_answer s site = if is_among site s.sites then board_text (board_of_site s site) else fault_line UnknownSite
 
--- a message of a station: an event is delivered, and all else is answered as it stands
+-- a message of a station: an event is delivered; any other message has its ready answer
 abbrev pub by_meaning : Meaning → Station → Script → Script × List ℕ
 by_meaning (Event id request) station s =
     let command = Deliver request.key request.event in
@@ -218,7 +220,7 @@ by_meaning (Event id request) station s =
 by_meaning (Ready reply) station s = (record s { opened = true }, ended_line reply)
 by_meaning Silence station s = (record s { opened = true }, ended_line (codes "silent"))
 
--- the text means what it means at the script's moment
+-- the text is read at the script's moment
 abbrev pub sent_to : Option Station → Script → List ℕ → Script × List ℕ
 sent_to None s text = (record s { opened = true }, fault_line UnknownStation)
 sent_to (Some station) s text = by_meaning (message text s.moment) station s
@@ -244,11 +246,11 @@ step_by s (asks_board site) = (record s { opened = true }, board_answer s site)
 abbrev pub line_step : Script → Line → Script × List ℕ
 line_step s line = step_by s (line_meaning line)
 
--- the text of lines from here on
+-- the text that answers lines from here on
 abbrev pub script_text : Script → List Line → List ℕ
 script_text = text_by line_step
 
--- where a script stands after these lines
+-- the state of a script after these lines
 abbrev pub script_after : Script → List Line → Script
 script_after s [] = s
 script_after s (line ∷ lines) = script_after (line_step s line).0 lines
@@ -270,10 +272,10 @@ opening (asks_export _) = true
 opening (asks_total _) = true
 opening (asks_board _) = true
 
--- with its ledgers opened
+-- the script with its ledgers opened
 abbrev pub opened_script : Script → Script
 opened_script s = record s { opened = true }
 
--- with its ledgers opened where a line of this meaning opens them
+-- the script with its ledgers opened, if a line of this meaning opens them
 abbrev pub opened_for : LineMeaning → Script → Script
 opened_for meaning s = if opening meaning then opened_script s else s

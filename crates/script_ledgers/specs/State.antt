@@ -15,17 +15,18 @@ use Rattle.script_ledgers.specs.Script.{Script, opened_script, start}
 use Rattle.site_book.specs.declared.naming.Naming.{Ghosts}
 use Rattle.station_ledger.specs.Ledger.{bounds_code, content_code}
 
--- Where a script stands, and how many posts were made in all.
+-- The state of a script, and how many posts were made in all.
 pub record State : Type 0 where
   pub script : Script
   pub posts : ℕ
 
--- With its ledgers opened. Where no memory was found for them there are none, and nothing is said of it.
+-- The state with its ledgers opened. If there was no memory for them, there are none, and nothing is
+-- said about the state.
 abbrev pub opened_state : {J : Type 0} {named : Ghosts J} → Option (OpenedScript J named) → State
 opened_state None = record { script = opened_script start; posts = 0 }
 opened_state (Some o) = record { script = running o.draft o.cells.items; posts = posts_in o.books.items }
 
--- Its declarations, until they are opened.
+-- The state: its declarations, until the ledgers are opened.
 abbrev pub state_of : {J : Type 0} {named : Ghosts J} → Option Declared → Option (OpenedScript J named) → State
 state_of None opened = opened_state opened
 state_of (Some d) opened = record { script = planned d.draft; posts = 0 }

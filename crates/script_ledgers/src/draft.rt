@@ -32,7 +32,7 @@ impl Model for Draft {
 }
 
 impl Draft {
-    /// No station, and default limits.
+    /// No station, default limits, and the first moment.
     pub fn new() -> Self
         ensures { planned result ≡ start }
     {
@@ -52,28 +52,29 @@ impl Draft {
         &self.plan
     }
 
-    /// The moment that the script told last, 2000-01-01T00:00:00Z before.
+    /// The last moment that the script gave; 2000-01-01T00:00:00Z before it gave one.
     pub fn moment(&self) -> Moment
         ensures { result ≡ self.now.moment }
     {
         self.moment
     }
 
-    /// The moment from here on.
+    /// Sets the moment from here on.
     pub fn tell(&mut self, moment: Moment)
         ensures { self.new ≡ record self.old { moment = moment } }
     {
         self.moment = moment;
     }
 
-    /// The number of the station of this name.
+    /// The number of the station of this name, if there is one.
     pub fn station(&self, name: &Name) -> Option<usize>
         ensures { result ≡ position (λ s. bytes_eq name.now s.name) self.now.stations }
     {
         self.plan.station(name)
     }
 
-    /// The number of the station of this name, which is looked for at this number first.
+    /// The number of the station of this name, if there is one. It looks at the number `near`
+    /// first.
     pub(crate) fn station_near(&self, name: &Name, near: usize) -> Option<usize>
         ensures { result ≡ position (λ s. bytes_eq name.now s.name) self.now.stations }
     {
@@ -84,7 +85,7 @@ impl Draft {
         }
     }
 
-    // Tells whether there is a station of this number, and it has this name. No other one has it.
+    // Returns whether there is a station of this number, and it has this name. No other one has it.
     fn is_station(&self, number: usize, name: &Name) -> bool
         ensures { IsTrue result → position (λ s. bytes_eq name.now s.name) self.now.stations ≡ Some number }
     {
@@ -94,14 +95,14 @@ impl Draft {
         }
     }
 
-    /// The number of the site of this name.
+    /// The number of the site of this name, if there is one.
     pub fn site(&self, name: &Name) -> Option<usize>
         ensures { result ≡ position (λ s. bytes_eq name.now s.name) self.now.sites }
     {
         self.plan.site(name)
     }
 
-    // Puts the answer to a line that says this into the reply.
+    // Puts the answer to a line of this meaning into the reply.
     //
     // Condition: it needs no ledgers.
     pub(crate) fn take(
@@ -138,7 +139,8 @@ impl Draft {
 }
 
 impl Draft {
-    // The limits of the stations that follow, or the fault of limits out of range.
+    // Sets the limits of the stations that follow, or puts the fault of limits out of range into
+    // the reply.
     fn limit(
         &mut self,
         transactions: u64,
@@ -188,7 +190,7 @@ impl Draft {
         self.plan.set_period(site, period);
     }
 
-    // Gives a site another order of readings, or puts the fault that there is no such site into the reply.
+    // Gives a site another order of readings, or puts a fault into the reply if there is no such site.
     fn order_by(&mut self, site: &Name, order: Order, reply: &mut Vec<u8>) -> Result<(), AllocError>
         requires { reply.old.items ≡ [] }
         ensures { OnOk result (order_to (planned self.old) site.now order ≡ (planned self.new, reply.new.items)) }
@@ -233,7 +235,7 @@ impl Draft {
         self.plan.set_settle(site, rule);
     }
 
-    // Adds a station, or puts the fault that keeps it out into the reply.
+    // Adds a station, or puts the fault for which it is refused into the reply.
     fn declare(&mut self, site: Name, name: Name, reply: &mut Vec<u8>) -> Result<(), AllocError>
         requires { reply.old.items ≡ [] }
         ensures { OnOk result (declared_to (planned self.old) site name ≡ (planned self.new, reply.new.items)) }
@@ -248,14 +250,14 @@ impl Draft {
         Ok(())
     }
 
-    // Tells whether one station more, of this site, would be more than a plan may have.
+    // Returns whether with one more station, of this site, the plan would have more than it may.
     fn is_past_plan(&self, site: &Name) -> bool
         ensures { result ≡ is_past_plan (planned self.now) site.now }
     {
         self.plan.is_past(site, &self.limits)
     }
 
-    // Adds a station of a new name, for which there is room.
+    // Adds a station of a new name; there is room for it.
     fn join(&mut self, site: Name, name: Name)
         requires room { is_past_plan (planned self.old) site ≡ false }
         requires new { position (λ s. bytes_eq name s.name) self.old.stations ≡ None }

@@ -1,27 +1,27 @@
-//! Where stations were found by their names.
+//! Hints of the numbers of stations, by their names.
 ghost use Rattle.std.specs.Prelude.{◌<◌};
 
 use ledger_model::Name;
 
-// How many numbers are kept.
+// How many numbers it keeps.
 const PLACES: usize = 256;
 
-/// The numbers of stations, each at a place that its name gives. Nothing rests on them: whoever takes one looks whether
-/// the station has the name.
+/// The numbers of stations, each at a place computed from its name. They are only hints: a caller checks that the
+/// station has the name.
 #[derive(Drop)]
 pub(crate) struct StationHints {
     numbers: [u8; PLACES],
 }
 
 impl StationHints {
-    /// Each number is that of the first station.
+    /// Hints that all name the first station.
     pub(crate) fn new() -> Self {
         StationHints {
             numbers: [0; PLACES],
         }
     }
 
-    /// The number that was kept last for a name of this place.
+    /// The number that was kept last at this name's place.
     pub(crate) fn number(&self, name: &Name) -> usize {
         usize::from(self.numbers[place(name)])
     }
@@ -34,7 +34,7 @@ impl StationHints {
     }
 }
 
-// The place of a name. Names of one plan mostly differ in their last two characters.
+// The place of a name. Names of one plan usually differ in their last two characters.
 fn place(name: &Name) -> usize
     ensures { result < 256 }
 {

@@ -1,9 +1,9 @@
 //! Answers the lines of a script of OCPP 2.0.1 traffic by ledgers.
 //!
-//! A [`ScriptState`] is what the lines so far leave. It takes declarations, and from the first line that needs the ledgers on
-//! it has them opened; [`ScriptState::answer`] answers a line in both. What each line does and writes is stated once
-//! (`specs/Script.antt`), and the text of a script is a fold over its lines. The crates above read the lines:
-//! `script_replay` those of any reader, and `journal_script` those of a script that is restored.
+//! A [`ScriptState`] is the state after the lines so far. It takes declarations, and opens the ledgers at the first
+//! line that needs them; [`ScriptState::answer`] answers a line before and after that. One definition says what each
+//! line does and writes (`specs/Script.antt`), and the text of a script is a fold over its lines. The crates above read
+//! the lines: `script_replay` from any reader, and `journal_script` from a script to restore.
 //!
 //! ```text
 //! let mut script = ScriptState::<J>::begin(tables);

@@ -33,18 +33,18 @@ use std::io::BufRead;
 use std::thread::Threads;
 use transaction_event::{Asked, Delivery, put_event_reply, read_message};
 
-// A script whose ledgers are opened: its plan, its stations' cells, its sites' books, and its moment.
+// A script with its ledgers opened: its plan, its stations' cells, its sites' books, and its moment.
 #[derive(Drop)]
 pub(crate) struct OpenedScript<J: Naming> {
-    // The plan, and the moment that the script told last.
+    // The plan, and the last moment that the script gave.
     pub(crate) draft: Draft,
     // The cell of each station, in the plan's order.
     pub(crate) cells: Vec<StationCell>,
     // The book of each site, in the plan's order.
     pub(crate) books: Vec<SiteBook<J>>,
-    // What threads have read of the lines to come.
+    // The events of lines to come that threads have read.
     ahead: Lookahead,
-    // Where the stations of messages were found.
+    // Hints of the numbers of stations.
     hints: StationHints,
     // The reply to the message at hand.
     text: ArrayString<512>,
@@ -56,7 +56,7 @@ pub(crate) struct OpenedScript<J: Naming> {
 impl<J: Naming> OpenedScript<J> {
     // Opens an empty ledger for each station of the plan, and a book for each site.
     //
-    // Condition: the tables are those that J names, and each site's is there.
+    // Condition: the tables are those that J names, and each site has its own.
     pub(crate) fn open<X: AllocGlobal + Threads>(
         rt: &X,
         tables: Tables,
@@ -87,8 +87,8 @@ impl<J: Naming> OpenedScript<J> {
         }
     }
 
-    // The plan and the moment, and for each station, in the plan's order, its cell and the pass that its changes count
-    // for. The plan has no fault, and each cell is where the plan has its station.
+    // The plan and the moment, and for each station, in the plan's order, its cell and the pass of all its changes.
+    // The plan has no fault, and each cell is at its station's place in the plan.
     pub(crate) fn into_parts(self) -> (Draft, Vec<StationCell>, Vec<Pass>)
         ensures draft { result.0 ≡ self.draft }
         ensures cells { result.1.items ≡ self.cells.items }
@@ -109,8 +109,8 @@ impl<J: Naming> OpenedScript<J> {
         (draft, cells, passes)
     }
 
-    // Has threads read the lines to come that the reader shows, where that is due. It consumes none and waits for none.
-    // Where the reader fails to show them, its error is the answer.
+    // Lets threads read the lines to come that the reader shows, if that is due. It consumes none of them and waits for
+    // none. If the reader fails to show them, it returns the reader's error.
     pub(crate) fn look<X: Threads, R: BufRead>(
         &mut self,
         rt: &X,
@@ -130,7 +130,7 @@ impl<J: Naming> OpenedScript<J> {
         Ok(())
     }
 
-    // Puts the answer to a line into the reply: to its event where that was read ahead, and else to what it says.
+    // Puts the answer to a line into the reply: to its event if that was read ahead, else to what it says.
     pub(crate) fn answer(
         &mut self,
         line: Option<&[u8]>,
@@ -152,7 +152,7 @@ impl<J: Naming> OpenedScript<J> {
         self.take(read_line(line), reply)
     }
 
-    // Puts the answer to a line that says this into the reply.
+    // Puts the answer to a line of this meaning into the reply.
     pub(crate) fn take(
         &mut self,
         asked: ScriptLine<'_>,
@@ -184,7 +184,7 @@ impl<J: Naming> OpenedScript<J> {
         }
     }
 
-    // Delivers an event that was read ahead, and puts its reply into the reply.
+    // Delivers an event that was read ahead, and puts the answer into the reply.
     fn receive_ahead(&mut self, sent: SentEvent, reply: &mut Vec<u8>) -> Result<(), AllocError>
         requires empty { reply.old.items ≡ [] }
         requires short { HasShortId (asking sent.delivery) }
@@ -202,7 +202,7 @@ impl<J: Naming> OpenedScript<J> {
         }
     }
 
-    // Delivers a station's message, which is read now, and puts its reply into the reply.
+    // Reads and delivers a station's message, and puts the answer into the reply.
     fn receive(&mut self, name: &Name, text: &str, reply: &mut Vec<u8>) -> Result<(), AllocError>
         requires empty { reply.old.items ≡ [] }
         requires few { posts_in self.old.books.items < 2 ^ 62 }
@@ -219,7 +219,8 @@ impl<J: Naming> OpenedScript<J> {
         }
     }
 
-    // The number of the station of this name, which is looked for where it was found last.
+    // The number of the station of this name, if there is one. It looks first where it was found
+    // last.
     fn station_number(&self, name: &Name) -> Option<usize>
         ensures { result ≡ position (λ s. bytes_eq name.now s.name) self.now.draft.stations }
     {
@@ -247,8 +248,8 @@ impl<J: Naming> OpenedScript<J> {
         }
     }
 
-    // Delivers the event that a message asks to deliver to the station of this number, if it does, and puts the answer
-    // into the reply. A message for which no memory was found delivers nothing.
+    // Delivers the event of a message to the station of this number, if the message has one, and puts the answer into
+    // the reply. A message that found no memory delivers nothing.
     fn take_asked(
         &mut self,
         number: usize,
@@ -274,7 +275,7 @@ impl<J: Naming> OpenedScript<J> {
         }
     }
 
-    // Delivers an event to the station of this number, and puts the reply to it into the reply.
+    // Delivers an event to the station of this number, and puts the answer into the reply.
     fn deliver(
         &mut self,
         number: usize,
@@ -314,7 +315,7 @@ impl<J: Naming> OpenedScript<J> {
         answer
     }
 
-    // Puts the energy that a station imported into the reply.
+    // Puts a station's imported energy into the reply.
     fn put_energy(&self, name: &Name, reply: &mut Vec<u8>) -> Result<(), AllocError>
         ensures { OnOk result (reply.new.items ≡ reply.old.items ++ (step_by (running self.now.draft self.now.cells.items) (asks_energy name.now)).1) }
     {
@@ -327,7 +328,7 @@ impl<J: Naming> OpenedScript<J> {
         }
     }
 
-    // Puts the energy that a station exported into the reply.
+    // Puts a station's exported energy into the reply.
     fn put_export(&self, name: &Name, reply: &mut Vec<u8>) -> Result<(), AllocError>
         ensures { OnOk result (reply.new.items ≡ reply.old.items ++ (step_by (running self.now.draft self.now.cells.items) (asks_export name.now)).1) }
     {
@@ -367,7 +368,8 @@ impl<J: Naming> OpenedScript<J> {
         }
     }
 
-    // The text of the board of the site of this name and number. Its totals are the book's.
+    // The text of the board of the site of this name and number. Its totals are those of the site's
+    // book.
     fn board_text(&self, name: &Name, site: usize) -> Result<Vec<u8>, AllocError>
         requires { position (λ s. bytes_eq name.now s.name) self.now.draft.sites ≡ Some site }
         ensures { IfOk result (λ text. text.items ≡ board_text (board_of_site (running self.now.draft self.now.cells.items) name.now)) }

@@ -22,18 +22,19 @@ use std::thread::Threads;
 /// How many bytes a script may have: 1 GiB.
 pub const MAX_SCRIPT_BYTES: usize = 1_073_741_824;
 
-/// What the lines of a script leave: its plan, its ledgers and its moment. It takes declarations until a line needs the
-/// ledgers, which are opened then. Contracts see it as the state that the definition of a script's text goes through,
-/// with the number of posts in its sites' books.
+/// The state after some lines of a script: its plan, its ledgers and its moment. It takes declarations until a line
+/// needs the ledgers, and opens them then. Contracts see it as the state in the definition of a script's text, with the
+/// number of posts in its sites' books.
 #[derive(Drop)]
 pub struct ScriptState<J: Naming> {
-    // The declarations, until the ledgers are opened.
+    // The declarations, before the ledgers are opened.
     declared: Option<Declared>,
-    // The ledgers, from then on. Where no memory was found for them there are neither, and no line is answered.
+    // The ledgers, from then on. If there was no memory for them, there are neither declarations nor ledgers,
+    // and no line is answered.
     opened: Option<OpenedScript<J>>,
 }
 
-// Declarations, and the tables that their sites' books are to have.
+// Declarations, and the tables for their sites' books.
 #[derive(Drop)]
 pub(crate) struct Declared {
     pub(crate) draft: Draft,
@@ -55,7 +56,7 @@ impl<J: Naming> Model for ScriptState<J> {
 }
 
 impl<J: Naming> ScriptState<J> {
-    /// A script of which no line was read. It takes no memory.
+    /// The state before the first line. It takes no memory.
     ///
     /// Condition: the tables are those that J names, and there is one for each site that a plan may have.
     pub fn begin(tables: Tables) -> Self
@@ -72,8 +73,8 @@ impl<J: Naming> ScriptState<J> {
         }
     }
 
-    /// Puts the text of one line, or of one that is too long, into the reply. The first line that needs the ledgers opens
-    /// them. After an error no line is to be answered.
+    /// Puts the text that answers one line, which may be too long, into the reply. The first line that needs the
+    /// ledgers opens them. The error is a lack of memory; after it the caller answers no further line.
     pub fn answer<X: AllocGlobal + Threads>(
         &mut self,
         rt: &X,
@@ -94,7 +95,8 @@ impl<J: Naming> ScriptState<J> {
         }
     }
 
-    // Puts the answer to a line that says this into the reply, after it opened the ledgers if it needs them.
+    // Puts the answer to a line of this meaning into the reply; before, it opens the ledgers if the line
+    // needs them.
     fn take<X: AllocGlobal + Threads>(
         &mut self,
         rt: &X,
@@ -116,8 +118,8 @@ impl<J: Naming> ScriptState<J> {
         }
     }
 
-    /// Has threads read the lines to come that the reader shows, where that is due. It consumes none and waits for none.
-    /// Where the reader fails to show them, its error is the answer.
+    /// Lets threads read the lines to come that the reader shows, if that is due. It consumes none of them and waits
+    /// for none. If the reader fails to show them, it returns the reader's error.
     pub fn look<X: Threads, R: BufRead>(
         &mut self,
         rt: &X,
@@ -133,9 +135,9 @@ impl<J: Naming> ScriptState<J> {
         }
     }
 
-    /// The plan and the moment, and for each station, in the plan's order, its cell and the pass that its changes count
-    /// for. The plan has no fault, and each cell is where the plan has its station. The ledgers of a script that no line
-    /// opened are opened first; the error is want of memory for them.
+    /// The plan and the moment, and for each station, in the plan's order, its cell and the pass of all its changes.
+    /// The plan has no fault, and each cell is at its station's place in the plan. If no line opened the ledgers, this
+    /// call opens them first; the error is a lack of memory for them.
     pub fn into_parts<X: AllocGlobal + Threads>(
         self,
         rt: &X,
@@ -157,7 +159,7 @@ impl<J: Naming> ScriptState<J> {
         }
     }
 
-    // Opens the ledgers, where a line that says this needs them.
+    // Opens the ledgers, if a line of this meaning needs them.
     fn open_for<X: AllocGlobal + Threads>(
         &mut self,
         rt: &X,
@@ -166,7 +168,7 @@ impl<J: Naming> ScriptState<J> {
         ensures script { OnOk result (self.new.script ≡ opened_for (meaning_of asked.now) self.old.script) }
         ensures posts { OnOk result (self.new.posts ≡ self.old.posts) }
     {
-        // `open` has room for a whole plan, which each call of it clears.
+        // Each call of `open` clears room for a whole plan, so this looks first.
         if self.declared.is_some() && needs_ledgers(asked) {
             self.open(rt)
         } else {
@@ -186,7 +188,7 @@ impl<J: Naming> ScriptState<J> {
     }
 }
 
-// Tells whether a line that says this needs the ledgers.
+// Returns whether a line of this meaning needs the ledgers.
 fn needs_ledgers(asked: &ScriptLine<'_>) -> bool
     ensures { result ≡ opening (meaning_of asked.now) }
 {

@@ -30,7 +30,7 @@ module _ (last : List ℕ → List Line) (max_line_bytes : ℕ) where
 pub complete-unended : (max_line_bytes : ℕ) (raw : List ℕ) → HasNoFeed raw → complete_lines max_line_bytes raw ≡ []
 complete-unended max_line_bytes raw none = cut-unended (λ _. []) max_line_bytes raw none
 
--- the first most + 1 bytes tell whether a line is too long
+-- the first most + 1 bytes decide whether a line is too long
 pub same_length : (max_line_bytes : ℕ) (raw : List ℕ) → leb (length (take (max_line_bytes + 1) raw)) max_line_bytes ≡ leb (length raw) max_line_bytes
 same_length max_line_bytes raw = elim (cases_lt max_line_bytes (length raw)) [
   | inl long ↦ grind (arith, nat_tests, length-take (max_line_bytes + 1) raw)

@@ -21,7 +21,7 @@ is_word_byte c = ltb 32 c && ltb c 128
 not_a_space : (c : ℕ) → is_word_byte c ≡ true → is_space c ≡ false
 not_a_space c h = grind (arith, nat_tests)
 
--- a word without a space is parted from what stands behind a space
+-- a word without a space is parted from what is behind a space
 parted_word : (word rest : List ℕ) → list_all is_word_byte word ≡ true → parted (word ++ 32 ∷ rest) ≡ Some (word, rest)
 parted_word word rest h =
     let text = word ++ 32 ∷ rest in

@@ -1,4 +1,4 @@
--- The loop that reads one line: what it has read of the line, and how each end of it is told.
+-- The loop that reads one line: what it has read of the line, and how each end of it is reported.
 use Rattle.std.proofs.Common.{◌≡◌, ◌≢◌, ℕ, ◌+◌, ◌-◌, ◌≤◌, Bool, List, [], ◌∷◌, ◌++◌, Result, Option, Ok, Err, length, take, sym, ap, subst, ◌∙◌, arith, append_assoc, append-nil, take-take, take_all, length-take, length-append, zero-le, inl, inr, le_refl}
 use Rattle.std.proofs.lemmas.List.{take-append-le}
 use Rattle.std.proofs.lemmas.List.Elements.{All-nil, All-append}

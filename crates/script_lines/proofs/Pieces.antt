@@ -58,7 +58,7 @@ nonempty (suc n) none = omega arith
 pub front_again : (m : ℕ) (xs : List ℕ) → take (length (take m xs)) xs ≡ take m xs
 front_again m xs = ap (λ n. take n xs) (length-take m xs) ∙ take_min m xs
 
--- a line feed among the first m bytes stands among all of them
+-- a line feed among the first m bytes is among all of them
 pub line_in_front : (m at : ℕ) (xs : List ℕ) → at < length (take m xs) → Passes (is_byte 10) (take m xs) at
     → (length (take (at + 1) xs) ≡ at + 1) × (at + 1 ≤ m) × (take (at + 1) xs ≡ take at (take m xs) ++ 10 ∷ [])
 line_in_front m at xs at_in feed =
@@ -66,7 +66,7 @@ line_in_front m at xs at_in feed =
     let longer : at + 1 ≤ length xs = omega (arith, length-take m xs) in
     (length-take-le (at + 1) xs longer, long, sym (take-take (at + 1) m xs long) ∙ line_taken (take m xs) at at_in feed)
 
--- all but the last byte of a line is what stands before its line feed
+-- all but the last byte of a line is what is before its line feed
 pub but_last : (xs part : List ℕ) → xs ≡ part ++ 10 ∷ [] → HasNoFeed part → HasNoFeed (take (length xs - 1) xs)
 but_last xs part e none =
     let count : length xs - 1 ≡ length part = omega (arith, ap length e, length-append part (10 ∷ [])) in

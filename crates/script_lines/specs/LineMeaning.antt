@@ -46,11 +46,12 @@ pub data LineMeaning : Type 0 where
 abbrev pub is_space : ℕ → Bool
 is_space b = b == 32
 
--- what stands before the first space, and what stands after it; None where there is no space
+-- the bytes before the first space and those after it; None if there is no space
 abbrev pub parted : List ℕ → Option (List ℕ × List ℕ)
 parted text = if nat_lt (position_or_len is_space text) (length text) then Some (before_first is_space text, after_first is_space text) else None
 
--- the words of a text, a space between each two; of at most so many words the last is all that is left
+-- the words of a text, separated by single spaces; there are at most so many, and the last one is all
+-- that is left
 abbrev pub words : ℕ → List ℕ → List (List ℕ)
 words (suc (suc n)) text = option_map_or (λ ends. ends.0 ∷ words (suc n) ends.1) (parted text) (text ∷ [])
 words _ text = text ∷ []
@@ -65,7 +66,7 @@ name word = if is_name word then Some word else None
 abbrev pub is_number : List ℕ → Bool
 is_number text = nat_lt 0 (length text) && (list_all is_ascii_digit text && (not (slice_index text 0 == 48) || length text == 1))
 
--- the number that a word writes, where that is below 2^64
+-- the number that a word writes, if it is below 2^64
 abbrev pub number : List ℕ → Option ℕ
 number text = if is_number text && nat_lt (digits_value 10 text) (2 ^ 64) then Some (digits_value 10 text) else None
 
@@ -91,19 +92,19 @@ settle_word word =
 abbrev pub key : List ℕ → ℕ → Option KeyName
 key tx seq = if is_tx_id tx && nat_lt seq sequence_end then Some (record { tx = folded tx; seq = seq }) else None
 
--- the command that does so to the event of this key
+-- the command of this operation on the event of this key
 abbrev pub command_of : Operation → KeyName → Command
 command_of operation.Void key = Void key
 command_of operation.Restore key = Restore key
 command_of operation.Erase key = Erase key
 
 infixl 10 ◌>>=◌
--- in a line, `(← number word)` is the number that the word writes; where it writes none, the line is bad
+-- in a line, `(← number word)` is the number that the word writes; if it writes none, the line is bad
 abbrev pub ◌>>=◌ : {A : Type 0} → Option A → (A → LineMeaning) → LineMeaning
 None >>= says = fails BadLine
 Some read >>= says = says read
 
--- ---- the forms of lines, each by the words behind its first
+-- ---- the forms of lines, each by the words behind its first one
 
 -- `limits <transactions> <events> <readings> <changes>`
 abbrev pub limits_line : List (List ℕ) → LineMeaning
@@ -152,7 +153,8 @@ question_line asks _ = fails BadLine
 
 -- ---- a line
 
--- the first word tells the form of the line, and how many words stand behind it: a message's text may have spaces, and a time may have none
+-- the first word says the form of the line, and how many words follow it: a message's text may have
+-- spaces, a time may not
 abbrev pub by_first_word : List ℕ × List ℕ → LineMeaning
 by_first_word (word, rest) =
     if bytes_eq word (codes "msg") then msg_line (words 2 rest)

@@ -1,4 +1,4 @@
--- What a call reads of a script: a piece of a line, or a line.
+-- What one call reads of a script: a piece of a line, or a line.
 use Rattle.std.specs.Prelude.{◌≡◌, ℕ, ◌+◌, ◌-◌, ◌<◌, ◌≤◌, List, [], ◌∷◌, ◌++◌, length, take}
 use Rattle.std.specs.declared.result.Result.{Result}
 use Rattle.std.specs.declared.result.Result.TheVariants.{Ok, Err}
@@ -32,12 +32,12 @@ TakesLine max_line_bytes room left (Err WriteFault) bytes held = (length bytes �
 TakesLine max_line_bytes room left (Err TooMuchInput) bytes held = (length bytes ≡ room + 1) × HasNoFeed (take room bytes)
 TakesLine max_line_bytes room left (Err OutOfMemory) bytes held = (0 < length bytes) × (length bytes ≤ room) × HasNoFeed (take (length bytes - 1) bytes)
 
--- the line of the bytes `raw`, that ended so
+-- the line of the bytes `raw` with this end
 abbrev pub line_of : LineEnd → ℕ → List ℕ → Line
 line_of Feed max_line_bytes raw = ended max_line_bytes raw
 line_of Input max_line_bytes raw = whole max_line_bytes raw
 
--- the bytes that were read of a line that ended so
+-- the bytes that were read of a line with this end
 abbrev pub line_read : LineEnd → List ℕ → List ℕ
 line_read Feed raw = raw ++ 10 ∷ []
 line_read Input raw = raw

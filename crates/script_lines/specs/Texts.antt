@@ -15,7 +15,7 @@ ended_line text = text ++ 10 ∷ []
 abbrev pub fault_line : LineFault → List ℕ
 fault_line fault = codes "fault " ++ (fault_name fault ++ 10 ∷ [])
 
--- `accepted <n>` or `refused <name>`; no command of an operator is a repeat
+-- `accepted <n>` or `refused <name>`; an operator's command never gets Repeat
 abbrev pub answer_text : Answer → List ℕ
 answer_text (Accepted n) = codes "accepted " ++ decimal n
 answer_text Repeat = codes "repeat"

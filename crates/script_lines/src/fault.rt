@@ -1,18 +1,18 @@
 use thiserror::Error;
 
-/// Why a replay ended before the end of its script.
+/// Why a replay ended before the end of its script, or could not write all of its answer.
 #[derive(Clone, Copy, Debug, PartialEq, Eq, Error)]
 pub enum ReplayFault {
-    /// The reader answered an error.
+    /// A read failed; an interrupted read is a failure too.
     #[error("ReadFault")]
     ReadFault,
-    /// The writer answered an error, or took no byte.
+    /// A write or a flush failed, or a write took no byte.
     #[error("WriteFault")]
     WriteFault,
-    /// The script has more bytes than a replay reads.
+    /// The script has more bytes than a replay may read.
     #[error("TooMuchInput")]
     TooMuchInput,
-    /// No memory was found for a line, its answer or the ledgers.
+    /// There was no memory for a line, its answer or the ledgers.
     #[error("OutOfMemory")]
     OutOfMemory,
 }

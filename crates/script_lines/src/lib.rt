@@ -1,12 +1,12 @@
 //! The lines of a script: how its bytes are cut into them, what each says, and the lines that answer.
 //!
-//! A script has one line for each step of what an operator and his stations do: declarations, messages of
-//! stations, an operator's commands and questions. [`LineReader`] reads it line by line within limits, and
-//! flushes what was written before it waits for more. [`read_line`] says what a line means, or which fault it
-//! has. [`put_line`], [`put_fault`] and [`put_answer`] make the lines that answer, and [`write_bytes`] writes them. Nothing here knows a ledger.
+//! A script has one line for each step: a declaration, a message of a station, or an operator's command or question.
+//! [`LineReader`] reads it line by line within limits, and flushes the output before it waits for more input.
+//! [`read_line`] says what a line means, or which fault it has. [`put_line`], [`put_fault`] and [`put_answer`] make the
+//! answers, and [`write_bytes`] writes them. This crate knows no ledgers.
 //!
-//! The crate's one contract: a line that was read is one of those that the definition cuts the bytes into, and
-//! its meaning is that of the definition `line_meaning`.
+//! The crate's contract: each line that is read is the next of those that the definition cuts the bytes into,
+//! and its meaning is that of the definition `line_meaning`.
 //!
 //! ```text
 //! read_line(Some(b"void CS-01 T1 1"))   // ScriptLine::Commands(CS-01, Command::Void(t1, 1))

@@ -33,12 +33,13 @@ pub struct LineReader {
     pub max_line_bytes: usize,
     /// How many bytes may still be read.
     pub room: usize,
-    /// Whether all bytes that the reader showed were consumed, so that the next look may wait for more.
+    /// Whether all bytes that the reader showed were consumed, so the next look may wait for more.
     pub is_drained: bool,
 }
 
 impl LineReader {
-    /// A reader of lines of at most `max_line_bytes` bytes, of which it reads `room` bytes in all. It takes no memory yet.
+    /// A reader of lines of at most `max_line_bytes` bytes; it reads at most `room` bytes in all. It takes no memory
+    /// yet.
     pub fn open(alloc: Global, max_line_bytes: usize, room: usize) -> LineReader
         ensures held { result.held.items ≡ [] }
         ensures max_line_bytes { result.max_line_bytes ≡ max_line_bytes }
@@ -52,7 +53,8 @@ impl LineReader {
         }
     }
 
-    /// Reads one line into `held`, which keeps at most one byte more than a line may have.
+    /// Reads one line into `held`, which keeps at most one byte more than a line may have. Faults:
+    /// `ReadFault`, `OutOfMemory`, and `TooMuchInput` if a byte past `room` was read.
     pub fn next_line<R: BufRead>(&mut self, reader: &mut R) -> Result<LineEnd, ReplayFault>
         requires { self.old.max_line_bytes < 2 ^ 62 }
         ensures takes { (bytes : List ℕ) × Consumes (R.remaining reader.old) (R.remaining reader.new) bytes
@@ -63,8 +65,8 @@ impl LineReader {
         self.next_line_flushing(reader, &mut io::sink())
     }
 
-    /// Reads one line as [`LineReader::next_line`] does. Before the reader is asked for bytes that it does not show, what
-    /// was written is flushed.
+    /// Reads one line as [`LineReader::next_line`] does. It flushes the output before it asks the reader for bytes that
+    /// the reader does not show yet. A failed flush is a `WriteFault`.
     pub fn next_line_flushing<R: BufRead, W: Write>(
         &mut self,
         reader: &mut R,
@@ -99,7 +101,7 @@ impl LineReader {
         }
     }
 
-    /// The line that was read and ended so, without its carriage return where a line feed ended it; None where
+    /// The line that was read, with this end; without its carriage return if a line feed ended it. `None` if
     /// it is too long.
     pub fn line(&self, end: LineEnd) -> Option<&[u8]>
         ensures { line_bytes result ≡ line_of end self.now.max_line_bytes self.now.held.items }
@@ -114,7 +116,7 @@ impl LineReader {
     }
 }
 
-/// The bytes without the one carriage return at their end.
+/// The bytes without one carriage return at their end, if there is one.
 pub fn without_return(raw: &[u8]) -> &[u8]
     ensures is { result.now ≡ strip_last 13 raw.now }
     ensures shorter { length result.now ≤ length raw.now }

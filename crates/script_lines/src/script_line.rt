@@ -9,20 +9,21 @@ ghost use Rattle.script_lines.specs.LineMeaning as spec;
 use ledger_model::{Command, Key, Moment, Name, Order, Settle, TxId};
 use reading_decimal::moment_of;
 
-/// Why a line of a script changes no plan, content or moment; the first that applies, in this order.
+/// Why a line of a script changes no plan, content or moment. The first fault that applies, in this
+/// order, is reported.
 #[derive(Clone, Copy, Debug, PartialEq, Eq)]
 pub enum LineFault {
-    /// More than 262,400 bytes before the line feed.
+    /// The line has more than 262,400 bytes before its line feed.
     LineTooLong,
-    /// No UTF-8, an unknown first word, a wrong number of words, or a word that is not what stands in its
-    /// place.
+    /// The line is no UTF-8, or has an unknown first word, a wrong number of words, or a word that is not
+    /// allowed in its place.
     BadLine,
-    /// A declaration after the ledgers were opened.
+    /// It is a declaration after the ledgers were opened.
     DeclaredLate,
-    /// Limits out of range, a settlement period that is none of the four, or more stations, readings or
-    /// sites than a plan may have.
+    /// Its limits are out of range, its settlement period is none of the four, or there would be more
+    /// stations, readings or sites than a plan may have.
     PlanLimit,
-    /// The station of this name is declared already, on whichever site.
+    /// The station of this name is declared already, at whatever site.
     StationTwice,
     /// No station of this name is declared.
     UnknownStation,
@@ -50,16 +51,16 @@ impl LineFault {
 /// What an operator does to an event.
 #[derive(Clone, Copy, Debug, PartialEq, Eq)]
 pub enum Operation {
-    /// Leaves it out of all totals, and keeps it.
+    /// Leaves it out of all totals, but keeps it stored.
     Void,
     /// Counts it again.
     Restore,
-    /// Forgets it.
+    /// Removes it.
     Erase,
 }
 
 impl Operation {
-    // The command that does so to the event of this key.
+    // The command of this operation on the event of this key.
     fn command(self, key: Key) -> Command
         ensures { result ≡ spec.command_of self key }
     {
@@ -78,7 +79,7 @@ pub enum ScriptLine<'a> {
     Nothing,
     /// A line that changes no plan, content or moment, and names its fault.
     Fails(LineFault),
-    /// `limits <transactions> <events> <readings> <changes>`: what the stations that follow may keep.
+    /// `limits <transactions> <events> <readings> <changes>`: the limits of the stations that follow.
     Limits(u64, u64, u64, u64),
     /// `station <site> <station>`: one more station of the plan.
     Declares(Name, Name),
@@ -88,7 +89,7 @@ pub enum ScriptLine<'a> {
     SetsOrder(Name, Order),
     /// `settle <site> <word>`: the rule by which differences count in a site's settlement periods.
     SetsSettle(Name, Settle),
-    /// `now <time>`: the moment from here on.
+    /// `now <time>`: the moment of the messages that follow.
     Tells(Moment),
     /// `msg <station> <text>`: a message of a station.
     Sends(Name, &'a str),
@@ -104,7 +105,7 @@ pub enum ScriptLine<'a> {
     AsksBoard(Name),
 }
 
-/// What the line says; `None` stands for one that is too long.
+/// What the line says; `None` is a line that is too long.
 pub fn read_line(line: Option<&[u8]>) -> ScriptLine<'_>
     ensures { meaning_of result ≡ spec.line_meaning (line_bytes line.entry) }
 {
@@ -126,7 +127,7 @@ fn by_words(bytes: &[u8]) -> ScriptLine<'_>
     }
 }
 
-// The first word tells which form the line has.
+// The first word says which form the line has.
 fn by_first_word(text: &str) -> ScriptLine<'_>
     ensures { meaning_of result ≡ spec.by_text text.now }
 {
@@ -151,7 +152,7 @@ fn other_line<'a>(word: &str, rest: &'a str) -> ScriptLine<'a>
     }
 }
 
-// The line of the form that the word names; `None` where the words are not those of the form.
+// The line of the form that the word names; `None` if the words are not those of the form.
 fn line_of_form<'a>(word: &str, rest: &'a str) -> Option<ScriptLine<'a>>
     requires { bytes_eq word.now (codes "msg") ≡ false }
     ensures { meaning_of_form result ≡ spec.by_first_word (word.now, rest.now) }
@@ -174,21 +175,21 @@ fn line_of_form<'a>(word: &str, rest: &'a str) -> Option<ScriptLine<'a>>
     }
 }
 
-// What stands before the first space, and what stands after it.
+// The text before the first space, and the text after it.
 fn parted(text: &str) -> Option<(&str, &str)>
     ensures { option_map (λ words. (words.0.now, words.1.now)) result ≡ spec.parted text.now }
 {
     text.split_once(' ')
 }
 
-// Tells whether the bytes are digits.
+// Returns whether the bytes are digits.
 fn are_digits(bytes: &[u8]) -> bool
     ensures { result ≡ list_all is_ascii_digit bytes.now }
 {
     bytes.iter().all(|byte| byte.is_ascii_digit())
 }
 
-// Tells whether the word is `0`, or a digit 1 to 9 with digits after it.
+// Returns whether the word is `0`, or a digit 1 to 9 with digits after it.
 fn is_number(word: &str) -> bool
     ensures { result ≡ spec.is_number word.now }
 {
@@ -209,7 +210,7 @@ fn number(word: &str) -> Option<u64>
     }
 }
 
-/// The order of readings that a word names: `sequence` or `moment`.
+/// The order of readings that a word names: `sequence` or `moment`; `None` for any other word.
 pub fn order_of(word: &str) -> Option<Order>
     ensures { result ≡ spec.order_word word.now }
 {

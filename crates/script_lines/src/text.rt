@@ -6,7 +6,7 @@ use itoa::Buffer;
 use ledger_model::Answer;
 use std::alloc::AllocError;
 
-/// Appends a text and a line feed.
+/// Appends a text and a line feed. The error says that the allocator refused memory.
 pub fn put_line(reply: &mut Vec<u8>, text: &str) -> Result<(), AllocError>
     ensures { OnOk result (reply.new.items ≡ reply.old.items ++ ended_line text.now) }
 {
@@ -15,7 +15,7 @@ pub fn put_line(reply: &mut Vec<u8>, text: &str) -> Result<(), AllocError>
     Ok(())
 }
 
-/// Appends `fault <name>` and a line feed.
+/// Appends `fault <name>` and a line feed. The error says that the allocator refused memory.
 pub fn put_fault(reply: &mut Vec<u8>, fault: LineFault) -> Result<(), AllocError>
     ensures { OnOk result (reply.new.items ≡ reply.old.items ++ fault_line fault) }
 {
@@ -25,7 +25,8 @@ pub fn put_fault(reply: &mut Vec<u8>, fault: LineFault) -> Result<(), AllocError
     Ok(())
 }
 
-/// Appends `accepted <n>` or `refused <name>` and a line feed.
+/// Appends `accepted <n>` or `refused <name>` and a line feed. The error says that the allocator
+/// refused memory.
 pub fn put_answer(reply: &mut Vec<u8>, answer: Answer) -> Result<(), AllocError>
     ensures { OnOk result (reply.new.items ≡ reply.old.items ++ ended_line (answer_text answer)) }
 {

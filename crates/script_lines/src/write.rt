@@ -9,7 +9,8 @@ use std::io::Write;
 #[derive(Clone, Copy, Debug, PartialEq, Eq)]
 pub struct WriteStopped;
 
-/// Writes all of these bytes. A write that fails, or takes none, ends it, and what was taken before stands.
+/// Writes all of these bytes. It ends at a write that fails or takes no byte; a front of the bytes was
+/// written then.
 pub fn write_bytes<W: Write>(writer: &mut W, bytes: &[u8]) -> Result<(), WriteStopped>
     ensures { (written : List ℕ) × Appends (W.contents writer.old) (W.contents writer.new) written
         × WritesFront result bytes.now written }

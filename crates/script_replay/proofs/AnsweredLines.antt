@@ -1,4 +1,4 @@
--- The loops over lines: what was read and answered so far, and how each end of a loop is told.
+-- The loops over lines: what was read and answered so far, and how each end of a loop is reported.
 use Rattle.std.proofs.Common.{◌≡◌, ℕ, ◌+◌, ◌-◌, ◌<◌, ◌≤◌, false, List, [], ◌∷◌, ◌++◌, Result, Option, Ok, Err, Some, None, IsSome, cond, leb, length, take, refl, sym, ap, subst, ◌∙◌, arith, append_assoc, append-nil, length-append, length-take, inl, inr}
 use Rattle.std.proofs.Math.Seq.{take-append-add}
 use Rattle.std.proofs.lemmas.Bool.Decides.{nat_tests}
@@ -67,7 +67,7 @@ module _ (now : List Line → List ℕ) (empty : now [] ≡ []) (max_line_bytes 
   stops_in_line T all_read room left TooMuchInput bytes held t = (tt, (t.0, sym (ap now (complete-unended max_line_bytes (take room bytes) t.1) ∙ empty)))
   stops_in_line T all_read room left OutOfMemory bytes held t = (t.0, (t.1, sym (ap now (complete-unended max_line_bytes (take (length bytes - 1) bytes) t.2) ∙ empty)))
 
-  -- all lines of a line alone
+  -- all lines of a single line
   pub line_alone : (end : LineEnd) (raw : List ℕ) → HasNoFeed raw → 0 < length (line_read end raw) → lines_of max_line_bytes (line_read end raw) ≡ line_of end max_line_bytes raw ∷ []
   line_alone Feed raw none some = cut-open (unended max_line_bytes) max_line_bytes [] raw (10 ∷ []) none
   line_alone Input raw none some = cut-unended (unended max_line_bytes) max_line_bytes raw none ∙ unended_whole max_line_bytes raw some
@@ -169,18 +169,18 @@ module _ (old now : List Line → List ℕ) (max_line_bytes room left : ℕ) (r0
         all.1,
       )
 
--- a reply of which a front was written
+-- a reply with only a front written
 pub stops_writing : (old new : List Line → List ℕ) (line : Line) (reply shown written : List ℕ) → shown ≡ reply → Replies old new line reply
     → (rest : List ℕ) × (shown ≡ written ++ rest) → StopsAtLine old line WriteFault written
 stops_writing old new line reply shown written same replies front = λ more.
     (front.0 ++ new more, replies more ∙ ap (λ l. l ++ new more) (sym same ∙ front.1) ∙ append_assoc written front.0 (new more))
 
--- what a loop told at its end
+-- what a loop ensures at its end
 abbrev pub Tells : (T : Type 0) → (List Line → List ℕ) → ℕ → ℕ → Option (List ℕ) → Option (List ℕ) → Option (List ℕ) → Option (List ℕ) → Result T ReplayFault → Type 0
 Tells T old max_line_bytes room r0 r1 w0 w1 result =
     (read written : List ℕ) × Consumes r0 r1 read × Appends w0 w1 written × Began result read × Replays (OnSome r0 (IsAtEnd r1)) old max_line_bytes room result read written
 
--- what a replay of a whole script told
+-- what a replay of a whole script ensures
 pub as_replay : (r0 r1 w0 w1 : Option (List ℕ)) (result : Result (Unit {0}) ReplayFault) → Tells (Unit {0}) (script_text start) longest_line longest_script r0 r1 w0 w1 result → IsReplay r0 r1 w0 w1 result
 as_replay r0 r1 w0 w1 result t = (t.0, t.1, t.2, t.3, t.5)
 
@@ -207,8 +207,8 @@ pub some_read : (end : LineEnd) (max_line_bytes : ℕ) (held raw : List ℕ) →
 some_read Feed max_line_bytes held raw e some = omega (arith, length-append raw (10 ∷ []))
 some_read Input max_line_bytes held raw e some = omega (arith, ap length e, length-take (max_line_bytes + 1) raw)
 
--- what a loop knows once it asked for the next line: the lines before are answered, and these bytes were read of the
--- line, of which `held` is kept
+-- what a loop knows after it asked for the next line: the lines before are answered, and these bytes of the line
+-- were read; `held` is kept of them
 pub record NextLine (old now : List Line → List ℕ) (max_line_bytes room left' : ℕ) (r0 r2 w0 w2 : Option (List ℕ)) (result : Result LineEnd ReplayFault) (held : List ℕ) : Type 0 where
   pub left : ℕ
   pub r1 : Option (List ℕ)

@@ -56,7 +56,7 @@ site_but_voided site order period bs =
       stations = map but_voided bs;
     }
 
--- Live events alone make a board, but for how many events are voided.
+-- Only live events make a board, except for how many events are voided.
 same_board : (order : Order) (period : Periods) (a b : Station) → live (entries a.content) ≡ live (entries b.content)
     → with_voided 0 (board_by order period (entries a.content)) ≡ with_voided 0 (board_by order period (entries b.content))
 same_board order period a b same = ap (with_voided 0) (live_alone order period (entries a.content) (entries b.content) same)
@@ -143,7 +143,8 @@ module _ (site name : List ℕ) where
       (λ (apart : bytes_eq name s.name ≡ false). other_first s ss apart ∙ at_its_site ss a (sym (skipped s ss apart) ∙ is) there)
       (cases_Bool (bytes_eq name s.name))
 
-  -- The one that is found among the site's is at the site, and where no two have one name it is the one that is found among all.
+  -- The one that is found among the site's is at the site, and where no two have one name it is the one that is found
+  -- among all.
   found_at : (w : World) (a : Station) → station_named name (stations_of site w) ≡ Some a → bytes_eq site a.site ≡ true
   found_at [] a is = cc is
   found_at (s ∷ ss) a is = ⊎_elim
@@ -213,7 +214,7 @@ other_station name one other m =
       live_events = found.2;
     }
 
--- Live events alone make energies.
+-- Only live events make energies.
 same_energy : (order : Order) (d : Direction) (a b : Station) → live (entries a.content) ≡ live (entries b.content) → energy_by order d (entries a.content) ≡ energy_by order d (entries b.content)
 same_energy order Import a b same = let board = same_board order 0 a b same in λ i. record { up = (board i).figures.up; down = (board i).figures.down }
 same_energy order Export a b same = let board = same_board order 0 a b same in λ i. record { up = (board i).figures.export_up; down = (board i).figures.export_down }

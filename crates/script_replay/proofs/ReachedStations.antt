@@ -75,7 +75,7 @@ named_by : (b : Bool) (s : Station) (o : Option Station) → cond b (Some s) o �
 named_by true s o e = cc e
 named_by false s o e = (refl, e)
 
--- no station of this name stands here
+-- no station of this name is here
 not_named : (s : Station) (ss : World) (name : List ℕ) → station_named name (s ∷ ss) ≡ None → (bytes_eq name s.name ≡ false) × (station_named name ss ≡ None)
 not_named s ss name none = named_by (bytes_eq name s.name) s (station_named name ss) none
 
@@ -126,7 +126,7 @@ reached_behind : (w : World) (t : Station) → AreReached w → Reached t.limits
 reached_behind [] t all is = (is, tt)
 reached_behind (s ∷ ss) t all is = (all.0, reached_behind ss t all.1 is)
 
--- what lines keep: each content is reached, and names stand once
+-- what lines keep: each content is reached, and names occur once
 abbrev pub Kept : World → Type 0
 Kept w = AreReached w × AreNamedOnce w
 

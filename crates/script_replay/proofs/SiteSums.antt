@@ -21,17 +21,17 @@ shown_figures : (order : Order) (period : Periods) (w : World) → map (λ (s : 
 shown_figures order period [] = refl
 shown_figures order period (s ∷ ss) = ap (λ l. figures_by order (entries s.content) ∷ l) (shown_figures order period ss)
 
--- the quarters of the stations' boards
+-- the periods of the stations' boards
 shown_quarters : (order : Order) (period : Periods) (w : World) → flat_map (λ (s : List ℕ × Board). s.1.quarters) (map (shown_station order period) w) ≡ flat_map (λ es. (board_by order period es).quarters) (map (λ (s : Station). entries s.content) w)
 shown_quarters order period [] = refl
 shown_quarters order period (s ∷ ss) = ap (λ l. (board_by order period (entries s.content)).quarters ++ l) (shown_quarters order period ss)
 
--- the energies of the stations in a quarter
+-- the energies of the stations in a period
 shown_energies : (order : Order) (d : Direction) (period : Periods) (quarter : ℕ) (w : World) → map (energy_in_by order d period quarter) (map (λ (s : Station). entries s.content) w) ≡ map (λ s. energy_in_by order d period quarter (entries s.content)) w
 shown_energies order d period quarter [] = refl
 shown_energies order d period quarter (s ∷ ss) = ap (λ l. energy_in_by order d period quarter (entries s.content) ∷ l) (shown_energies order d period quarter ss)
 
--- the energies of a quarter over the stations' boards
+-- the energies of a period over the stations' boards
 each_quarter : (order : Order) (period : Periods) (w : World) (quarter : ℕ) → flows_under quarter (flat_map (λ (s : List ℕ × Board). s.1.quarters) (map (shown_station order period) w)) ≡ sums_in order period quarter w
 each_quarter order period w quarter =
     let imported = ap sum_of_energies (shown_energies order Import period quarter w) in

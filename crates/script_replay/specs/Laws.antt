@@ -1,4 +1,4 @@
--- What the text of a script means, in words of its own.
+-- What the text of a script means, in the subject's own words.
 use Rattle.std.specs.Prelude.{◌≡◌, ℕ, true, List, [], ◌∷◌, ◌++◌, ⊤, All, map, Option, None, Some, IsPermutation}
 use Rattle.ledger_model.specs.Periods.{Periods}
 use Rattle.ledger_model.specs.declared.command.Command.{Command}
@@ -25,48 +25,55 @@ use Rattle.script_lines.specs.LineMeaning.{LineMeaning, nothing, fails, sets_lim
 abbrev pub AnEmptyScriptWritesNothing : Type 0
 AnEmptyScriptWritesNothing = (max_line_bytes : ℕ) → script_text start (lines_of max_line_bytes []) ≡ []
 
--- after a line whose text is a fault, the plan, all contents and the moment are what they were; it may have opened the ledgers
+-- after a line with a fault as its text, the plan, all contents and the moment are as they were; it may have opened the
+-- ledgers
 abbrev pub FaultsChangeNothing : Type 0
 FaultsChangeNothing = (s : Script) (line : Line) (fault : LineFault) → (line_step s line).1 ≡ fault_line fault
     → (line_step s line).0 ≡ record s { opened = (line_step s line).0.opened }
 
--- after any lines, the content of a station is one that so many admissible commands as it counts, each accepted, leave of the empty one
+-- after any lines, as many admissible commands as a station's content counts, each accepted, lead
+-- from the empty content to it
 abbrev pub StationsAreReached : Type 0
 StationsAreReached = (lines : List Line) (name : List ℕ) (station : Station) → station_named name (script_after start lines).world ≡ Some station
     → Reached station.limits station.content.changes station.content
 
--- after any lines, the answer to a question for a station's energy is the imported energy of its events that are accepted and not voided, computed from all of them in its site's order of readings
+-- after any lines, the answer to a question for a station's energy is the imported energy of its events that are
+-- accepted and not voided, computed from all of them in its site's order of readings
 abbrev pub EnergyIsFromScratch : Type 0
 EnergyIsFromScratch = (lines : List Line) (line : Line) (name : List ℕ) (station : Station) → line_meaning line ≡ asks_energy name
     → station_named name (script_after start lines).world ≡ Some station
     → (line_step (script_after start lines) line).1 ≡ energy_line (energy_by (order_named (script_after start lines) station.site) Import (entries station.content))
 
--- and the answer to a question for what a station exported is the exported energy of these events in that order
+-- and the answer to a question for a station's exported energy is the exported energy of these events in that
+-- order
 abbrev pub ExportIsFromScratch : Type 0
 ExportIsFromScratch = (lines : List Line) (line : Line) (name : List ℕ) (station : Station) → line_meaning line ≡ asks_export name
     → station_named name (script_after start lines).world ≡ Some station
     → (line_step (script_after start lines) line).1 ≡ export_line (energy_by (order_named (script_after start lines) station.site) Export (entries station.content))
 
--- after any lines, the answer to a question for a station's total is its figures, computed from all its events in its site's order of readings
+-- after any lines, the answer to a question for a station's total is its figures, computed from all its events in its
+-- site's order of readings
 abbrev pub TotalsAreFromScratch : Type 0
 TotalsAreFromScratch = (lines : List Line) (line : Line) (name : List ℕ) (station : Station) → line_meaning line ≡ asks_total name
     → station_named name (script_after start lines).world ≡ Some station
     → (line_step (script_after start lines) line).1 ≡ ended_line (total_text (figures_by (order_named (script_after start lines) station.site) (entries station.content)))
 
--- after any lines, the answer to a question for a site's board is the board of its stations by its order of readings and its settlement period, each computed from all its events
+-- after any lines, the answer to a question for a site's board is the board of its stations by its
+-- order of readings and its length of periods, each computed from all its events
 abbrev pub BoardsAreFromScratch : Type 0
 BoardsAreFromScratch = (lines : List Line) (line : Line) (site : List ℕ) → line_meaning line ≡ asks_board site
     → is_among site (script_after start lines).sites ≡ true
     → (line_step (script_after start lines) line).1 ≡ board_text (shown_site site (order_named (script_after start lines) site) (period_named (script_after start lines) site) (stations_of site (script_after start lines).world))
 
--- what stations imported and exported in a quarter in an order of readings, added up
+-- the imported and exported energies of stations in a period, in an order of readings, added up
 abbrev pub sums_in : Order → Periods → ℕ → World → Flows
 sums_in order period quarter stations = record {
   flow = sum_of_energies (map (λ s. energy_in_by order Import period quarter (entries s.content)) stations);
   export = sum_of_energies (map (λ s. energy_in_by order Export period quarter (entries s.content)) stations);
 }
 
--- the figures of a site are the sums over these stations, and so, whatever the order of readings and the settlement period, are the energies of each quarter that it shows
+-- the figures of a site are the sums over these stations; so are the energies of each period that
+-- it shows, whatever the order of readings and the length of periods
 pub record AreSitesSums (site : List ℕ) (order : Order) (period : Periods) (stations : World) : Type 0 where
   pub figures_are : AreSums (shown_site site order period stations).figures (map (λ s. figures_by order (entries s.content)) stations)
   pub quarters_are : All (λ line. line.1 ≡ sums_in order period line.0 stations) (shown_site site order period stations).quarters
@@ -75,23 +82,23 @@ pub record AreSitesSums (site : List ℕ) (order : Order) (period : Periods) (st
 abbrev pub SitesAreSums : Type 0
 SitesAreSums = (site : List ℕ) (order : Order) (period : Periods) (stations : World) → AreSitesSums site order period stations
 
--- the command that a message of this meaning asks of the station
+-- the command to the station that a message of this meaning asks for
 abbrev pub asked_by : Meaning → Station → List Happens
 asked_by (Event id request) station = (station.name, Deliver request.key request.event) ∷ []
 asked_by (Ready reply) station = []
 asked_by Silence station = []
 
--- the same of a message to the station of a name, where there is one
+-- the same for a message to the station of a name, if there is one
 abbrev pub sent_by : Option Station → List ℕ → ℕ → List Happens
 sent_by None text moment = []
 sent_by (Some station) text moment = asked_by (message text moment) station
 
--- the command on the station of a name, where there is one
+-- the command on the station of a name, if there is one
 abbrev pub commanded_by : Option Station → Command → List Happens
 commanded_by None command = []
 commanded_by (Some station) command = (station.name, command) ∷ []
 
--- the command that a line asks, if it asks one
+-- the command that a line asks for, if it does
 abbrev pub asked_of : Script → LineMeaning → List Happens
 asked_of s nothing = []
 asked_of s (fails _) = []
@@ -108,7 +115,7 @@ asked_of s (asks_export _) = []
 asked_of s (asks_total _) = []
 asked_of s (asks_board _) = []
 
--- all commands that these lines ask, in their order
+-- all commands that these lines ask for, in their order
 abbrev pub happened : Script → List Line → List Happens
 happened s [] = []
 happened s (line ∷ lines) = asked_of s (line_meaning line) ++ happened (line_step s line).0 lines
@@ -117,11 +124,13 @@ happened s (line ∷ lines) = asked_of s (line_meaning line) ++ happened (line_s
 abbrev pub emptied : World → World
 emptied w = map (λ (s : Station). record s { content = empty_content }) w
 
--- the world after any lines is the run of just the commands that they ask, from the plan's stations without events
+-- the world after any lines is that after a run of just the commands that they ask for, beginning with the plan's
+-- stations without events
 abbrev pub WorldsAreRuns : Type 0
 WorldsAreRuns = (lines : List Line) → (script_after start lines).world ≡ run (emptied (script_after start lines).world) (happened start lines)
 
--- whatever lines came before, a line that asks a command which is a repeat or is refused changes no station, and so no board, total or energy
+-- whatever lines came before, a line that asks for a command which is a repeat or is refused
+-- changes no station, and so no board, total or energy
 abbrev pub UnacceptedChangesNothing : Type 0
 UnacceptedChangesNothing = (lines : List Line) (line : Line) (name : List ℕ) (station : Station) (command : Command)
     → asked_of (script_after start lines) (line_meaning line) ≡ (name, command) ∷ []
@@ -133,7 +142,8 @@ abbrev pub IsNoOperation : LineMeaning → Type 0
 IsNoOperation (commands _ _) = ⊥
 IsNoOperation _ = ⊤
 
--- two scripts of the same declarations and no void, restoration or erasure, whose accepted deliveries are, station by station, the same in another order
+-- two scripts have the same declarations, no void, restoration or erasure, and, station by station,
+-- the same accepted deliveries in another order
 pub record AreSameDeliveries (one other : List Line) : Type 0 where
   pub sites : (script_after start one).sites ≡ (script_after start other).sites
   pub periods : (script_after start one).periods ≡ (script_after start other).periods

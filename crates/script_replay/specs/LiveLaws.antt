@@ -1,4 +1,4 @@
--- What two scripts answer that leave the stations of a site the same live events.
+-- The answers of two scripts after which the stations of a site have the same live events.
 use Rattle.std.specs.Prelude.{◌≡◌, ℕ, true, List, ◌⊎◌, map, Some}
 use Rattle.board_report.specs.Named.{NamedBoard}
 use Rattle.board_report.specs.Texts.{board_text, total_text}
@@ -11,11 +11,12 @@ use Rattle.script_lines.specs.Lines.{Line}
 use Rattle.script_lines.specs.Texts.{ended_line}
 use Rattle.script_ledgers.specs.Script.{Script, board_of_site, is_among, line_step, order_named, period_named, script_after, start, station_named, stations_of}
 
--- where a script ends
+-- the state at a script's end
 abbrev pub after : List Line → Script
 after lines = script_after start lines
 
--- two scripts agree at a site: both have it, with one order of readings and one settlement period, and its stations have the same names and the same live events
+-- two scripts agree at a site: both have it, with the same order of readings and the same length of
+-- periods, and its stations have the same names and the same live events
 pub record AgreeAt (site : List ℕ) (one other : List Line) : Type 0 where
   pub one_has : is_among site (after one).sites ≡ true
   pub other_has : is_among site (after other).sites ≡ true
@@ -24,15 +25,16 @@ pub record AgreeAt (site : List ℕ) (one other : List Line) : Type 0 where
   pub names : map (λ s. s.name) (stations_of site (after one).world) ≡ map (λ s. s.name) (stations_of site (after other).world)
   pub live_events : map (λ s. live (entries s.content)) (stations_of site (after one).world) ≡ map (λ s. live (entries s.content)) (stations_of site (after other).world)
 
--- figures without how many events are voided
+-- figures without the number of voided events
 abbrev pub figures_but_voided : Figures → Figures
 figures_but_voided f = record f { voided = 0 }
 
--- a site's board without how many events are voided, of the site and of each station
+-- a site's board without the numbers of voided events of the site and of each station
 abbrev pub board_but_voided : NamedBoard → NamedBoard
 board_but_voided b = record b { figures = figures_but_voided b.figures; stations = map (λ s. (s.0, with_voided 0 s.1)) b.stations }
 
--- the answers to a question for the site's board are the texts of two boards, which are equal but for how many events are voided
+-- the answers to a question for the site's board are the texts of two boards, which are equal except for the numbers of
+-- voided events
 pub record ShowAlike (site : List ℕ) (line : Line) (one other : List Line) : Type 0 where
   pub one_answers : (line_step (after one) line).1 ≡ board_text (board_of_site (after one) site)
   pub other_answers : (line_step (after other) line).1 ≡ board_text (board_of_site (after other) site)
@@ -54,7 +56,8 @@ abbrev pub LiveEventsMakeEnergies : Type 0
 LiveEventsMakeEnergies = (one other : List Line) (name : List ℕ) (line : Line) → IsAtAgreed name one other
     → (line_meaning line ≡ asks_energy name) ⊎ (line_meaning line ≡ asks_export name) → (line_step (after one) line).1 ≡ (line_step (after other) line).1
 
--- the answers to a question for a total are the texts of two figures, which are equal but for how many events are voided
+-- the answers to a question for a total are the texts of two figures, which are equal except for the number of voided
+-- events
 pub record TellAlike (line : Line) (one other : List Line) : Type 0 where
   pub one_figures : Figures
   pub other_figures : Figures
@@ -62,6 +65,6 @@ pub record TellAlike (line : Line) (one other : List Line) : Type 0 where
   pub other_answers : (line_step (after other) line).1 ≡ ended_line (total_text other_figures)
   pub alike : figures_but_voided one_figures ≡ figures_but_voided other_figures
 
--- and so do they answer alike to a question for the total of one of its stations
+-- such scripts answer alike to each question for the total of one of the site's stations
 abbrev pub LiveEventsMakeTotals : Type 0
 LiveEventsMakeTotals = (one other : List Line) (name : List ℕ) (line : Line) → IsAtAgreed name one other → line_meaning line ≡ asks_total name → TellAlike line one other

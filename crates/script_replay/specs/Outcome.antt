@@ -1,4 +1,4 @@
--- What a replay has read and written when it ends.
+-- The bytes that a replay has read and written when it ends.
 use Rattle.std.specs.Prelude.{◌≡◌, ℕ, ◌+◌, ◌-◌, ◌<◌, ◌≤◌, ◌⊎◌, List, [], ◌++◌, length, take, OnSome, Option}
 use Rattle.std.specs.Io.KnownBytes.{Appends, Consumes, IsAtEnd}
 use Rattle.std.specs.declared.result.Result.{Result}
@@ -10,17 +10,16 @@ use Rattle.script_lines.specs.Ranges.{longest_line}
 use Rattle.script_ledgers.specs.Ranges.{longest_script}
 use Rattle.script_ledgers.specs.Script.{start, script_text}
 
--- `written` is a front of the text of the complete lines, or, where all of the input was read, of that of all lines
+-- `written` is a front of the text of the complete lines or, if all of the input was read, of the text of all lines
 abbrev pub WritesFrontOf : Type 0 → (List Line → List ℕ) → ℕ → List ℕ → List ℕ → Type 0
 WritesFrontOf all_read text max_line_bytes read written =
     ((rest : List ℕ) × (text (complete_lines max_line_bytes read) ≡ written ++ rest))
     ⊎ (all_read × ((rest : List ℕ) × (text (lines_of max_line_bytes read) ≡ written ++ rest)))
 
--- `written` is what a replay writes that ends so after the bytes `read`, of which it reads at most `limit`, and which
--- are all of the input where `all_read` holds:
--- the text of all lines; after a ReadFault or TooMuchInput that of the complete lines; after a WriteFault a front of
--- the text of the complete lines, or of all lines where all of the input was read; after OutOfMemory the text of the
--- lines before that of the last byte read
+-- `written` is what a replay writes that ends with this result after the bytes `read`. It reads at most `limit`
+-- bytes; these are all of the input if `all_read` holds. After Ok it is the text of all lines; after a ReadFault or
+-- TooMuchInput that of the complete lines; after a WriteFault a front of the text of the complete lines, or of all
+-- lines if all of the input was read; after OutOfMemory the text of the lines before that of the last byte read
 abbrev pub Replays : {T : Type 0} → Type 0 → (List Line → List ℕ) → ℕ → ℕ → Result T ReplayFault → List ℕ → List ℕ → Type 0
 Replays all_read text max_line_bytes limit (Ok _) read written = (length read ≤ limit) × (written ≡ text (lines_of max_line_bytes read))
 Replays all_read text max_line_bytes limit (Err ReadFault) read written = (length read ≤ limit) × (written ≡ text (complete_lines max_line_bytes read))
@@ -28,7 +27,8 @@ Replays all_read text max_line_bytes limit (Err TooMuchInput) read written = (le
 Replays all_read text max_line_bytes limit (Err WriteFault) read written = (length read ≤ limit) × WritesFrontOf all_read text max_line_bytes read written
 Replays all_read text max_line_bytes limit (Err OutOfMemory) read written = (length read ≤ limit) × (written ≡ text (complete_lines max_line_bytes (take (length read - 1) read)))
 
--- a replay of a script consumed bytes and wrote bytes, and these are what it writes that ends so
+-- a replay of a script consumed bytes and wrote bytes: those that it writes when it ends with this
+-- result
 abbrev pub IsReplay : Option (List ℕ) → Option (List ℕ) → Option (List ℕ) → Option (List ℕ) → Result (Unit {0}) ReplayFault → Type 0
 IsReplay r0 r1 w0 w1 result =
     (read written : List ℕ) × Consumes r0 r1 read × Appends w0 w1 written × Replays (OnSome r0 (IsAtEnd r1)) (script_text start) longest_line longest_script result read written
@@ -41,7 +41,8 @@ Began (Err TooMuchInput) read = Unit {0}
 Began (Err WriteFault) read = Unit {0}
 Began (Err OutOfMemory) read = 0 < length read
 
--- the lines of `done`, which a line feed ends, are answered by `written`, and `now` is the text of the lines after them
+-- `written` answers the lines of `done`, each of which ends with a line feed, and `now` is the text of the lines after
+-- them
 abbrev pub AnsweredBy : (List Line → List ℕ) → (List Line → List ℕ) → ℕ → List ℕ → List ℕ → Type 0
 AnsweredBy old now max_line_bytes done written =
     (last : List ℕ → List Line) (more : List ℕ) → old (cut last max_line_bytes [] (done ++ more)) ≡ written ++ now (cut last max_line_bytes [] more)

@@ -1,4 +1,5 @@
--- What a replay of a whole input leaves: its output, its exit status, and its report on standard error.
+-- The result of a replay of a whole input: its output, its exit status, and its report on standard
+-- error.
 use Rattle.std.specs.Prelude.{◌≡◌, ℕ, List, [], ◌++◌, Option, None, Some, OnOk, OnSome, codes}
 use Rattle.std.specs.Io.KnownBytes.{Appends, IsAtEnd, append_known}
 use Rattle.std.specs.declared.result.Result.{Result}
@@ -10,13 +11,14 @@ use Rattle.script_lines.specs.Writing.{WritesFront}
 use Rattle.script_replay.specs.Outcome.{IsReplay}
 use Rattle.script_replay.specs.declared.whole.Ended.{Ended}
 
--- The output took the text of a replay of this input, except for bytes that a buffer kept. After Ok the input is at its end and the buffer kept nothing.
+-- The output took the text of a replay of this input, except for bytes that a buffer kept. After Ok the input is at its
+-- end and the buffer kept nothing.
 abbrev pub IsReplayOf : Option (List ℕ) → Option (List ℕ) → Option (List ℕ) → Result (Unit {0}) ReplayFault → Type 0
 IsReplayOf input before after ended =
     (unread : Option (List ℕ)) × (kept : List ℕ) × IsReplay input unread before (append_known after kept) ended
     × OnOk ended (OnSome input (IsAtEnd unread) × (kept ≡ []))
 
--- The same of an output that is given back. It is lost only where there was no memory for its buffer.
+-- The same for an output that comes back. It is lost only if there was no memory for its buffer.
 abbrev pub IsWholeReplay : {W : Type 0} → (W → Option (List ℕ)) → Option (List ℕ) → Option (List ℕ) → Option W → Result (Unit {0}) ReplayFault → Type 0
 IsWholeReplay contents input before None ended = ended ≡ Err OutOfMemory
 IsWholeReplay contents input before (Some output) ended = IsReplayOf input before (contents output) ended
@@ -37,20 +39,21 @@ replay_fault_name OutOfMemory = codes "OutOfMemory"
 abbrev pub fault_report : List ℕ → List ℕ
 fault_report name = codes "fault " ++ ended_line name
 
--- The report of how a replay ended: nothing after Ok, else `fault <name>`.
+-- The report of a replay's end: nothing after Ok, else `fault <name>`.
 abbrev pub report : Result (Unit {0}) ReplayFault → List ℕ
 report (Ok _) = []
 report (Err fault) = fault_report (replay_fault_name fault)
 
--- These bytes were written behind those that were there; after an error, a front of them.
+-- These bytes were appended; after an error, a front of them.
 abbrev pub Writes : {T E : Type 0} → Option (List ℕ) → Option (List ℕ) → Result T E → List ℕ → Type 0
 Writes before after reported bytes = (written : List ℕ) × Appends before after written × WritesFront reported bytes written
 
--- A run that ended so has this exit status, and its report is on standard error.
+-- A run with this end has its exit status, and its report is on standard error.
 abbrev pub IsReported : {W E : Type 0} → (E → Option (List ℕ)) → E → Ended W E → Result (Unit {0}) ReplayFault → Type 0
 IsReported contents errors run ended = (run.status ≡ exit_status ended) × Writes (contents errors) (contents run.errors) run.reported (report ended)
 
--- A replay as a whole run: from the bytes of its input to those of its output and of standard error, and its exit status.
+-- A replay as a whole run: from the bytes of its input to those of its output and of standard error, and its exit
+-- status.
 abbrev pub IsReplayRun : {W E : Type 0} → (W → Option (List ℕ)) → (E → Option (List ℕ)) → Option (List ℕ) → W → E → Ended W E → Type 0
 IsReplayRun contents reports input output errors run =
     (ended : Result (Unit {0}) ReplayFault) × IsWholeReplay contents input (contents output) run.output ended × IsReported reports errors run ended
@@ -63,7 +66,7 @@ TakesText before after text (Err ReadFault) = ⊥
 TakesText before after text (Err TooMuchInput) = ⊥
 TakesText before after text (Err OutOfMemory) = ⊥
 
--- The output is given back, and of its bytes this holds.
+-- The output comes back, and this holds for its bytes.
 abbrev pub HasOutput : {W : Type 0} → (W → Option (List ℕ)) → Option W → (Option (List ℕ) → Type 0) → Type 0
 HasOutput contents None holds = ⊥
 HasOutput contents (Some output) holds = holds (contents output)

@@ -1,4 +1,4 @@
-//! What a program reads a script through, and writes its text through.
+//! The buffers of a program's input and output.
 ghost use Rattle.std.specs.Prelude.{◌≡◌, ◌⊎◌, [], IfOk};
 ghost use Rattle.std.specs.Io.Buffered.{reader_buffer, reader_inner, reader_remaining, writer_buffer, writer_contents, writer_inner};
 
@@ -6,16 +6,17 @@ use std::io::{BufReader, BufWriter, Read, Result, Write};
 use std::thread;
 use std::thread::Threads;
 
-// How many bytes of the input are read at once where threads read ahead what is read: many lines.
+// How many bytes of the input are read at once if threads read ahead: many lines.
 const INPUT_AHEAD: usize = 2_097_152;
 
-// How many where there is one processor, and nothing is read ahead: what its own cache has room for.
+// How many if there is one processor, and so nothing is read ahead: as many as its own cache has
+// room for.
 const INPUT_ALONE: usize = 262_144;
 
 // How many bytes of the output are written at once.
 const OUTPUT_BUFFER: usize = 65_536;
 
-/// The input and the output of a replay, each behind a buffer: of 2 MiB for the input, or of 256 KiB where there is
+/// The input and the output of a replay, each behind a buffer: of 2 MiB for the input, or of 256 KiB if there is
 /// one processor, and of 64 KiB for the output. The only error is OutOfMemory.
 pub fn buffered<X: AllocGlobal + Threads, R: Read + Drop, W: Write + Drop>(
     rt: &X,

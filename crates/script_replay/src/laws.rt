@@ -7,13 +7,13 @@ pub fn empty_script()
     ensures { AnEmptyScriptWritesNothing }
 {}
 
-/// A line whose text is a fault changes no plan, content or moment.
+/// A line with a fault as its text changes no plan, content or moment.
 pub fn faults()
     ensures { FaultsChangeNothing }
 {}
 
-/// After any lines, the content of each station is what as many accepted commands as it counts leave of the
-/// empty content.
+/// After any lines, as many accepted commands as a station's content counts lead from the empty content to
+/// it.
 pub fn stations()
     ensures { StationsAreReached }
 {}
@@ -35,32 +35,32 @@ pub fn boards()
     ensures { BoardsAreFromScratch }
 {}
 
-/// The figures of a site, and the energy of each quarter that it shows, are the sums over its stations.
+/// The figures of a site, and the energy of each period that it shows, are the sums over its stations.
 pub fn sites()
     ensures { SitesAreSums }
 {}
 
-/// After any lines, the world is the run of just the commands that they ask, from the plan's stations without
-/// events.
+/// After any lines, the world is that after a run of just the commands that the lines ask for, beginning with
+/// the plan's stations without events.
 pub fn runs()
     ensures { WorldsAreRuns }
 {}
 
-/// A repeated or refused command changes no station, whatever lines came before, and so no board.
+/// A repeat or a refusal changes no station, whatever lines came before, and so no board.
 pub fn unaccepted()
     ensures { UnacceptedChangesNothing }
 {}
 
-/// Two scripts of the same declarations and no void, restoration or erasure, whose accepted deliveries are,
-/// station by station, the same in another order, have the same boards.
+/// Two scripts have the same boards if they have the same declarations, no void, restoration or erasure,
+/// and, station by station, the same accepted deliveries in another order.
 pub fn orders()
     ensures { OrderChangesNoBoard }
 {}
 
-/// Two scripts that leave the stations of a site the same names and the same live events, with one order of
-/// readings and one settlement period of the site, show its board alike: all is equal but how many events are
-/// voided. The energies of each of its stations, imported and exported, are equal, and so are its totals but
-/// for that number.
+/// Take two scripts after which the stations of a site have the same names and the same live events, and the
+/// site has the same order of readings and the same length of settlement periods. They show its board alike:
+/// all is equal except for the number of voided events. The energies of each of its stations, imported and
+/// exported, are equal, and so are the stations' totals except for that number.
 pub fn live_events()
     ensures boards { LiveEventsMakeBoards }
     ensures energies { LiveEventsMakeEnergies }

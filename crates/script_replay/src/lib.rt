@@ -1,11 +1,12 @@
 //! Replays a script of OCPP 2.0.1 traffic, line by line.
 //!
-//! [`replay_stream`] reads a script from any reader and writes the text of each line to any writer;
-//! [`replay_buffered`] does so through a buffer and hands all of it on. [`run_replay`] is a whole run of a program that
-//! replays: from an input to an output, an exit status and a report on standard error. What they write is stated once: each of the five
-//! ways to end says which bytes were read and which were written (`specs/Outcome.antt`), and the text of lines is that of the
-//! crate below (`specs/Script.antt` of `script_ledgers`). [`laws`] says what that text means: boards, totals
-//! and energies computed from scratch, sites as sums of their stations, repeats and refusals that change nothing.
+//! [`replay_stream`] reads a script from any reader and writes the text of each line to any writer; [`replay_buffered`]
+//! does so through a buffer and hands on all of its bytes. [`run_replay`] is a whole run of a program that replays:
+//! from an input to an output, an exit status and a report on standard error. One definition says what they write: for
+//! each of the five ways to end, which bytes were read and which were written (`specs/Outcome.antt`). The text of lines
+//! is that of the crate below (`specs/Script.antt` of `script_ledgers`). [`laws`] says what that text means: boards,
+//! totals and energies computed from scratch, sites as sums of their stations, repeats and refusals that change
+//! nothing.
 //!
 //! ```text
 //! replay_stream(&rt, &mut reader, &mut writer)?   // Ok(()): what was written is the text of what was read

@@ -12,8 +12,8 @@ use site_book::{Naming, Tables};
 use std::io::{BufRead, Write};
 use std::thread::Threads;
 
-// Replays a script over tables that J names. The answer of each line is written before more input is waited for; the last
-// flush is left to the caller.
+// Replays a script over tables that J names. It writes the answer of each line before it waits for more input; it
+// leaves the last flush to the caller.
 pub(crate) fn replay_lines<J: Naming, X: AllocGlobal + Threads, R: BufRead, W: Write>(
     rt: &X,
     tables: Tables,

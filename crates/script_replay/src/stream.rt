@@ -14,9 +14,9 @@ use std::thread::Threads;
 /// Replays a script: reads its lines and writes the text of each.
 ///
 /// After `Ok` the reader was read to its end, and the bytes written are the text of the bytes read. After a ReadFault
-/// or TooMuchInput they are the text of the complete lines read, after a WriteFault a front of the text of the complete
-/// lines read, or of all lines where the reader is at its end, and after OutOfMemory the text of the lines before that
-/// of the last byte read.
+/// or TooMuchInput they are the text of the complete lines read. After a WriteFault they are a front of the text of the
+/// complete lines read, or of all lines if the reader is at its end. After OutOfMemory they are the text of the lines
+/// before that of the last byte read.
 pub fn replay_stream<X: AllocGlobal + Threads, R: BufRead, W: Write>(
     rt: &X,
     reader: &mut R,
@@ -32,8 +32,8 @@ pub fn replay_stream<X: AllocGlobal + Threads, R: BufRead, W: Write>(
     }
 }
 
-/// Replays a script like [`replay_stream`], through a buffer of which nothing is left after `Ok`: each byte of the
-/// text was handed on to the writer behind it.
+/// Replays a script like [`replay_stream`], through a buffer. After `Ok` nothing is left in the buffer: the writer
+/// behind it got each byte of the text.
 pub fn replay_buffered<X: AllocGlobal + Threads, R: BufRead, W: Write + Drop>(
     rt: &X,
     reader: &mut R,
@@ -51,7 +51,7 @@ pub fn replay_buffered<X: AllocGlobal + Threads, R: BufRead, W: Write + Drop>(
     }
 }
 
-// Replays a script; the last flush is left to the caller.
+// Replays a script; leaves the last flush to the caller.
 fn replay_unflushed<X: AllocGlobal + Threads, R: BufRead, W: Write>(
     rt: &X,
     reader: &mut R,

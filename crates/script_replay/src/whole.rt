@@ -8,20 +8,20 @@ use script_lines::{ReplayFault, WriteStopped, write_bytes};
 use std::io::{Read, Write};
 use std::thread::Threads;
 
-/// The exit status where a program's words ask for nothing.
+/// The exit status if a program's words ask for nothing that it does.
 pub const MISTAKEN: u8 = 2;
 
-/// What a replay of a whole input leaves.
+/// The result of a replay of a whole input.
 #[derive(Drop)]
 pub struct Replayed<W> {
-    /// The output; `None` where there was no memory for its buffer.
+    /// The output; `None` if there was no memory for its buffer.
     pub output: Option<W>,
     /// How the replay ended.
     pub ended: Result<(), ReplayFault>,
 }
 
-/// Replays an input to its end and writes the text to an output, each through a buffer. Bytes that a failed write left in
-/// the buffer are not written later.
+/// Replays an input to its end and writes the text to an output, each through a buffer. Bytes that a failed write left
+/// in the buffer are not written later.
 pub fn replay_whole<X: AllocGlobal + Threads, R: Read + Drop, W: Write + Drop>(
     rt: &X,
     input: R,
@@ -45,10 +45,10 @@ pub fn replay_whole<X: AllocGlobal + Threads, R: Read + Drop, W: Write + Drop>(
     }
 }
 
-/// What a run of a program leaves.
+/// The result of a run of a program.
 #[derive(Drop)]
 pub struct Ended<W, E> {
-    /// The output; `None` where there was no memory for its buffer.
+    /// The output; `None` if there was no memory for its buffer.
     pub output: Option<W>,
     /// Standard error.
     pub errors: E,
@@ -101,7 +101,8 @@ pub fn show<W: Write, E: Write>(mut output: W, errors: E, text: &[u8]) -> Ended<
     end_run(Some(output), errors, ended)
 }
 
-/// Ends a run whose words ask for nothing: it writes this text to standard error, and nothing to its output.
+/// Ends a run with words that ask for nothing that the program does: it writes this text to standard error,
+/// and nothing to its output.
 pub fn refuse<W, E: Write>(output: W, mut errors: E, text: &[u8]) -> Ended<W, E>
     ensures { IsMistake E.contents text.now output errors result }
 {
@@ -114,7 +115,7 @@ pub fn refuse<W, E: Write>(output: W, mut errors: E, text: &[u8]) -> Ended<W, E>
     }
 }
 
-// The exit status of a replay that ended so: 0, or 1 after a fault.
+// The exit status of a replay: 0 after `Ok`, 1 after a fault.
 fn status_of(ended: Result<(), ReplayFault>) -> u8
     ensures { result ≡ exit_status ended }
 {
@@ -124,7 +125,7 @@ fn status_of(ended: Result<(), ReplayFault>) -> u8
     }
 }
 
-// Writes `fault <name>` where a replay ended with a fault.
+// Writes `fault <name>` if a replay ended with a fault.
 fn report_end<E: Write>(errors: &mut E, ended: Result<(), ReplayFault>) -> Result<(), WriteStopped>
     ensures { Writes (E.contents errors.old) (E.contents errors.new) result (report ended) }
 {

@@ -1,6 +1,6 @@
 //! The tests of `script_replay` that need a call: readers and writers that fail, flushes, and threads that read
-//! ahead. What a script writes is compared, row by row, by `tests/compare.sh`, and what is restored by
-//! `tests/scenes/journalling.py`.
+//! ahead. `tests/compare.sh` compares what a script writes, row by row, and `tests/scenes/journalling.py` tests
+//! what is restored.
 #![tactic(auto)]
 
 #[cfg(test)]

@@ -4,25 +4,25 @@ use station_link::SimFault;
 use std::alloc::{AllocError, AllocFailed};
 use thiserror::Error;
 
-/// Why a server or a simulation came to no board.
+/// Why a server or a simulation ended without its boards.
 #[derive(Clone, Copy, Debug, PartialEq, Eq, Error)]
 pub enum ServiceFault {
-    /// The plan's stations may keep too many readings in all, or it leaves another limit.
+    /// The plan's stations may keep too many readings in all, or the plan is past another limit.
     #[error("PlanLimit")]
     PlanLimit,
-    /// Two of the plan's stations have one name.
+    /// Two of the plan's stations have the same name.
     #[error("StationTwice")]
     StationTwice,
-    /// The port can't be listened on; with the system's number of the error, where it has one.
+    /// The server can't listen on the port; with the system's error number, if there is one.
     #[error("ListenFailed")]
     ListenFailed(Option<i32>),
     /// A simulated station was not let in.
     #[error("HandshakeFailed")]
     HandshakeFailed,
-    /// A simulated station's stream failed to read, or ended before a reply.
+    /// A read of a simulated station's stream failed, or the stream ended before a reply.
     #[error("ReadFault")]
     ReadFault,
-    /// The output took no more bytes, or a simulated station's stream failed to write.
+    /// A write or a flush of the output failed, or a write to a simulated station's stream.
     #[error("WriteFault")]
     WriteFault,
     /// There is no memory for it, or no thread for a simulated station.
@@ -34,7 +34,7 @@ pub enum ServiceFault {
     /// A viewer was missing when the desk was closed, which no run meets.
     #[error("ViewerMissing")]
     ViewerMissing,
-    /// What lay behind the desk's locks did not fit together, which no run meets.
+    /// The values behind the desk's locks did not fit together, which no run meets.
     #[error("Torn")]
     Torn,
 }

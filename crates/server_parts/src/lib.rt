@@ -1,5 +1,5 @@
-//! What all servers of charging stations stand on: why one came to no board, the machine that it runs on, the system's
-//! clock, the port that it listens on, and the lines of a site's totals.
+//! Parts that all servers of charging stations use: why one ended without its boards, the machine that it runs on, the
+//! system's clock, the port that it listens on, and the lines of a site's totals.
 //!
 //! ```text
 //! let listener = listen(rt, port)?;

@@ -1,4 +1,4 @@
-//! The tests of `station_link`. Whole servers are played by `tests/scenes/serving.py` and `living.py`.
+//! The tests of `station_link`. `tests/scenes/serving.py` and `living.py` test whole servers.
 #![tactic(auto)]
 
 #[cfg(test)]

@@ -314,7 +314,7 @@ module _ (T : List Post → List ℕ) (wide : ℕ) (len : (log : List Post) → 
         refl,
       )
 
-  -- what the second load of the version tells
+  -- what the second load of the version shows
   abbrev pub Shows : List Post → ℕ → List ℕ → ℕ → Me (Unit {0}) View → Type 0
   Shows log version read n w = MatchBool (eqb n version)
       ((w ≡ (seeing w.0.log [], [])) × IsPrefix log w.0.log × (read ≡ T w.0.log) × (n ≡ 2 * length w.0.log))

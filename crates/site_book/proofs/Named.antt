@@ -60,7 +60,7 @@ has-read tables site o less read = of o (slice_get_read tables (length tables) s
 pub has-past : (tables : Unopened) (site : ℕ) → length tables ≤ site → HasTable tables site → ⊥
 has-past tables site past has = let there = has.there in let none = slice_get_past tables site past in cc (there, none)
 
--- tables that were just made are named by what stands in their list
+-- tables that were just made are named by what is in their list
 pub named-made : (tables : Unopened) → NamedBy (names_of tables) tables
 named-made [] site z at = absurd (cc (at))
 named-made (None ∷ tables) zero z at = absurd (cc (at))

@@ -11,12 +11,13 @@ pub record Book : Type 0 where
   pub limits : List Bounds
   pub posts : List Post
 
--- What a viewer knows, or a book told, of a site's book: the site's number, and its first posts.
+-- What a viewer or a `Told` knows of a site's book: the site's number, and its first posts.
 pub record Known : Type 0 where
   pub site : ℕ
   pub posts : List Post
 
--- Stations that one plan can hold: no more than it may have, which may keep no more readings in all than it may.
+-- Stations that one plan can have: no more than a plan may have, with limits of no more readings in all than a
+-- plan may have.
 pub record ArePlanned (limits : List Bounds) : Type 0 where
   pub few : length limits ≤ most_stations
   pub readings : sum_by (λ l. l.readings) limits ≤ most_plan_readings
@@ -27,6 +28,6 @@ pub record Admits (limits : List Bounds) (row : ℕ) (figures : Figures) : Type 
   pub there : slice_get limits row ≡ Some bounds
   pub within : AreWithin bounds figures
 
--- What is known of a site's book by these posts.
+-- What these posts say of a site's book.
 abbrev pub known : ℕ → List Post → Known
 known site posts = record { site = site; posts = posts }

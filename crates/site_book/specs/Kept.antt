@@ -22,7 +22,8 @@ pub record IsUnused (table seat : TableId) (me : Seated) : Type 0 where
   pub sits : Sits table seat
   pub me_is : me ≡ (writing [] [] [] 0, [])
 
--- The rows of a book after these posts: the figures of each are those posted last, and no post is for another row.
+-- The rows of a book after these posts: each row has the figures posted last for it, and no post is for another
+-- row.
 pub record AreRows (rows : List BookRow) (log : List Post) : Type 0 where
   pub figures : (k : ℕ) (r : BookRow) → slice_get rows k ≡ Some r → r.figures ≡ row_after k log
   pub posted : All (λ p. p.0 < length rows) log
@@ -47,7 +48,7 @@ pub record IsViewer (naming : ℕ → TableId) (site : ℕ) (posts : ℕ) (total
   pub count : posts ≡ length me.0.log
   pub totals_are : totals ≡ totals_after me.0.log
 
--- What was told: a seat that knows the posts, their number, and the totals after them.
+-- What a `Told` keeps: a seat that knows the posts, their number, and the totals after them.
 pub record IsTold (naming : ℕ → TableId) (site : ℕ) (posts : ℕ) (totals : Figures) (seat : TableId) (me : Seated) : Type 0 where
   pub named : seat ≡ naming site
   pub me_is : me ≡ (seeing me.0.log [], [])

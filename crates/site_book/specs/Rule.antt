@@ -16,15 +16,18 @@ numbers_of f = f.events ∷ f.voided ∷ f.transactions ∷ f.complete ∷ f.mis
 abbrev pub shown : List Post → List ℕ
 shown posts = numbers_of (totals_after posts)
 
--- The version: twice the number of posts, and one more while a post is under way.
+-- The version: twice the number of posts, plus one while a post is under way.
 abbrev pub version_of : List Post → List Post → ℕ
 version_of log pending = 2 * length log + length pending
 
--- All words: the version, the totals that are stored of the post under way, and the others as they were before it.
+-- All words: the version, the totals of the post under way that are stored already, and the other totals as they
+-- were before it.
 abbrev pub words_of : (List Post → List ℕ) → List Post → List Post → ℕ → List ℕ
 words_of totals log pending stored = version_of log pending ∷ (take stored (totals (log ++ pending)) ++ drop stored (totals log))
 
--- What a seat knows is so: its lists begin the book's; the book's own seat knows all; a version that was loaded is none of the future, and where it still stands and is even, the totals read since are the present ones.
+-- What a seat knows is true: its lists begin the book's; the book's own seat knows all posts; a
+-- version that was loaded is not from the future, and if it is still the version and is even, the
+-- totals read since are the present ones.
 pub record Fits (totals : List Post → List ℕ) (log pending : List Post) (stored by : ℕ) (v : View) : Type 0 where
   pub begins : IsPrefix v.log log
   pub old : IsPrefix v.old log
@@ -45,11 +48,11 @@ pub record Kept (totals : List Post → List ℕ) (words : List ℕ) (views : Li
   pub stored : ℕ
   pub holds : KeptAt totals words views log pending stored
 
--- What holds of a site's table between any two steps.
+-- What is true of a site's table between any two steps.
 abbrev pub Rows : State (Unit {0}) View → Type 0
 Rows s = Kept shown s.words s.views
 
--- No post, for a place where one is named.
+-- A value in place of a post that is not there.
 abbrev pub no_post : Post
 no_post = (0, no_figures)
 
@@ -77,11 +80,12 @@ Sat = Me (Unit {0}) View
 abbrev pub Opened : Post → At → Sat → ℕ → Sat → Type 0
 Opened post step v n w = w ≡ (writing v.0.log [] (post ∷ []) 0, v.1)
 
--- The book stores the next total of the post under way: the word's number is how many are stored then.
+-- The book stores the next total of the post under way: the word's number says how many are stored
+-- then.
 abbrev pub Stored : At → Sat → ℕ → Sat → Type 0
 Stored step v n w = w ≡ (writing v.0.log [] v.0.pending step.word, v.1)
 
--- The book closes the post: it is one of its posts now.
+-- The book closes the post: it is one of the book's posts now.
 abbrev pub Closed : At → Sat → ℕ → Sat → Type 0
 Closed step v n w = w ≡ (writing (v.0.log ++ v.0.pending) [] [] 0, v.1)
 
@@ -89,7 +93,7 @@ Closed step v n w = w ≡ (writing (v.0.log ++ v.0.pending) [] [] 0, v.1)
 abbrev pub Looked : At → Sat → ℕ → Sat → Type 0
 Looked step v n w = (w ≡ (looking v.0.log n [], v.1)) × IsPrefix v.0.old v.0.log
 
--- The book loads the version, to be told the same.
+-- The book loads the version, and so knows the same.
 abbrev pub Recalled : At → Sat → ℕ → Sat → Type 0
 Recalled step v n w = (w ≡ (writing v.0.log [] [] 0, v.1)) × IsPrefix v.0.old v.0.log
 
@@ -97,13 +101,16 @@ Recalled step v n w = (w ≡ (writing v.0.log [] [] 0, v.1)) × IsPrefix v.0.old
 abbrev pub Loaded : At → Sat → ℕ → Sat → Type 0
 Loaded step v n w = w ≡ (looking v.0.log v.0.version (v.0.read ++ n ∷ []), v.1)
 
--- A seat loads the version again. Where it still stands, the seat knows the posts whose totals it read; else it knows what it knew.
+-- A seat loads the version again. If it is still the same, the seat knows the posts of the totals that it read; else it
+-- knows what it knew.
 abbrev pub Checked : At → Sat → ℕ → Sat → Type 0
 Checked step v n w = MatchBool (n == v.0.version)
     ((w ≡ (seeing w.0.log [], v.1)) × IsPrefix v.0.log w.0.log × (v.0.read ≡ shown w.0.log) × (n ≡ 2 * length w.0.log))
     (w ≡ (seeing v.0.log [], v.1))
 
--- What a viewer knows once it looked again and saw this version: where it is that of its first look, a list of posts that begins with what it knew, has the totals that it read, and is half as long as the version; else what it knew.
+-- What a viewer knows after it looked again and saw this version. If it is the version of its first
+-- look: a list of posts that begins with what it knew, has the totals that it read, and is half as
+-- long as the version. Else what it knew.
 abbrev pub HasSeen : ℕ → Sat → Sat → Type 0
 HasSeen version old new = MatchBool (version == old.0.version)
     ((new ≡ (seeing new.0.log [], [])) × IsPrefix old.0.log new.0.log × (old.0.read ≡ shown new.0.log) × (version ≡ 2 * length new.0.log))

@@ -1,7 +1,7 @@
 use Rattle.std.specs.Prelude.{◌≤◌, ◌<◌, ◌^◌}
 use Rattle.ledger_model.specs.declared.figures.Figures.{Figures}
 
--- Each figure fits a word.
+-- Each figure fits in a word.
 pub record AreWords (f : Figures) : Type 0 where
   pub events : f.events < 2 ^ 64
   pub voided : f.voided < 2 ^ 64

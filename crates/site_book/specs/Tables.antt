@@ -2,11 +2,11 @@ use Rattle.std.specs.Prelude.{◌≡◌, ℕ, zero, suc, List, [], ◌∷◌, Op
 use Rattle.std.specs.Coded.{Coded, coded_list, coded_option}
 use Rattle.atomic_table.specs.Seated.{TableId, table_id_coded}
 
--- The table of each site, where no book has taken it yet.
+-- The table of each site, if no book has taken it yet.
 abbrev pub Unopened : Type 0
 Unopened = List (Option TableId)
 
--- Tables are kept as the list of what names them.
+-- Tables are kept as the list of their names.
 abbrev pub unopened_code : Coded Unopened
 unopened_code = coded_list (coded_option table_id_coded)
 
@@ -23,7 +23,7 @@ NamedBy naming tables = (site : ℕ) (table : TableId) → slice_get tables site
 abbrev pub no_table : TableId
 no_table = record { words = 0; slots = 0; views_name = 0; atom = 0; block = 0; offset = 0; slot_names = [] }
 
--- The naming of tables that were just made: what stands in the list.
+-- The naming of tables that were just made: the names in the list.
 abbrev pub names_of : Unopened → ℕ → TableId
 names_of [] site = no_table
 names_of (Some z ∷ tables) zero = z

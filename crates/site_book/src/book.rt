@@ -47,11 +47,12 @@ impl<J: Naming> Model for SiteBook<J> {
 }
 
 impl<J: Naming> SiteBook<J> {
-    /// The book of a site, with a row for each of these limits, all figures zero, and so many viewers.
-    /// It takes the site's table; where it runs out of memory, the table stays.
+    /// The book of a site, with a row for each of these limits, all figures zero, and its viewers. It
+    /// takes the site's table; if memory runs out, the table stays where it was.
     ///
-    /// Conditions: the tables are those that J names, the site's is there ([`Tables::has`] tells), and
-    /// one plan can hold these stations: 64 at most, with limits of 1,048,576 readings in all.
+    /// Conditions: the tables are those that J names, the site's table is there ([`Tables::has`] tests
+    /// it), and one plan can have these stations: at most 64, with limits of at most 1,048,576
+    /// readings in all.
     pub fn open(
         alloc: Global,
         tables: &mut Tables,
@@ -128,7 +129,7 @@ impl<J: Naming> SiteBook<J> {
         self.totals
     }
 
-    /// Tells whether the row is there and was opened with these limits.
+    /// Returns whether the row is there and was opened with these limits.
     pub fn holds(&self, row: u16, limits: &Limits) -> bool
         ensures { IsTrue result ↔ (slice_get self.now.limits row ≡ Some limits.now) }
     {
@@ -138,18 +139,19 @@ impl<J: Naming> SiteBook<J> {
         }
     }
 
-    /// Tells whether one more post can be made: fewer than 2^62 were.
+    /// Returns whether one more post can be made: fewer than 2^62 were.
     pub fn can_post(&self) -> bool
         ensures { IsTrue result ↔ (length self.now.posts < 2 ^ 62) }
     {
         self.posts < 1 << 62
     }
 
-    /// Writes a station's figures into its row, and tells all posts up to this one. It takes no memory
-    /// and waits for nobody: eleven stores and one load.
+    /// Writes a station's figures into its row. The result carries all posts up to this one. The call
+    /// takes no memory and waits for nobody: eleven stores and one load.
     ///
-    /// Conditions: the row is there ([`SiteBook::holds`] tells), the figures are within its limits
-    /// ([`Figures::within`] tells), and fewer than 2^62 posts were made ([`SiteBook::can_post`] tells).
+    /// Conditions: the row is there ([`SiteBook::holds`] tests it), the figures are within its limits
+    /// ([`Figures::within`] tests it), and fewer than 2^62 posts were made ([`SiteBook::can_post`]
+    /// tests it).
     pub fn post(&mut self, row: u16, figures: Figures) -> Told<J>
         requires admitted { Admits self.old.limits row figures }
         requires room { length self.old.posts < 2 ^ 62 }
@@ -178,7 +180,7 @@ impl<J: Naming> SiteBook<J> {
         }
     }
 
-    /// Takes a viewer back. What it knew begins the book's posts.
+    /// Takes a viewer back. The posts that it knew are the first of the book's.
     pub fn take_viewer(&mut self, viewer: Viewer<J>)
         requires { viewer.site ≡ self.old.site }
         ensures same { self.new ≡ self.old }
@@ -190,7 +192,7 @@ impl<J: Naming> SiteBook<J> {
     }
 }
 
-// A row for each of these limits, with no figures.
+// A row for each of these limits, with all figures zero.
 fn blank_rows(alloc: Global, limits: &[Limits]) -> Result<Vec<BookRow>, AllocError>
     ensures limits { IfOk result (λ rows. map (λ r. r.limits) rows.items ≡ limits.now) }
     ensures blank { IfOk result (λ rows. All (λ r. r.figures ≡ no_figures) rows.items) }

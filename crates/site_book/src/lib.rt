@@ -1,17 +1,17 @@
 //! A site's totals, read by viewers that wait for nobody.
 //!
 //! A [`SiteBook`] keeps a row of [`Figures`](ledger_model::Figures) for each station of a site, and
-//! their totals. [`SiteBook::post`] writes a station's new figures into its row and gives a [`Told`]; a
-//! [`Viewer`] reads the totals from any thread by [`Viewer::glance`], and takes in what was told by
-//! [`Viewer::learn`]. None of these takes a lock or memory: the totals lie in a table of ten words, a
-//! version and the nine figures, which changes in single steps. [`Tables::make`] and
-//! [`SiteBook::open`] take all the memory.
+//! their totals. [`SiteBook::post`] writes a station's new figures into its row and gives a [`Told`],
+//! which carries the book's posts. A [`Viewer`] reads the totals from any thread by [`Viewer::glance`],
+//! and takes a `Told` in by [`Viewer::learn`]. None of these calls takes a lock or memory: the totals
+//! are in a table of ten words, a version and the nine figures, which changes in single steps. Only
+//! [`Tables::make`] and [`SiteBook::open`] take memory.
 //!
-//! The crate's one contract: contracts see a book as the list of its posts, and a viewer and a `Told`
-//! as the posts that they know. Rows and totals are those of the definition of posts. A glance gives
-//! the totals after posts that begin with all that its viewer saw or learnt, and the viewer knows
-//! these posts from then on. So a viewer never goes back and never sees totals that are no post's; how
-//! many posts it lags behind, no contract says.
+//! The crate's contract: contracts see a book as the list of its posts, and a viewer and a `Told` as
+//! the posts that they know. Rows and totals are those of the definition of posts. A glance gives the
+//! totals after some first posts of the book, which include all that its viewer saw or learnt before;
+//! the viewer knows these posts from then on. So a viewer never goes back, and never sees totals that
+//! were not those after some post. No contract says how many posts it lags behind.
 //!
 //! The type parameter of the three types names the tables of one desk ([`Naming`]).
 //!

@@ -2,9 +2,9 @@ use std::marker::Brand;
 
 /// Names the tables of one desk: which table each site has.
 ///
-/// A desk is opened, used and closed in one function that is generic in its naming and is called with
-/// [`Brand`], after the tables were made; the call picks `names_of` of the tables (`specs/Tables.antt`).
-/// So what a book told reaches no viewer of another desk, and equal site numbers mean one table.
+/// One function opens, uses and closes a desk. It is generic in the naming and is called with [`Brand`],
+/// after the tables were made; the call picks `names_of` of the tables (`specs/Tables.antt`). So a
+/// `Told` reaches no viewer of another desk, and equal site numbers mean the same table.
 pub trait Naming {
     ghost use Rattle.std.specs.Prelude.{ℕ};
     ghost use Rattle.atomic_table.specs.Seated.{TableId};

@@ -3,7 +3,7 @@ ghost use Rattle.ledger_model.specs.Figures.{no_figures, AreWithin};
 
 use ledger_model::{Figures, Limits};
 
-// The row of one station: what its ledger may keep, and the figures that were posted last.
+// The row of one station: its ledger's limits, and the figures that were posted last.
 #[derive(Clone, Copy)]
 pub(crate) struct BookRow {
     pub(crate) limits: Limits,
@@ -21,7 +21,7 @@ impl BookRow {
         ensures figures { result.figures ≡ no_figures }
     {
         BookRow {
-            // What limits can be bounds the sums over all rows.
+            // The range of limits bounds the sums over all rows.
             limits: limits.copied(),
             figures: Figures::zero(),
         }

@@ -1,4 +1,4 @@
-//! The single steps on a site's table. Each tells what its seat knows then.
+//! The single steps on a site's table. Each contract says what its seat knows then.
 ghost use Rattle.std.specs.Prelude.{◌≡◌, ℕ, ◌+◌, ◌*◌, ◌%◌, ◌<◌, ◌≤◌, ◌^◌, false, List, [], ◌∷◌, ◌++◌, length, slice_index};
 ghost use Rattle.site_book.specs.Kept.{Sits};
 ghost use Rattle.site_book.specs.Prefix.{IsPrefix};
@@ -63,7 +63,7 @@ pub(crate) fn look(words: &Words, seat: &mut TableSeat) -> u64
     words.load::<Looks>(seat, 0)
 }
 
-// The book loads the version after a join, and is told that the other's list begins its own.
+// The book loads the version after a join, and so knows that the other's list begins its own.
 pub(crate) fn recall(words: &Words, seat: &mut TableSeat)
     requires sits { Sits words.now.table_id seat.old.table_id }
     requires joined { seat.old.me ≡ (writing seat.old.me.0.log seat.old.me.0.old [] 0, []) }

@@ -9,7 +9,7 @@ use std::marker::{Brand, PhantomData};
 pub(crate) struct View {
     // It is the book's seat.
     pub(crate) writes: bool,
-    // The posts that it made, saw or was told.
+    // The posts that it made, saw or learnt.
     pub(crate) log: LinkedList<(u16, Figures)>,
     // The shorter list, after a join.
     pub(crate) old: LinkedList<(u16, Figures)>,
@@ -42,7 +42,7 @@ pub(crate) type Words = Shared<(), View, (), Totals>;
 
 pub(crate) type TableSeat = Seat<(), View>;
 
-// Names the post that the book opens, for the proof alone: a store carries no post.
+// Names the post that the book opens, only for the proof: a store carries no post.
 pub(crate) trait ThePost {
     ghost use Rattle.ledger_model.specs.Posts.{Post};
 
@@ -120,7 +120,7 @@ impl Play<(), View> for Checks {
     ghost then = { Checked };
 }
 
-// A seat that knows what the one that is split knows.
+// A new seat that knows what the split one knows.
 pub(crate) struct Shares;
 
 impl Split<View> for Shares {

@@ -12,7 +12,7 @@ use std::alloc::{AllocError, Global};
 use std::marker::Model;
 use std::sync::Arc;
 
-// A site's table that no book has taken yet, with its first seat, which is to be the book's.
+// A site's table that no book has taken yet, with its first seat, which will be the book's.
 #[derive(Drop)]
 pub(crate) struct Unused {
     table: Arc<SiteTable, Global>,
@@ -61,7 +61,7 @@ impl Unused {
         Ok(Viewer::new(site, table, seat))
     }
 
-    // So many viewers that know no post.
+    // `count` viewers that know no post.
     pub(crate) fn viewers<J: Naming>(
         &mut self,
         alloc: Global,
@@ -80,8 +80,8 @@ impl Unused {
     }
 }
 
-/// The tables of a desk's sites, of which each site's book takes one. To a contract it is the list of
-/// what names them, by site number.
+/// The tables of a desk's sites; each site's book takes one. Contracts see the list of their names,
+/// by site number.
 #[derive(Drop)]
 pub struct Tables {
     tables: Vec<Option<Unused>>,
@@ -98,8 +98,8 @@ impl Model for Tables {
 }
 
 impl Tables {
-    /// One table for each of so many sites. This and [`SiteBook::open`](crate::SiteBook::open) alone
-    /// take memory.
+    /// One table for each of `sites` sites. Only this call and
+    /// [`SiteBook::open`](crate::SiteBook::open) take memory.
     pub fn make(alloc: Global, sites: u16) -> Result<Self, AllocError>
         ensures count { IfOk result (λ t. length t ≡ sites) }
         ensures tables { IfOk result (λ t. (site : ℕ) → site < sites → HasTable t site) }
@@ -111,7 +111,7 @@ impl Tables {
         Ok(Tables { tables })
     }
 
-    /// Tells whether the site's table is there, and no book has taken it.
+    /// Returns whether the site's table is there, and no book has taken it.
     pub fn has(&self, site: u16) -> bool
         ensures { IsTrue result ↔ HasTable self.now site }
     {

@@ -5,8 +5,8 @@ use crate::table::TableSeat;
 use ledger_model::Figures;
 use std::marker::{Model, PhantomData};
 
-/// What a book told with a post: all its posts up to then. It may be dropped, or a viewer of the same
-/// site learns it.
+/// All posts of a book up to one post, which gave it. It may be dropped, or a viewer of the same site
+/// learns it.
 #[derive(Drop)]
 pub struct Told<J: Naming> {
     pub(crate) site: u16,
@@ -28,14 +28,14 @@ impl<J: Naming> Model for Told<J> {
 }
 
 impl<J: Naming> Told<J> {
-    /// The number of the site whose book told it.
+    /// The number of the site of the book that gave it.
     pub fn site(&self) -> u16
         ensures { result ≡ self.now.site }
     {
         self.site
     }
 
-    /// How many posts the book had, with the one that it told.
+    /// How many posts the book had, the one that gave it included.
     pub fn posts(&self) -> u64
         ensures { result ≡ length self.now.posts }
     {

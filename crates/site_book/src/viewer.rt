@@ -71,9 +71,10 @@ impl<J: Naming> Viewer<J> {
         self.posts
     }
 
-    /// The site's totals after posts that begin with all that this viewer saw or learnt: one try to
-    /// read the version, the totals and the version again, at most eleven loads. Where a post came
-    /// between, the totals that this viewer last saw or learnt.
+    /// The site's totals after some first posts of its book, which include all that this viewer saw
+    /// or learnt before. It tries once to read the version, the totals and the version again, with
+    /// at most eleven loads. If a post came between, it gives the totals that this viewer last saw
+    /// or learnt.
     pub fn glance(&mut self) -> Figures
         ensures totals { result ≡ totals_after self.new.posts }
         ensures later { IsPrefix self.old.posts self.new.posts }
@@ -91,8 +92,8 @@ impl<J: Naming> Viewer<J> {
         self.totals
     }
 
-    /// Takes in what its site's book told. The viewer knows the longer of the two lists of posts then,
-    /// which the other begins.
+    /// Takes in the posts of its site's book. The viewer then knows the longer of the two lists of
+    /// posts; the shorter one is its beginning.
     pub fn learn(&mut self, told: Told<J>)
         requires { told.site ≡ self.old.site }
         ensures mine { IsPrefix self.old.posts self.new.posts }

@@ -1,4 +1,4 @@
--- What a loop of comparisons tells of all elements.
+-- What a loop of comparisons shows of all elements.
 use Rattle.std.proofs.Common.{◌≡◌, ◌≢◌, ℕ, ◌+◌, ◌-◌, ◌<◌, ◌≤◌, true, false, cond, eqb, List, ◌∷◌, length, drop, map, get_or, Some, None, refl, ap, sym, ◌∙◌, subst, ⊎_elim, arith}
 use Rattle.std.specs.Prelude.{Option, IfSome, filter, slice_get}
 use Rattle.std.proofs.Math.ListN.{get_or-map}
@@ -29,7 +29,7 @@ module _ {X : Type 0} (P : ℕ → X → Type 0) where
   pub each_all : (xs : List X) (k : ℕ) → length xs ≤ k → ((j : ℕ) (x : X) → j < k → slice_get xs j ≡ Some x → P j x) → (j : ℕ) (x : X) → slice_get xs j ≡ Some x → P j x
   each_all xs k past before j x at = before j x (let less = slice_get_within xs j x at in omega arith) at
 
--- the cell of what stands at this place stands there among all cells
+-- the cell of what is at this place is there among all cells
 pub cell_at : {X : Type 0} (cell : X → Cell) (xs : List X) (k : ℕ) (x : X) (d : Cell) → x ≡ get_or xs k x → d ≡ cell x → d ≡ get_or (map cell xs) k d
 cell_at cell xs k x d at is =
     let P : Cell → Type 0 = λ e. e ≡ get_or (map cell xs) k e in

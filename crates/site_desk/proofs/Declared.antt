@@ -23,7 +23,7 @@ begins None sites stations limits e none =
     (second (nat_le most_stations (length stations)) (nat_lt most_plan_readings (sum_by (λ s. s.limits.readings) stations + limits.readings) || nat_le most_sites (length sites)) none))
 begins (Some n) sites stations limits e none = cc e
 
--- one site that is changed: each element is written back where it stood
+-- one site that is changed: each element is written back to its place
 changed_length : (change : SitePlan → SitePlan) (site : ℕ) (sites : List SitePlan) → length (sites_changed change site sites) ≡ length sites
 changed_length change site [] = refl
 changed_length change zero (s ∷ sites) = refl

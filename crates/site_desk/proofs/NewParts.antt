@@ -175,7 +175,7 @@ no_twin true true h = absurd (cc (h))
 no_twin true false h = refl
 no_twin false twice h = absurd (cc (h))
 
--- the names of a plan without a fault stand once
+-- the names of a plan without a fault occur once
 pub planned_names : (sites : List SitePlan) (stations : List StationPlan) → plan_fault sites stations ≡ None → (has_twice (map (λ s. s.name) sites) ≡ false) × (has_twice (map (λ s. s.name) stations) ≡ false)
 planned_names sites stations h =
     let within : is_within_limits sites stations ≡ true = within_of (is_within_limits sites stations) (has_twice (map (λ s. s.name) stations)) h in (

@@ -46,7 +46,7 @@ boards_more places site k p boards more less is all other own = at (eqb p.site s
         let same : filter (λ (q : StationPlace). eqb q.site site) (take (k + 1) places) ≡ ps = at_more places site k p less is ∙ ap (λ t. ps ++ cond t (p ∷ []) []) e ∙ append-nil ps in
         subst (λ qs. AreBoardsOf qs more) (sym same) (subst (AreBoardsOf ps) (sym (other (eqb-false p.site site e))) all)
 
--- the totals of a cell that stands at the place of the station of this name
+-- the totals of a cell that is at the place of the station of this name
 pub totals_named : (places : List StationPlace) (name : List ℕ) (k : ℕ) (at : StationPlace) (c : Cell) (f : Figures) (e x : Energy) → IsNamed places name k → at ≡ get_or places k at → StandsAt k at c → AreTotalsWithin c.limits c.order f e x → AreTotalsOfName places name f e x
 totals_named places name k at c f e x named is stands within =
     let place : at ≡ named.place = is ∙ get_or_from_slice_get places k named.place at named.there in
@@ -54,7 +54,7 @@ totals_named places name k at c f e x named is stands within =
     let order = stands.order ∙ ap (λ (p : StationPlace). p.order) place in
     record { number = k; named = named; totals = subst (λ l. AreTotalsWithin l named.place.order f e x) limits (subst (λ o. AreTotalsWithin c.limits o f e x) order within) }
 
--- what stands in a list stands in a longer one
+-- what is in a list is in a longer one
 kept_at : {A : Type 0} (xs : List A) (y : A) (i : ℕ) (x : A) → slice_get xs i ≡ Some x → slice_get (xs ++ y ∷ []) i ≡ Some x
 kept_at [] y i x e = cc e
 kept_at (z ∷ xs) y zero x e = e
@@ -70,7 +70,8 @@ eq_or_less zero (suc n) h = inr (omega arith)
 eq_or_less (suc k) zero h = absurd (omega (arith, h))
 eq_or_less (suc k) (suc n) h = ⊎_elim (λ e. inl (ap suc e)) (λ l. inr (omega (arith, l))) (eq_or_less k n (omega (arith, h)))
 
--- the boards of the stations below a number, each of a cell of which this is so, as many as stations of the site
+-- the boards of the stations below a number, each of a cell for which this holds, as many as stations of the
+-- site
 pub record AreSoFar (Is : Cell → Type 0) (places : List StationPlace) (site number : ℕ) (boards : List (List ℕ × Board)) : Type 0 where
   pub count : length boards ≡ before_at places site number
   pub each : (k : ℕ) (p : StationPlace) → k < number → slice_get places k ≡ Some p → p.site ≡ site → IsNotedBoard Is k p boards (before_at places site k)

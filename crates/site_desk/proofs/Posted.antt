@@ -34,7 +34,7 @@ module _ (cells : List Cell) (books : List Book) (k : ℕ) (c : Cell) (b : Book)
   there : slice_get (set books c.site b') c.site ≡ Some b'
   there = get_here books c.site b b' stands
 
-  -- a row stands as before
+  -- a row is as before
   pub held_still : (d : Cell) → IsHeld books d → IsHeld (set books c.site b') d
   held_still d w = ⊎_elim
       (λ (e : d.site ≡ c.site).
@@ -112,7 +112,7 @@ module _ (sites : List SitePlan) (stations : List StationPlan) (cells : List Cel
       found_at (x ∷ xs) zero less = (x, refl)
       found_at (x ∷ xs) (suc k) less = found_at xs k (omega (arith, less))
 
-  -- each cell's row stands in the new books
+  -- each cell's row is in the new books
   pub held_of_plan : (books : List Book) → plan_fault sites stations ≡ None → AreNewBooks stations (length sites) books → AreHeld cells books
   held_of_plan books h made k c at =
       let s = station_of k c at in

@@ -1,4 +1,4 @@
--- What a settled command tells one who does not know what lay behind the locks.
+-- What a settled command means to a caller that does not know what was behind the locks.
 use Rattle.std.proofs.Common.{◌≡◌, ℕ, ◌+◌, ◌≤◌, [], ◌∷◌, ◌++◌, sum, get_or, List, None, Some, Ok, Err, ap, sym, ◌∙◌, subst, arith}
 use Rattle.std.specs.Prelude.{Option, Result, IfOk}
 use Rattle.ledger_model.specs.Periods.{Periods}
@@ -65,7 +65,7 @@ module _ (at : StationPlace) (number : ℕ) (c : Cell) (b : Book) (p : Held) (co
         enough = let more : p'.changes ≡ p.changes + 1 = ap (λ (q : Held). q.changes) passes in omega (arith, more, next, part, counted);
       }
 
-  -- what the answer tells of the cell's content
+  -- what the answer says about the cell's content
   pub tells_of : (a : Answer) (c' : Cell) (b' : Book) (told : Option Known) → (IsAccepted a → Tied c b) → a ≡ answer c.limits c.content command → c' ≡ cell_after c p command
       → b' ≡ record b { posts = posts_after b.posts c' a } → told ≡ told_after b' a → TellsOf at c.content command a told
   tells_of (Accepted n) c' b' told tied is cells books told_is = taken_at n c' b' told (tied tt) is cells books told_is
@@ -90,7 +90,7 @@ pub board_shown : {E : Type 0} (r : Result Board E) (limits : Bounds) (by period
 board_shown (Ok b) limits by period by_order order content c shown same ordered is reached = record { content = c; reached = reached; shown = shown ∙ (λ i. board_by (ordered i) (same i) (entries (is i))) }
 board_shown (Err e) limits by period by_order order content c shown same ordered is reached = tt
 
--- the board of a cell that stands at the place of the station of this name
+-- the board of a cell that is at the place of the station of this name
 pub board_named : (places : List StationPlace) (name : List ℕ) (k : ℕ) (at : StationPlace) (c : Cell) (b : Board) → IsNamed places name k → at ≡ get_or places k at → StandsAt k at c → IsBoardWithin c.limits c.period c.order b → IsBoardOfName places name b
 board_named places name k at c b named is stands within =
     let place : at ≡ named.place = is ∙ get_or_from_slice_get places k named.place at named.there in

@@ -14,7 +14,8 @@ use Rattle.station_cell.specs.Cell.{Cell, Held, cell_code}
 use Rattle.site_desk.specs.Parts.{IsTied}
 use Rattle.site_desk.specs.Roster.{StandsAt}
 
--- What is closed: the cells of all stations and the books of all sites, in the plan's order, and the passes that had been given out.
+-- A closed desk: the cells of all stations and the books of all sites, in the plan's order, and the passes that were
+-- given out.
 pub record Ended : Type 0 where
   pub cells : List Cell
   pub books : List Book
@@ -39,7 +40,7 @@ held_code = code_by (ℕ × (ℕ × (ℕ × ℕ))) (coded× coded_ℕ (coded× c
 abbrev pub ended_code : Coded Ended
 ended_code = code_by (List Cell × (List Book × List Held)) (coded× (coded_list cell_code) (coded× (coded_list book_code) (coded_list held_code))) (λ e. (e.cells, (e.books, e.passes))) (λ p. record { cells = p.0; books = p.1.0; passes = p.1.1 }) (λ _. refl)
 
--- How many of these passes are a station's.
+-- How many of these passes belong to a station.
 abbrev pub passes_of : ℕ → List Held → ℕ
 passes_of number passes = count_by (λ p. p.station == number) passes
 
@@ -51,11 +52,11 @@ changes_of number passes = sum_by (λ p. if p.station == number then p.changes e
 abbrev pub figures_at : List Cell → ℕ → Figures
 figures_at cells site = sum_of_figures (map (λ c. figures_by c.order (entries c.content)) (filter (λ c. c.site == site) cells))
 
--- These figures with the cell's, where it is the site's.
+-- These figures, with the cell's added if it belongs to the site.
 abbrev pub figures_with : Cell → ℕ → Figures → Figures
 figures_with c site sum = if c.site == site then plus_figures (figures_by c.order (entries c.content)) sum else sum
 
--- The cell is that of the station of this number, where the plan has it.
+-- The cell is that of the station of this number, at the place that the plan has.
 pub record IsPlaced (places : List StationPlace) (number : ℕ) (c : Cell) : Type 0 where
   pub place : StationPlace
   pub there : slice_get places number ≡ Some place
@@ -77,7 +78,7 @@ pub record IsSummed (cells : List Cell) (site : ℕ) (b : Book) : Type 0 where
   pub number : b.site ≡ site
   pub totals : totals_after b.posts ≡ figures_at cells site
 
--- What the viewer knew begins its site's posts.
+-- The posts that the viewer knew are the first of its site's book.
 pub record Saw (books : List Book) (v : Known) : Type 0 where
   pub book : Book
   pub there : slice_get books v.site ≡ Some book
@@ -87,7 +88,7 @@ pub record Saw (books : List Book) (v : Known) : Type 0 where
 abbrev pub AreAllPasses : List Cell → List Held → Type 0
 AreAllPasses cells passes = (k : ℕ) (c : Cell) → slice_get cells k ≡ Some c → passes_of k passes ≡ length c.counts
 
--- Each cell is whole.
+-- Each cell is whole: placed, counted and tied.
 abbrev pub AreWhole : List StationPlace → List Book → List Held → List Cell → Type 0
 AreWhole places books passes cells = (k : ℕ) (c : Cell) → slice_get cells k ≡ Some c → IsWhole places books passes k c
 
@@ -95,11 +96,12 @@ AreWhole places books passes cells = (k : ℕ) (c : Cell) → slice_get cells k 
 abbrev pub AreSummed : List Cell → List Book → Type 0
 AreSummed cells books = (site : ℕ) (b : Book) → slice_get books site ≡ Some b → IsSummed cells site b
 
--- Each viewer is at one of so many sites.
+-- Each viewer belongs to one of so many sites.
 abbrev pub AreViewed : ℕ → List Known → Type 0
 AreViewed sites viewers = (k : ℕ) (v : Known) → slice_get viewers k ≡ Some v → v.site < sites
 
--- What lay behind the locks of a desk fits together: its stations stand at these places, so many viewers were given out, and all passes and viewers are here.
+-- The values behind the locks of a desk fit together: its stations have these places, so many
+-- viewers were given out, and all passes and viewers are here.
 pub record IsClosable (places : List StationPlace) (given : ℕ) (cells : List Cell) (books : List Book) (passes : List Held) (viewers : List Known) : Type 0 where
   pub all_passes : AreAllPasses cells passes
   pub all_viewers : length viewers ≡ given

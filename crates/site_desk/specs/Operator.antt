@@ -1,4 +1,4 @@
--- What an operator reads of a running desk.
+-- The parts of a running desk that an operator reads.
 use Rattle.std.specs.Prelude.{◌≡◌, ℕ, ◌==◌, ⊤, List, [], ◌∷◌, count_by, filter, take, Some, slice_get}
 use Rattle.energy_flow.specs.Flow.{Energy}
 use Rattle.ledger_model.specs.declared.figures.Figures.{Figures}
@@ -17,7 +17,8 @@ use Rattle.site_desk.specs.Submit.{IsBoardWithin}
 use Rattle.station_ledger.specs.declared.used.UsedLimits.{UsedLimits}
 use Rattle.station_ledger.specs.Used.{used_limits}
 
--- The figures and the energies, imported and exported, are those, in this order of readings, of some content that accepted commands leave within these limits.
+-- Some content that accepted commands reach under these limits has these figures and these imported
+-- and exported energies, in this order of readings.
 pub record AreTotalsWithin (limits : Bounds) (order : Order) (f : Figures) (e x : Energy) : Type 0 where
   pub content : Content
   pub reached : Reached limits content.changes content
@@ -25,31 +26,33 @@ pub record AreTotalsWithin (limits : Bounds) (order : Order) (f : Figures) (e x 
   pub imported : e ≡ energy_by order Import (entries content)
   pub exported : x ≡ energy_by order Export (entries content)
 
--- They are of the station of this name: some content has them that accepted commands leave within the limits of the station's place, in that place's order.
+-- They belong to the station of this name: some content has them that accepted commands reach under
+-- the limits of the station's place, in that place's order.
 pub record AreTotalsOfName (places : List StationPlace) (name : List ℕ) (f : Figures) (e x : Energy) : Type 0 where
   pub number : ℕ
   pub named : IsNamed places name number
   pub totals : AreTotalsWithin named.place.limits named.place.order f e x
 
--- It is what of each limit some content uses that accepted commands leave within these limits.
+-- Some content that accepted commands reach under these limits uses this much of each limit.
 pub record IsUsedWithin (limits : Bounds) (used : UsedLimits) : Type 0 where
   pub content : Content
   pub reached : Reached limits content.changes content
   pub is : used ≡ used_limits content
 
--- It is of the station of this number, within the limits of the station's place.
+-- It belongs to the station of this number, under the limits of the station's place.
 pub record IsUsedAt (places : List StationPlace) (station : ℕ) (used : UsedLimits) : Type 0 where
   pub place : StationPlace
   pub there : slice_get places station ≡ Some place
   pub used_within : IsUsedWithin place.limits used
 
--- The board of the station of this place, under its name: some content makes it that accepted commands leave within the place's limits, by the place's period and order.
+-- The board of the station of this place, under its name: it is the board of some content that
+-- accepted commands reach under the place's limits, by the place's period and order.
 pub record IsBoardAt (p : StationPlace) (b : List ℕ × Board) : Type 0 where
   pub name : b.0 ≡ p.name
   pub board : IsBoardWithin p.limits p.period p.order b.1
   pub within : AreWithin p.limits b.1.figures
 
--- As many boards as places, each of the station of the place that stands where it stands.
+-- As many boards as places; each board is of the station of the place at the same position.
 abbrev pub AreBoardsOf : List StationPlace → List (List ℕ × Board) → Type 0
 AreBoardsOf [] [] = ⊤
 AreBoardsOf [] (b ∷ boards) = ⊥
@@ -60,7 +63,8 @@ AreBoardsOf (p ∷ places) (b ∷ boards) = IsBoardAt p b × AreBoardsOf places 
 abbrev pub AreBoardsAt : List StationPlace → ℕ → List (List ℕ × Board) → Type 0
 AreBoardsAt places site boards = AreBoardsOf (filter (λ p. p.site == site) places) boards
 
--- The board of the station of this number and place, under its name, is of this cell: of the cell's content, by the place's period and order.
+-- The board of the station of this number and place, under its name, is the board of this cell's
+-- content, by the place's period and order.
 pub record IsBoardOfCell (k : ℕ) (p : StationPlace) (c : Cell) (b : List ℕ × Board) : Type 0 where
   pub stands : StandsAt k p c
   pub name : b.0 ≡ p.name
@@ -74,7 +78,8 @@ IsAmong cells c = (i : ℕ) × (slice_get cells i ≡ Some c)
 abbrev pub before_at : List StationPlace → ℕ → ℕ → ℕ
 before_at places site k = count_by (λ p. p.site == site) (take k places)
 
--- The board of the station of this number and place, among those of its site, is of a cell of which this is so.
+-- The board of the station of this number and place, among those of its site, shows a cell for which this
+-- holds.
 pub record IsNotedBoard (Is : Cell → Type 0) (k : ℕ) (p : StationPlace) (boards : List (List ℕ × Board)) (i : ℕ) : Type 0 where
   pub cell : Cell
   pub noted : Is cell
@@ -82,6 +87,7 @@ pub record IsNotedBoard (Is : Cell → Type 0) (k : ℕ) (p : StationPlace) (boa
   pub there : slice_get boards i ≡ Some board
   pub is : IsBoardOfCell k p cell board
 
--- The boards are those of the stations of the site of this number, in the plan's order, each of a cell of which this is so.
+-- The boards are those of the stations of the site of this number, in the plan's order; each shows a cell for which
+-- this holds.
 abbrev pub AreNotedBoards : (Cell → Type 0) → List StationPlace → ℕ → List (List ℕ × Board) → Type 0
 AreNotedBoards Is places site boards = (k : ℕ) (p : StationPlace) → slice_get places k ≡ Some p → p.site ≡ site → IsNotedBoard Is k p boards (before_at places site k)

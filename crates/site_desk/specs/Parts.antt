@@ -15,7 +15,8 @@ row_at stations site k = count_by (λ s. s.site == site) (take k stations)
 abbrev pub limits_at : List StationPlan → ℕ → List Bounds
 limits_at stations site = map (λ s. s.limits) (filter (λ s. s.site == site) stations)
 
--- The cells of a plan that was just opened: one for each station, in the plan's order, by its site's settlement period and order of readings and without events.
+-- The cells of a plan that was just opened: one for each station, in the plan's order, without
+-- events, with its site's length of settlement periods and order of readings.
 pub record AreNewCells (sites : List SitePlan) (stations : List StationPlan) (cells : List Cell) : Type 0 where
   pub count : length cells ≡ length stations
   pub each : (k : ℕ) (s : StationPlan) → slice_get stations k ≡ Some s → slice_get cells k ≡ Some (new_cell k s.site (row_at stations s.site k) s.limits (period_at sites s.site) (order_at sites s.site))
@@ -29,39 +30,40 @@ pub record AreNewBooks (stations : List StationPlan) (sites : ℕ) (books : List
   pub count : length books ≡ sites
   pub each : (site : ℕ) → site < sites → slice_get books site ≡ Some (new_book stations site)
 
--- The viewers of these sites, which begin with this number: each with its site's number, and it knows no post.
+-- The viewers of these sites, numbered from this number on: each has its site's number and knows no post.
 abbrev pub new_viewers : ℕ → List SitePlan → List (ℕ × Known)
 new_viewers site [] = []
 new_viewers site (s ∷ sites) = replicate s.viewers (site, known site []) ++ new_viewers (suc site) sites
 
--- These sites, each with so many viewers where a number is given.
+-- These sites, each with this number of viewers if one is given.
 abbrev pub viewed_by : Option ℕ → List SitePlan → List SitePlan
 viewed_by None sites = sites
 viewed_by (Some viewers) sites = map {A = SitePlan} (λ s. record s { viewers = viewers }) sites
 
--- The books of a plan: one for each site, in the plan's order, with a row for each of its stations, opened with that station's limits.
+-- The books of a plan: one for each site, in the plan's order, with a row for each of its stations, opened with that
+-- station's limits.
 pub record AreBooksOf (stations : List StationPlan) (sites : ℕ) (books : List Book) : Type 0 where
   pub count : length books ≡ sites
   pub each : (site : ℕ) (b : Book) → slice_get books site ≡ Some b → (b.site ≡ site) × (b.limits ≡ limits_at stations site)
 
--- The cell's row stands in its site's book, opened with the cell's limits.
+-- The cell's row is in its site's book, opened with the cell's limits.
 pub record IsHeld (books : List Book) (c : Cell) : Type 0 where
   pub book : Book
   pub there : slice_get books c.site ≡ Some book
   pub held : Holds c book
 
--- Each cell's row stands in its site's book.
+-- Each cell's row is in its site's book.
 abbrev pub AreHeld : List Cell → List Book → Type 0
 AreHeld cells books = (k : ℕ) (c : Cell) → slice_get cells k ≡ Some c → IsHeld books c
 
--- A book has the site and the rows of the one that stood in its place.
+-- A book has the site and the rows of the one that was in its place.
 pub record KeepsRows (first : List Book) (site : ℕ) (b : Book) : Type 0 where
   pub book : Book
   pub there : slice_get first site ≡ Some book
   pub number : b.site ≡ book.site
   pub limits : b.limits ≡ book.limits
 
--- Each book has the site and the rows of the one that stood in its place.
+-- Each book has the site and the rows of the one that was in its place.
 abbrev pub AreRowsKept : List Book → List Book → Type 0
 AreRowsKept first books = (site : ℕ) (b : Book) → slice_get books site ≡ Some b → KeepsRows first site b
 
@@ -69,17 +71,17 @@ AreRowsKept first books = (site : ℕ) (b : Book) → slice_get books site ≡ S
 abbrev pub HaveFewPosts : List Book → ℕ → Type 0
 HaveFewPosts books most = (site : ℕ) (b : Book) → slice_get books site ≡ Some b → length b.posts ≤ most
 
--- The cell's row stands in its site's book, opened with the cell's limits, and shows the figures of its content.
+-- The cell's row is in its site's book, opened with the cell's limits, and shows the figures of its content.
 pub record IsTied (books : List Book) (c : Cell) : Type 0 where
   pub book : Book
   pub there : slice_get books c.site ≡ Some book
   pub held : Holds c book
   pub tied : Tied c book
 
--- Each cell's row stands in its site's book and shows the figures of its content.
+-- Each cell's row is in its site's book and shows the figures of its content.
 abbrev pub AreTied : List Cell → List Book → Type 0
 AreTied cells books = (k : ℕ) (c : Cell) → slice_get cells k ≡ Some c → IsTied books c
 
--- No two cells have the same row of one site.
+-- No two cells have the same row of the same site.
 abbrev pub AreApart : List Cell → Type 0
 AreApart cells = (j k : ℕ) (c d : Cell) → slice_get cells j ≡ Some c → slice_get cells k ≡ Some d → c.site ≡ d.site → c.row ≡ d.row → j ≡ k

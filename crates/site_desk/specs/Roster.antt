@@ -6,7 +6,7 @@ use Rattle.station_cell.specs.Cell.{Cell}
 use Rattle.site_desk.specs.Parts.{row_at}
 use Rattle.site_desk.specs.Plan.{order_at, period_at}
 
--- A desk: where each of its stations stands, how many sites it has, and how many viewers were given out.
+-- A desk: the place of each of its stations, how many sites it has, and how many viewers were given out.
 pub record Roster : Type 0 where
   pub stations : List StationPlace
   pub sites : ℕ
@@ -27,7 +27,7 @@ pub record IsNamed (places : List StationPlace) (name : List ℕ) (k : ℕ) : Ty
   pub there : slice_get places k ≡ Some place
   pub same : place.name ≡ name
 
--- The cell is that of the station of this number, which stands at this place.
+-- The cell is that of the station of this number and place.
 pub record StandsAt (k : ℕ) (at : StationPlace) (c : Cell) : Type 0 where
   pub station : c.station ≡ k
   pub site : c.site ≡ at.site
@@ -36,14 +36,16 @@ pub record StandsAt (k : ℕ) (at : StationPlace) (c : Cell) : Type 0 where
   pub period : c.period ≡ at.period
   pub order : c.order ≡ at.order
 
--- What a desk keeps: a cell for each station, and a book for each site that a station is at; both are no more than a plan may have.
+-- What a desk keeps: a cell for each station, and a book for each site that a station is at; both are no more than a
+-- plan may have.
 pub record IsDesk (places : List StationPlace) (cells books : ℕ) : Type 0 where
   pub each_cell : cells ≡ length places
   pub few_cells : cells ≤ 64
   pub few_books : books ≤ 16
   pub sites : (k : ℕ) (p : StationPlace) → slice_get places k ≡ Some p → p.site < books
 
--- The cells of a plan's stations, in the plan's order, each where the plan has its station.
+-- The cells of a plan's stations, in the plan's order, each at the place that the plan has for its
+-- station.
 pub record AreCellsOf (sites : List SitePlan) (stations : List StationPlan) (cells : List Cell) : Type 0 where
   pub count : length cells ≡ length stations
   pub each : (k : ℕ) (s : StationPlan) (c : Cell) → slice_get stations k ≡ Some s → slice_get cells k ≡ Some c → StandsAt k (new_place sites stations k s) c

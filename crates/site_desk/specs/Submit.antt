@@ -17,20 +17,24 @@ use Rattle.site_desk.specs.Roster.{IsNamed, StandsAt}
 use Rattle.station_cell.specs.Settle.{Holds, Tied}
 use Rattle.station_ledger.specs.Spent.{most_spent}
 
--- The command is accepted as change n at this content. The station's row showed the figures of this content, and those of the content after it were posted last.
+-- The command is accepted as change n at this content. The station's row showed the figures of this content, and those
+-- of the content after it were posted last.
 pub record IsTakenAt (at : StationPlace) (before : Content) (command : Command) (n : ℕ) (told : Option Known) : Type 0 where
   pub answered : answer at.limits before command ≡ Accepted n
   pub posts : List Post
   pub tied : row_after at.row posts ≡ figures_by at.order (entries before)
   pub posted : told ≡ Some (known at.site (posts ++ (at.row, figures_by at.order (entries (step at.limits before command).0)) ∷ []))
 
--- This answer to the command tells of this content, where it is accepted.
+-- If this answer to the command is Accepted, the command was accepted at this content; any other
+-- answer comes without a `Told`.
 abbrev pub TellsOf : StationPlace → Content → Command → Answer → Option Known → Type 0
 TellsOf at before command (Accepted n) told = IsTakenAt at before command n told
 TellsOf at before command Repeat told = told ≡ None
 TellsOf at before command (Refused why) told = told ≡ None
 
--- The command was accepted as change n at some content that n - 1 accepted commands leave. The station's figures after it were posted last. The pass made one change more, for which no more differences of readings were evaluated than such a command needs.
+-- The command was accepted as change n at some content that n - 1 accepted commands reach. The
+-- station's figures after it were posted last. The pass made one change more, and no more
+-- differences of readings were evaluated for it than such a command needs.
 pub record IsTaken (at : StationPlace) (p : Held) (command : Command) (n : ℕ) (p' : Held) (told : Option Known) : Type 0 where
   pub before : Content
   pub count : ℕ
@@ -41,19 +45,20 @@ pub record IsTaken (at : StationPlace) (p : Held) (command : Command) (n : ℕ) 
   pub bound : p'.work ≤ p.work + most_spent at.order before.events command
   pub enough : p'.changes ≤ n
 
--- The pass is as it was, and nothing was told.
+-- The pass is as it was, and there is no `Told`.
 pub record IsUnchanged (p p' : Held) (told : Option Known) : Type 0 where
   pub pass : p' ≡ p
   pub untold : told ≡ None
 
--- This is the answer to the command at some content that accepted commands leave, and nothing changed.
+-- This is the answer to the command at some content that accepted commands reach, and nothing changed.
 pub record IsAnswered (at : StationPlace) (p : Held) (command : Command) (told_answer : Answer) (p' : Held) (told : Option Known) : Type 0 where
   pub before : Content
   pub reached : Reached at.limits before.changes before
   pub answered : answer at.limits before command ≡ told_answer
   pub unchanged : IsUnchanged p p' told
 
--- All that judging a command of a pass asks, at the cell of the station of this number, which stands at this place; and what is known of such a cell.
+-- A command of a pass may be judged at this cell of the station of this number and place. With it,
+-- what is known of such a cell.
 pub record CanJudge (number : ℕ) (at : StationPlace) (c : Cell) (p : Held) : Type 0 where
   pub serves : IsInService c
   pub stands : StandsAt number at c
@@ -61,7 +66,8 @@ pub record CanJudge (number : ℕ) (at : StationPlace) (c : Cell) (p : Held) : T
   pub reached : Reached c.limits c.content.changes c.content
   pub counted : sum c.counts ≡ c.content.changes
 
--- All that settling a command of a pass asks, at the cell of the station of this number, which stands at this place; and what is known of such a cell.
+-- A command of a pass may be settled at this cell of the station of this number and place. With it,
+-- what is known of such a cell.
 pub record CanSettle (number : ℕ) (at : StationPlace) (c : Cell) (b : Book) (p : Held) : Type 0 where
   pub stands : StandsAt number at c
   pub site : b.site ≡ at.site
@@ -72,7 +78,7 @@ pub record CanSettle (number : ℕ) (at : StationPlace) (c : Cell) (b : Book) (p
   pub reached : Reached c.limits c.content.changes c.content
   pub counted : sum c.counts ≡ c.content.changes
 
--- What a submitted command comes to, at a station of this place.
+-- What follows from a submitted command, at a station of this place.
 abbrev pub Submitted : StationPlace → Held → Command → Answer → Held → Option Known → Type 0
 Submitted at p command (Accepted n) p' told = IsTaken at p command n p' told
 Submitted at p command Repeat p' told = IsAnswered at p command Repeat p' told
@@ -85,13 +91,15 @@ Submitted at p command (Refused NoSuchEvent) p' told = IsAnswered at p command (
 Submitted at p command (Refused AlreadyVoided) p' told = IsAnswered at p command (Refused AlreadyVoided) p' told
 Submitted at p command (Refused NotVoided) p' told = IsAnswered at p command (Refused NotVoided) p' told
 
--- The board is that of some content that accepted commands leave within these limits, by this settlement period and in this order of readings.
+-- The board is that of some content that accepted commands reach under these limits, by this length
+-- of settlement periods and in this order of readings.
 pub record IsBoardWithin (limits : Bounds) (period : Periods) (order : Order) (b : Board) : Type 0 where
   pub content : Content
   pub reached : Reached limits content.changes content
   pub shown : b ≡ board_by order period (entries content)
 
--- The board is one of the station of this name: some content makes it that accepted commands leave within the limits of the station's place, by that place's period and order.
+-- The board is one of the station of this name: that of some content that accepted commands reach
+-- under the limits of the station's place, by that place's period and order.
 pub record IsBoardOfName (places : List StationPlace) (name : List ℕ) (b : Board) : Type 0 where
   pub number : ℕ
   pub named : IsNamed places name number

@@ -13,7 +13,7 @@ use ledger_model::Figures;
 use site_book::{Naming, SiteBook, Viewer};
 use station_cell::{Pass, StationCell, are_same, tied};
 
-// How many of the passes are the station's.
+// How many of the passes belong to the station.
 fn passes_of(passes: &[Pass], number: usize) -> usize
     ensures { result ≡ passes_of number passes.now }
 {
@@ -26,7 +26,7 @@ fn passes_of(passes: &[Pass], number: usize) -> usize
     count
 }
 
-// How many changes the station's passes made, where that fits.
+// How many changes the station's passes made, if that fits in 64 bits.
 fn changes_of(passes: &[Pass], number: usize) -> Option<u64>
     ensures { IfSome result (λ n. n ≡ changes_of number passes.now) }
 {
@@ -39,7 +39,7 @@ fn changes_of(passes: &[Pass], number: usize) -> Option<u64>
     Some(changes)
 }
 
-// Tells whether all passes that the cells gave out are here.
+// Returns whether all passes that the cells gave out are here.
 pub(crate) fn are_all_passes<C: HasCell>(cells: &[C], passes: &[Pass]) -> bool
     ensures { IsTrue result → AreAllPasses (map C.cell cells.now) passes.now }
 {
@@ -51,7 +51,7 @@ pub(crate) fn are_all_passes<C: HasCell>(cells: &[C], passes: &[Pass]) -> bool
     true
 }
 
-// Tells whether the cell is where the plan has it.
+// Returns whether the cell is where the plan has it.
 fn is_placed(cell: &StationCell, number: usize, places: &[StationPlace]) -> bool
     ensures { IsTrue result → IsPlaced places.now number cell.now }
 {
@@ -61,7 +61,7 @@ fn is_placed(cell: &StationCell, number: usize, places: &[StationPlace]) -> bool
     }
 }
 
-// Tells whether the station's passes made as many changes as its ledger counts.
+// Returns whether the station's passes made as many changes as its ledger counts.
 fn is_counted(cell: &StationCell, number: usize, passes: &[Pass]) -> bool
     ensures { IsTrue result → IsCounted passes.now number cell.now }
 {
@@ -71,7 +71,7 @@ fn is_counted(cell: &StationCell, number: usize, passes: &[Pass]) -> bool
     }
 }
 
-// Tells whether the cell's row stands in its site's book and shows its figures.
+// Returns whether the cell's row is in its site's book and shows its figures.
 fn is_tied<J: Naming>(cell: &StationCell, books: &[SiteBook<J>]) -> bool
     ensures { IsTrue result → IsTied books.now cell.now }
 {
@@ -81,7 +81,7 @@ fn is_tied<J: Naming>(cell: &StationCell, books: &[SiteBook<J>]) -> bool
     }
 }
 
-// Tells whether the cell is whole.
+// Returns whether the cell is placed, counted and tied.
 fn is_whole<J: Naming>(
     cell: &StationCell,
     number: usize,
@@ -94,7 +94,7 @@ fn is_whole<J: Naming>(
     is_placed(cell, number, places) && is_counted(cell, number, passes) && is_tied(cell, books)
 }
 
-// Tells whether each cell is whole.
+// Returns whether each cell is placed, counted and tied.
 pub(crate) fn are_whole<C: HasCell, J: Naming>(
     cells: &[C],
     places: &[StationPlace],
@@ -111,7 +111,7 @@ pub(crate) fn are_whole<C: HasCell, J: Naming>(
     true
 }
 
-// Both figures added up, where that fits.
+// The sum of both, if it fits.
 pub(crate) fn plus(figures: &Figures, others: &Figures) -> Option<Figures>
     ensures { IfSome result (λ f. f ≡ plus_figures figures.now others.now) }
 {
@@ -128,7 +128,7 @@ pub(crate) fn plus(figures: &Figures, others: &Figures) -> Option<Figures>
     })
 }
 
-// These sums with the cell's figures, where it is the site's and they fit.
+// These sums, with the cell's figures added if it belongs to the site; none if they don't fit.
 fn plus_at(cell: &StationCell, site: usize, sum: &Figures) -> Option<Figures>
     ensures { IfSome result (λ f. f ≡ figures_with cell.now site sum.now) }
 {
@@ -139,7 +139,7 @@ fn plus_at(cell: &StationCell, site: usize, sum: &Figures) -> Option<Figures>
     }
 }
 
-// The sums over the stations of a site, where they fit.
+// The sums over the stations of a site, if they fit.
 fn figures_at<C: HasCell>(cells: &[C], site: usize) -> Option<Figures>
     ensures { IfSome result (λ f. f ≡ figures_at (map C.cell cells.now) site) }
 {
@@ -150,7 +150,8 @@ fn figures_at<C: HasCell>(cells: &[C], site: usize) -> Option<Figures>
     Some(sum)
 }
 
-// Tells whether the book is that of this site, and its totals the sums over the site's stations.
+// Returns whether the book is that of this site, and its totals are the sums over the site's
+// stations.
 fn is_summed<C: HasCell, J: Naming>(book: &SiteBook<J>, site: usize, cells: &[C]) -> bool
     ensures { IsTrue result → IsSummed (map C.cell cells.now) site book.now }
 {
@@ -160,7 +161,7 @@ fn is_summed<C: HasCell, J: Naming>(book: &SiteBook<J>, site: usize, cells: &[C]
     }
 }
 
-// Tells whether each book's totals are the sums over its site's stations.
+// Returns whether each book's totals are the sums over its site's stations.
 pub(crate) fn are_summed<C: HasCell, J: Naming>(books: &[SiteBook<J>], cells: &[C]) -> bool
     ensures { IsTrue result → AreSummed (map C.cell cells.now) books.now }
 {
@@ -172,7 +173,7 @@ pub(crate) fn are_summed<C: HasCell, J: Naming>(books: &[SiteBook<J>], cells: &[
     true
 }
 
-// Tells whether each viewer's site is one of so many.
+// Returns whether each viewer's site is one of the desk's.
 pub(crate) fn are_viewed<J: Naming>(viewers: &[Viewer<J>], sites: usize) -> bool
     ensures { IsTrue result → AreViewed sites viewers.now }
 {

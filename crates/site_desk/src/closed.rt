@@ -14,8 +14,7 @@ use station_cell::{Pass, StationCell};
 use station_ledger::StationLedger;
 use std::marker::Model;
 
-/// A desk that was closed: all ledgers, rows and totals, which no lock guards any more, and the passes that had
-/// been given out.
+/// A desk that was closed: all ledgers, rows and totals, without locks, and the passes that were given out.
 #[derive(Drop)]
 pub struct Closed<J: Naming> {
     cells: Vec<StationCell>,
@@ -38,9 +37,9 @@ impl<J: Naming> Model for Closed<J> {
 }
 
 impl<J: Naming> Closed<J> {
-    /// What was under the locks of a desk, and its passes.
+    /// The closed desk of what was under a desk's locks, and its passes.
     ///
-    /// Condition: each cell's row is tied, as [`Desk::take_apart`] tells.
+    /// Condition: each cell's row is tied, as [`Desk::take_apart`] ensures.
     pub fn of(cells: Vec<StationCell>, books: Vec<SiteBook<J>>, passes: Vec<Pass>) -> Self
         requires { AreTied cells.items books.items }
         ensures { result ≡ record { cells = cells.items; books = books.items; passes = passes.items } }
@@ -75,7 +74,7 @@ impl<J: Naming> Closed<J> {
 
     /// The ledger of the station of this number.
     ///
-    /// Condition: it has the station ([`Closed::stations`] tells).
+    /// Condition: it has the station ([`Closed::stations`] tests it).
     pub fn ledger(&self, station: u16) -> &StationLedger
         requires { station < length self.now.cells }
         ensures { (c : Cell) → slice_get self.now.cells station ≡ Some c → result.now ≡ record { limits = c.limits; period = c.period; order = c.order; content = c.content } }
@@ -85,7 +84,7 @@ impl<J: Naming> Closed<J> {
 
     /// The figures that the station's row shows: those of its ledger.
     ///
-    /// Condition: it has the station ([`Closed::stations`] tells).
+    /// Condition: it has the station ([`Closed::stations`] tests it).
     pub fn row(&self, station: u16) -> Figures
         requires { station < length self.now.cells }
         ensures { (c : Cell) → slice_get self.now.cells station ≡ Some c → result ≡ figures_by c.order (entries c.content) }
@@ -96,7 +95,7 @@ impl<J: Naming> Closed<J> {
 
     /// How many commands the station accepted.
     ///
-    /// Condition: it has the station ([`Closed::stations`] tells).
+    /// Condition: it has the station ([`Closed::stations`] tests it).
     pub fn changes(&self, station: u16) -> u64
         requires { station < length self.now.cells }
         ensures { (c : Cell) → slice_get self.now.cells station ≡ Some c → result ≡ c.content.changes }
@@ -104,7 +103,8 @@ impl<J: Naming> Closed<J> {
         self.cells[station as usize].ledger().changes()
     }
 
-    /// The passes, as they were handed in. Each tells its station and how many changes it made.
+    /// The passes, as they were handed in. Each has its station's number and how many changes it
+    /// made.
     pub fn into_passes(self) -> Vec<Pass>
         ensures { result.items ≡ self.passes }
     {
@@ -113,7 +113,7 @@ impl<J: Naming> Closed<J> {
 
     /// The totals of the site of this number.
     ///
-    /// Condition: it has the site ([`Closed::sites`] tells).
+    /// Condition: it has the site ([`Closed::sites`] tests it).
     pub fn totals(&self, site: u16) -> Figures
         requires { site < length self.now.books }
         ensures { (b : Book) → slice_get self.now.books site ≡ Some b → result ≡ totals_after b.posts }
@@ -122,7 +122,7 @@ impl<J: Naming> Closed<J> {
     }
 }
 
-/// A desk that was not closed, with the passes and viewers that were handed in, all as they were.
+/// A desk that was not closed, with the passes and viewers that were handed in; all is as it was.
 #[derive(Drop)]
 pub struct CloseRefused<J: Naming, C = StationCell> {
     /// The desk.

@@ -42,8 +42,9 @@ use std::thread::Threads;
 use std::time::Clock;
 
 /// The stations and sites of a plan, each station and each site's book behind a lock of its own, the
-/// station's taken first. Behind a station's lock is its cell, alone or with what belongs to it (C).
-/// Contracts see where each station stands, how many sites it has, and how many viewers were given out.
+/// station's taken first. Behind a station's lock is its cell, by itself or with what belongs to it
+/// (C). Contracts see the place of each station in the plan, how many sites there are, and how many
+/// viewers were given out.
 #[derive(Drop)]
 pub struct Desk<J: Naming, C = StationCell> {
     places: Vec<StationPlace>,
@@ -67,10 +68,10 @@ impl<J: Naming, C> Model for Desk<J, C> {
 }
 
 impl<J: Naming> Desk<J, StationCell> {
-    /// The desk of a plan, all without events, and its viewers, each with its site's number, site by
-    /// site. Faults come as from [`Parts::open`]; a refusal drops the tables.
+    /// The desk of a plan without events, and its viewers, each with its site's number, site by
+    /// site. Faults are those of [`Parts::open`]; a refusal drops the tables.
     ///
-    /// Condition: the tables are those that J names, and each site's is there, as
+    /// Condition: the tables are those that J names, and each site has its own, as
     /// [`Tables::make`](site_book::Tables::make) gives them.
     pub fn open(
         alloc: Global,
@@ -95,11 +96,11 @@ impl<J: Naming> Desk<J, StationCell> {
         }
     }
 
-    /// Takes a command of a pass and answers it, under the station's lock: where it is accepted, the station's new
-    /// figures are posted under its site's lock, too, and what the book told comes with the answer. Any other answer
-    /// changes nothing and waits for no other station. `ChangesExhausted` also answers a pass of no station of this
-    /// desk, and where what lies behind the locks is not as it should be, which no run of fewer than 2^62 accepted
-    /// changes a site meets.
+    /// Takes a command of a pass under the station's lock, and returns the answer. If it is accepted, the station's
+    /// new figures are posted under its site's lock too, and a `Told` of the book comes with the answer. Any other
+    /// answer changes nothing and waits for no other station. `ChangesExhausted` also answers a pass of no station
+    /// of this desk. It answers, too, if what is behind the locks is not as it should be, which no run with fewer
+    /// than 2^62 accepted changes of a site meets.
     pub fn submit<G: Gate, R: Wait + Clock>(
         &self,
         rt: &R,
@@ -114,9 +115,9 @@ impl<J: Naming> Desk<J, StationCell> {
         (answer, told)
     }
 
-    /// Closes the desk. All values are moved out of their locks and compared, and only then is anything
-    /// given up; it takes no memory. The passes and viewers are to be all that were given out: a
-    /// missing one is told, passes first, and what does not fit together is `Torn`.
+    /// Closes the desk. It moves all values out of their locks and compares them, and only then gives
+    /// anything up; it takes no memory. The caller hands in all passes and viewers that were given out.
+    /// A missing one is a fault, passes first; values that don't fit together are `Torn`.
     pub fn close(
         self,
         passes: Vec<Pass>,
@@ -140,11 +141,11 @@ impl<J: Naming> Desk<J, StationCell> {
 }
 
 impl<J: Naming, C: HasCell> Desk<J, C> {
-    /// The desk of a plan over what is to be behind its locks, in the plan's order, of which so many
-    /// viewers were given out. It takes memory for the locks.
+    /// The desk of a plan over the values for its locks, in the plan's order; `viewers` viewers were
+    /// given out. It takes memory for the locks; the error says that there is none.
     ///
-    /// Conditions: the plan has no fault ([`Plan::fault`] tells), and each station has its cell and each
-    /// site its book, as [`Parts::open`] gives them.
+    /// Conditions: the plan has no fault ([`Plan::fault`] tests it), and each station has its cell and
+    /// each site its book, as [`Parts::open`] gives them.
     pub fn over(
         alloc: Global,
         plan: &Plan,
@@ -181,7 +182,8 @@ impl<J: Naming, C: HasCell> Desk<J, C> {
         self.places.len()
     }
 
-    /// A pass of the station of this name, which made no change yet. It waits for the station's lock.
+    /// A new pass of the station of this name. The call waits for the station's lock. Errors:
+    /// `UnknownStation`, `TooManyPasses`.
     pub fn enlist<R: Wait + Threads>(&self, rt: &R, name: &Name) -> Result<Pass, EnlistFault>
         ensures unknown { (result ≡ Err EnlistFault.UnknownStation) ↔ (list_any (λ p. bytes_eq name.now p.name) self.now.stations ≡ false) }
         ensures station { IfOk result (λ p. IsNamed self.now.stations name.now p.station) }
@@ -201,10 +203,11 @@ impl<J: Naming, C: HasCell> Desk<J, C> {
         }
     }
 
-    /// Takes a command of a pass and answers it as [`Desk::submit`] does, by this way to settle it, under
-    /// the station's lock. What the way gives comes with the answer.
+    /// Takes a command of a pass under the station's lock and returns the answer, as [`Desk::submit`]
+    /// does, but settles it in the given way. The way's receipt comes with the answer.
     ///
-    /// Condition: what the way asks of the command on the pass's station, where the desk has it.
+    /// Condition: what the way asks of the command on the pass's station, if the desk has that
+    /// station.
     pub fn submit_by<G: Gate, S: Settles<J, C, N>, N, R: Wait + Clock>(
         &self,
         rt: &R,
@@ -237,8 +240,9 @@ impl<J: Naming, C: HasCell> Desk<J, C> {
         )
     }
 
-    /// The board of the station of this name. It waits for the station's lock. A cell there that is not
-    /// the station's own, which no run of these calls meets, answers `Torn`.
+    /// The board of the station of this name. It waits for the station's lock. Errors:
+    /// `UnknownStation`, `OutOfMemory`, `Torn`. `Torn` means that another station's cell is there,
+    /// which no run of these calls meets.
     pub fn station_board<R: Wait>(
         &self,
         rt: &R,
@@ -263,7 +267,7 @@ impl<J: Naming, C: HasCell> Desk<J, C> {
         }
     }
 
-    /// The number of the station of this name in the plan.
+    /// The number of the station of this name in the plan, if there is the station.
     pub fn number(&self, name: &Name) -> Option<u16>
         ensures known { is_some result ≡ list_any (λ p. bytes_eq name.now p.name) self.now.stations }
         ensures named { IfSome result (IsNamed self.now.stations name.now) }
@@ -285,9 +289,9 @@ impl<J: Naming, C: HasCell> Desk<J, C> {
         }
     }
 
-    /// The figures of the station of this name, and what it imported and exported, all of one moment. It waits for the
-    /// station's lock. A cell there that is not the station's own, which no run of these calls meets,
-    /// answers `Torn`.
+    /// The figures of the station of this name, and its imported and exported energy, all of one moment. It waits for
+    /// the station's lock. Errors: `UnknownStation`, `Torn`. `Torn` means that another station's cell is there, which
+    /// no run of these calls meets.
     pub fn station_totals<R: Wait>(
         &self,
         rt: &R,
@@ -308,8 +312,9 @@ impl<J: Naming, C: HasCell> Desk<J, C> {
         Ok(totals_of(own))
     }
 
-    /// How much of its limits the station of this number uses. It waits for the station's lock. A cell there that is not
-    /// the station's own, which no run of these calls meets, answers `Torn`.
+    /// How much of each limit the station of this number uses. It waits for the station's lock. Errors:
+    /// `UnknownStation`, `Torn`. `Torn` means that another station's cell is there, which no run of these calls
+    /// meets.
     pub fn used_limits<R: Wait>(&self, rt: &R, station: u16) -> Result<UsedLimits, BoardFault>
         ensures unknown { (result ≡ Err BoardFault.UnknownStation) ↔ (nat_lt station (length self.now.stations) ≡ false) }
         ensures used { IfOk result (IsUsedAt self.now.stations station) }
@@ -328,10 +333,10 @@ impl<J: Naming, C: HasCell> Desk<J, C> {
     }
 
     /// The boards of the stations of the site of this number, in the plan's order and each with the
-    /// station's name, and the sums of their figures, all of one moment: it waits for the locks of these
-    /// stations in the plan's order, then for that of the site's book, and holds them all. Where cells
-    /// and book do not fit together, which no run of these calls meets, it answers `Torn`, as for a site
-    /// that the desk has not.
+    /// station's name, and the sums of their figures, all of one moment. It waits for the locks of these
+    /// stations in the plan's order, then for that of the site's book, and holds them all. Errors:
+    /// `OutOfMemory`, `Torn`. It answers `Torn` for a site that the desk doesn't have, and if cells and
+    /// book don't fit together, which no run of these calls meets.
     pub fn site_boards<R: Wait>(
         &self,
         rt: &R,
@@ -357,8 +362,8 @@ impl<J: Naming, C: HasCell> Desk<J, C> {
         }
     }
 
-    /// The boards of a site as [`Desk::site_boards`] gives them, and what is noted of the cells that they are of, at that
-    /// one moment: while all locks of the site are held.
+    /// The boards of a site as [`Desk::site_boards`] gives them, and a note of the cells that they show, made at that
+    /// one moment, while all locks of the site are held. Errors are those of [`Desk::site_boards`].
     pub fn site_boards_by<S: Notes<C, N>, N: Drop, R: Wait>(
         &self,
         rt: &R,
@@ -387,7 +392,8 @@ impl<J: Naming, C: HasCell> Desk<J, C> {
     }
 
     /// Moves all values out of their locks and compares them as [`Desk::close`] does, and only then gives
-    /// anything up: what was behind the stations' locks, and the books, both in the plan's order, and the passes.
+    /// anything up. It returns what was behind the stations' locks and the books, both in the plan's order, and
+    /// the passes. The error gives all back as it was, with the fault.
     pub fn take_apart(
         self,
         passes: Vec<Pass>,

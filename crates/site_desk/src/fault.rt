@@ -1,10 +1,10 @@
-/// Why a plan is not opened. The first that applies answers.
+/// Why a plan is not opened. The first fault that applies is reported.
 #[derive(Clone, Copy, Debug, PartialEq, Eq)]
 pub enum DeskFault {
     /// The stations may keep more than 1,048,576 readings in all, a site has more than 64 viewers, a
-    /// station names a site that is not there, or two sites have one name.
+    /// station names a site that is not there, or two sites have the same name.
     PlanLimit,
-    /// Two stations have one name.
+    /// Two stations have the same name.
     StationTwice,
     /// There is no memory for it.
     OutOfMemory,
@@ -15,8 +15,8 @@ pub enum DeskFault {
 pub enum EnlistFault {
     /// No station of the desk has this name.
     UnknownStation,
-    /// The station gave out 65,536 passes, or what lies behind its lock is not its own, which no run of
-    /// these calls meets.
+    /// The station gave out 65,536 passes, or the cell behind its lock is another station's, which no
+    /// run of these calls meets.
     TooManyPasses,
 }
 
@@ -25,19 +25,20 @@ pub enum EnlistFault {
 pub enum BoardFault {
     /// No station of the desk has this name.
     UnknownStation,
-    /// What lies behind the station's lock is not its own, which no run of these calls meets.
+    /// The cell behind the station's lock is another station's, or a site's cells and book don't
+    /// fit together, which no run of these calls meets; or the desk doesn't have the site.
     Torn,
     /// There is no memory for it.
     OutOfMemory,
 }
 
-/// Why a desk is not closed. The first that applies answers.
+/// Why a desk is not closed. The first fault that applies is reported.
 #[derive(Clone, Copy, Debug, PartialEq, Eq)]
 pub enum CloseFault {
     /// A pass that was given out is missing.
     PassMissing,
     /// A viewer of the desk is missing.
     ViewerMissing,
-    /// What lay behind the locks does not fit together: a count, a place, a row or a total differs.
+    /// The values behind the locks don't fit together: a count, a place, a row or a total differs.
     Torn,
 }

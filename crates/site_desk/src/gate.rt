@@ -2,8 +2,8 @@ use ledger_model::Name;
 use std::sync::Wait;
 use std::time::Clock;
 
-/// What is told when a desk holds a station, and when a session has answered a call. Nothing is asked
-/// of it: it may wait, as one that holds a station back for a test does.
+/// Its calls come when a desk holds a station, and when a session has answered a call. They may wait,
+/// as a test's gate does that holds a station back; nothing else is expected of them.
 pub trait Gate {
     /// A submitted command has its station's lock, and not yet that of its site's book.
     fn held<R: Wait + Clock>(&self, rt: &R, station: &Name);

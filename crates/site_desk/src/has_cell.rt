@@ -4,7 +4,8 @@ ghost use Rattle.station_cell.specs.Cell.{new_pass};
 use station_cell::{Pass, StationCell, TooManyPasses, enlist_cell};
 use std::thread::Threads;
 
-/// What a desk keeps behind a station's lock: the station's cell, alone or with what belongs to it.
+/// What a desk keeps behind a station's lock: the station's cell, by itself or with what belongs to
+/// it.
 pub trait HasCell: Drop {
     ghost use Rattle.station_cell.specs.Cell.{Cell};
 
@@ -14,7 +15,7 @@ pub trait HasCell: Drop {
     fn cell(&self) -> &StationCell
         ensures { result.now ≡ cell self.now };
 
-    /// Gives out one more pass of the station, where it may ([`enlist_cell`]).
+    /// Gives out one more pass of the station, if it may ([`enlist_cell`]).
     fn enlist<R: Threads>(&mut self, rt: &R) -> Result<Pass, TooManyPasses>
         ensures { IfOk result (λ p. p ≡ new_pass (cell self.old).station (length (cell self.old).counts)) };
 }

@@ -1,24 +1,25 @@
-//! The stations and sites of a running desk: ledgers and books under locks, tied rows, and the end.
+//! The stations and sites of a running desk: ledgers and books under locks, tied rows, and the
+//! close.
 //!
-//! A [`Plan`] has sites and stations. [`Parts::open`] makes a [`StationCell`] of each station (`station_cell`, which
-//! this crate gives on with its [`Pass`], and whose step is [`settle`]), and a book of each site, whose rows show the
-//! stations' figures. A [`Desk`] has the same parts, each cell and each book behind a lock of its own, so that stations
-//! take commands at once: [`Desk::submit`] judges a command under the station's lock, and settles one that is accepted
-//! under its site's, too, while viewers glance at the totals and wait for nobody. [`Desk::close`] compares all that lay
-//! behind the locks and gives up the locks: a [`Closed`]. An operator reads a running desk by [`Desk::station_totals`]
-//! and [`Desk::site_boards`], whose boards are of one moment. `open`, [`Desk::station_board`] and `site_boards` alone
-//! take memory.
+//! A [`Plan`] has sites and stations. [`Parts::open`] makes a [`StationCell`] for each station and a book for each
+//! site; the book's rows show the stations' figures. (The cell, its [`Pass`] and its step [`settle`] come from
+//! `station_cell`; this crate exports them again.) A [`Desk`] has the same parts, each cell and each book behind a lock
+//! of its own, so stations take commands at the same time. [`Desk::submit`] judges a command under the station's lock,
+//! and settles an accepted one under its site's lock too. Meanwhile viewers glance at the totals and wait for nobody.
+//! [`Desk::close`] compares all that was behind the locks and gives up the locks: a [`Closed`]. An operator reads a
+//! running desk by [`Desk::station_totals`] and [`Desk::site_boards`]; these boards are of one moment. Only `open`,
+//! [`Desk::station_board`] and `site_boards` take memory.
 //!
-//! A desk may keep more than a cell behind a station's lock, as one with a journal does: anything that [`HasCell`]
-//! ([`Desk::over`], [`Desk::take_apart`]), and a command is then taken by a way of its own that [`Settles`]
-//! ([`Desk::submit_by`]; [`can_judge`] and [`settle_at`] are its parts). A cell whose site's book is not
-//! as it should be leaves service there ([`StationCell::retire`]).
+//! A desk may keep more than a cell behind a station's lock, as one with a journal does: any type that [`HasCell`]
+//! ([`Desk::over`], [`Desk::take_apart`]). It then takes commands in a way of its own that [`Settles`]
+//! ([`Desk::submit_by`]; its parts are [`can_judge`] and [`settle_at`]). If a change that was already written can't be
+//! settled, the cell leaves service ([`StationCell::retire`]).
 //!
-//! The crate's one contract: what [`Desk::submit`] answers is the step's answer at some content that
-//! accepted commands leave, since nobody knows beforehand what lies behind a lock, and a command is accepted only where
-//! all that `settle` asks was found under both locks. Where `close` succeeds, all counts agree, all rows are tied, all
-//! totals are sums over stations, and what each viewer knew begins its site's posts. That a run settles at
-//! all, and on the latest content, the tests show.
+//! The crate's contract: the answer of [`Desk::submit`] is the step's answer at some content that accepted commands
+//! lead to, since nobody knows beforehand what is behind a lock. A command is accepted only if all that `settle` asks
+//! was found under both locks. If `close` succeeds, all counts agree, all rows are tied, all totals are sums over
+//! stations, and what each viewer knew begins its site's posts. Only tests show that a run settles commands at all, and
+//! does so on the latest content.
 //!
 //! ```text
 //! let (desk, viewers) = Desk::open(alloc, Tables::make(alloc, sites)?, &plan)?;

@@ -9,10 +9,10 @@ use site_book::{Naming, SiteBook, Viewer};
 use std::alloc::{AllocError, Global};
 use std::sync::Mutex;
 
-// A value behind a lock of its own, alone on its cache lines.
+// A value behind a lock of its own, on cache lines of its own.
 pub(crate) type Locked<T> = CachePadded<Mutex<T>>;
 
-// Room for all that lies behind a desk's locks.
+// Room for all values behind a desk's locks.
 #[derive(Drop)]
 pub(crate) struct Spare<J: Naming, C> {
     pub(crate) cells: Vec<C>,

@@ -2,8 +2,9 @@ use crate::has_cell::HasCell;
 use std::alloc::{AllocError, Global};
 use std::sync::{MutexGuard, Wait};
 
-/// What is noted (N) of what is behind the locks of a site's stations, while all of them are held
-/// ([`Desk::site_boards_by`](crate::Desk::site_boards_by)); `notes` says what that tells of each cell.
+/// A note (N) of the values behind the locks of a site's stations, made while all of these are held
+/// ([`Desk::site_boards_by`](crate::Desk::site_boards_by)). `notes` is what the note says of each
+/// cell.
 pub trait Notes<C: HasCell, N> {
     ghost use Rattle.std.specs.Prelude.{IfOk, All};
     ghost use Rattle.std.specs.Sync.Mutex.{mutex_guard_value};
@@ -11,7 +12,7 @@ pub trait Notes<C: HasCell, N> {
 
     ghost notes: { Self → N → Cell → Type 0 };
 
-    /// Notes it, and gives the locks back, which stay held.
+    /// Makes the note, and returns the locks, still held.
     fn note<'a, R: Wait>(
         &self,
         rt: &R,

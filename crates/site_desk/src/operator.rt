@@ -1,4 +1,5 @@
-//! What an operator reads of a running desk: the totals of a station, and the boards of a site at one moment.
+//! The parts of a running desk that an operator reads: the totals of a station, and the boards of a site at
+//! one moment.
 ghost use Rattle.std.specs.Prelude.{◌≡◌, ◌≢◌, ◌++◌, ◌∷◌, [], List, ℕ, Err, IfOk, IfSome, OnOk, map};
 ghost use Rattle.site_desk.specs.declared.fault.BoardFault.{BoardFault};
 ghost use Rattle.ledger_model.specs.Board.{Board, sum_of_figures};
@@ -20,7 +21,7 @@ use station_ledger::{StationBoard, UsedLimits};
 use std::alloc::{AllocError, Global};
 use std::sync::{Mutex, MutexGuard, Wait};
 
-// The figures of a cell's station, and what it imported and exported.
+// The figures of a cell's station, and its imported and exported energy.
 pub(crate) fn totals_of(cell: &StationCell) -> (Figures, Flow, Flow)
     ensures { AreTotalsWithin cell.now.limits cell.now.order result.0 result.1 result.2 }
 {
@@ -28,7 +29,7 @@ pub(crate) fn totals_of(cell: &StationCell) -> (Figures, Flow, Flow)
     (ledger.figures(), ledger.energy(), ledger.export())
 }
 
-// How much of its limits a cell's station uses.
+// How much of each limit a cell's station uses.
 pub(crate) fn used_of(cell: &StationCell) -> UsedLimits
     ensures { IsUsedWithin cell.now.limits result }
 {
@@ -53,7 +54,7 @@ pub(crate) fn hold_stations<'a, R: Wait, C>(
     Ok(held)
 }
 
-// The boards of a site's stations, whose cells are held in the plan's order.
+// The boards of a site's stations; the locks of their cells are held, in the plan's order.
 pub(crate) fn site_boards_of<C: HasCell>(
     alloc: Global,
     places: &[StationPlace],
@@ -71,8 +72,8 @@ pub(crate) fn site_boards_of<C: HasCell>(
     Ok(boards)
 }
 
-// Adds the board of the station of this number and place to those before it, where it is at the site: its
-// cell is the first that none of those has.
+// Adds the board of the station of this number and place to those before it, if it is at the site. Its
+// cell is the first one without a board yet.
 fn add_board<C: HasCell>(
     alloc: Global,
     place: &StationPlace,
@@ -101,7 +102,7 @@ fn add_board<C: HasCell>(
     put_board(boards, place.name.copied(), board)
 }
 
-// The cell behind one of the locks that are held.
+// The cell behind one of the held locks.
 fn cell_at<'b, C: HasCell>(held: &'b [MutexGuard<'_, C>], number: usize) -> Option<&'b StationCell>
     ensures { IfSome result (λ c. IsAmong (map (λ g. C.cell (mutex_guard_value g)) held.now) c.now) }
 {
@@ -112,7 +113,7 @@ fn cell_at<'b, C: HasCell>(held: &'b [MutexGuard<'_, C>], number: usize) -> Opti
     Some(cell)
 }
 
-// Puts a board behind those before it.
+// Adds a board to the end.
 fn put_board(
     boards: &mut Vec<(Name, StationBoard)>,
     name: Name,
@@ -127,8 +128,7 @@ fn put_board(
     }
 }
 
-// What is noted of the cells of a site's stations, which are held, and their boards, as `site_boards_of` gives them. The
-// locks stay held.
+// The note of the cells of a site's stations, and their boards as `site_boards_of` gives them. The locks stay held.
 pub(crate) fn noted_boards_of<'a, C: HasCell, S: Notes<C, N>, N: Drop, R: Wait>(
     rt: &R,
     alloc: Global,
@@ -148,7 +148,7 @@ pub(crate) fn noted_boards_of<'a, C: HasCell, S: Notes<C, N>, N: Drop, R: Wait>(
     Ok((held, boards, noted))
 }
 
-// The sums of the figures of boards, where they fit.
+// The sums of the figures of boards, if they fit.
 pub(crate) fn sum_of(boards: &[(Name, StationBoard)]) -> Option<Figures>
     ensures { IfSome result (λ f. f ≡ sum_of_figures (map (λ s. s.1.figures) boards.now)) }
 {

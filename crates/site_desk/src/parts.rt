@@ -27,10 +27,10 @@ pub struct Parts<J: Naming> {
 }
 
 impl<J: Naming> Parts<J> {
-    /// The parts of a plan, all without events. Its faults come first and `OutOfMemory` last; a refusal
-    /// drops the tables.
+    /// The parts of a plan, all without events. Faults of the plan come first, `OutOfMemory` last; a
+    /// refusal drops the tables.
     ///
-    /// Condition: the tables are those that J names, and each site's is there, as
+    /// Condition: the tables are those that J names, and each site has its own, as
     /// [`Tables::make`](site_book::Tables::make) gives them.
     pub fn open(alloc: Global, tables: Tables, plan: &Plan) -> Result<Self, DeskFault>
         requires named { NamedBy J.table tables }
@@ -53,10 +53,10 @@ impl<J: Naming> Parts<J> {
         }
     }
 
-    /// The parts of a plan over cells that took commands before, whose figures are posted in new books; each site
-    /// has so many viewers, whatever the plan says. A refusal drops the tables.
+    /// The parts of a plan over cells that took commands before. Their figures are posted in new books. Each site
+    /// has `viewers` viewers, whatever the plan says. A refusal drops the tables.
     ///
-    /// Conditions: the tables are as [`Parts::open`] wants them, the plan has no fault ([`Plan::fault`] tells), and
+    /// Conditions: the tables are as for [`Parts::open`], the plan has no fault ([`Plan::fault`] tests it), and
     /// the cells are those of its stations, in the plan's order.
     pub fn over(
         alloc: Global,
@@ -189,7 +189,8 @@ fn limits_of(stations: &[StationPlan], site: u16) -> ArrayVec<Limits, MAX_STATIO
     limits
 }
 
-// A book for each site, and all viewers: so many for each, or as many as the plan says.
+// A book for each site, and all viewers: the given number for each site, or else as many as the
+// plan says.
 fn open_books<J: Naming>(
     alloc: Global,
     mut tables: Tables,

@@ -33,7 +33,7 @@ pub struct StationPlan {
 }
 
 /// The sites and stations of one desk. Both are numbered from 0 in this order, and names are compared
-/// exactly; those of stations stand once over all sites.
+/// exactly; a station's name is used only once over all sites.
 #[derive(Drop)]
 pub struct Plan {
     pub sites: ArrayVec<SitePlan, MAX_SITES>,
@@ -52,7 +52,7 @@ impl Plan {
         }
     }
 
-    /// The number of the site of this name.
+    /// The number of the site of this name, if there is one.
     pub fn site(&self, name: &Name) -> Option<usize>
         ensures is { result ≡ position (λ s. bytes_eq name.now s.name) self.now.sites.items }
         ensures there { IfSome result (λ n. n < most_sites) }
@@ -63,7 +63,7 @@ impl Plan {
             .position(|site| *name == site.name)
     }
 
-    /// The number of the station of this name.
+    /// The number of the station of this name, if there is one.
     pub fn station(&self, name: &Name) -> Option<usize>
         ensures { result ≡ position (λ s. bytes_eq name.now s.name) self.now.stations.items }
     {
@@ -73,8 +73,8 @@ impl Plan {
             .position(|station| *name == station.name)
     }
 
-    /// Tells whether one station more, of this site and with these limits, is more than a plan may have: of
-    /// stations, of readings, or of sites.
+    /// Returns whether with one more station, of this site and with these limits, a plan would have
+    /// more than it may: of stations, of readings, or of sites.
     pub fn is_past(&self, site: &Name, limits: &Limits) -> bool
         ensures { result ≡ is_past (position (λ s. bytes_eq site.now s.name) self.now.sites.items) self.now.sites.items self.now.stations.items limits.now }
     {
@@ -86,11 +86,11 @@ impl Plan {
             || (is_new && self.sites.len() >= MAX_SITES)
     }
 
-    /// Adds a station of this name with these limits, behind those that stand. Its site begins at its first
+    /// Adds a station of this name with these limits, behind the others. Its site begins at its first
     /// mention, with so many viewers, these settlement periods and this order of readings. A name that is in the
     /// plan already is left to [`Plan::fault`].
     ///
-    /// Condition: that is not more than a plan may have (test [`Plan::is_past`]).
+    /// Condition: that is not more than a plan may have ([`Plan::is_past`] tests it).
     pub fn declare(
         &mut self,
         site: Name,
@@ -132,7 +132,7 @@ impl Plan {
 
     /// The settlement periods of the site of this number.
     ///
-    /// Condition: the plan has the site ([`Plan::site`] tells).
+    /// Condition: the plan has the site ([`Plan::site`] tests it).
     pub fn period(&self, site: usize) -> Periods
         requires { site < length self.now.sites.items }
         ensures { result ≡ period_at self.now.sites.items site }
@@ -142,7 +142,7 @@ impl Plan {
 
     /// Gives the settlement periods of the site of this number another length.
     ///
-    /// Condition: the plan has the site ([`Plan::site`] tells).
+    /// Condition: the plan has the site ([`Plan::site`] tests it).
     pub fn set_period(&mut self, site: usize, period: Period)
         requires { site < length self.old.sites.items }
         ensures sites { self.new.sites.items ≡ sites_by site period self.old.sites.items }
@@ -166,7 +166,7 @@ impl Plan {
 
     /// The order in which the site of this number takes the readings of a transaction.
     ///
-    /// Condition: the plan has the site ([`Plan::site`] tells).
+    /// Condition: the plan has the site ([`Plan::site`] tests it).
     pub fn order(&self, site: usize) -> Order
         requires { site < length self.now.sites.items }
         ensures { result ≡ order_at self.now.sites.items site }
@@ -176,7 +176,7 @@ impl Plan {
 
     /// Gives the site of this number another order of readings.
     ///
-    /// Condition: the plan has the site ([`Plan::site`] tells).
+    /// Condition: the plan has the site ([`Plan::site`] tests it).
     pub fn set_order(&mut self, site: usize, order: Order)
         requires { site < length self.old.sites.items }
         ensures sites { self.new.sites.items ≡ sites_in site order self.old.sites.items }
@@ -185,7 +185,7 @@ impl Plan {
         self.sites.as_mut_slice()[site].order = order;
     }
 
-    /// The first of the plan's stations whose name stands again behind it.
+    /// The name of the plan's first station that has the same name as a later one.
     pub fn station_twice(&self) -> Option<&Name>
         ensures stands { is_some result ≡ has_twice (map (λ s. s.name) self.now.stations.items) }
         ensures first { IfSome result (λ name. first_twice (map (λ s. s.name) self.now.stations.items) ≡ Some name.now) }
@@ -193,7 +193,8 @@ impl Plan {
         first_twice(self.stations.as_slice())
     }
 
-    /// What is wrong with the plan, if anything is: it leaves the limits, or two stations have one name.
+    /// What is wrong with the plan, if anything is: it is past a limit, or two stations have the same
+    /// name.
     pub fn fault(&self) -> Option<DeskFault>
         ensures { result ≡ plan_fault self.now.sites.items self.now.stations.items }
     {
@@ -255,7 +256,7 @@ pub(crate) fn period_of(sites: &[SitePlan], site: u16) -> Periods
     }
 }
 
-// The order of readings of the site of this number, and the default one where there is no such site.
+// The order of readings of the site of this number, or the default one if there is no such site.
 pub(crate) fn order_of(sites: &[SitePlan], site: u16) -> Order
     ensures { result ≡ order_at sites.now site }
 {
@@ -272,7 +273,7 @@ fn blank() -> Name
     Name::new("-").unwrap()
 }
 
-// Tells whether the plan keeps within all limits but those of its lists.
+// Returns whether the plan is within all limits except those that its lists have by their types.
 fn is_within_limits(sites: &[SitePlan], stations: &[StationPlan]) -> bool
     requires { length stations.now ≤ 64 }
     ensures { result ≡ is_within_limits sites.now stations.now }
@@ -283,14 +284,14 @@ fn is_within_limits(sites: &[SitePlan], stations: &[StationPlan]) -> bool
         && !are_sites_twice(sites)
 }
 
-// Tells whether no site has too many viewers.
+// Returns whether no site has too many viewers.
 fn are_viewers_few(sites: &[SitePlan]) -> bool
     ensures { result ≡ list_all (λ s. nat_le s.viewers most_viewers) sites.now }
 {
     sites.iter().all(|site| site.viewers <= MAX_VIEWERS)
 }
 
-// Tells whether each station is at one of so many sites.
+// Returns whether each station is at one of these sites.
 fn are_sites_known(stations: &[StationPlan], sites: usize) -> bool
     ensures { result ≡ list_all (λ s. nat_lt s.site sites) stations.now }
 {
@@ -312,21 +313,21 @@ fn readings(stations: &[StationPlan]) -> u64
     sum
 }
 
-// Tells whether a site of this name stands here.
+// Returns whether one of these sites has this name.
 fn has_site(sites: &[SitePlan], name: &Name) -> bool
     ensures { result ≡ list_any (λ s. bytes_eq name.now s.name) sites.now }
 {
     sites.iter().any(|site| *name == site.name)
 }
 
-// Tells whether a station of this name stands here.
+// Returns whether one of these stations has this name.
 fn has_station(stations: &[StationPlan], name: &Name) -> bool
     ensures { result ≡ list_any (λ s. bytes_eq name.now s.name) stations.now }
 {
     stations.iter().any(|station| *name == station.name)
 }
 
-// Tells whether two sites have one name.
+// Returns whether two sites have the same name.
 fn are_sites_twice(sites: &[SitePlan]) -> bool
     ensures { result ≡ has_twice (map (λ s. s.name) sites.now) }
 {
@@ -338,7 +339,7 @@ fn are_sites_twice(sites: &[SitePlan]) -> bool
     false
 }
 
-// The name of the first station that has the name of one behind it.
+// The name of the first station that has the same name as a later one.
 fn first_twice(stations: &[StationPlan]) -> Option<&Name>
     ensures stands { is_some result ≡ has_twice (map (λ s. s.name) stations.now) }
     ensures first { IfSome result (λ name. first_twice (map (λ s. s.name) stations.now) ≡ Some name.now) }

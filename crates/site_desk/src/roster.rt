@@ -1,4 +1,4 @@
-//! Where the stations of a desk stand, which no lock guards.
+//! The places of a desk's stations, which need no lock.
 ghost use Rattle.std.specs.Prelude.{◌≡◌, ◌≤◌, length, IfOk, IfSome, is_some};
 ghost use Rattle.std.specs.List.{list_any};
 ghost use Rattle.std.specs.Str.{bytes_eq};
@@ -9,7 +9,7 @@ use crate::plan::{SitePlan, StationPlan, order_of, period_of};
 use ledger_model::{Limits, Name, Order, Periods};
 use std::alloc::{AllocError, Global};
 
-/// Where a station stands: its name, its site's number, its row in the site's book, its limits, its
+/// The place of a station: its name, its site's number, its row in the site's book, its limits, the
 /// settlement periods, and the order of its readings.
 #[derive(Drop)]
 pub struct StationPlace {
@@ -54,7 +54,7 @@ pub(crate) fn open_places(
     Ok(places)
 }
 
-// The number of the station of this name.
+// The number of the station of this name, if there is one.
 pub(crate) fn number_of(places: &[StationPlace], name: &Name) -> Option<usize>
     ensures known { is_some result ≡ list_any (λ p. bytes_eq name.now p.name) places.now }
     ensures named { IfSome result (IsNamed places.now name.now) }

@@ -8,8 +8,8 @@ use station_cell::{Pass, StationCell};
 use std::sync::{Mutex, Wait};
 
 /// How a command is taken once a desk holds the station's lock ([`Desk::submit_by`](crate::Desk::submit_by)).
-/// With the answer it may give a receipt (N); `gives` says what that tells of the command on the station of
-/// this number and place, and of what the book told.
+/// With the answer it may give a receipt (N). `gives` is what the receipt says of the command on the station
+/// of this number and place, and of the book's `Told`.
 pub trait Settles<J: Naming, C, N> {
     ghost use Rattle.std.specs.Prelude.{ℕ, Option};
     ghost use Rattle.ledger_model.specs.declared.answer.Answer.{Answer};
@@ -21,10 +21,11 @@ pub trait Settles<J: Naming, C, N> {
 
     ghost gives: { Self → ℕ → StationPlace → Command → Answer → Option Known → Option N → Type 0 };
 
-    /// Takes a command of a pass at what is behind the lock of the station of this number, and answers
-    /// it as [`Desk::submit`](crate::Desk::submit) does. The lock of the site's book is taken where it has to be.
+    /// Takes a command of a pass at the value behind the lock of the station of this number, and returns the
+    /// answer as [`Desk::submit`](crate::Desk::submit) does. It takes the lock of the site's book if it
+    /// needs it.
     ///
-    /// Condition: what it asks of a command on this station.
+    /// Condition: what this way asks of a command on this station.
     fn settle<R: Wait>(
         &self,
         rt: &R,
@@ -39,7 +40,7 @@ pub trait Settles<J: Naming, C, N> {
         ensures given { gives self.now at.entry.number at.entry.place.now command result.0 result.1 result.2 };
 }
 
-// At the cell itself, and nowhere else; it gives no receipt.
+// The way of a desk without a journal: at the cell itself, without a receipt.
 pub(crate) struct AtCell;
 
 impl<J: Naming> Settles<J, StationCell, ()> for AtCell {

@@ -15,7 +15,7 @@ use station_ledger::{Judgement, StationBoard};
 use std::alloc::{AllocError, Global};
 use std::sync::{Mutex, Wait};
 
-// Tells whether the cell is that of the station of this number and place.
+// Returns whether the cell is that of the station of this number and place.
 pub(crate) fn stands_at(cell: &StationCell, number: usize, place: &StationPlace) -> bool
     ensures { IsTrue result → StandsAt number place.now cell.now }
 {
@@ -27,7 +27,7 @@ pub(crate) fn stands_at(cell: &StationCell, number: usize, place: &StationPlace)
         && cell.ledger().order() == place.order
 }
 
-/// Tells whether all is so that judging a command of the pass asks, at the cell of the station of this number
+/// Returns whether a command of the pass may be judged at the cell of the station of this number
 /// and place, whatever its site's book is.
 pub fn can_judge(cell: &StationCell, number: usize, place: &StationPlace, pass: &Pass) -> bool
     ensures { IsTrue result → CanJudge number place.now cell.now pass.now }
@@ -35,7 +35,7 @@ pub fn can_judge(cell: &StationCell, number: usize, place: &StationPlace, pass: 
     cell.is_in_service() && stands_at(cell, number, place) && cell.knows(pass)
 }
 
-// Tells whether all is so that settling a command of the pass asks, where all that judging asks is so.
+// Returns whether a command of the pass may be settled, if it may be judged.
 fn can_post<J: Naming>(
     cell: &StationCell,
     book: &SiteBook<J>,
@@ -52,7 +52,7 @@ fn can_post<J: Naming>(
         && tied(cell, book)
 }
 
-// Settles a command that was judged so, and tells also what that means to one who does not know what lay behind the
+// Settles a judged command. Its clauses also say what that means to a caller that doesn't know what was behind the
 // locks.
 fn settle_locked<J: Naming>(
     cell: &mut StationCell,
@@ -72,8 +72,8 @@ fn settle_locked<J: Naming>(
     settle(cell, book, pass, command, judgement)
 }
 
-// Takes a command at what is behind the station's lock, as `Desk::submit` does where judging it may begin. One that the
-// ledger does not accept changes nothing, so the site's book is not waited for then.
+// Takes a command, which may be judged, at the value behind the station's lock, as `Desk::submit` does. One that the
+// ledger does not accept changes nothing, so the call does not wait for the site's book then.
 pub(crate) fn try_settle<J: Naming, R: Wait>(
     rt: &R,
     cell: &mut StationCell,
@@ -98,12 +98,12 @@ pub(crate) fn try_settle<J: Naming, R: Wait>(
     }
 }
 
-/// Settles a command that was judged so ([`settle`]), under the lock of the site's book, which is waited for. Where the
-/// book is not as it should be, which no run of fewer than 2^62 accepted changes a site meets, nothing changes, and there
-/// is no answer.
+/// Settles a judged command ([`settle`]) under the lock of the site's book, for which it waits. If the book is not as
+/// it should be, which no run with fewer than 2^62 accepted changes of a site meets, nothing changes, and there is no
+/// answer.
 ///
-/// Conditions: what judging asks ([`can_judge`] tells), and this is the judgement of the command by the cell's ledger as
-/// it is now ([`StationLedger::judgement`](station_ledger::StationLedger::judgement) gives it).
+/// Conditions: the command may be judged ([`can_judge`] tests it), and this is the judgement of the command by the
+/// cell's ledger as it is now ([`StationLedger::judgement`](station_ledger::StationLedger::judgement) gives it).
 pub fn settle_at<J: Naming, R: Wait>(
     rt: &R,
     cell: &mut StationCell,

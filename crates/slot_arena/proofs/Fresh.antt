@@ -6,7 +6,7 @@ use Rattle.slot_arena.specs.Place.{Holds}
 use Rattle.slot_arena.specs.Free.{AreMade, values_in, links}
 
 module _ {X : Type 0} where
-  -- A link written into the last empty place stands before the others.
+  -- A link written into the last empty place is before the others.
   pub linked_more : (i : ℕ) (place : Option X) (rest : List (Option X)) → set (replicate (suc i) None ++ rest) i place ≡ replicate i None ++ place ∷ rest
   linked_more zero place rest = refl
   linked_more (suc i) place rest = ap (λ row. None ∷ row) (linked_more i place rest)

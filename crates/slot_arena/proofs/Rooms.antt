@@ -1,4 +1,5 @@
--- What the walks of the six pointer functions share: words and marks read and made, and one place taken out of a row and put back.
+-- What the walks of the six pointer functions share: words and marks read and made, and one place taken out of a row
+-- and put back.
 use mathlib.Core.Path.{◌≡◌, refl, sym, subst}
 use Prim.Native.Nat.{ℕ, zero, suc, ◌+◌, ◌*◌, ◌<◌}
 use native.Mathlib.Omega.{arith}
@@ -60,7 +61,7 @@ one_pointer = record { name = []; args = []; types = []; fields = RawPtr ∷ [] 
 abbrev pub Word : RattleType
 Word = Struct one_pointer
 
--- The machine value of a struct whose one field takes no bytes.
+-- The machine value of a struct with one field that takes no bytes.
 abbrev pub mark : Val
 mark = vstruct (vcons (vstruct vnil) vnil)
 
@@ -105,7 +106,7 @@ three_made 𝓛 R S T x y z u v w = let parts = R ∷ S ∷ T ∷ [] in let whol
     nothing ! $ move ! (3 ∷ 0 ∷ []) $ fjoin ! $ move ! (2 ∷ 0 ∷ []) $ fjoin ! $ move ! (1 ∷ 0 ∷ []) $ fjoin ! $ feq_i ! (List Val) whole whole refl $ fjoin ! $
     fpack ! (Valss parts) (within (Declared.shape (tuple_type parts)) (x, (y, (z, tt))) whole) (u ∷ [], (v ∷ [], (w ∷ [], tt))) $ done !
 
--- A place that holds a value lies in the row.
+-- A place that holds a value is in the row.
 pub holding_within : {X : Type 0} (row : List (Option X)) (i : ℕ) (x : X) → get_or row i None ≡ Some x → i < length row
 holding_within [] i x e = cc
 holding_within (place ∷ row) zero x e = omega arith
@@ -118,11 +119,11 @@ module _ (E : El) (block : ℕ) where
   others at (place ∷ row) zero = places_at (R E) block (at + step_of E) row
   others at (place ∷ row) (suc i) = fsep (place_at (R E) block at place) (others (at + step_of E) row i)
 
--- Where the next place lies, counted from here and from there.
+-- Where the next place is, counted from here and from there.
 one_on : (i s at : ℕ) → i * s + (at + s) ≡ suc i * s + at
 one_on i s at = omega (arith, suc-mul i s)
 
--- The first place lies where the row begins.
+-- The first place is where the row begins.
 no_on : (s at : ℕ) → at ≡ 0 * s + at
 no_on s at = omega (arith, zero-mul s)
 

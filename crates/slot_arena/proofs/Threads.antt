@@ -22,7 +22,7 @@ module _ {X : Type 0} where
   shown_at (place ∷ row) zero = refl
   shown_at (place ∷ row) (suc i) = shown_at row i
 
-  -- A place written shows in the arena at its id alone.
+  -- A written place shows in the arena only at its id.
   pub shown_set : (row : List (Option (Slot X))) (i : ℕ) (place : Option (Slot X)) → values_in (set row i place) ≡ set (values_in row) i (value_in place)
   shown_set row i place = map-set value_in row i place
 
@@ -109,7 +109,7 @@ module _ {X : Type 0} where
       → IsThreaded (set row first (Some (Held x))) next (spare - 1)
   threaded-take row first spare next x t some links = taken_at row first spare next x t.free links some t.thread t.apart t.spare_is t.others_held t.made t.few
 
-  -- A slot whose value was taken out stands first on the thread.
+  -- A slot is first on the thread after its value was taken out.
   pub threaded-give : (row : List (Option (Slot X))) (first spare id : ℕ) → IsThreaded row first spare → HoldsValue row id → IsThreaded (set row id (Some (Free first))) id (spare + 1)
   threaded-give row first spare id t holds =
       let new = set row id (Some (Free first)) in let within = holding_within row id (Held holds.0) holds.1 in let apart = held_apart row first id holds.0 t.free holds.1 t.thread in
@@ -156,7 +156,7 @@ numbers_above : (n from count : ℕ) → n < from → IsApart n (numbers from co
 numbers_above n from zero lt = tt
 numbers_above n from (suc count) lt = (λ e. absurd (omega arith), numbers_above n (suc from) count (omega arith))
 
--- None of them stands there twice.
+-- None of them occurs twice.
 numbers_apart : (from count : ℕ) → AreApart (numbers from count)
 numbers_apart from zero = tt
 numbers_apart from (suc count) = (numbers_above from (suc from) count (omega arith), numbers_apart (suc from) count)

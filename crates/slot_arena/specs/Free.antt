@@ -5,12 +5,12 @@ use Rattle.slot_arena.specs.declared.slot.Slot.TheVariants.{Free, Held}
 use Rattle.slot_arena.specs.declared.arena.TheConstants.{MAX_SLOTS}
 use Rattle.slot_arena.specs.Arena.{held_count}
 
--- The number is none of the list.
+-- The number is not in the list.
 abbrev pub IsApart : ℕ → List ℕ → Type 0
 IsApart n [] = Unit {0}
 IsApart n (m ∷ ms) = (¬ (n ≡ m)) × IsApart n ms
 
--- No number stands in the list twice.
+-- No number is in the list twice.
 abbrev pub AreApart : List ℕ → Type 0
 AreApart [] = Unit {0}
 AreApart (n ∷ ns) = IsApart n ns × AreApart ns
@@ -36,7 +36,7 @@ module _ {X : Type 0} where
   AreMade [] = Unit {0}
   AreMade (place ∷ row) = ((slot : Slot X) × (place ≡ Some slot)) × AreMade row
 
-  -- So many free slots are threaded from the first one on, and every other slot is held.
+  -- `spare` free slots are threaded from the first one on, and every other slot is held.
   pub record IsThreaded (row : List (Option (Slot X))) (first spare : ℕ) : Type 0 where
     pub free : List ℕ
     pub thread : IsThread row first free
@@ -46,7 +46,7 @@ module _ {X : Type 0} where
     pub made : AreMade row
     pub few : length row ≤ MAX_SLOTS
 
-  -- The slots from the number on, so many, each free and before the next.
+  -- So many slots from the number on, each free, each with the number of the next.
   abbrev pub links : ℕ → ℕ → List (Option (Slot X))
   links from zero = []
   links from (suc count) = Some (Free (suc from)) ∷ links (suc from) count

@@ -21,7 +21,7 @@ module _ (R : RattleType) where
   places_at block at [] = ftrue
   places_at block at (place ∷ row) = fsep (place_at block at place) (places_at block (at + type_size R) row)
 
-  -- What a `&` to a place shows: the value, where there is one.
+  -- What a `&` to a place shows: the value, if there is one.
   abbrev pub place_lent : ℕ → ℕ → Option R.Denot → Lft → Fml
   place_lent block at None = nothing
   place_lent block at (Some x) = shared_of R x block at
@@ -35,7 +35,7 @@ module _ (R : RattleType) where
   abbrev pub row_fits : List (Option R.Denot) → Fml
   row_fits row = flt (length row * type_size R) (2 ^ 63)
 
-  -- The places from the block's start on; nothing lies at null.
+  -- The places from the block's start on; nothing is at null.
   abbrev pub owned_places : Ptr → List (Option R.Denot) → Fml
   owned_places null_ptr row = ffalse
   owned_places (block_ptr block at) row = fsep (row_fits row) (places_at block at row)
@@ -45,6 +45,6 @@ module _ (R : RattleType) where
   lent_places null_ptr row = said ffalse
   lent_places (block_ptr block at) row = beside (said (row_fits row)) (places_lent block at row)
 
-  -- The allocator's leave to take back a block of so many places.
+  -- The allocator's permission to take back a block of so many places.
   abbrev pub owned_lease : (Ty → Ptr → Fml) → Ptr → ℕ → Fml
   owned_lease token start count = token (raw (ty_array (lone R.mir) count)) start

@@ -12,8 +12,8 @@ use std_alloc::room::may_hold;
 /// The most slots that an arena may have.
 pub const MAX_SLOTS: u32 = 65_536;
 
-/// A fixed number of slots in one block. Contracts see an arena as a list with an `Option` for each
-/// id.
+/// A fixed number of slots in one block of memory. Contracts see an arena as a list with an
+/// `Option` for each id.
 pub struct SlotArena<T> {
     start: Start<Slot<T>>,
     places: Places<Slot<T>>,
@@ -61,8 +61,8 @@ impl<T> SlotArena<T> {
         })
     }
 
-    /// Puts a value at an id that stood for none, and answers the id; where every id stands for a
-    /// value, hands this one back.
+    /// Puts a value at a free id and returns the id; if no id is free, the error gives the value
+    /// back.
     pub fn take(&mut self, value: T) -> Result<SlotId, T>
         ensures was_free { IfOk result (λ id. (id < length self.old) × (value_at self.old id ≡ None)) }
         ensures numbered { IfOk result (λ id. id < MAX_SLOTS) }
@@ -80,7 +80,7 @@ impl<T> SlotArena<T> {
         Ok(SlotId::new(index))
     }
 
-    /// Takes out the value that a held id stands for; the id is free from then on.
+    /// Takes out the value of a held id; the id is free from then on.
     pub fn give(&mut self, id: SlotId) -> T
         requires { IsHeld self.old id }
         ensures numbered { id < MAX_SLOTS }
@@ -94,7 +94,7 @@ impl<T> SlotArena<T> {
         value
     }
 
-    /// The value that a held id stands for.
+    /// The value of a held id.
     pub fn get(&self, id: SlotId) -> &T
         requires { IsHeld self.now id }
         ensures { value_at self.now id ≡ Some result.now }
@@ -105,7 +105,7 @@ impl<T> SlotArena<T> {
         }
     }
 
-    /// The value that a held id stands for, to change.
+    /// The value of a held id, to change.
     pub fn get_mut(&mut self, id: SlotId) -> &mut T
         requires { IsHeld self.old id }
         ensures* writes_back { sem 𝓛 (lends_value T.row self.entry id result) }
@@ -115,7 +115,7 @@ impl<T> SlotArena<T> {
         self.places.lent(start, id.number() as usize).value_mut()
     }
 
-    /// Tells whether an id stands for a value.
+    /// Returns whether an id has a value.
     pub fn is_held(&self, id: SlotId) -> bool
         ensures { IsTrue result ↔ IsHeld self.now id }
     {
@@ -129,7 +129,7 @@ impl<T> SlotArena<T> {
         }
     }
 
-    /// How many more values the arena can take: its capacity less the values held.
+    /// How many more values the arena can take: its capacity less the values that it holds.
     pub fn free(&self) -> u32
         ensures free { result ≡ length self.now - held_count self.now }
         ensures within { held_count self.now ≤ length self.now }

@@ -1,5 +1,5 @@
-//! One raw block from the allocator, as a row of places that are each empty or hold a value. The six
-//! functions here are all that touch the pointer, and their contracts say what makes that safe.
+//! One raw block from the allocator, as a row of places that are each empty or hold a value. Only
+//! the six functions here touch the pointer, and their contracts say what makes that safe.
 ghost use Rattle.std.specs.Prelude.{◌≡◌, ℕ, ◌<◌, List, Option, Some, None, length, replicate, get_or, slice_set, IfOk, ⊤};
 ghost use Rattle.std.specs.Borrow.{sem};
 ghost use Rattle.std_alloc.specs.Vec.Ownership.{FitsInBlock};
@@ -93,7 +93,7 @@ pub(crate) fn reserve<T, A: Allocator>(
     }
 }
 
-/// Gives a block whose places are all empty back to the allocator that it came from.
+/// Gives a block back to its allocator. All its places must be empty.
 pub(crate) fn release<T, A: Allocator>(
     alloc: &A,
     start: Start<T>,

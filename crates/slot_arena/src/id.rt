@@ -2,8 +2,9 @@ ghost use Rattle.std.specs.Prelude.{◌≡◌};
 
 use std::marker::Model;
 
-/// Which slot of an arena; contracts see its number, which is below the arena's capacity. An id may be
-/// handed out again once it was given back, so whoever keeps one knows for which value it stands.
+/// Which slot of an arena; contracts see its number, which is below the arena's capacity. An arena may
+/// give out an id again after it was given back, so the holder of an id has to know which value it is
+/// for.
 #[derive(Clone, Copy, Debug, PartialEq, Eq, PartialOrd, Ord, Hash)]
 pub struct SlotId {
     number: u32,

@@ -1,14 +1,14 @@
 //! A fixed number of slots in one block of memory: a map of fixed size from ids to values.
 //!
-//! [`SlotArena::with_capacity`] asks the allocator once, and nothing else here asks it again. Its
-//! block is cut into slots, and each free slot holds the number of the next free one, so that
-//! [`SlotArena::take`] and [`SlotArena::give`] follow one link each. The drop of an arena drops the
-//! values still held and gives the block back.
+//! [`SlotArena::with_capacity`] asks the allocator once, and nothing else here asks it. The block
+//! is cut into slots. Each free slot holds the number of the next free one, so [`SlotArena::take`]
+//! and [`SlotArena::give`] follow one link each. The drop of an arena drops the values that it
+//! still holds and gives the block back.
 //!
-//! The crate's one contract: an arena is a list with an `Option` for each id. `take` puts the value
-//! at an id that had none, and answers `Err` with the value exactly where no id is left; `give` takes
-//! the value out again; `get_mut` changes one value; all else stays. An id that was given back may be
-//! handed out again.
+//! The crate's contract: an arena is a list with an `Option` for each id. `take` puts the value at an
+//! id that had none, and returns `Err` with the value exactly if no id is free. `give` takes the
+//! value out again. `get_mut` changes one value. All else stays the same. An id that was given back
+//! may be given out again.
 //!
 //! ```text
 //! let mut arena = SlotArena::with_capacity(rt.alloc(), 2)?;

@@ -1,4 +1,4 @@
-//! What lies in one place of an arena's block, and the steps on one place.
+//! What is in one place of an arena's block, and the steps on one place.
 ghost use Rattle.std.specs.Prelude.{◌≡◌, Some, None, length, replicate, get_or, slice_set};
 ghost use Rattle.std.specs.Borrow.{sem};
 ghost use Rattle.slot_arena.specs.Slots.{HoldsValue, LinksOn, IsHolding};
@@ -28,7 +28,7 @@ impl<T> Slot<T> {
     }
 }
 
-/// Puts a value into a free slot, and answers the next free one.
+/// Puts a value into a free slot, and returns the next free one.
 pub(crate) fn hold<T>(
     start: Start<Slot<T>>,
     places: &mut Places<Slot<T>>,

@@ -66,7 +66,7 @@ tied_beside other c b (Accepted n) apart t = row-push_other c.row other.row (fig
 tied_beside other c b Repeat apart t = t
 tied_beside other c b (Refused why) apart t = t
 
--- what a test of the row's figures tells
+-- what a test of the row's figures shows
 pub tied_told : (c : Cell) (b : Book) (r : Bool) (row : ℕ) (f h : Figures) (order : Order) (d : Content) → (IsTrue r → f ≡ h) × (f ≡ h → IsTrue r) → row ≡ c.row → f ≡ row_after row b.posts → order ≡ c.order → d ≡ c.content → h ≡ figures_by order (entries d)
     → (IsTrue r → Tied c b) × (Tied c b → IsTrue r)
 tied_told c b r row f h order d test rows read ordered is shown =

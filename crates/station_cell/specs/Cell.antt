@@ -23,18 +23,19 @@ pub record Cell : Type 0 where
   pub content : Content
   pub counts : List ℕ
 
--- A pass: its station's number, its place among that station's passes, how many changes it made, and how many differences of readings were evaluated for it.
+-- A pass: its station's number, its place among that station's passes, how many changes it made, and how many
+-- differences of readings were evaluated for it.
 pub record Held : Type 0 where
   pub station : ℕ
   pub slot : ℕ
   pub changes : ℕ
   pub work : ℕ
 
--- The number of no station: that of a cell out of service.
+-- The number of no station, which a cell out of service has.
 abbrev pub no_station : ℕ
 no_station = 65_535
 
--- The cell is in service: it may be that of a station of a desk.
+-- The cell is in service: it may belong to a station of a desk.
 abbrev pub IsInService : Cell → Type 0
 IsInService c = c.station ≢ no_station
 
@@ -46,7 +47,7 @@ cell_code =
     (λ p. record { station = p.0; site = p.1.0; row = p.1.1.0; limits = p.1.1.1.0; period = p.1.1.1.1.0; order = p.1.1.1.1.1.0; content = p.1.1.1.1.1.1.0; counts = p.1.1.1.1.1.1.1 })
     (λ _. refl)
 
--- The cell of a station without events, to which no pass was given.
+-- The cell of a station without events, which has given out no pass.
 abbrev pub new_cell : ℕ → ℕ → ℕ → Bounds → Periods → Order → Cell
 new_cell station site row limits period order = record { station = station; site = site; row = row; limits = limits; period = period; order = order; content = empty_content; counts = [] }
 
@@ -54,12 +55,13 @@ new_cell station site row limits period order = record { station = station; site
 abbrev pub new_pass : ℕ → ℕ → Held
 new_pass station slot = record { station = station; slot = slot; changes = 0; work = 0 }
 
--- The pass is one of the cell's, and the cell counts as many changes for it as it made.
+-- The pass belongs to the cell, and the cell counts as many changes for it as it made.
 pub record Knows (c : Cell) (p : Held) : Type 0 where
   pub station : p.station ≡ c.station
   pub count : slice_get c.counts p.slot ≡ Some p.changes
 
--- What a cell keeps: as many accepted commands as its passes made lead from the empty content to its own, and there is room for all its passes.
+-- What a cell keeps: as many accepted commands as its passes made lead from the empty content to
+-- its own; there is room for all its passes.
 pub record IsCell (limits : Bounds) (content : Content) (counts : List ℕ) (room : ℕ) : Type 0 where
   pub reached : Reached limits content.changes content
   pub counted : sum counts ≡ content.changes

@@ -18,7 +18,8 @@ Holds c b = slice_get b.limits c.row ≡ Some c.limits
 abbrev pub Tied : Cell → Book → Type 0
 Tied c b = row_after c.row b.posts ≡ figures_by c.order (entries c.content)
 
--- The pass after this answer, with so much work: an accepted command is one change more, and any other answer is no work.
+-- The pass after this answer, with so much work: an accepted command is one change more, and any other answer is no
+-- work.
 abbrev pub pass_after : Held → Answer → ℕ → Held
 pass_after p (Accepted n) work = record p { changes = p.changes + 1; work = work }
 pass_after p Repeat work = p
@@ -30,23 +31,27 @@ counts_after counts p (Accepted n) = slice_set counts p.slot (p.changes + 1)
 counts_after counts p Repeat = counts
 counts_after counts p (Refused why) = counts
 
--- The cell after a command of a pass: its content is the step's, and its count for the pass rises where the command was accepted.
+-- The cell after a command of a pass: its content is the step's, and its count for the pass rises if the command was
+-- accepted.
 abbrev pub cell_after : Cell → Held → Command → Cell
 cell_after c p command = record c { content = (step c.limits c.content command).0; counts = counts_after c.counts p (answer c.limits c.content command) }
 
--- The posts after this answer, which left this cell: an accepted command is one post more, of the cell's row and the figures of its content.
+-- The posts after this answer, which left this cell: an accepted command adds one post, of the
+-- cell's row and the figures of its content.
 abbrev pub posts_after : List Post → Cell → Answer → List Post
 posts_after posts c (Accepted n) = posts ++ (c.row, figures_by c.order (entries c.content)) ∷ []
 posts_after posts c Repeat = posts
 posts_after posts c (Refused why) = posts
 
--- What is told with this answer: after an accepted command all posts of the book.
+-- What the `Told` of this answer knows: after an accepted command, all posts of the book.
 abbrev pub told_after : Book → Answer → Option Known
 told_after b (Accepted n) = Some (known b.site b.posts)
 told_after b Repeat = None
 told_after b (Refused why) = None
 
--- A command of a pass was settled at a cell and its site's book: the answer and the cell are the step's, the pass and the posts follow them, what the book told is told, the pass is still the cell's, and the row is still tied.
+-- A command of a pass was settled at a cell and its site's book: the answer and the cell are the
+-- step's, the pass and the posts follow them, the `Told` has the book's posts, the pass still
+-- belongs to the cell, and the row is still tied.
 pub record IsSettled (c : Cell) (b : Book) (p : Held) (command : Command) (a : Answer) (t : Option Known) (c' : Cell) (b' : Book) (p' : Held) : Type 0 where
   pub answer : a ≡ answer c.limits c.content command
   pub cell : c' ≡ cell_after c p command

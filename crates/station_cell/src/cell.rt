@@ -20,8 +20,8 @@ pub const MAX_PASSES: usize = 65_536;
 // The number of no station.
 const NO_STATION: u16 = 65_535;
 
-/// One station: its ledger, where its figures stand, and how many changes each of its passes made.
-/// Its content is always one that as many accepted commands as its passes made leave of the empty one.
+/// One station: its ledger, the row of its figures, and how many changes each of its passes made. As
+/// many accepted commands as its passes made always lead from the empty content to its own.
 #[derive(Drop)]
 pub struct StationCell {
     station: u16,
@@ -45,7 +45,7 @@ impl Model for StationCell {
 }
 
 impl StationCell {
-    /// The cell of a station without events: the station's number, its site's, its row in that site's book,
+    /// The cell of a station without events: the station's number, its site's, its row in that site's book, its
     /// its limits, its site's settlement periods and the order of its readings, with room for all its passes. Only
     /// it takes memory.
     pub fn open(
@@ -110,7 +110,8 @@ impl StationCell {
         &self.ledger
     }
 
-    /// Tells whether the pass is one of this cell's, and made as many changes as the cell counts for it.
+    /// Returns whether the pass belongs to this cell, and made as many changes as the cell counts
+    /// for it.
     pub fn knows(&self, pass: &Pass) -> bool
         ensures known { IsTrue result ↔ Knows self.now pass.now }
         ensures reached { Reached self.now.limits self.now.content.changes self.now.content }
@@ -122,22 +123,22 @@ impl StationCell {
         }
     }
 
-    /// Takes the cell out of service: it is that of no station from then on, so that no desk takes or shows
-    /// anything at it, or closes with it.
+    /// Takes the cell out of service: it belongs to no station from then on, so no desk takes a command at
+    /// it, shows it, or closes with it.
     pub fn retire(&mut self)
         ensures { self.new ≡ record self.old { station = no_station } }
     {
         self.station = NO_STATION;
     }
 
-    /// Tells whether it was not taken out of service.
+    /// Returns whether the cell is in service, that is, was never retired.
     pub fn is_in_service(&self) -> bool
         ensures { IsTrue result ↔ IsInService self.now }
     {
         self.station != NO_STATION
     }
 
-    // A pass of this station, where it may give out one more.
+    // A pass of this station, if it may give out one more.
     fn enlist(&mut self, work: Work) -> Result<Pass, TooManyPasses>
         requires none { work ≡ 0 }
         ensures full { IsErr result ↔ (length self.old.counts ≡ most_passes) }
@@ -158,7 +159,7 @@ impl StationCell {
         })
     }
 
-    // Takes a command of a pass that was judged so, and counts the change where it is accepted.
+    // Takes a command of a pass with its judgement, and counts the change if it is accepted.
     pub(crate) fn change(
         &mut self,
         pass: &mut Pass,
@@ -181,8 +182,8 @@ impl StationCell {
     }
 }
 
-/// Gives out one more pass of the station, which made no change yet; `TooManyPasses` exactly after
-/// 65,536.
+/// Gives out one more pass of the station, which made no change yet; `TooManyPasses` exactly if it
+/// gave out 65,536 before.
 pub fn enlist_cell<R: Threads>(rt: &R, cell: &mut StationCell) -> Result<Pass, TooManyPasses>
     ensures full { IsErr result ↔ (length cell.old.counts ≡ most_passes) }
     ensures pass { IfOk result (λ p. p ≡ new_pass cell.old.station (length cell.old.counts)) }

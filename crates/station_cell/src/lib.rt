@@ -1,14 +1,15 @@
-//! One station behind a lock: its ledger, where its figures stand, and what each of its passes changed.
+//! One station behind a lock: its ledger, the row of its figures, and how many changes each of its
+//! passes made.
 //!
 //! A [`StationCell`] has a station's number and its site's, the station's row in that site's book, its ledger,
-//! and a count for each [`Pass`] that it gave out. [`settle`] takes a command of a pass, which the cell's
-//! ledger judged, at a cell: where it is accepted, it posts the station's new figures in the book, in one step.
-//! [`StationCell::open`] alone takes memory.
+//! and a count for each [`Pass`] that it gave out. [`settle`] takes a command of a pass with the judgement of
+//! the cell's ledger. If it is accepted, `settle` also posts the station's new figures in the book, in one
+//! step. Only [`StationCell::open`] takes memory.
 //!
-//! The crate's one contract: a cell's content is always one that as many accepted commands as its passes made
-//! leave of the empty content, under its limits. `settle` takes the step of the ledger and posts the figures
-//! after it, no more and no less, and leaves the row tied to the content. Which number belongs to which
-//! station, and what lies behind which lock, is `site_desk`'s.
+//! The crate's contract: as many accepted commands as its passes made lead from the empty content to a
+//! cell's content, under its limits. `settle` takes the step of the ledger and posts the figures after it,
+//! no more and no less, and leaves the row tied to the content. `site_desk` decides which number belongs to
+//! which station, and what is behind which lock.
 //!
 //! ```text
 //! let mut cell = StationCell::open(alloc, 0, 0, 0, limits, period, order)?;

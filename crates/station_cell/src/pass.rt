@@ -3,8 +3,8 @@ ghost use Rattle.std.specs.Prelude.{◌≡◌};
 use energy_flow::Work;
 use std::marker::Model;
 
-/// What a holder sends commands to one station with. It counts the changes that it made, and so does
-/// its station's cell.
+/// The right to send commands to one station. It counts the changes that were accepted with it, and
+/// so does its station's cell.
 #[derive(Drop)]
 pub struct Pass {
     pub(crate) station: u16,

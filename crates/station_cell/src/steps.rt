@@ -9,13 +9,13 @@ use ledger_model::{Answer, Command, Figures};
 use site_book::{Naming, SiteBook, Told};
 use station_ledger::Judgement;
 
-/// Takes a command of a pass, which was judged, at its station and answers it. Where it is accepted, the
-/// station's new figures are posted in its row, and what the book told comes with the answer; any other
-/// answer changes nothing. It takes no memory.
+/// Takes a judged command of a pass at its station and returns the answer. If it is accepted, the
+/// station's new figures are posted in its row, and a `Told` of the book comes with the answer; any
+/// other answer changes nothing. It takes no memory.
 ///
-/// Conditions: the cell knows the pass ([`StationCell::knows`] tells), the book holds the cell's row
-/// ([`SiteBook::holds`] tells) and can post ([`SiteBook::can_post`] tells), the row is tied ([`tied`] tells), and
-/// this is the judgement of the command by the cell's ledger as it is now
+/// Conditions: the cell knows the pass ([`StationCell::knows`] tests it), the book holds the cell's row
+/// ([`SiteBook::holds`] tests it) and can post ([`SiteBook::can_post`] tests it), the row is tied ([`tied`]
+/// tests it), and this is the judgement of the command by the cell's ledger as it is now
 /// ([`StationLedger::judgement`](station_ledger::StationLedger::judgement) gives it).
 pub fn settle<J: Naming>(
     cell: &mut StationCell,
@@ -42,9 +42,9 @@ pub fn settle<J: Naming>(
     }
 }
 
-/// Tells whether the cell's row shows the figures of the cell's ledger.
+/// Returns whether the cell's row shows the figures of the cell's ledger.
 ///
-/// Condition: the book holds the cell's row ([`SiteBook::holds`] tells).
+/// Condition: the book holds the cell's row ([`SiteBook::holds`] tests it).
 pub fn tied<J: Naming>(cell: &StationCell, book: &SiteBook<J>) -> bool
     requires { Holds cell.now book.now }
     ensures { IsTrue result ↔ Tied cell.now book.now }
@@ -52,7 +52,7 @@ pub fn tied<J: Naming>(cell: &StationCell, book: &SiteBook<J>) -> bool
     are_same(&book.row(cell.row()), &cell.ledger().figures())
 }
 
-/// Tells whether both are the same figures.
+/// Returns whether both are the same figures.
 pub fn are_same(figures: &Figures, others: &Figures) -> bool
     ensures { IsTrue result ↔ (figures.now ≡ others.now) }
 {

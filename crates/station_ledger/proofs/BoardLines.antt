@@ -45,7 +45,7 @@ module _ (order : Order) (limits : Bounds) (es : List Entry) (within : AreAllowe
   own_lines f period [] each = All-nil (λ line. IsQuarterOf period line.0)
   own_lines f period (n ∷ ns) each = All-cons (λ line. IsQuarterOf period line.0) (n, f n) (map {B = Flowed} (λ k. (k, f k)) ns) (each n (inl refl)) (own_lines f period ns (λ k h. each k (inr h)))
 
-  -- no line has more than the readings of a station can show, and each quarter is the period's
+  -- no line has more than the readings of a station can show, and each period has the given length
   pub lines_within : (period : Periods) → IsPeriod period.length → AreStationLines period (board_by order period es).evses (board_by order period es).quarters
   lines_within period is = record {
     evse_flows = all_lines (λ n. flows_at_by order n es) (evses es) (λ n. record { flow = evse_flow Import n; export = evse_flow Export n });

@@ -1,4 +1,5 @@
--- What an event that comes or goes changes: the pairs of each direction that go and come, and what its transaction counts for.
+-- What an event that comes or goes changes: the pairs of each direction that go and come, and what its transaction
+-- counts for.
 use Rattle.std.proofs.Common.{◌≡◌, ℕ, ◌+◌, ◌≤◌, Bool, zero, suc, List, [], ◌∷◌, Option, length, refl, sym, ap, subst, ◌∙◌, arith}
 use Rattle.ledger_model.specs.declared.order.Order.{Order}
 use Rattle.ledger_model.specs.declared.order.Order.TheVariants.{Sequence}
@@ -48,7 +49,7 @@ most_le : (n : ℕ) → most_for n ≤ n + 2
 most_le zero = omega arith
 most_le (suc n) = omega arith
 
--- the pairs of the event that go and come, by its readings, of which it is known in which directions there are any
+-- the pairs of the event that go and come, by its readings; it is known in which directions there are any
 across_then : {key : KeyName} {es : List Entry} (place : ByDirection Sides) (event : Stored) (d : Direction) → AreSides d (has_some (toward d event.event.readings)) key es (in_direction d place)
     → sides_across place d ≡ gone_by d (before_key key es) (key, event) (behind_key key es)
 across_then place event d is = (λ i. across (is.before i) (is.behind i)) ∙ across_if (toward d event.event.readings) _ _
@@ -66,7 +67,7 @@ few_each {key = key} {es = es} chains place event d is own =
 few_of : (n : ℕ) (event : Stored) (d : Direction) → length event.event.readings ≤ most_event_readings → n ≤ most_for (length (toward d event.event.readings)) → n ≤ most_event_readings + 2
 few_of n event d few le = omega (arith, le, most_le (length (toward d event.event.readings)), few_toward d event.event.readings, few)
 
--- the live events of the transaction alone change
+-- only the live events of the transaction change
 module _ (order : Order) {tx : List ℕ} {es : List Entry} {chains : Chained} {key : KeyName} {place : ByDirection Sides} (tx_is : tx ≡ key.tx) where
   pub come_moved : {names : Bool} → IsToCome es chains key place names → IsMoved order tx es (stored chains)
   come_moved h = subst (λ t. IsMoved order t es (stored chains)) (sym tx_is) (moved_more order es (stored chains) (before_key key es) (key, h.event) (behind_key key es) h.one)

@@ -168,7 +168,7 @@ shrinks old new key place has sides {sums = sums} limits is can has_is =
 pub erased : (old new : Chained) (key : KeyName) → new.events ≡ events_after old.events (Erase key) → IsFound (finite.get old.events key) true → live (stored new) ≡ live (stored old)
 erased old new key is f = ap (λ m. live (finite.entries m)) is ∙ ap live (entries_after_is old.events (Erase key)) ∙ erased_same (stored old) key f.event (finite.entries_sorted old.events) (listed old key (Some f.event) f.is) f.marked_is
 
--- The sums hang on the live events alone.
+-- The sums depend only on the live events.
 own_pairs : Order → Direction → List ℕ → List Entry → List (MeterReading × MeterReading)
 own_pairs order d tx l = followed (in_order order (λ r. r.moment) (flat_map (λ e. toward d e.1.event.readings) (own_events tx l)))
 

@@ -1,4 +1,5 @@
--- The kinds of a transaction's live events: when they start and end, by the first, the last and the count of Started and Ended.
+-- The kinds of a transaction's live events: when they start and end, by the first, the last and the count of Started
+-- and Ended.
 use Rattle.std.proofs.Common.{◌≡◌, ◌==◌, ℕ, suc, ◌+◌, ◌-◌, true, false, cond, ◌&&◌, List, [], ◌∷◌, length, slice_get, refl, sym, ap, ◌∙◌, arith}
 use Rattle.std.proofs.lemmas.Bool.{eq-eqb}
 use Rattle.std.proofs.lemmas.Bool.Decides.{Decides-eqb}

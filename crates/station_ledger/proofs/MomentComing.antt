@@ -1,4 +1,4 @@
--- A live event more, whose readings come to those by moment.
+-- One more live event: its readings come to those by moment.
 use Rattle.std.proofs.Common.{◌≡◌, ◌==◌, ℕ, ◌+◌, ◌<◌, ◌≤◌, ◌^◌, inl, inr, true, cond, not, List, [], ◌∷◌, Option, None, is_some, length, refl, sym, ap, ◌∙◌, arith, length-append, vec_capacity}
 use Rattle.std.proofs.lemmas.Bool.{ne_eqb}
 use Rattle.event_chain.specs.Chains.{Chained, stored}

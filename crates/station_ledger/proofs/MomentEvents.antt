@@ -34,14 +34,14 @@ not_same u tx apart same = let f : false ≡ true = sym apart ∙ (bytes_eq-Deci
     no : false ≡ true → ⊥
     no f = cc
 
--- Ids that are told apart do not tie.
+-- Ids that are different do not tie.
 pub not_tied : (u tx : List ℕ) → bytes_eq u tx ≡ false → eq_by_cmp id_cmp u tx ≡ false
 not_tied u tx e = elim (eq_by_cmp id_cmp u tx) as (λ b. eq_by_cmp id_cmp u tx ≡ b → b ≡ false) [
   | true ↦ λ h. let f : false ≡ true = sym e ∙ (bytes_eq-Decides u tx).1 (equal_ids u tx h) in cc
   | false ↦ λ _. refl
 ] refl
 
--- Nothing stands under the slot of a transaction without a live event.
+-- Nothing is under the slot of a transaction without a live event.
 pub none_timed : (slot : ℕ) (d : Direction) (tx : List ℕ) (es : List Entry) → live_of tx es ≡ [] → timed_of slot d tx es ≡ []
 none_timed slot d tx es none = ap (λ (l : List Entry). in_time at (flat_map (ranked slot d) l)) none
 
@@ -54,7 +54,7 @@ pub record IsTurned (tx : List ℕ) (slot : ℕ) (es new : List Entry) (entries 
   pub ranked_next : AreRising next
 
 module _ {limits : Bounds} {tx : List ℕ} {es : List Entry} {b : ByMoment} (timed : AreByMoment limits es b) {slots : Table} {slot : ℕ} (given : IsSlotGiven tx b.slots slots slot) where
-  -- what stands under the slot before
+  -- what is under the slot before
   pub side_before : (d : Direction) → owned (owner slot d) b.index.entries ≡ timed_of slot d tx es
   side_before d = at_row (row_of tx b.slots.rows) refl
     where

@@ -1,4 +1,4 @@
--- A live event less, whose readings go from those by moment.
+-- One live event less: its readings go from those by moment.
 use Rattle.std.proofs.Common.{◌≡◌, ◌==◌, ℕ, ◌+◌, ◌<◌, ◌≤◌, inl, inr, true, false, cond, not, List, [], ◌∷◌, Option, Some, None, is_some, length, refl, sym, ap, ◌∙◌, arith, vec_capacity}
 use Rattle.std.specs.Str.{bytes_eq}
 use Rattle.std.specs.Cmp.{eq_by_cmp_equiv}

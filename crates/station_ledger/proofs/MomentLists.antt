@@ -65,7 +65,7 @@ ranked_distinct : (ts : List Timed) → AreRising ts → AreDistinct ts
 ranked_distinct [] up = tt
 ranked_distinct (t ∷ ts) up = (behind_apart t.0 ts up.0, ranked_distinct ts up.1)
 
--- Of different ranks, by rank, they stand by rank.
+-- Of different ranks, by rank, they are by rank.
 distinct_ranked : (ts : List Timed) → AreDistinct ts → AreRising (in_time at ts)
 distinct_ranked [] apart = tt
 distinct_ranked (t ∷ ts) apart = put-ranked t (in_time at ts) (distinct_ranked ts apart.1) (none_has t.0 (in_time at ts) (each_in_time (λ u. u.0 ≡ t.0 → ⊥) ts apart.0))
@@ -102,7 +102,7 @@ pub put_each-put : (xs : List Timed) (x : Timed) (ts : List Timed) → AreApart 
 put_each-put [] x ts apart = refl
 put_each-put (y ∷ ys) x ts apart = ap (put_each ys) (sym (put_put x y ts apart.0)) ∙ put_each-put ys x (put_in_time at y ts) apart.1
 
--- One after the other, each where its rank stands, is all by rank.
+-- Put in one after the other, each at its rank, is the same as all by rank.
 put_each-in_time : (xs zs : List Timed) → AreDistinct xs → put_each xs (in_time at zs) ≡ in_time at (xs ++ zs)
 put_each-in_time [] zs apart = refl
 put_each-in_time (x ∷ xs) zs apart = put_each-put xs x (in_time at zs) apart.0 ∙ ap (put_in_time at x) (put_each-in_time xs zs apart.1)
@@ -156,12 +156,12 @@ taken_back (x ∷ xs) ts apart others =
     ∙ ap (take_each xs) (without_put x (put_each xs ts) (each_put_each (λ t. t.0 ≡ x.0 → ⊥) xs ts apart.0 others.0))
     ∙ taken_back xs ts apart.1 others.1
 
--- A reading stands behind another: it has another rank, and the ranks stand as the moments do.
+-- A reading is behind another: it has another rank, and the ranks are in the order of the moments.
 pub record IsAfter (t u : Timed) : Type 0 where
   pub apart : u.0 ≡ t.0 → ⊥
   agrees : nat_lt u.0 t.0 ≡ nat_lt u.1.moment t.1.moment
 
--- Each stands behind those in front of it.
+-- Each is behind those in front of it.
 abbrev AreListed : List Timed → Type 0
 AreListed [] = Unit {0}
 AreListed (t ∷ ts) = AllByRecursion (IsAfter t) ts × AreListed ts
@@ -178,12 +178,12 @@ put_agrees : (t : Timed) (us : List Timed) → AllByRecursion (IsAfter t) us →
 put_agrees t [] all = refl
 put_agrees t (u ∷ us) all = let a : IsAfter t u = all.0 in (λ i. cond (a.agrees i) (u ∷ put_agrees t us all.1 i) (t ∷ u ∷ us))
 
--- By rank they stand as by moment.
+-- By rank they are as by moment.
 by_rank : (ts : List Timed) → AreListed ts → in_time at ts ≡ in_time (λ u. u.1.moment) ts
 by_rank [] all = refl
 by_rank (t ∷ ts) all = put_agrees t (in_time at ts) (each_in_time (IsAfter t) ts all.0) ∙ ap (put_in_time (λ u. u.1.moment) t) (by_rank ts all.1)
 
--- Of one owner, a later place stands behind.
+-- Of one owner, a later place is behind.
 after : (o n p k q : ℕ) (r s : MeterReading) → n < 2 ^ 31 → p < 2 ^ 10 → k < 2 ^ 31 → q < 2 ^ 10 → n * 2 ^ 10 + p < k * 2 ^ 10 + q → IsAfter (rank o r.moment n p, r) (rank o s.moment k q, s)
 after o n p k q r s number place number_2 place_2 lt = ⊎_elim
     (λ (early : s.moment < r.moment).
@@ -366,7 +366,7 @@ module _ (slot : ℕ) (d : Direction) (es new : List Entry) (e : Entry) (one : I
   stand_foreign = each_in_time (λ t. own_timed e.0.seq t ≡ false) (flat_map (ranked slot d) (live_of e.0.tx es))
       (subst (AllByRecursion (λ t. own_timed e.0.seq t ≡ false)) (sym without_it) (each_append (λ t. own_timed e.0.seq t ≡ false) (flat_map (ranked slot d) here) (flat_map (ranked slot d) there) before_foreign behind_foreign))
 
-  -- its readings put in, each where its rank stands
+  -- its readings put in, each where its rank is
   pub come : put_each (put_each (ranked slot d e) []) (timed_of slot d e.0.tx es) ≡ timed_of slot d e.0.tx new
   come =
       ap (λ us. put_each us (timed_of slot d e.0.tx es)) (listed_sorted (ranked slot d e) distinct)
@@ -460,7 +460,7 @@ module _ (slot : ℕ) (d : Direction) (tx : List ℕ) (es : List Entry) (range :
   pub timed-ranked : AreRising (timed_of slot d tx es)
   timed-ranked = distinct_ranked (flat_map (ranked slot d) (live_of tx es)) (listed_distinct _ live_listed)
 
-  -- by rank they stand as by moment, with the numbers of their events
+  -- by rank they are as by moment, with the numbers of their events
   pub numbered-timed : map (λ (t : Timed). (number_of t.0, t.1)) (timed_of slot d tx es) ≡ numbered_by Moment d tx es
   numbered-timed =
       ap (map shown) (by_rank (flat_map (ranked slot d) (live_of tx es)) live_listed)

@@ -66,7 +66,7 @@ behind_passed : (p : Timed → Bool) (n : ℕ) (ts : List Timed) → AreAbove n 
 behind_passed p n [] behind = tt
 behind_passed p n (t ∷ ts) behind = elim (p t) as (λ b. AreAbove n (cond b (t ∷ filter p ts) (filter p ts))) [ true ↦ (behind.0, behind_passed p n ts behind.1) | false ↦ behind_passed p n ts behind.1 ]
 
--- Those that pass a test stand by rank as all do.
+-- Those that pass a test are by rank, as all are.
 pub filter-ranked : (p : Timed → Bool) (ts : List Timed) → AreRising ts → AreRising (filter p ts)
 filter-ranked p [] up = tt
 filter-ranked p (t ∷ ts) up = elim (p t) as (λ b. AreRising (cond b (t ∷ filter p ts) (filter p ts))) [ true ↦ (behind_passed p t.0 ts up.0, filter-ranked p ts up.1) | false ↦ filter-ranked p ts up.1 ]
@@ -126,7 +126,7 @@ front_end k t ts le up = ap (λ b. cond b (t ∷ in_front k ts) (in_front k ts))
 on_end : (k : ℕ) (t : Timed) (ts : List Timed) → k ≤ t.0 → AreRising (t ∷ ts) → from_on k (t ∷ ts) ≡ t ∷ ts
 on_end k t ts le up = ap (λ b. cond (not b) (t ∷ from_on k ts) (from_on k ts)) (le-ltb t.0 k le) ∙ ap (λ us. t ∷ us) (all_on k t.0 ts le up.0)
 
--- By rank, those in front of a rank stand in front of those from it on.
+-- By rank, those in front of a rank are in front of those from it on.
 pub parted : (k : ℕ) (ts : List Timed) → AreRising ts → ts ≡ in_front k ts ++ from_on k ts
 parted k [] up = refl
 parted k (t ∷ ts) up = ⊎_elim

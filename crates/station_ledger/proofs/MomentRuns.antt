@@ -114,7 +114,7 @@ pairs-less : (ts : List Timed) → length (pairs_among ts) ≤ length ts
 pairs-less [] = omega arith
 pairs-less (t ∷ ts) = let n = pairs-length t ts in omega (arith, n)
 
--- A run among others: what stands in front of it and behind it, without and with it.
+-- A run among others: what is in front of it and behind it, without and with it.
 pub record IsRun (seq : ℕ) (before after : Option MeterReading) (run without with_it : List Timed) : Type 0 where
   pub front : List Timed
   pub back : List Timed
@@ -191,7 +191,7 @@ module _ {seq : ℕ} {before after : Option MeterReading} {run without with_it :
   pub down_with : (energy_over (pairs_among with_it)).down ≡ (energy_over (fa ++ fb)).down + (energy_over (pairs_between before (bare run) after)).down
   down_with = let a = ap (λ ps. (energy_over ps).down) more_pairs in let b = three_down fa (pairs_between before (bare run) after) fb in let e = three_down fa [] fb in omega (arith, a, b, e)
 
--- What stands between an event's readings that came and those that are left: a reading of another.
+-- What is between an event's readings that came and those that are left: a reading of another.
 pub record AreParted (done left others : List Timed) : Type 0 where
   pub front : List Timed
   pub y : Timed
@@ -262,7 +262,7 @@ module _ (seq : ℕ) (others done left : List Timed) (x : Timed) (xs : List Time
   run_first : run ≡ x ∷ fitting (first_of B) xs
   run_first = ap (fitting (first_of B)) left_is ∙ ap (λ b. cond b (x ∷ fitting (first_of B) xs) []) (fits-first x B B_behind)
 
-  -- none is left, or a reading of another stands in front of those that are
+  -- none is left, or a reading of another is in front of those that are
   pub parted_next : (rest ≡ []) ⊎ AreParted (done ++ run) rest others
   parted_next = next B refl
     where
@@ -372,7 +372,7 @@ module _ (seq : ℕ) (others done left : List Timed) (x : Timed) (xs : List Time
 pub at_both : (P : Option MeterReading → Option MeterReading → Type 0) {r s b a : Option MeterReading} → r ≡ b → s ≡ a → P r s → P b a
 at_both P {r = r} {s = s} {b = b} {a = a} e f h = subst (λ x. P x a) e (subst (P r) f h)
 
--- A run's pairs in the quarters: what is there, and where there is room.
+-- A run's pairs in the periods: what is there, and where there is room.
 module _ (period : Periods) (d : Direction) {seq : ℕ} {before after : Option MeterReading} {run without with_it : List Timed} (r : IsRun seq before after run without with_it) (rest : List Flowed) (t : Table) where
   module _ (rows : t.rows ≡ rows_of (quartered period d (pairs_among without) ++ rest)) where
     pub gap_held : HoldsPairs period d (across before after) t
@@ -391,7 +391,8 @@ module _ (period : Periods) (d : Direction) {seq : ℕ} {before after : Option M
   pub put_back : {next : Table} (ps : List Pair) → t.rows ≡ rows_of (beside r period d rest) → IsWith (quartered period d ps) t next → next.rows ≡ rows_of (quartered period d ps ++ beside r period d rest)
   put_back ps rows put = put.rows ∙ ap (rows_with (quartered period d ps)) rows ∙ made_with (quartered period d ps) (beside r period d rest)
 
--- Where the walk over an event's readings stands: the pairs of the owner that are in the quarters now, and the energies that went and came.
+-- The state of the walk over an event's readings: the pairs of the owner that are in the periods
+-- now, and the energies that went and came.
 pub record IsMoving (period : Periods) (d : Direction) (all left from now : List Timed) (rest : List Flowed) (t : Table) (less more : Energy) : Type 0 where
   pub rows : t.rows ≡ rows_of (quartered period d (pairs_among now) ++ rest)
   pub up : (energy_over (pairs_among now)).up + less.up ≡ (energy_over (pairs_among from)).up + more.up
@@ -445,7 +446,7 @@ module _ {o seq : ℕ} {period : Periods} {d : Direction} {all others : List Tim
     room_beside n rows next_cap room small =
         has_room period d (fa r ++ fb r) rest n (most_readings + 2 * most_event_readings) _ rows (omega (arith, room, a.room, cap, next_cap)) (omega (arith, a.few_rows, cap, next_cap)) few_now (omega (arith, small))
 
--- What is known of an event's readings of which some are left.
+-- What is known of an event's readings while some are left.
 pub record IsComing (seq : ℕ) (period : Periods) (d : Direction) (all left others : List Timed) (rest : List Flowed) (t : Table) (start w : ℕ) (less more : Energy) : Type 0 where
   pub done : List Timed
   pub split : all ≡ done ++ left
@@ -631,7 +632,7 @@ moved_on_coming {seq} {period} {d} {all} {left} {others} {rest} {t} {start} {w} 
 pub moved_on_going : {seq : ℕ} {period : Periods} {d : Direction} {all left others : List Timed} {rest : List Flowed} {t : Table} {start w : ℕ} {less more l m : Energy} → l ≡ less → m ≡ more → IsGoing seq period d all left others rest t start w less more → IsGoing seq period d all left others rest t start w l m
 moved_on_going {seq} {period} {d} {all} {left} {others} {rest} {t} {start} {w} {less} {more} {l} {m} e f h = subst (λ x. IsGoing seq period d all left others rest t start w x m) (sym e) (subst (IsGoing seq period d all left others rest t start w less) (sym f) h)
 
--- What stands once all runs came, or went.
+-- What occurs once all runs came, or went.
 module _ {o seq : ℕ} {period : Periods} {d : Direction} {all others : List Timed} {ps : List Pair} {base : Table} {rest : List Flowed} (a : AreApart o seq period d all others ps base rest) {left : List Timed} {t : Table} {start w : ℕ} {less more : Energy} where
   module _ (h : IsComing seq period d all left others rest t start w less more) (none : left ≡ []) where
     all_done : h.done ≡ all

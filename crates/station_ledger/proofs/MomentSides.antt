@@ -1,4 +1,4 @@
--- One live event more or less, its readings by rank: its pairs of each direction beside the others of the station.
+-- One more live event or less, its readings by rank: its pairs of each direction beside the others of the station.
 use Rattle.std.proofs.Common.{◌≡◌, ℕ, ◌+◌, ◌*◌, ◌≤◌, ◌⊎◌, Bool, false, cond, not, ◌&&◌, List, [], ◌∷◌, ◌++◌, length, map, refl, sym, ap, subst, ◌∙◌, ⊎_elim, arith, length-append}
 use Rattle.std.specs.List.{filter, flat_map, list_any, sum_by}
 use Rattle.std.specs.Str.{bytes_eq}
@@ -52,7 +52,7 @@ other Export = Import
 abbrev pub others_in : Direction → List ℕ → List Entry → List Pair
 others_in d tx es = flat_map (λ u. pairs_by Moment d u es) (filter (λ u. not (bytes_eq tx u)) (transactions_of (live es)))
 
--- What stands in the quarters beside pairs of a direction: others of it, and those of the other direction.
+-- What is in the periods beside pairs of a direction: others of it, and those of the other direction.
 abbrev pub rest_of : Periods → Direction → List Pair → List Pair → List Flowed
 rest_of period d ps others = quartered period d others ++ quartered period (other d) ps
 
@@ -109,7 +109,7 @@ few_beside period most Export mine others ps up down small =
       export_down = omega (arith, down, sum_by-append (λ (f : Flowed). f.1.export.down) a b, ap (λ (e : Flows). e.export.down) one, ap (λ (e : Flows). e.export.down) two);
     }
 
--- How many pairs stand in a row.
+-- How many pairs are in a row.
 ones : (ps : List Pair) → sum_by (λ p. 1) ps ≡ length ps
 ones [] = refl
 ones (p ∷ ps) = let rest = ones ps in let one = sum_by-cons (λ (q : Pair). 1) p ps in omega (arith, rest, one)
@@ -152,7 +152,7 @@ split_one d tx es f =
     let rest = sum_by-flat_map f (λ u. pairs_by Moment d u es) (filter (λ u. not (bytes_eq tx u)) (transactions_of (live es))) in
     omega (arith, whole, rest, sum_by_one g tx (map (λ (e : Entry). e.0.tx) (live es)) absent)
 
--- One live event more, under a slot.
+-- One more live event, under a slot.
 module _ (slot : ℕ) (limits : Bounds) (less more : List Entry) (e : Entry) (one : IsOneMore less more (before_key e.0 less) e (behind_key e.0 less)) (small : AreAllowed Moment limits less) (large : AreAllowed Moment limits more) (up_less : AreRising (numbers_of e.0.tx less)) (up_more : AreRising (numbers_of e.0.tx more)) where
   abbrev pub its : Direction → List Timed
   its d = put_each (ranked slot d e) []

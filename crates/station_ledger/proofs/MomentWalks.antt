@@ -1,4 +1,4 @@
--- Readings put into the gaps of others, run by run: what their pairs do to the quarters, and to sums.
+-- Readings put into the gaps of others, run by run: what their pairs do to the periods, and to sums.
 use Rattle.std.proofs.Common.{◌≡◌, ℕ, zero, suc, ◌+◌, ◌-◌, ◌*◌, ◌<◌, ◌≤◌, Bool, true, false, cond, nat_lt, List, [], ◌∷◌, ◌++◌, Option, None, Some, length, slice_get, refl, sym, ap, subst, ◌∙◌, ⊎_elim, arith, length-append}
 use Rattle.std.specs.List.{sum_by}
 use Rattle.std.proofs.lemmas.Bool.{cases_lt, lt-ltb, le-ltb}
@@ -37,7 +37,7 @@ with_run front run back =
 pub without_run : (front back : List Timed) → followed (bare (front ++ back)) ≡ followed (bare front) ++ (across (last_reading (bare front)) (first_reading (bare back)) ++ followed (bare back))
 without_run front back = with_run front [] back
 
--- Rows of pairs, some of which stand between others.
+-- Rows of pairs, with some between others.
 pub moved_in : (period : Periods) (d : Direction) (a x b : List Pair) (rest : List Flowed) → rows_of (quartered period d (a ++ (x ++ b)) ++ rest) ≡ rows_of (quartered period d x ++ (quartered period d (a ++ b) ++ rest))
 moved_in period d a x b rest =
     let q = quartered period d in
@@ -108,17 +108,17 @@ abbrev pub AreInFront : List Timed → List Timed → Type 0
 AreInFront [] us = Unit {0}
 AreInFront (x ∷ xs) us = AreAbove x.0 us × AreInFront xs us
 
--- One that stands behind all of a front.
+-- One that is behind all of a front.
 put-under : (x : Timed) (ts us : List Timed) → AreBelow x.0 ts → put_in_time at x (ts ++ us) ≡ ts ++ put_in_time at x us
 put-under x [] us h = refl
 put-under x (t ∷ ts) us h = put-behind at x t (ts ++ us) h.0 ∙ ap (λ l. t ∷ l) (put-under x ts us h.1)
 
--- One that stands in front of all.
+-- One that is in front of all.
 put-over : (x : Timed) (us : List Timed) → AreAbove x.0 us → put_in_time at x us ≡ x ∷ us
 put-over x [] h = refl
 put-over x (u ∷ us) h = put-front at x u us (let a = h.0 in omega (arith, a))
 
--- One that stands in front of all of a back.
+-- One that is in front of all of a back.
 put-before : (x : Timed) (ts us : List Timed) → AreAbove x.0 us → put_in_time at x (ts ++ us) ≡ put_in_time at x ts ++ us
 put-before x [] us h = put-over x us h
 put-before x (t ∷ ts) us h = ⊎_elim
@@ -168,7 +168,7 @@ pub fitting-beyond : (a : Option Timed) (xs : List Timed) → fitting a xs ++ be
 fitting-beyond a [] = refl
 fitting-beyond a (x ∷ xs) = elim (fits a x) as (λ b. cond b (x ∷ fitting a xs) [] ++ cond b (beyond a xs) (x ∷ xs) ≡ x ∷ xs) [ true ↦ ap (λ l. x ∷ l) (fitting-beyond a xs) | false ↦ refl ]
 
--- All that fit stand in front of a row that begins there.
+-- All that fit are in front of a row that begins there.
 pub fitting-front : (us xs : List Timed) → AreRising us → AreInFront (fitting (first_of us) xs) us
 fitting-front [] xs up = nothing (fitting None xs)
   where
@@ -181,7 +181,8 @@ fitting-front (u ∷ us) (x ∷ xs) up = ⊎_elim
     (λ (ge : u.0 ≤ x.0). subst (λ b. AreInFront (cond b (x ∷ fitting (Some u) xs) []) (u ∷ us)) (sym (le-ltb x.0 u.0 ge)) tt)
     (cases_lt x.0 u.0)
 
--- A run in the gap between a front and a back: the front's last reading and the back's first do not pass a test that the run does.
+-- A run in the gap between a front and a back: the front's last reading and the back's first do not pass a test that
+-- the run does.
 abbrev pub LastFails : (Timed → Bool) → List Timed → Type 0
 LastFails own [] = Unit {0}
 LastFails own (x ∷ []) = own x ≡ false

@@ -1,4 +1,4 @@
--- One live event more, or less, moves what its transaction counts for.
+-- One more live event, or less, moves what its transaction counts for.
 use Rattle.std.proofs.Common.{◌≡◌, ◌==◌, ℕ, zero, suc, ◌+◌, ◌<◌, ◌≤◌, Bool, true, false, not, cond, ◌&&◌, ◌||◌, List, [], ◌∷◌, Option, Some, None, length, map, refl, sym, ap, ◌∙◌, arith, length-append, slice_get, unwrap_or}
 use Rattle.std.specs.List.{filter_map, flat_map}
 use Rattle.std.specs.Str.{bytes_eq}
@@ -100,7 +100,7 @@ module _ (order : Order) where
   flow_kept d n tx es = kept_cases (λ o. flow_at d n o ≡ flow_if (evse_of tx es == n) (energy_of_by order d tx es)) (energy_of_by order Import tx es) (energy_of_by order Export tx es) tx es
       (λ none. sym (ap (flow_if (evse_of tx es == n)) (energy_none d tx es none) ∙ none_if (evse_of tx es == n))) (λ _. ap (flow_if (evse_of tx es == n)) (toward_is d tx es))
 
-  -- one live event more
+  -- one more live event
   pub moved_more : (es more front : List Entry) (e : Entry) (back : List Entry) → IsOneMore es more front e back → IsMoved order e.0.tx es more
   moved_more es more front e back one =
       let tx = e.0.tx in
@@ -134,7 +134,7 @@ module _ (order : Order) where
   flow_in_kept d tx es = kept_cases (λ o. flow_in d o ≡ energy_of_by order d tx es) (energy_of_by order Import tx es) (energy_of_by order Export tx es) tx es
       (λ none. sym (energy_none d tx es none)) (λ _. toward_is d tx es)
 
--- what is kept hangs on the transaction's live events alone
+-- what is kept depends only on the transaction's live events
 kept_over : Order → List ℕ → List Entry → Option Standing
 kept_over order tx own = cond (length own == 0) None (Some (record {
   first = unwrap_or (slice_get (map (λ e. e.0.seq) own) 0) 0;

@@ -1,4 +1,4 @@
--- What is kept of a transaction, when one live event more comes.
+-- What is kept of a transaction, when one more live event comes.
 use Rattle.std.proofs.Common.{◌≡◌, ◌==◌, ℕ, zero, suc, ◌+◌, ◌<◌, ◌≤◌, Bool, true, false, cond, List, [], ◌∷◌, ◌++◌, Option, None, Some, IfSome, length, map, slice_get, unwrap_or, refl, sym, ap, ◌∙◌, subst, arith, length-append}
 use Rattle.std.specs.List.{filter_map, cons_option}
 use Rattle.std.proofs.lemmas.List.{length-map, map-append}
@@ -87,12 +87,12 @@ passed (f ∷ front) e back none = ap (cons_option f.1.event.evse) (passed front
 kept_is : (flow export : Energy) (tx : List ℕ) (es : List Entry) (was : Standing) → Some was ≡ kept_with flow export tx es → was ≡ standing_with flow export tx es
 kept_is flow export tx es was h = elim (length (live_of tx es) == 0) as (λ b. Some was ≡ cond b None (Some (standing_with flow export tx es)) → was ≡ standing_with flow export tx es) [ true ↦ λ x. cc | false ↦ λ x. cc ] h
 
--- Something is kept of a transaction with a live event alone.
+-- Only a transaction with a live event has a standing.
 some_kept : (n : ℕ) (s was : Standing) → Some was ≡ cond (n == 0) None (Some s) → 0 < n
 some_kept zero s was h = cc
 some_kept (suc n) s was h = omega arith
 
--- What was kept of a transaction stands against its events once one more has come.
+-- The standing of a transaction, compared with its events after one more has come.
 pub one_less : (es : List Entry) (chains : Chained) (key : KeyName) (place : ByDirection Sides) (names : Bool) → IsToCome es chains key place names → AreRising (numbers_of key.tx (stored chains))
     → (flow export : Energy) (was : Standing) → Some was ≡ kept_with flow export key.tx es → IsOneLess was key.tx key.seq names (stored chains)
 one_less es chains key place names come up flow export was kept =

@@ -20,7 +20,7 @@ use Rattle.ledger_model.proofs.NumberLemmas.{numbers-AreRising}
 use Rattle.station_ledger.specs.Sums.{AreAllowed}
 use Rattle.station_ledger.proofs.Timely.{pairs_in_time}
 
--- what stands under a key has few readings
+-- what is under a key has few readings
 few_readings_at : (key : KeyName) (s : Stored) (es : List Entry) → AreEntries es → find key_cmp key es ≡ Some s → length s.event.readings ≤ most_event_readings
 few_readings_at key s [] h is = cc
 few_readings_at key s (e ∷ es) h is =

@@ -50,7 +50,8 @@ module _ {limits : Bounds} {tx : List ℕ} {es new : List Entry} {gone came : Di
     down_few = λ d. let m = more_is d in omega (arith, m.down, ch.few_came d);
   }
 
--- The sums of events, in either order, and what they are once the pairs of one event were moved, which comes or goes.
+-- The sums of events, in either order, and what they occur once the pairs of one event were moved, which comes or
+-- goes.
 pub record AreTurned (limits : Bounds) (tx : List ℕ) (es new : List Entry) (sums mid : Sums) (less more : ByDirection Energy) : Type 0 where
   pub moved : IsMoved (order_in sums) tx es new
   pub before : AreAllowed (order_in sums) limits es

@@ -1,4 +1,4 @@
--- A transaction that stands otherwise, in all sums.
+-- A transaction with another standing, in all sums.
 use Rattle.std.proofs.Common.{◌≡◌, ℕ, ◌+◌, ◌-◌, ◌<◌, ◌≤◌, Bool, true, false, cond, List, Option, Some, None, is_some, length, refl, sym, ap, subst, ◌∙◌, arith}
 use Rattle.std.specs.Str.{bytes_eq}
 use Rattle.std.specs.FinMap.{find}
@@ -31,7 +31,7 @@ found_keep : (u tx : List ℕ) (o : Option Standing) (rows : List (List ℕ × S
 found_keep u tx None rows = found_out u tx rows
 found_keep u tx (Some s) rows = found_put u tx s rows
 
--- ids that do not tie are told apart
+-- ids that do not tie are different
 apart_ids : (u tx : List ℕ) → eq_by_cmp id_cmp u tx ≡ false → bytes_eq u tx ≡ false
 apart_ids u tx e = elim (bytes_eq u tx) as (λ b. bytes_eq u tx ≡ b → b ≡ false) [
   | true ↦ λ h. let f : false ≡ true = sym e ∙ ap (λ t. eq_by_cmp id_cmp t tx) ((bytes_eq-Decides u tx).0 h) ∙ (eq_by_cmp_equiv id_total).refl tx in cc

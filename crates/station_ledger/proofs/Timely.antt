@@ -1,4 +1,4 @@
--- Each reading of events in range is at a moment, and so the quarter of each pair begins at one.
+-- Each reading of events in range is at a moment, and so the period of each pair begins at one.
 use Rattle.std.proofs.Common.{◌≡◌, ℕ, suc, ◌-◌, ◌<◌, ◌≤◌, max, not, true, false, cond, nat_lt, List, [], ◌∷◌, ◌++◌, map, sym, subst, arith, ⊎_elim}
 use Rattle.std.specs.List.{All, flat_map}
 use Rattle.std.specs.Str.{bytes_eq}
@@ -74,7 +74,7 @@ of_each order d es (tx ∷ txs) h = All-append (λ (p : Pair). IsMoment p.1.mome
 pub pairs_in_time : (order : Order) (d : Direction) (es : List Entry) → AreEntries es → All (λ (p : Pair). IsMoment p.1.moment) (all_pairs_by order d es)
 pairs_in_time order d es h = of_each order d es (transactions_of (live es)) (AreEntries-filter (λ e. not e.1.voided) es h)
 
--- the quarter of a moment begins at one
+-- the period of a moment begins at one
 own_quarter : (period moment : ℕ) → IsPeriod period → IsMoment moment → IsQuarterOf period (quarter_at period moment)
 own_quarter period moment is at =
     ⊎_elim {C = IsQuarterOf period (quarter_at period moment)} (λ (e : period ≡ 300). short 300 e (omega (arith, at.0), omega (arith, at.1)))

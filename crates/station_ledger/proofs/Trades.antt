@@ -31,7 +31,7 @@ pub record IsTraded (d : Direction) (tx : List ℕ) (es new : List Entry) (gone 
   pub new_sum : (f : Pair → ℕ) → sum_by f (pairs d new) ≡ sum_by f (came ++ kept)
   pub own : (f : Pair → ℕ) → sum_by f (pairs_of d tx new) + sum_by f gone ≡ sum_by f (pairs_of d tx es) + sum_by f came
 
--- one live event more
+-- one more live event
 pub traded_more : (d : Direction) (es new front : List Entry) (e : Entry) (back : List Entry) → IsOneMore es new front e back → IsTraded d e.0.tx es new (gone_by d front e back) (came_by d front e back) (kept_by d es front e back)
 traded_more d es new front e back one = record {
   old_sum = λ f. less_kept d f es new front e back one;

@@ -46,7 +46,7 @@ unfolding IsStrictlySortedBy
 bare_rise [] h = tt
 bare_rise (t ∷ ts) h = both _ _ (bare_below t ts h.0) (bare_rise ts h.1)
 
--- both tests tell ids apart
+-- both tests distinguish ids
 same_test : (q t : List ℕ) → eq_by_cmp id_cmp q t ≡ bytes_eq q t
 same_test q t = elim (eq_by_cmp id_cmp q t) as (λ b. eq_by_cmp id_cmp q t ≡ b → b ≡ bytes_eq q t) [
   | true ↦ λ e. sym ((bytes_eq-Decides q t).1 (equal_ids q t e))

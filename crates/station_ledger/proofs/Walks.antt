@@ -63,7 +63,7 @@ toward_first d left rest r is same = ap (toward d) is ∙ ap (λ b. cond b (r �
 pub toward_rest : (d : Direction) (left rest : List MeterReading) (r : MeterReading) → left ≡ r ∷ rest → (r.direction ≡ d → ⊥) → toward d left ≡ toward d rest
 toward_rest d left rest r is other = ap (toward d) is ∙ ap (λ b. cond b (r ∷ toward d rest) (toward d rest)) (not_same d r.direction other)
 
--- Pairs of a direction that are added one after the other, of which some are left.
+-- Pairs of a direction that are added one after the other, while some are left.
 pub record IsAdding (period : Periods) (d : Direction) (ps left : List Pair) (old t : Table) (before work : ℕ) (sum : Energy) : Type 0 where
   pub room : HasRoom (length left) t
   pub flow : plus sum (energy_over left) ≡ energy_over ps
@@ -74,7 +74,7 @@ pub record IsAdding (period : Periods) (d : Direction) (ps left : List Pair) (ol
   pub spent : work + length left ≤ before + length ps
   pub grows : before ≤ work
 
--- Pairs of a direction that are taken out one after the other, of which some are left.
+-- Pairs of a direction that are taken out one after the other, while some are left.
 pub record IsTaking (period : Periods) (d : Direction) (ps left : List Pair) (old t : Table) (before work : ℕ) (sum : Energy) : Type 0 where
   pub holds : HoldsPairs period d left t
   pub flow : plus sum (energy_over left) ≡ energy_over ps

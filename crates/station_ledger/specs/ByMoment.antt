@@ -17,7 +17,8 @@ use Rattle.reading_index.specs.Timed.{Timed, AreRising, has_rank, owned, without
 use Rattle.station_ledger.specs.declared.by_moment.ByMoment.{ByMoment}
 use Rattle.station_ledger.specs.Quarters.{readings_at}
 
--- Readings of an event in one direction, in the order in which they were sent, each with its rank: by their owner, their moment, the event's number and their place, of which the first one's is given.
+-- Readings of an event in one direction, in the order sent, each with its rank: by owner, moment,
+-- the event's number, and place, beginning at the given place.
 abbrev pub ranked_from : ℕ → ℕ → ℕ → List MeterReading → List Timed
 ranked_from o number place [] = []
 ranked_from o number place (r ∷ rs) = (rank o r.moment number place, r) ∷ ranked_from o number (place + 1) rs
@@ -30,7 +31,7 @@ ranked slot d e = ranked_from (owner slot d) e.0.seq 0 (toward d e.1.event.readi
 abbrev pub timed_of : ℕ → Direction → List ℕ → List Entry → List Timed
 timed_of slot d tx es = in_time (λ t. t.0) (flat_map (ranked slot d) (live_of tx es))
 
--- Readings put in one after the other, each where its rank stands.
+-- Readings put in one after the other, each at the place of its rank.
 abbrev pub put_each : List Timed → List Timed → List Timed
 put_each [] ts = ts
 put_each (x ∷ xs) ts = put_each xs (put_in_time (λ t. t.0) x ts)
@@ -81,7 +82,7 @@ pub record AreSlots (limits : Bounds) (es : List Entry) (slots : Table) : Type 0
   pub number : length slots.rows ≡ length (transactions_of (live es))
   pub room : slots.capacity ≡ limits.transactions
 
--- The index has the live readings: under each slot those of its transaction, by rank, and none under a slot that is free.
+-- The index has the live readings: under each slot those of its transaction, by rank, and none under a free slot.
 pub record AreByMoment (limits : Bounds) (es : List Entry) (b : ByMoment) : Type 0 where
   pub slots : AreSlots limits es b.slots
   pub held : (d : Direction) (tx : List ℕ) (row : TableRow) → row_of tx b.slots.rows ≡ Some row → owned (owner row.slot d) b.index.entries ≡ timed_of row.slot d tx es
@@ -91,7 +92,7 @@ pub record AreByMoment (limits : Bounds) (es : List Entry) (b : ByMoment) : Type
   pub room : b.index.capacity ≡ limits.readings
   pub list_room : most_event_readings ≤ vec_capacity b.listed
 
--- A transaction has this slot, as it had or as it is given now; the others' are as they were.
+-- A transaction has this slot, from before or new; the slots of others are as they were.
 pub record IsSlotGiven (tx : List ℕ) (old new : Table) (slot : ℕ) : Type 0 where
   pub row : TableRow
   pub there : row_of tx new.rows ≡ Some row

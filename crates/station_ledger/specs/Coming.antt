@@ -1,11 +1,12 @@
--- What is kept of a transaction, and one live event that came since.
+-- The standing of a transaction, and one live event that came since.
 use Rattle.std.specs.Prelude.{◌≡◌, ℕ, ◌+◌, ◌<◌, ◌≤◌, Bool, false, List, Some, length, slice_get}
 use Rattle.ledger_model.specs.Content.{Entry, live_of}
 use Rattle.ledger_model.specs.Evse.{evse_of}
 use Rattle.ledger_model.specs.Gaps.{numbers_of, missing}
 use Rattle.station_ledger.specs.declared.standing.Standing.{Standing}
 
--- What was kept of a transaction before the live event of a number came, against its events since: behind the first one that number tells what is missing.
+-- The standing of a transaction before the live event of a number came, compared with its events
+-- since. Behind the first event, that number shows what is missing.
 pub record IsOneLess (was : Standing) (tx : List ℕ) (seq : ℕ) (names : Bool) (es : List Entry) : Type 0 where
   pub live : length (live_of tx es) ≡ was.live + 1
   pub first : was.first < seq → slice_get (numbers_of tx es) 0 ≡ Some was.first

@@ -15,7 +15,8 @@ use Rattle.station_ledger.specs.ByMoment.{AreByMoment}
 use Rattle.station_ledger.specs.Quarters.{readings_at}
 use Rattle.station_ledger.specs.Sums.{AreAllowed, AreQuarterRows}
 
--- One live event more stands in the chains than among these, of which the readings are held by moment and the quarters are those.
+-- The chains have one more live event than these events. The readings by moment and the periods are those of these
+-- events.
 pub record IsComing (es : List Entry) (chains : Chained) (key : KeyName) (b : ByMoment) (period : Periods) (quarters : Table) : Type 0 where
   pub event : Stored
   pub one : IsOneMore es (stored chains) (before_key key es) (key, event) (behind_key key es)
@@ -26,7 +27,7 @@ pub record IsComing (es : List Entry) (chains : Chained) (key : KeyName) (b : By
   pub timed : AreByMoment chains.limits es b
   pub rows : AreQuarterRows Moment chains.limits es period quarters
 
--- One live event of these stands in the chains no more.
+-- The chains no longer have one live event of these.
 pub record IsGoing (es : List Entry) (chains : Chained) (key : KeyName) (b : ByMoment) (period : Periods) (quarters : Table) : Type 0 where
   pub event : Stored
   pub one : IsOneMore (stored chains) es (before_key key (stored chains)) (key, event) (behind_key key (stored chains))

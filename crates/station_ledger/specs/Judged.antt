@@ -8,7 +8,7 @@ use Rattle.ledger_model.specs.Step.{Reached, answer, step}
 use Rattle.station_ledger.specs.Ledger.{Ledger}
 use Rattle.station_ledger.specs.Spent.{IsSpent, most_spent}
 
--- A ledger within these limits, with this content, gives this answer to the command, the parts of which are in range.
+-- A ledger with these limits and this content gives this answer to the command. The command's parts are in range.
 pub record IsJudged (limits : Bounds) (c : Content) (command : Command) (a : Answer) : Type 0 where
   pub answered : a ≡ answer limits c command
   pub admissible : IsAdmissible command

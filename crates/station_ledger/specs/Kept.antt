@@ -22,7 +22,7 @@ content_in chains changes = record { events = chains.events; changes = changes }
 abbrev pub voided_in : Chained → ℕ
 voided_in chains = count_by (λ e. e.1.voided) (stored chains)
 
--- Events that the limits allow, reached by so many changes, and their sums.
+-- Events that the limits allow, reached by this many changes, and their sums.
 pub record IsKept (limits : Bounds) (chains : Chained) (changes : ℕ) (sums : Sums) : Type 0 where
   pub limits_are : chains.limits ≡ limits
   pub reached : Reached limits changes (content_in chains changes)
@@ -32,14 +32,16 @@ pub record IsKept (limits : Bounds) (chains : Chained) (changes : ℕ) (sums : S
   pub few_events : limits.events ≤ most_events
   pub few_readings : limits.readings ≤ most_readings
 
--- The chains can take this command: a new event has a key of its own, and room; one that is voided is live, and one that is restored or erased is voided.
+-- The chains can take this command: a new event has a key that is not stored, and room; an event to
+-- void is live; one to restore or erase is voided.
 abbrev pub IsReady : Chained → Command → Type 0
 IsReady c (Deliver key event) = (finite.get c.events key ≡ None) × (room_of c.limits (stored c) key.tx (length event.readings) ≡ Fits)
 IsReady c (Void key) = found_of (finite.get c.events key) ≡ Some Live
 IsReady c (Restore key) = found_of (finite.get c.events key) ≡ Some Voided
 IsReady c (Erase key) = found_of (finite.get c.events key) ≡ Some Voided
 
--- The command may be carried out: its key is as it has to be, the limits allow the events before it and after it, and the sums are those of the events before it.
+-- The command may be carried out: its key is as it has to be, the limits allow the events before it and after it, and
+-- the sums are those of the events before it.
 pub record CanDo (command : Command) (chains : Chained) (sums : Sums) : Type 0 where
   pub ready : IsReady chains command
   pub before : AreAllowed (order_in sums) chains.limits (stored chains)

@@ -1,4 +1,4 @@
--- What a change of one transaction's live events moves.
+-- What changes with one transaction's live events.
 use Rattle.std.specs.Prelude.{◌≡◌, ℕ, ◌+◌, ◌-◌, ◌*◌, ◌<◌, ◌≤◌, ◌^◌, ◌==◌, false, unwrap_or, slice_get, if◌then◌else◌, List, Option, None, Some, length, count_by, sum_by}
 use Rattle.std.specs.Str.{bytes_eq}
 use Rattle.energy_flow.specs.Flow.{Energy, no_energy, plus, minus, CanPlus, CanMinus}
@@ -19,7 +19,7 @@ use Rattle.station_ledger.specs.declared.totals.EvseSum.{EvseSum}
 use Rattle.station_ledger.specs.declared.standing.Standing.{Standing}
 use Rattle.station_ledger.specs.Standing.{kept_of}
 
--- What a transaction counts for in the figures, nothing where it has no live event.
+-- The part of a transaction in the figures; nothing if it has no live event.
 abbrev pub live_in : Option Standing → ℕ
 live_in None = 0
 live_in (Some s) = s.live
@@ -46,7 +46,7 @@ abbrev pub flow_in : Direction → Option Standing → Energy
 flow_in d None = no_energy
 flow_in d (Some s) = flow_toward d s
 
--- What it counts for at an EVSE.
+-- Whether it counts at an EVSE: 1 or 0.
 abbrev pub one_at : ℕ → Option Standing → ℕ
 one_at n None = 0
 one_at n (Some s) = if s.evse == n then 1 else 0
@@ -56,7 +56,8 @@ abbrev pub flow_at : Direction → ℕ → Option Standing → Energy
 flow_at d n None = no_energy
 flow_at d n (Some s) = flow_if (s.evse == n) (flow_toward d s)
 
--- The live events of one transaction changed: no other's did, and each sum changed by what that one counts for, the readings of each in an order.
+-- The live events of one transaction changed: those of no other did, and each sum changed by that
+-- transaction's part, with readings in the given order.
 pub record IsMoved (order : Order) (tx : List ℕ) (es new : List Entry) : Type 0 where
   pub others : (u : List ℕ) → bytes_eq u tx ≡ false → live_of u new ≡ live_of u es
   pub events : length (live new) + live_in (kept_of order tx es) ≡ length (live es) + live_in (kept_of order tx new)
@@ -74,58 +75,58 @@ no_sum = record { transactions = 0; flow = no_energy; export = no_energy }
 abbrev pub sum_at : List EvseSum → ℕ → EvseSum
 sum_at sums n = unwrap_or (slice_get sums n) no_sum
 
--- The sum of an EVSE from scratch, in an order.
+-- The sum of an EVSE from scratch, with readings in the given order.
 abbrev pub evse_sum : Order → ℕ → List Entry → EvseSum
 evse_sum order n es = record { transactions = length (transactions_at n es); flow = energy_at_by order Import n es; export = energy_at_by order Export n es }
 
--- The sum of an EVSE with what a transaction counts for there.
+-- The sum of an EVSE with the part of a transaction added.
 abbrev pub with_one : ℕ → Option Standing → EvseSum → EvseSum
 with_one n o sum = record { transactions = sum.transactions + one_at n o; flow = plus sum.flow (flow_at Import n o); export = plus sum.export (flow_at Export n o) }
 
--- The sum of an EVSE without it.
+-- The sum of an EVSE with that part taken away.
 abbrev pub without_one : ℕ → Option Standing → EvseSum → EvseSum
 without_one n o sum = record { transactions = sum.transactions - one_at n o; flow = minus sum.flow (flow_at Import n o); export = minus sum.export (flow_at Export n o) }
 
--- There is room for what a transaction counts for at an EVSE.
+-- There is room for the part of a transaction at an EVSE.
 pub record HasRoomAt (n : ℕ) (o : Option Standing) (sum : EvseSum) : Type 0 where
   pub number : sum.transactions + one_at n o < 2 ^ 32
   pub energy : CanPlus sum.flow (flow_at Import n o)
   pub export : CanPlus sum.export (flow_at Export n o)
 
--- What a transaction counts for is in the sum of an EVSE.
+-- The sum of an EVSE includes the part of a transaction.
 pub record CountsAt (n : ℕ) (o : Option Standing) (sum : EvseSum) : Type 0 where
   pub number : one_at n o ≤ sum.transactions
   pub energy : CanMinus sum.flow (flow_at Import n o)
   pub export : CanMinus sum.export (flow_at Export n o)
 
--- The figures with what a transaction counts for, but for its energy.
+-- The figures with the part of a transaction added, its energy apart.
 abbrev pub with_figures : Option Standing → Figures → Figures
 with_figures o f = record f { events = f.events + live_in o; transactions = f.transactions + one_in o; complete = f.complete + complete_in o; missing = f.missing + missing_in o }
 
--- The figures without it.
+-- The figures with that part taken away.
 abbrev pub without_figures : Option Standing → Figures → Figures
 without_figures o f = record f { events = f.events - live_in o; transactions = f.transactions - one_in o; complete = f.complete - complete_in o; missing = f.missing - missing_in o }
 
--- There is room in the figures for what a transaction counts for.
+-- There is room in the figures for the part of a transaction.
 pub record HaveRoom (o : Option Standing) (f : Figures) : Type 0 where
   pub events : f.events + live_in o < 2 ^ 64
   pub transactions : f.transactions + one_in o < 2 ^ 64
   pub complete : f.complete + complete_in o < 2 ^ 64
   pub missing_fit : f.missing + missing_in o < 2 ^ 64
 
--- What a transaction counts for is in the figures.
+-- The figures include the part of a transaction.
 pub record DoCount (o : Option Standing) (f : Figures) : Type 0 where
   pub events : live_in o ≤ f.events
   pub transactions : one_in o ≤ f.transactions
   pub complete : complete_in o ≤ f.complete
   pub missing_fit : missing_in o ≤ f.missing
 
--- What comes may be added to an energy, and what goes taken from that.
+-- The new part may be added to an energy, and the old part taken from the result.
 pub record CanTrade (flow less more : Energy) : Type 0 where
   pub room : CanPlus flow more
   pub holds : CanMinus (plus flow more) less
 
--- What went and what came of the energies of a station, and of one of its transactions, in each direction.
+-- The energies that went and came, of a station and of one of its transactions, in each direction.
 pub record IsExchanged (order : Order) (tx : List ℕ) (es new : List Entry) (less more : ByDirection Energy) : Type 0 where
   pub station : (d : Direction) → plus (energy_by order d new) (in_direction d less) ≡ plus (energy_by order d es) (in_direction d more)
   pub own : (d : Direction) → plus (energy_of_by order d tx new) (in_direction d less) ≡ plus (energy_of_by order d tx es) (in_direction d more)

@@ -14,11 +14,11 @@ is_transaction_too_many limits es tx = not (has_transaction tx es) && nat_le lim
 abbrev pub is_full : Bounds → List Entry → Bool
 is_full limits es = nat_le limits.events (length es)
 
--- So many more readings are more than the limits allow.
+-- With this many more readings there would be more than the limits allow.
 abbrev pub are_readings_too_many : Bounds → List Entry → ℕ → Bool
 are_readings_too_many limits es more = nat_lt limits.readings (readings_stored es + more)
 
--- The answer to an event under a new key, of this transaction and with so many readings.
+-- The answer to an event under a new key, of this transaction and with this many readings.
 abbrev pub answer_to_new : Bounds → Content → List ℕ → ℕ → Answer
 answer_to_new limits c tx readings =
     if is_transaction_too_many limits (entries c) tx then Refused TooManyTransactions

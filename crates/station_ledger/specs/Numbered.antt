@@ -1,14 +1,14 @@
--- Entries whose numbers are in range.
+-- Entries with numbers in range.
 use Rattle.std.specs.Prelude.{◌<◌, ◌≤◌, List, [], ◌∷◌, IfSome}
 use Rattle.ledger_model.specs.Content.{Entry}
 use Rattle.ledger_model.specs.Ranges.{greatest_evse, sequence_end}
 
--- The number of the event, and that of the EVSE where it names one.
+-- The number of the event is in range, and that of the EVSE if it names one.
 pub record IsNumbered (e : Entry) : Type 0 where
   pub sequence : e.0.seq < sequence_end
   pub evse : IfSome e.1.event.evse (λ number. number ≤ greatest_evse)
 
--- The numbers of all of them.
+-- The numbers of all entries are in range.
 abbrev pub AreNumbered : List Entry → Type 0
 AreNumbered [] = Unit {0}
 AreNumbered (e ∷ es) = IsNumbered e × AreNumbered es

@@ -1,4 +1,4 @@
--- The rows of pairs, each pair given by its quarter and its difference.
+-- The rows of pairs, each pair given by its settlement period and its difference.
 use Rattle.std.specs.Prelude.{◌≡◌, ℕ, ◌+◌, ◌*◌, ◌≤◌, List, ◌++◌, length}
 use Rattle.std.specs.FinMap as finite
 use Rattle.event_chain.specs.Chains.{Chained}
@@ -22,11 +22,11 @@ pub record IsDifference (flow : Energy) : Type 0 where
   pub up : flow.up ≤ greatest_reading
   pub down : flow.down ≤ greatest_reading
 
--- Pairs of one direction by their quarters, of periods of so many seconds, and their differences.
+-- Pairs of one direction, by their settlement periods of so many seconds and their differences.
 abbrev pub quartered : Periods → Direction → List Pair → List Flowed
 quartered period d ps = flows_of period d ps
 
--- The pairs of both directions by their quarters.
+-- The pairs of both directions by their periods.
 abbrev pub both_quartered : Periods → (Direction → List Pair) → List Flowed
 both_quartered period ps = quartered period Import (ps Import) ++ quartered period Export (ps Export)
 
@@ -34,7 +34,7 @@ both_quartered period ps = quartered period Import (ps Import) ++ quartered peri
 abbrev pub both_length : (Direction → List Pair) → ℕ
 both_length ps = length (ps Import) + length (ps Export)
 
--- A table of these pairs, with room for so many more; what all of them add up to stays far below 2^64 in each direction.
+-- A table of these pairs, with room for so many more; the sums of all stay far below 2^64 in each direction.
 pub record AreRows (pairs : List Flowed) (more : ℕ) (t : Table) : Type 0 where
   pub rows : t.rows ≡ rows_of pairs
   pub room : length pairs + more ≤ t.capacity
@@ -56,13 +56,13 @@ HoldsPairs period d ps t = (others : List Flowed) × (t.rows ≡ rows_of (quarte
 abbrev pub HoldsBoth : Periods → (Direction → List Pair) → Table → Type 0
 HoldsBoth period ps t = (others : List Flowed) × (t.rows ≡ rows_of (both_quartered period ps ++ others))
 
--- What pairs add up to: no more than so many differences can.
+-- The sum of pairs: no more than so many differences can have.
 pub record IsSumOf (ps : List Pair) (e : Energy) : Type 0 where
   pub is : e ≡ energy_over ps
   pub up : e.up ≤ greatest_reading * length ps
   pub down : e.down ≤ greatest_reading * length ps
 
--- The count of work grew, by so much at most.
+-- The count of work grew by at most so much.
 pub record IsWork (most old new : ℕ) : Type 0 where
   pub bound : new ≤ old + most
   pub grows : old ≤ new

@@ -20,11 +20,11 @@ use Rattle.station_ledger.specs.declared.by_moment.Moved.{Moved}
 use Rattle.station_ledger.specs.ByMoment.{bare, bare_one, listed_of, put_each, take_each, ArePuttable}
 use Rattle.station_ledger.specs.Quarters.{HasRoom, IsAdded, IsTaken, IsWithout, IsWork, quartered, readings_at}
 
--- Tells whether a reading is of the event of a number.
+-- Whether a reading belongs to the event of this number.
 abbrev pub own_timed : ℕ → Timed → Bool
 own_timed seq t = number_of t.0 == seq
 
--- What the pairs of a direction and others add up to is no more than so many readings can show, in each part.
+-- The sums of a direction's pairs and of others are, in each part, no more than so many readings can show.
 pub record AreFew (most : ℕ) (d : Direction) (e : Energy) (rest : List Flowed) : Type 0 where
   pub up : (flows_toward d e).flow.up + (total rest).flow.up ≤ greatest_reading * most
   pub down : (flows_toward d e).flow.down + (total rest).flow.down ≤ greatest_reading * most
@@ -35,7 +35,8 @@ pub record AreFew (most : ℕ) (d : Direction) (e : Energy) (rest : List Flowed)
 abbrev pub pairs_among : List Timed → List Pair
 pairs_among ts = followed (bare ts)
 
--- An event's readings by rank, none of which is among the others of their owner; and quarters of these pairs of the owner and the rest.
+-- An event's readings by rank, none of them among the others of their owner; and the rows of the
+-- owner's pairs and the rest.
 pub record AreApart (o seq : ℕ) (period : Periods) (d : Direction) (readings others : List Timed) (ps : List Pair) (t : Table) (rest : List Flowed) : Type 0 where
   pub owned_by : AllByRecursion (λ r. owner_of r.0 ≡ o) readings
   pub own : AreOwn (own_timed seq) readings
@@ -48,7 +49,8 @@ pub record AreApart (o seq : ℕ) (period : Periods) (d : Direction) (readings o
   pub few_rows : t.capacity ≤ most_readings
   pub few : AreFew most_readings d (energy_over ps) rest
 
--- The quarters have other pairs of the owner in place of these, and what went and came tells the difference.
+-- The rows have other pairs of the owner in place of these; the energies that went and came are the
+-- difference.
 pub record AreExchanged (period : Periods) (d : Direction) (old new : List Pair) (rest : List Flowed) (next : Table) (m : Moved) : Type 0 where
   pub rows : next.rows ≡ rows_of (quartered period d new ++ rest)
   pub up : (energy_over new).up + m.less.up ≡ (energy_over old).up + m.more.up
@@ -56,14 +58,14 @@ pub record AreExchanged (period : Periods) (d : Direction) (old new : List Pair)
   pub more_up : m.more.up ≤ greatest_reading * (2 * most_event_readings)
   pub more_down : m.more.down ≤ greatest_reading * (2 * most_event_readings)
 
--- Some pairs of a direction were taken out of the quarters, and then others added.
+-- Some pairs of a direction were taken out of the rows, and then others added.
 pub record AreSwapped (period : Periods) (d : Direction) (gone came : List Pair) (old new : Table) (before after : ℕ) (m : Moved) : Type 0 where
   pub left : Table
   pub meanwhile : ℕ
   pub taken : IsTaken period d gone old left before meanwhile m.less
   pub added : IsAdded period d came left new meanwhile after m.more
 
--- The pair across a gap between two readings, where there are both.
+-- The pair across a gap between two readings, if both are there.
 abbrev pub gap_pairs : Option Timed → Option Timed → List Pair
 gap_pairs before behind = across (bare_one before) (bare_one behind)
 
@@ -71,7 +73,7 @@ gap_pairs before behind = across (bare_one before) (bare_one behind)
 abbrev pub run_pairs : Option Timed → List Timed → Option Timed → List Pair
 run_pairs before run behind = pairs_between (bare_one before) (bare run) (bare_one behind)
 
--- Once these pairs of a direction are taken out, the quarters have room for so many.
+-- After these pairs of a direction are taken out, the table has room for so many.
 abbrev pub HasRoomWithout : Periods → Direction → List Pair → ℕ → Table → Type 0
 HasRoomWithout period d gone more t = (left : Table) → IsWithout (quartered period d gone) t left → HasRoom more left
 
@@ -79,15 +81,18 @@ HasRoomWithout period d gone more t = (left : Table) → IsWithout (quartered pe
 abbrev pub with_readings : ℕ → List Timed → TimedReadings → List Timed
 with_readings o readings index = put_each readings (owned o index.entries)
 
--- An event's readings are none of their owner's in an index, and the quarters have the pairs that these make, and the rest.
+-- An event's readings are not among their owner's in an index; the rows have the pairs that the owner's make, and the
+-- rest.
 abbrev pub AreToCome : ℕ → ℕ → Periods → Direction → List Timed → TimedReadings → Table → List Flowed → Type 0
 AreToCome o seq period d readings index t rest = AreApart o seq period d readings (owned o index.entries) (pairs_among (owned o index.entries)) t rest
 
--- An event's readings are none of their owner's in an index, and the quarters have the pairs that these make with them, and the rest.
+-- An event's readings are not among their owner's in an index; the rows have the pairs that the
+-- owner's make with them, and the rest.
 abbrev pub AreToGo : ℕ → ℕ → Periods → Direction → List Timed → TimedReadings → Table → List Flowed → Type 0
 AreToGo o seq period d readings index t rest = AreApart o seq period d readings (owned o index.entries) (pairs_among (with_readings o readings index)) t rest
 
--- The pairs that an owner's readings make with an event's came in place of those without them, for one difference a reading of the event, and two a run of them.
+-- The pairs that an owner's readings make with an event's came in place of those without them, with
+-- at most one difference for each reading of the event and two for each run of them.
 pub record HaveCome (o seq : ℕ) (period : Periods) (d : Direction) (readings : List Timed) (index : TimedReadings) (rest : List Flowed) (next : Table) (w v : ℕ) (m : Moved) : Type 0 where
   pub moved : AreExchanged period d (pairs_among (owned o index.entries)) (pairs_among (with_readings o readings index)) rest next m
   pub work : IsWork (length readings + 2 * runs (own_timed seq) (with_readings o readings index)) w v
@@ -97,11 +102,11 @@ pub record HaveGone (o seq : ℕ) (period : Periods) (d : Direction) (readings :
   pub moved : AreExchanged period d (pairs_among (with_readings o readings index)) (pairs_among (owned o index.entries)) rest next m
   pub work : IsWork (length readings + 2 * runs (own_timed seq) (with_readings o readings index)) w v
 
--- Of whichever event the readings are, and whatever the rest is: where they are to come, they have come.
+-- For any event with these readings, and any rest: if they can come, they have come.
 abbrev pub TheyCome : Periods → Direction → List Timed → TimedReadings → Table → Table → ℕ → ℕ → Moved → Type 0
 TheyCome period d readings index t u w v m = (o seq : ℕ) (rest : List Flowed) → AreToCome o seq period d readings index t rest → HaveCome o seq period d readings index rest u w v m
 
--- Of whichever event the readings are, and whatever the rest is: where they are to go, they have gone.
+-- For any event with these readings, and any rest: if they can go, they have gone.
 abbrev pub TheyGo : Periods → Direction → List Timed → TimedReadings → Table → Table → ℕ → ℕ → Moved → Type 0
 TheyGo period d readings index t u w v m = (o seq : ℕ) (rest : List Flowed) → AreToGo o seq period d readings index t rest → HaveGone o seq period d readings index rest u w v m
 
@@ -117,11 +122,12 @@ with_listed slot d chains key index = put_each (listed_of slot d chains key) (si
 abbrev pub without_listed : ℕ → Direction → Chained → KeyName → TimedReadings → TimedReadings
 without_listed slot d chains key index = record index { entries = take_each (listed_of slot d chains key) index.entries }
 
--- An event's readings of a direction are none of a side, and the quarters have these pairs of the side and the rest.
+-- An event's readings of a direction are not in a side; the rows have these pairs of the side, and the rest.
 abbrev pub IsSide : ℕ → Periods → Direction → Chained → KeyName → List Timed → List Pair → Table → List Flowed → Type 0
 IsSide slot period d chains key others ps t rest = AreApart (owner slot d) key.seq period d (listed_of slot d chains key) others ps t rest
 
--- The most differences that they evaluate: one for each, and two for each run in which they stand.
+-- The most differences that they evaluate: one for each reading, and two for each run that they
+-- form.
 abbrev pub most_listed : ℕ → Direction → Chained → KeyName → TimedReadings → ℕ
 most_listed slot d chains key index = length (listed_of slot d chains key) + 2 * runs (own_timed key.seq) (with_listed slot d chains key index)
 

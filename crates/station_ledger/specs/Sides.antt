@@ -19,6 +19,6 @@ sides_across place d = across (in_direction d place).before (in_direction d plac
 abbrev pub sides_between : ByDirection Sides → Chained → KeyName → Direction → List Pair
 sides_between place chains key d = pairs_between (in_direction d place).before (readings_at d chains key) (in_direction d place).behind
 
--- Tells whether there is a reading.
+-- Whether there is a reading.
 abbrev pub has_some : List MeterReading → Bool
 has_some rs = is_some (first_reading rs)

@@ -18,13 +18,14 @@ use Rattle.station_ledger.specs.Quarters.{readings_at}
 use Rattle.ledger_model.specs.declared.answer.Answer.{Answer}
 use Rattle.ledger_model.specs.declared.answer.Answer.TheVariants.{Accepted, Repeat, Refused}
 
--- The count of work only grows, and stays where nothing was accepted.
+-- The count of work only grows, and stays the same if nothing was accepted.
 abbrev pub IsSpent : Answer → ℕ → ℕ → Type 0
 IsSpent (Accepted n) before after = before ≤ after
 IsSpent Repeat before after = after ≡ before
 IsSpent (Refused why) before after = after ≡ before
 
--- The most differences that come and go with an event of these readings: two more than it has of each direction, and none in a direction of which it has none.
+-- The most differences that come and go with an event of these readings: two more than it has
+-- readings of each direction, and none in a direction without a reading.
 abbrev pub most_with : List MeterReading → ℕ
 most_with rs = most_for (length (toward Import rs)) + most_for (length (toward Export rs))
 
@@ -32,12 +33,13 @@ most_with rs = most_for (length (toward Import rs)) + most_for (length (toward E
 abbrev pub most_at : Chained → KeyName → ℕ
 most_at chains key = most_for (length (readings_at Import chains key)) + most_for (length (readings_at Export chains key))
 
--- The most differences that come and go with a stored event, 0 where there is none.
+-- The most differences that come and go with a stored event, 0 if there is none.
 abbrev pub most_under : Option Stored → ℕ
 most_under None = 0
 most_under (Some s) = most_with s.event.readings
 
--- The most differences of a direction that come and go with the live event of a key, its readings taken by moment: one for each of them, and two for each run in which they stand.
+-- The most differences of a direction that come and go with the live event of a key, its readings
+-- taken by moment: one for each of them, and two for each run that they form.
 abbrev pub most_by_moment : Direction → KeyName → List Entry → ℕ
 most_by_moment d key es = length (filter (is_own key.seq) (numbered_by Moment d key.tx es)) + 2 * runs_of Moment d key es
 
@@ -45,17 +47,18 @@ most_by_moment d key es = length (filter (is_own key.seq) (numbered_by Moment d 
 abbrev pub most_in_runs : KeyName → List Entry → ℕ
 most_in_runs key es = most_by_moment Import key es + most_by_moment Export key es
 
--- The most for the live event of a key that the chains have more.
+-- The most for the live event of a key that came to the chains.
 abbrev pub most_more : Order → Chained → KeyName → ℕ
 most_more Sequence chains key = most_at chains key
 most_more Moment chains key = most_in_runs key (stored chains)
 
--- The most for one that they have no more, which stood among these.
+-- The most for one of these events that the chains no longer have.
 abbrev pub most_less : Order → Chained → KeyName → List Entry → ℕ
 most_less Sequence chains key es = most_at chains key
 most_less Moment chains key es = most_in_runs key es
 
--- The most differences that a command may evaluate: those of the event that it delivers, voids or restores, and none for an erasure.
+-- The most differences that a command may evaluate: those of the event that it delivers, voids or restores, and none
+-- for an erasure.
 unfoldable pub most_spent : Order → FinMap key_cmp Stored → Command → ℕ
 most_spent Sequence events (Deliver key event) = most_with event.readings
 most_spent Sequence events (Void key) = most_under (finite.get events key)

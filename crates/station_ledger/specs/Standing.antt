@@ -1,4 +1,4 @@
--- What is kept of a transaction with a live event.
+-- The standing of a transaction with a live event.
 use Rattle.std.specs.Prelude.{ℕ, Bool, true, false, ◌&&◌, ◌==◌, if◌then◌else◌, List, Option, None, Some, length, slice_get, unwrap_or}
 use Rattle.energy_flow.specs.Flow.{Energy}
 use Rattle.ledger_model.specs.Content.{Entry, live_of}
@@ -24,28 +24,29 @@ standing_with flow export tx es = record {
   export = export;
 }
 
--- A transaction's standing with these energies, where it has a live event.
+-- A transaction's standing with these energies, if it has a live event.
 abbrev pub kept_with : Energy → Energy → List ℕ → List Entry → Option Standing
 kept_with flow export tx es = if length (live_of tx es) == 0 then None else Some (standing_with flow export tx es)
 
--- A transaction's standing with its energies, its readings in an order.
+-- A transaction's standing with its energies, with its readings in the given order.
 abbrev pub standing_by : Order → List ℕ → List Entry → Standing
 standing_by order tx es = standing_with (energy_of_by order Import tx es) (energy_of_by order Export tx es) tx es
 
--- What is kept of a transaction, its readings in an order: its standing with its energies, where it has a live event.
+-- What the ledger keeps of a transaction, with its readings in the given order: its standing with its energies, if it
+-- has a live event.
 abbrev pub kept_of : Order → List ℕ → List Entry → Option Standing
 kept_of order tx es = kept_with (energy_of_by order Import tx es) (energy_of_by order Export tx es) tx es
 
--- Tells whether the first kind is Started.
+-- Whether the first kind is Started.
 abbrev pub is_started : Option Kind → Bool
 is_started (Some Started) = true
 is_started _ = false
 
--- Tells whether the last kind is Ended.
+-- Whether the last kind is Ended.
 abbrev pub is_ended : Option Kind → Bool
 is_ended (Some Ended) = true
 is_ended _ = false
 
--- Tells whether events start and end, by the first kind, the last, and how many are either.
+-- Whether events start and end, by the first kind, the last, and how many are either.
 abbrev pub starts_and_ends_by : Option Kind → Option Kind → ℕ → Bool
 starts_and_ends_by first last ends = (ends == 2) && (is_started first && is_ended last)

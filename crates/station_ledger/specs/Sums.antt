@@ -1,4 +1,4 @@
--- What is kept of a station's live events, so that no figure needs a walk.
+-- The sums over a station's live events.
 use Rattle.std.specs.Prelude.{◌≡◌, ℕ, ◌+◌, ◌<◌, ◌≤◌, Bool, false, not, List, Option, None, Some, All, IfSome, length, count_by, sum_by}
 use Rattle.std.specs.List.{filter}
 use Rattle.std.specs.Ordering.{eq_by_cmp}
@@ -42,7 +42,7 @@ use Rattle.event_chain.specs.declared.around.Sides.{Sides}
 use Rattle.station_ledger.specs.Sides.{has_some}
 use Rattle.station_ledger.specs.Standing.{kept_of}
 
--- Each transaction with a live event is kept, and no other.
+-- Each transaction with a live event has a standing, and no other.
 pub record AreStanding (order : Order) (limits : Bounds) (es : List Entry) (kept : Mapped Standing) : Type 0 where
   pub each : (tx : List ℕ) → find id_cmp tx kept.rows ≡ kept_of order tx es
   pub rising : AreRising kept.rows
@@ -54,19 +54,19 @@ pub record AreEvseSums (order : Order) (es : List Entry) (evses : List EvseSum) 
   pub all : length evses ≡ greatest_evse + 1
   pub each : (n : ℕ) → n ≤ greatest_evse → sum_at evses n ≡ evse_sum order n es
 
--- The rows of the quarters, by periods of so many seconds.
+-- The rows of the settlement periods of so many seconds.
 pub record AreQuarterRows (order : Order) (limits : Bounds) (es : List Entry) (period : Periods) (quarters : Table) : Type 0 where
   pub rows : quarters.rows ≡ rows_of (station_flows_by order period es)
   pub room : quarters.capacity ≡ limits.readings
 
--- The figures but for the energy and the voided events.
+-- The figures without the energies and the voided events.
 pub record AreCounts (es : List Entry) (f : Figures) : Type 0 where
   pub events : f.events ≡ length (live es)
   pub transactions : f.transactions ≡ length (transactions_of (live es))
   pub complete : f.complete ≡ count_by (λ tx. is_complete tx es) (transactions_of (live es))
   pub missing_are : f.missing ≡ sum_by (λ tx. missing (numbers_of tx es)) (transactions_of (live es))
 
--- The order in which the readings of a transaction are summed: by moment where they are kept so.
+-- The order in which the readings of a transaction are summed: by moment if they are kept so.
 abbrev pub order_of : Option ByMoment → Order
 order_of None = Sequence
 order_of (Some b) = Moment
@@ -74,7 +74,7 @@ order_of (Some b) = Moment
 abbrev pub order_in : Sums → Order
 order_in sums = order_of sums.by_moment
 
--- All sums of these events within these limits, but for the count of voided ones.
+-- All sums of these events within these limits, except for the count of voided ones.
 pub record AreSummed (limits : Bounds) (es : List Entry) (sums : Sums) : Type 0 where
   pub standing : AreStanding (order_in sums) limits es sums.kept
   pub at_evses : AreEvseSums (order_in sums) es sums.evses.items
@@ -83,12 +83,13 @@ pub record AreSummed (limits : Bounds) (es : List Entry) (sums : Sums) : Type 0 
   pub counts : AreCounts es sums.figures
   pub timed : IfSome sums.by_moment (AreByMoment limits es)
 
--- The rows with that of a transaction written, or taken out where nothing is kept of it.
+-- The rows with a transaction's standing written, or taken out if it has none.
 abbrev pub keep : List ℕ → Option Standing → List (List ℕ × Standing) → List (List ℕ × Standing)
 keep tx None rows = filter (λ r. not (eq_by_cmp id_cmp tx r.0)) rows
 keep tx (Some s) rows = put id_cmp tx s rows
 
--- One live event more stands in the chains than among these, which may name an EVSE or not: its key, and the readings on either side of its place in each direction of which it has one.
+-- The chains have one more live event than these events; it may name an EVSE. Given are its key,
+-- and the readings on either side of its place in each direction in which it has a reading.
 pub record IsToCome (es : List Entry) (chains : Chained) (key : KeyName) (place : ByDirection Sides) (names : Bool) : Type 0 where
   pub event : Stored
   pub one : IsOneMore es (stored chains) (before_key key es) (key, event) (behind_key key es)
@@ -97,7 +98,7 @@ pub record IsToCome (es : List Entry) (chains : Chained) (key : KeyName) (place 
   pub few : length event.event.readings ≤ most_event_readings
   pub evse : names ≡ false → event.event.evse ≡ None
 
--- One live event of these stands in the chains no more.
+-- The chains no longer have one live event of these.
 pub record IsToGo (es : List Entry) (chains : Chained) (key : KeyName) (place : ByDirection Sides) : Type 0 where
   pub event : Stored
   pub one : IsOneMore (stored chains) es (before_key key es) (key, event) (behind_key key es)
@@ -117,13 +118,13 @@ pub record AreAllowed (order : Order) (limits : Bounds) (es : List Entry) : Type
   pub most_events_within : limits.events ≤ most_events
   pub most_readings_within : limits.readings ≤ most_readings
 
--- The sums are those of allowed events, and one live event more stands in the chains.
+-- The sums are those of allowed events, and the chains have one more live event.
 pub record AreGrowing (es : List Entry) (chains : Chained) (key : KeyName) (place : ByDirection Sides) (names : Bool) (sums : Sums) : Type 0 where
   pub allowed : AreAllowed (order_in sums) chains.limits es
   pub come : IsToCome es chains key place names
   pub summed : AreSummed chains.limits es sums
 
--- The sums are those of allowed events, and one live event of these stands in the chains no more.
+-- The sums are those of allowed events, and the chains no longer have one live event of these.
 pub record AreShrinking (es : List Entry) (chains : Chained) (key : KeyName) (place : ByDirection Sides) (sums : Sums) : Type 0 where
   pub allowed : AreAllowed (order_in sums) chains.limits es
   pub go : IsToGo es chains key place
@@ -138,7 +139,7 @@ pub record CanReplace (tx : List ℕ) (change : Change) (sums : Sums) : Type 0 w
   pub room : HaveRoom change.is sums.figures
   pub counts : DoCount change.was (with_figures change.is sums.figures)
 
--- What is kept of it, the sum of its EVSE and the figures follow the change.
+-- Its standing, the sum of its EVSE and the figures follow the change.
 pub record IsReplaced (tx : List ℕ) (change : Change) (old new : Sums) : Type 0 where
   pub kept : new.kept.rows ≡ keep tx change.is old.kept.rows
   pub room : new.kept.capacity ≡ old.kept.capacity
@@ -150,7 +151,7 @@ pub record IsReplaced (tx : List ℕ) (change : Change) (old new : Sums) : Type 
   pub energies : new.energies ≡ old.energies
   pub by_moment : new.by_moment ≡ old.by_moment
 
--- Quarters alone changed, and readings by moment, where they are kept so.
+-- Only the rows of periods changed, and the readings by moment if they are kept so.
 pub record ArePairsMoved (old new : Sums) : Type 0 where
   pub kept : new.kept ≡ old.kept
   pub evses : new.evses ≡ old.evses

@@ -7,7 +7,7 @@ use energy_flow::Flow;
 use ledger_model::{EvseId, Figures, Listed, Periods, Quarter, TxId};
 use std::marker::Model;
 
-/// An EVSE of a station, 0 where none was named, with the energies of its transactions.
+/// An EVSE of a station, 0 for no EVSE, with the energies of its transactions.
 #[derive(Clone, Copy, Debug, PartialEq, Eq)]
 pub struct EvseLine {
     evse: EvseId,
@@ -57,7 +57,8 @@ impl EvseLine {
     }
 }
 
-/// A quarter of a station that has a pair of readings of either direction, with its energies.
+/// A settlement period of a station that has a pair of readings of either direction, with its
+/// energies.
 #[derive(Clone, Copy, Debug, PartialEq, Eq)]
 pub struct QuarterLine {
     quarter: Quarter,
@@ -76,7 +77,7 @@ impl Model for QuarterLine {
 }
 
 impl QuarterLine {
-    /// The line of this quarter and these energies: imported, and exported.
+    /// The line of this period and these energies: imported, and exported.
     pub fn new(quarter: Quarter, flow: Flow, export: Flow) -> Self
         ensures quarter { result.0 ≡ quarter }
         ensures flow { result.1.flow ≡ flow }
@@ -89,7 +90,7 @@ impl QuarterLine {
         }
     }
 
-    /// The quarter.
+    /// The settlement period.
     pub fn quarter(self) -> Quarter
         ensures { result ≡ self.0 }
     {
@@ -145,7 +146,7 @@ impl TxLine {
         &self.tx
     }
 
-    /// Its EVSE, 0 where no live event names one.
+    /// Its EVSE, 0 if no live event names one.
     pub fn evse(&self) -> EvseId
         ensures { result ≡ self.now.evse }
     {
@@ -175,8 +176,8 @@ impl TxLine {
         self.last
     }
 
-    /// Tells whether it is complete: its lowest live event alone is Started, its highest alone Ended,
-    /// and no number is missing.
+    /// Returns whether it is complete: its lowest live event is Started, its highest is Ended, no
+    /// other is either, and no number is missing.
     pub fn is_complete(&self) -> bool
         ensures { result ≡ self.now.complete }
     {
@@ -206,7 +207,7 @@ impl TxLine {
         self.export
     }
 
-    /// The ranges of missing sequence numbers, each with its first and its last, rising.
+    /// The ranges of missing sequence numbers, each with its first and its last, in rising order.
     pub fn gaps(&self) -> &[(u32, u32)]
         ensures { result.now ≡ self.now.gaps }
     {
@@ -221,8 +222,8 @@ impl TxLine {
     }
 }
 
-/// The board of a station: its settlement period; its figures; its EVSEs and its quarters with their energies, rising; and its
-/// transactions with a live event, by the bytes of their ids.
+/// The board of a station: the length of its settlement periods; its figures; its EVSEs and its periods with their
+/// energies, in rising order; and its transactions with a live event, by the bytes of their ids.
 #[derive(Debug, Drop)]
 pub struct StationBoard {
     pub(crate) period: Periods,
@@ -258,8 +259,8 @@ impl StationBoard {
         self.figures
     }
 
-    /// The EVSEs that have a transaction with a live event, rising. None has more energy than the
-    /// readings of one station can show.
+    /// The EVSEs that have a transaction with a live event, in rising order. None has more energy
+    /// than the readings of one station can show.
     pub fn evses(&self) -> &[EvseLine]
         ensures value { result.now ≡ self.now.evses }
         ensures range { All (λ line. AreStationFlows line.1) result.now }
@@ -268,7 +269,7 @@ impl StationBoard {
     }
 
     /// The quarters that have a pair of readings, rising, each of the length of the board's periods. None has
-    /// more energy than the readings of one station can show.
+    /// length. None has more energy than the readings of one station can show.
     pub fn quarters(&self) -> &[QuarterLine]
         ensures value { result.now ≡ self.now.quarters }
         ensures range { All (λ line. AreStationFlows line.1) result.now }
@@ -284,7 +285,7 @@ impl StationBoard {
         self.transactions.as_slice()
     }
 
-    /// The vectors of the EVSEs, the quarters and the transactions.
+    /// The vectors of the EVSEs, the periods and the transactions.
     pub fn into_lists(self) -> (Vec<EvseLine>, Vec<QuarterLine>, Vec<TxLine>)
         ensures evses { result.0.items ≡ self.evses }
         ensures quarters { result.1.items ≡ self.quarters }

@@ -1,4 +1,4 @@
-//! The live readings of a station by moment, and what one event moves among their pairs.
+//! The live readings of a station by moment, and how one event changes their pairs.
 ghost use Rattle.std.specs.Prelude.{◌≡◌, ◌≤◌, ◌<◌, ◌+◌, ◌*◌, ◌^◌, ℕ, List, [], None, IfOk, drop, length, take, vec_capacity, vec_len};
 ghost use Rattle.event_chain.specs.Chains.{stored};
 ghost use Rattle.event_chain.specs.Table.{row_of, AreSlotted};
@@ -40,7 +40,7 @@ fn reading_of(entry: &Option<KeyedReading>) -> Option<Reading>
     }
 }
 
-// Tells whether a key comes in front of an entry, or there is none.
+// Returns whether a key comes in front of an entry, or there is no entry.
 fn is_in_front(reading: &KeyedReading, behind: &Option<KeyedReading>) -> bool
     ensures { result ≡ fits behind.now reading.now }
 {
@@ -64,8 +64,8 @@ fn count_in_front(readings: &[KeyedReading], behind: &Option<KeyedReading>) -> u
     readings.len()
 }
 
-// Adds the pairs that readings in a row make with one another and with those on either side, and answers
-// what they add up to.
+// Adds the pairs that readings in a row make with one another and with those on either side, and returns
+// their sums.
 pub(crate) fn add_row(
     quarters: &mut QuarterTable,
     period: Periods,
@@ -92,7 +92,7 @@ pub(crate) fn add_row(
     total.plus(flow)
 }
 
-// Takes out the pairs that readings in a row make, and answers what they add up to.
+// Takes out the pairs that readings in a row make, and returns their sums.
 pub(crate) fn take_row(
     quarters: &mut QuarterTable,
     period: Periods,
@@ -148,8 +148,8 @@ pub(crate) fn take_all(index: &mut ReadingIndex, readings: &[KeyedReading])
     }
 }
 
-// How many readings of a list by rising rank come in front of a key, searched for from the end: the readings
-// of an event nearly always rise.
+// How many readings of a list by rising rank come in front of a key, searched from the end, since the
+// readings of an event nearly always rise.
 fn place_of(listed: &[KeyedReading], key: MomentKey) -> usize
     requires ranked { AreRising listed.now }
     ensures within { result ≤ length listed.now }
@@ -174,7 +174,7 @@ fn enter(listed: &mut Vec<KeyedReading>, entry: KeyedReading)
     ensures capacity { vec_capacity listed.old ≤ vec_capacity listed.new }
 {
     let at = place_of(listed, entry.0);
-    // There is room, so that nothing is asked for.
+    // There is room, so this asks for no memory.
     match listed.insert(at, entry) {
         Ok(()) => (),
         Err(_) => unreachable!(),
@@ -206,14 +206,14 @@ pub(crate) fn list(
     }
 }
 
-// What went of the pairs of a direction, and what came.
+// The energies of a direction's pairs that went, and of those that came.
 #[derive(Clone, Copy)]
 pub(crate) struct Moved {
     pub(crate) less: Flow,
     pub(crate) more: Flow,
 }
 
-// Takes the pair across a gap back, and adds those that a run of readings makes in it.
+// Takes out the pair across a gap, and adds those that a run of readings makes in it.
 fn fill_gap(
     quarters: &mut QuarterTable,
     period: Periods,
@@ -282,8 +282,8 @@ fn clear_gap(
     Moved { less, more }
 }
 
-// Takes back the pairs across the places of an event's readings, which are not in the index, and adds those
-// that they make there.
+// Takes out the pairs across the places of an event's readings, and adds the pairs that the readings make
+// there. The readings are not in the index.
 fn come(
     index: &ReadingIndex,
     quarters: &mut QuarterTable,
@@ -312,8 +312,8 @@ fn come(
     Moved { less, more }
 }
 
-// Takes out the pairs that an event's readings, which are no more in the index, made, and adds those across
-// their places.
+// Takes out the pairs that an event's readings made, and adds those across their places. The readings are
+// no longer in the index.
 fn go(
     index: &ReadingIndex,
     quarters: &mut QuarterTable,
@@ -387,7 +387,7 @@ fn take_side(
     go(index, quarters, period, direction, listed, work)
 }
 
-// The slot of a transaction; where it has none, one is given.
+// The slot of a transaction; if it has none, it gets one.
 fn slot_of(slots: &mut TransactionTable, tx: &TxId) -> u32
     requires { row_of tx.now slots.old.rows ≡ None → length slots.old.rows < slots.old.capacity }
     ensures given { IsSlotGiven tx.now slots.old slots.new result }
@@ -399,7 +399,7 @@ fn slot_of(slots: &mut TransactionTable, tx: &TxId) -> u32
     }
 }
 
-// What went and came in each direction.
+// The energies that went and came in each direction.
 fn exchange_of(import: Moved, export: Moved) -> Exchange
     ensures less { result.less ≡ record { import = import.less; export = export.less } }
     ensures more { result.more ≡ record { import = import.more; export = export.more } }
@@ -426,14 +426,14 @@ pub(crate) struct ByMoment {
     pub(crate) listed: Vec<(MomentKey, Reading)>,
 }
 
-// What went and what came, in each direction.
+// The energies that went and those that came, in each direction.
 pub(crate) struct Exchange {
     pub(crate) less: Energies,
     pub(crate) more: Energies,
 }
 
 impl ByMoment {
-    // No readings, with room for those of these limits.
+    // No readings, with room for as many as these limits allow.
     pub(crate) fn open(alloc: Global, limits: &Limits) -> Result<Self, AllocError>
         ensures { IfOk result (AreByMoment limits.now []) }
     {
@@ -445,7 +445,7 @@ impl ByMoment {
     }
 }
 
-// Puts in the readings of a live event that the chains have more, and their pairs.
+// Puts in the readings, and their pairs, of a live event that the chains already have.
 pub(crate) fn put_event(
     chains: &Chains,
     by_moment: &mut ByMoment,
@@ -486,7 +486,7 @@ pub(crate) fn put_event(
     exchange_of(import, export)
 }
 
-// Takes out the readings of a live event that the chains have no more, and their pairs.
+// Takes out the readings, and their pairs, of a live event that the chains no longer have.
 pub(crate) fn take_event(
     chains: &Chains,
     by_moment: &mut ByMoment,

@@ -3,7 +3,7 @@ ghost use Rattle.std.specs.Prelude.{◌≡◌};
 use key_index::KeyPlace;
 use ledger_model::Answer;
 
-/// What a ledger answers to a command, and where the command's key stands or belongs, as a hint that saves a search.
+/// What a ledger answers to a command, and where the command's key is or belongs: a hint that saves a search.
 #[derive(Drop)]
 pub struct Judgement {
     /// The answer.
@@ -12,7 +12,7 @@ pub struct Judgement {
 }
 
 impl Judgement {
-    // An answer for which no place was sought.
+    // An answer that needed no search for a place.
     pub(crate) fn without_place(answer: Answer) -> Judgement
         ensures { result.answer ≡ answer }
     {

@@ -85,7 +85,8 @@ impl StationLedger {
         self.judgement(command).answer
     }
 
-    /// What [`StationLedger::judge`] answers, for [`StationLedger::apply_judged`]; nothing changes.
+    /// The answer of [`StationLedger::judge`] with a hint, for [`StationLedger::apply_judged`];
+    /// nothing changes.
     pub fn judgement(&self, command: &Command) -> Judgement
         ensures { IsJudged self.now.limits self.now.content command.now result.answer }
     {
@@ -125,7 +126,7 @@ impl StationLedger {
         }
     }
 
-    // The answer to an event of this transaction under a new key, with so many readings.
+    // The answer to an event of this transaction under a new key, with this many readings.
     fn judge_new(&self, tx: &TxId, readings: usize) -> Answer
         requires { readings ≤ most_event_readings }
         ensures { result ≡ answer_to_new self.now.limits self.now.content tx.now readings }
@@ -149,7 +150,7 @@ impl StationLedger {
         }
     }
 
-    // The answer to a command that only a voided event takes.
+    // The answer to a command that only a voided event allows.
     fn judge_voided(&self, key: &Key) -> Answer
         ensures { result ≡ answer_to_voided self.now.limits self.now.content (finite.get self.now.content.events key.now) }
     {
@@ -171,8 +172,8 @@ impl StationLedger {
         }
     }
 
-    /// Takes the command and answers it: an accepted command changes the content, and any other answer
-    /// changes nothing. Each difference that is evaluated is counted in `work`.
+    /// Takes the command and returns the answer. An accepted command changes the content; any other
+    /// answer changes nothing. `work` counts each difference that is evaluated.
     pub fn apply(&mut self, command: Command, work: &mut Work) -> Answer
         ensures answer { result ≡ answer self.old.limits self.old.content command }
         ensures content { self.new ≡ record self.old { content = (step self.old.limits self.old.content command).0 } }
@@ -185,7 +186,7 @@ impl StationLedger {
         self.apply_judged(command, judgement, work)
     }
 
-    /// Takes the command as [`StationLedger::apply`] does, where it was judged already.
+    /// Takes a command that was judged already, as [`StationLedger::apply`] does.
     ///
     /// Condition: this is the judgement of the command by what the ledger holds now
     /// ([`StationLedger::judgement`] gives it).
@@ -210,16 +211,16 @@ impl StationLedger {
         }
     }
 
-    /// What the import register rose and fell by over all transactions, in milliwatt-hours; no reading
-    /// is compared.
+    /// The rises and falls of the import register over all transactions, in milliwatt-hours. No
+    /// reading is compared.
     pub fn energy(&self) -> Flow
         ensures { result ≡ energy_by self.now.order Import (entries self.now.content) }
     {
         self.sums.energies.import
     }
 
-    /// What the export register rose and fell by over all transactions, in milliwatt-hours; no reading
-    /// is compared.
+    /// The rises and falls of the export register over all transactions, in milliwatt-hours. No
+    /// reading is compared.
     pub fn export(&self) -> Flow
         ensures { result ≡ energy_by self.now.order Export (entries self.now.content) }
     {
@@ -241,23 +242,24 @@ impl StationLedger {
         }
     }
 
-    /// What the import register rose and fell by over the transactions of an EVSE, in milliwatt-hours.
-    /// EVSE 0 has the transactions of which no live event names one.
+    /// The rises and falls of the import register over the transactions of an EVSE, in
+    /// milliwatt-hours. EVSE 0 has the transactions without a live event that names one.
     pub fn evse(&self, evse: EvseId) -> Flow
         ensures { result ≡ energy_at_by self.now.order Import evse (entries self.now.content) }
     {
         self.sums.evses[usize::from(evse.number())].flow
     }
 
-    /// What the export register rose and fell by over the transactions of an EVSE, in milliwatt-hours.
+    /// The rises and falls of the export register over the transactions of an EVSE, in
+    /// milliwatt-hours.
     pub fn evse_export(&self, evse: EvseId) -> Flow
         ensures { result ≡ energy_at_by self.now.order Export evse (entries self.now.content) }
     {
         self.sums.evses[usize::from(evse.number())].export
     }
 
-    /// The board: the figures; the EVSEs and the quarters with their energy; and the transactions with
-    /// a live event, with their gaps. It alone of the calls on an open ledger takes memory.
+    /// The board: the figures; the EVSEs and the periods with their energies; and the transactions
+    /// with a live event, with their gaps. It is the only call on an open ledger that takes memory.
     pub fn board(&self, alloc: Global) -> Result<StationBoard, AllocError>
         ensures board { IfOk result (λ b. b ≡ board_by self.now.order self.now.period (entries self.now.content)) }
         ensures within { IfOk result (λ b. AreWithin self.now.limits b.figures) }
@@ -265,7 +267,7 @@ impl StationLedger {
         board_of(alloc, &self.chains, &self.sums, self.figures())
     }
 
-    /// How much of its limits it uses.
+    /// How much of each limit it uses.
     pub fn used_limits(&self) -> UsedLimits
         ensures { result ≡ used_limits self.now.content }
     {

@@ -1,4 +1,4 @@
-//! The lines of a board, from what is kept of a station's live events.
+//! The lines of a board, from the sums over a station's live events.
 ghost use Rattle.std.specs.Prelude.{◌≡◌, ◌+◌, List, Some, IfOk, length, map};
 ghost use Rattle.std.specs.FinMap.{find};
 ghost use Rattle.event_chain.specs.Chains.{stored};
@@ -23,7 +23,7 @@ use ledger_model::{EvseId, Figures, GREATEST_EVSE, Listed, TxId};
 use quarter_table::QuarterTable;
 use std::alloc::{AllocError, Global};
 
-// The lines of the quarters, rising.
+// The lines of the settlement periods, rising.
 pub(crate) fn quarter_lines(
     alloc: Global,
     quarters: &QuarterTable,
@@ -61,7 +61,7 @@ fn gaps(alloc: Global, chains: &Chains, tx: &TxId) -> Result<Vec<(u32, u32)>, Al
     Gaps::over(&chains.walk(tx)).collect(alloc)
 }
 
-// The line of a transaction that is kept.
+// The line of a transaction that has a standing.
 fn transaction_line(
     alloc: Global,
     chains: &Chains,
@@ -101,14 +101,14 @@ pub(crate) fn transaction_lines(
 {
     let mut lines = Vec::new(alloc);
     for place in 0..sums.kept.len() as usize {
-        // Each place has an id, and each id is kept.
+        // Each place has an id, and each id has a standing.
         let tx = sums.kept.id_at(place).unwrap();
         lines.push(transaction_line(alloc, chains, sums, tx)?)?;
     }
     Ok(lines)
 }
 
-// The board of what is stored, of which these are the figures.
+// The board of what is stored, with these figures.
 pub(crate) fn board_of(
     alloc: Global,
     chains: &Chains,

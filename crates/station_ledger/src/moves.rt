@@ -1,4 +1,4 @@
-//! What an accepted command does to the events and to their sums.
+//! The changes of an accepted command to the events and their sums.
 ghost use Rattle.std.specs.Prelude.{◌≡◌};
 ghost use Rattle.event_chain.specs.Chains.{stored};
 ghost use Rattle.event_chain.specs.Sides.{AreSides};
@@ -16,7 +16,7 @@ use event_chain::{Around, Carries, Chains, Sides};
 use key_index::KeyPlace;
 use ledger_model::{ByDirection, Command, Direction, Event, Key};
 
-// The readings of a direction on either side of the place of a key, where its event has any.
+// The readings of a direction on either side of the place of a key, if its event has any.
 #[inline(always)]
 fn sides(chains: &Chains, key: &Key, direction: Direction, has: Carries) -> Sides
     ensures { AreSides direction (in_direction direction has) key.now (stored chains.now) result }
@@ -31,7 +31,7 @@ fn sides(chains: &Chains, key: &Key, direction: Direction, has: Carries) -> Side
     Sides { before, behind }
 }
 
-// The readings on either side of the place of a key, in each direction of which its event has any.
+// The readings on either side of the place of a key, in each direction in which its event has any.
 fn around(chains: &Chains, key: &Key, has: Carries) -> Around
     ensures { (d : Direction) → AreSides d (in_direction d has) key.now (stored chains.now) (in_direction d result) }
 {
@@ -41,7 +41,7 @@ fn around(chains: &Chains, key: &Key, has: Carries) -> Around
     }
 }
 
-// Puts in a live event under a new key, for which there is room, at the place of the key.
+// Puts in a live event under a new key at the key's place. There is room for it.
 fn deliver(
     chains: &mut Chains,
     sums: &mut Sums,
@@ -70,7 +70,7 @@ pub(crate) fn restore(chains: &mut Chains, sums: &mut Sums, key: &Key, work: &mu
     let has = chains.carries(key);
     let place = around(chains, key, has);
     chains.relink(key);
-    // What a restored event names is not asked.
+    // Whether a restored event names an EVSE is not looked up.
     add_event(chains, sums, key, true, None, &place, work);
     sums.figures.voided -= 1;
 }
@@ -97,7 +97,7 @@ pub(crate) fn erase(chains: &mut Chains, sums: &mut Sums, key: &Key)
     sums.figures.voided -= 1;
 }
 
-// Finds a key for what is done there, where its place is not known.
+// Searches for a key, if its place is not known.
 fn seek(chains: &mut Chains, sums: &mut Sums, place: KeyPlace, key: &Key)
     ensures chains { chains.new ≡ chains.old }
     ensures sums { sums.new ≡ sums.old }
@@ -122,7 +122,7 @@ fn carry(chains: &mut Chains, sums: &mut Sums, place: KeyPlace, command: &Comman
     }
 }
 
-// Carries out a command at the place of its key, where that is known.
+// Carries out a command at the place of its key, if that is known.
 pub(crate) fn carry_out(
     chains: &mut Chains,
     sums: &mut Sums,

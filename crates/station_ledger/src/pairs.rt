@@ -1,4 +1,4 @@
-//! Pairs of readings put into the table of quarters, and taken out of it.
+//! Pairs of readings put into the table of periods, and taken out of it.
 ghost use Rattle.std.specs.Prelude.{◌≡◌, ◌≤◌, length, IfSome, Some};
 ghost use Rattle.ledger_model.specs.Deltas.{across, pairs_between};
 ghost use Rattle.ledger_model.specs.Ranges.{most_readings};
@@ -13,10 +13,10 @@ use ledger_model::{ByDirection, Direction, Key, Periods, Reading};
 use quarter_table::QuarterTable;
 use reading_decimal::settled_quarter;
 
-// What pairs of each direction add up to.
+// The sums of pairs in each direction.
 pub(crate) type Energies = ByDirection<Flow>;
 
-// Adds the pair of two readings to the quarter of the later one, and answers its difference.
+// Adds the pair of two readings to the period of the later one, and returns its difference.
 #[inline(never)]
 fn add_pair(
     quarters: &mut QuarterTable,
@@ -34,7 +34,7 @@ fn add_pair(
     flow
 }
 
-// Takes the pair of two readings out of the quarter of the later one, and answers its difference.
+// Takes the pair of two readings out of the period of the later one, and returns its difference.
 #[inline(never)]
 fn take_pair(
     quarters: &mut QuarterTable,
@@ -52,7 +52,7 @@ fn take_pair(
     flow
 }
 
-// Adds the pair of two readings where there are both, and answers its difference.
+// Adds the pair of two readings if both are there, and returns its difference.
 #[inline(always)]
 pub(crate) fn add_across(
     quarters: &mut QuarterTable,
@@ -71,7 +71,7 @@ pub(crate) fn add_across(
     }
 }
 
-// Takes the pair of two readings out where there are both, and answers its difference.
+// Takes out the pair of two readings, if both are there, and returns its difference.
 #[inline(always)]
 pub(crate) fn take_across(
     quarters: &mut QuarterTable,
@@ -93,7 +93,7 @@ pub(crate) fn take_across(
 }
 
 // Adds the pairs that the readings of the event of a key make with one another and with those on either
-// side, and answers what they add up to.
+// side, and returns their sums.
 #[inline(never)]
 fn add_stored(
     quarters: &mut QuarterTable,
@@ -151,7 +151,7 @@ fn add_listed(
 }
 
 // Adds the pairs that the readings of the event of a key make with one another and with those on either
-// side; they are these, where they are at hand.
+// side; the caller passes the readings if it has them.
 #[inline(always)]
 fn add_pairs(
     quarters: &mut QuarterTable,
@@ -176,7 +176,7 @@ fn add_pairs(
     }
 }
 
-// Takes the pairs of the readings of the event of a key out, and answers what they add up to.
+// Takes out the pairs of the readings of the event of a key, and returns their sums.
 fn take_pairs(
     quarters: &mut QuarterTable,
     period: Periods,
@@ -203,7 +203,7 @@ fn take_pairs(
     total.plus(flow)
 }
 
-// Adds the pair across a place in each direction, and answers the differences.
+// Adds the pair across a place in each direction, and returns the differences.
 pub(crate) fn add_gap(
     quarters: &mut QuarterTable,
     period: Periods,
@@ -232,7 +232,7 @@ pub(crate) fn add_gap(
     ByDirection { import, export }
 }
 
-// Takes the pair across a place out in each direction, and answers the differences.
+// Takes out the pair across a place in each direction, and returns the differences.
 pub(crate) fn take_gap(
     quarters: &mut QuarterTable,
     period: Periods,
@@ -261,8 +261,8 @@ pub(crate) fn take_gap(
     ByDirection { import, export }
 }
 
-// Adds the pairs that an event's readings, which may be at hand, make in each direction, and answers what
-// they add up to.
+// Adds the pairs that an event's readings make in each direction, and returns their sums. The caller
+// passes the readings if it has them.
 pub(crate) fn add_own(
     quarters: &mut QuarterTable,
     period: Periods,
@@ -301,7 +301,7 @@ pub(crate) fn add_own(
     ByDirection { import, export }
 }
 
-// Takes the pairs of the readings of the event of a key out, and answers what they add up to.
+// Takes out the pairs of the readings of the event of a key, and returns their sums.
 pub(crate) fn take_own(
     quarters: &mut QuarterTable,
     period: Periods,

@@ -1,4 +1,4 @@
-//! What is kept of each transaction, so that no figure needs a walk.
+//! The standing of each transaction, kept so that no figure needs a walk.
 ghost use Rattle.std.specs.Prelude.{◌≡◌, ◌<◌, ◌≤◌, false, IfSome};
 ghost use Rattle.event_chain.specs.Chains.{stored};
 ghost use Rattle.ledger_model.specs.Complete.{kinds_of, is_complete, starts_and_ends as start_and_end};
@@ -11,14 +11,14 @@ use energy_flow::Flow;
 use event_chain::Chains;
 use ledger_model::{EvseId, Kind, TxId};
 
-/// What is kept of a transaction that has a live event.
+/// What the ledger keeps of a transaction with a live event.
 #[derive(Clone, Copy, Debug, PartialEq, Eq)]
 pub struct Standing {
-    /// The number of its first live event.
+    /// Its lowest live number.
     pub first: u32,
     /// How many live events it has.
     pub live: u32,
-    /// The EVSE that its lowest live event names which names one, else 0.
+    /// The EVSE that its lowest live event with an EVSE names, else 0.
     pub evse: EvseId,
     /// Whether it is complete.
     pub complete: bool,
@@ -30,8 +30,8 @@ pub struct Standing {
     pub export: Flow,
 }
 
-// Tells whether a transaction's lowest live event is Started, its highest is Ended, and no other is
-// either.
+// Returns whether a transaction's lowest live event is Started, its highest is Ended, and no other
+// is either.
 fn starts_and_ends(events: &event_chain::TxStanding) -> bool
     ensures { result ≡ starts_and_ends_by events.now.first_kind events.now.last_kind events.now.ends }
 {
@@ -40,7 +40,7 @@ fn starts_and_ends(events: &event_chain::TxStanding) -> bool
         && matches!(events.last_kind, Some(Kind::Ended))
 }
 
-// What stands of a transaction with these energies; none where it has no live event.
+// The standing of a transaction with these energies; none if it has no live event.
 #[inline(never)]
 pub(crate) fn standing_of(chains: &Chains, tx: &TxId, energies: Energies) -> Option<Standing>
     ensures { result ≡ kept_with energies.import energies.export tx.now (stored chains.now) }
@@ -66,7 +66,7 @@ pub(crate) fn standing_of(chains: &Chains, tx: &TxId, energies: Energies) -> Opt
 // No transaction has more live events.
 const MOST_LIVE: u32 = 65_536;
 
-// Tells whether a transaction's live events start and end as they are to.
+// Returns whether a transaction's live events start and end as those of a complete transaction.
 #[inline(never)]
 fn has_ends(chains: &Chains, tx: &TxId) -> bool
     ensures { result ≡ start_and_end (kinds_of tx.now (stored chains.now)) }
@@ -77,7 +77,7 @@ fn has_ends(chains: &Chains, tx: &TxId) -> bool
     starts_and_ends(&chains.standing(tx))
 }
 
-// Tells whether a transaction is complete, where so many numbers are missing.
+// Returns whether a transaction is complete if it misses this many numbers.
 fn is_whole(chains: &Chains, tx: &TxId, lacking: u32) -> bool
     requires { lacking ≡ missing (numbers_of tx.now (stored chains.now)) }
     ensures { result ≡ is_complete tx.now (stored chains.now) }
@@ -88,14 +88,14 @@ fn is_whole(chains: &Chains, tx: &TxId, lacking: u32) -> bool
     has_ends(chains, tx)
 }
 
-// What stands of a transaction once the event of this number came, behind its first one.
+// The standing of a transaction after the event of this number came, behind its first one.
 fn one_more(chains: &Chains, tx: &TxId, seq: u32, was: Standing, energies: Energies) -> Standing
     requires less { IsOneLess was tx.now seq false (stored chains.now) }
     requires behind { was.first < seq }
     requires bounded { was.live ≤ 65536 }
     ensures { result ≡ standing_with energies.import energies.export tx.now (stored chains.now) }
 {
-    // Just behind the last number that was live before.
+    // The number just behind the last one that was live before.
     let behind = u64::from(was.first) + u64::from(was.live) + u64::from(was.missing);
     let lacking = if u64::from(seq) < behind {
         was.missing - 1
@@ -113,8 +113,8 @@ fn one_more(chains: &Chains, tx: &TxId, seq: u32, was: Standing, energies: Energ
     }
 }
 
-// What is to be kept of a transaction with one live event more, by what was kept of it, without a look at
-// its last event; where its first one came, or one that names an EVSE, by its events.
+// The standing of a transaction with one more live event, from its standing before, without a look at its
+// last event. If its first event came, or one that names an EVSE, it is made from the events.
 pub(crate) fn standing_after(
     chains: &Chains,
     tx: &TxId,

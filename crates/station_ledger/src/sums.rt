@@ -1,4 +1,4 @@
-//! What is kept of a station's live events, so that no figure needs a walk.
+//! The sums over a station's live events, kept so that no figure needs a walk.
 ghost use Rattle.std.specs.Prelude.{◌≡◌, ℕ, ◌+◌, ◌<◌, Bool, List, [], None, length, IfOk, IfSome};
 ghost use Rattle.std.specs.FinMap.{find};
 ghost use Rattle.energy_flow.specs.Flow.{no_energy, plus, minus};
@@ -30,8 +30,8 @@ use quarter_table::QuarterTable;
 use std::alloc::{AllocError, Global};
 use transaction_map::TransactionMap;
 
-// The sums over the live events. The figures are kept but for the energies, which stand beside them. Where
-// the readings of a transaction are taken by moment, they are kept so.
+// The sums over the live events. The figures are kept without the energies, which are beside them. If the
+// readings of a transaction are taken by moment, they are kept so.
 #[derive(Drop)]
 pub(crate) struct Sums {
     pub(crate) kept: TransactionMap<Standing>,
@@ -43,7 +43,7 @@ pub(crate) struct Sums {
     pub(crate) by_moment: Option<ByMoment>,
 }
 
-// Sums of no events, one for each EVSE.
+// The sums of no events, one for each EVSE.
 fn no_sums(alloc: Global) -> Result<Vec<EvseSum>, AllocError>
     ensures all { IfOk result (λ evses. length evses.items ≡ greatest_evse + 1) }
     ensures none { IfOk result (λ evses. (n : ℕ) → sum_at evses.items n ≡ record { transactions = 0; flow = no_energy; export = no_energy }) }
@@ -60,7 +60,7 @@ fn no_sums(alloc: Global) -> Result<Vec<EvseSum>, AllocError>
     Ok(evses)
 }
 
-// The readings by moment of no events, where they are taken so.
+// The readings by moment of no events, if they are taken so.
 fn by_moment_in(
     alloc: Global,
     limits: &Limits,
@@ -76,7 +76,8 @@ fn by_moment_in(
 }
 
 impl Sums {
-    // The sums of no events by this period, with room for those of these limits.
+    // The sums of no events, by this length of settlement periods, with room for as many events as
+    // these limits allow.
     pub(crate) fn open(
         alloc: Global,
         limits: &Limits,
@@ -103,7 +104,7 @@ impl Sums {
     }
 }
 
-// The energies of what was kept of a transaction.
+// The energies of a transaction's standing.
 fn energies_of(was: &Option<Standing>) -> Energies
     ensures { (d : Direction) → in_direction d result ≡ flow_in d was.now }
 {
@@ -119,7 +120,7 @@ fn energies_of(was: &Option<Standing>) -> Energies
     }
 }
 
-// An energy with what comes and without what goes.
+// An energy with the new part added and the old part taken away.
 fn traded(flow: Flow, less: Flow, more: Flow) -> Flow
     requires { CanTrade flow less more }
     ensures { result ≡ minus (plus flow more) less }
@@ -127,7 +128,7 @@ fn traded(flow: Flow, less: Flow, more: Flow) -> Flow
     flow.plus(more).minus(less)
 }
 
-// The energies with what comes and without what goes, in each direction.
+// The energies with the new part added and the old part taken away, in each direction.
 fn trade(energies: Energies, less: &Energies, more: &Energies) -> Energies
     requires { (d : Direction) → CanTrade (in_direction d energies) (in_direction d less.now) (in_direction d more.now) }
     ensures { (d : Direction) → in_direction d result ≡ minus (plus (in_direction d energies) (in_direction d more.now)) (in_direction d less.now) }
@@ -138,7 +139,7 @@ fn trade(energies: Energies, less: &Energies, more: &Energies) -> Energies
     }
 }
 
-// What is kept of a transaction, and the place of its row, where it has one.
+// The standing of a transaction and the place of its row, if it has one.
 fn found(kept: &TransactionMap<Standing>, tx: &TxId) -> (Option<usize>, Option<Standing>)
     ensures at { IfSome result.0 (λ i. IsAt tx.now kept.now.rows i) }
     ensures was { result.1 ≡ find id_cmp tx.now kept.now.rows }
@@ -149,8 +150,8 @@ fn found(kept: &TransactionMap<Standing>, tx: &TxId) -> (Option<usize>, Option<S
     }
 }
 
-// Writes what is kept of a transaction, whose row may be at a known place, or takes it out where nothing
-// is.
+// Writes the standing of a transaction, or takes out its row if it has none now. The place of the row
+// may be known.
 fn keep(kept: &mut TransactionMap<Standing>, at: Option<usize>, tx: &TxId, change: &Change)
     requires at { IfSome at (λ i. IsAt tx.now kept.old.rows i) }
     requires place { find id_cmp tx.now kept.old.rows ≡ None → (change.now.is ≡ None → ⊥) → length kept.old.rows < kept.old.capacity }
@@ -166,8 +167,7 @@ fn keep(kept: &mut TransactionMap<Standing>, at: Option<usize>, tx: &TxId, chang
     }
 }
 
-// Keeps what a transaction is now, in place of what it was, in all sums; the place of what is kept of it
-// may be known.
+// Replaces a transaction's standing in all sums. The place of its row may be known.
 fn replace_standing(sums: &mut Sums, at: Option<usize>, tx: &TxId, change: &Change)
     requires at { IfSome at (λ i. IsAt tx.now sums.old.kept.rows i) }
     requires can { CanReplace tx.now change.now sums.old }
@@ -178,8 +178,8 @@ fn replace_standing(sums: &mut Sums, at: Option<usize>, tx: &TxId, change: &Chan
     move_in_figures(&mut sums.figures, change);
 }
 
-// Adds the pairs that the readings of an event make, which may be at hand, and takes back those across their
-// places.
+// Adds the pairs that the readings of an event make, and takes out those across their places. The caller
+// passes the readings if it has them.
 fn add_pairs_of(
     chains: &Chains,
     sums: &mut Sums,
@@ -242,8 +242,8 @@ fn take_pairs_of(
     }
 }
 
-// Takes into all sums a live event that the chains have more, which may name an EVSE; its readings may be
-// at hand.
+// Adds to all sums a live event that the chains already have. It may name an EVSE; the caller passes its
+// readings if it has them.
 pub(crate) fn add_event(
     chains: &Chains,
     sums: &mut Sums,
@@ -271,7 +271,7 @@ pub(crate) fn add_event(
     replace_standing(sums, at, tx, &Change { was, is });
 }
 
-// Takes out of all sums a live event that the chains have no more.
+// Takes out of all sums a live event that the chains no longer have.
 pub(crate) fn take_event(
     chains: &Chains,
     sums: &mut Sums,

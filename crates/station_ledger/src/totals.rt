@@ -1,4 +1,4 @@
-//! Sums over transactions, and what one transaction counts for in them.
+//! Sums over transactions, and the part of one transaction in them.
 ghost use Rattle.std.specs.Prelude.{◌≡◌, ℕ, ◌+◌, ◌≤◌, length, Some};
 ghost use Rattle.ledger_model.specs.Ranges.{greatest_evse};
 ghost use Rattle.station_ledger.specs.Moved.{sum_at, with_one, without_one, with_figures, without_figures, HasRoomAt, CountsAt, HaveRoom, DoCount};
@@ -7,7 +7,7 @@ use crate::standing::Standing;
 use energy_flow::Flow;
 use ledger_model::Figures;
 
-// What was kept of a transaction, and what is.
+// The standing of a transaction before and after.
 #[derive(Clone, Copy)]
 pub(crate) struct Change {
     pub(crate) was: Option<Standing>,
@@ -42,7 +42,7 @@ fn add_at_evse(evses: &mut Vec<EvseSum>, s: Standing)
     };
 }
 
-// Counts a transaction no more at its EVSE.
+// Takes a transaction out of the sums of its EVSE.
 fn take_at_evse(evses: &mut Vec<EvseSum>, s: Standing)
     requires all { length evses.old.items ≡ greatest_evse + 1 }
     requires counts { CountsAt s.evse (Some s) (sum_at evses.old.items s.evse) }
@@ -90,7 +90,7 @@ fn counted(figures: Figures, s: Standing) -> Figures
     }
 }
 
-// The figures with a transaction no more counted.
+// The figures without a transaction.
 fn uncounted(figures: Figures, s: Standing) -> Figures
     requires { DoCount (Some s) figures }
     ensures { result ≡ without_figures (Some s) figures }

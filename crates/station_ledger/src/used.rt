@@ -1,4 +1,4 @@
-/// How much of its limits a station uses.
+/// How much of each limit a station uses.
 #[derive(Clone, Copy, Debug, PartialEq, Eq)]
 pub struct UsedLimits {
     /// How many transactions have an event, live or voided.

@@ -1,4 +1,5 @@
-//! What no row shows of a ledger: how many differences a change takes, a board without memory, and drawn commands.
+//! Tests of a ledger that stored rows can't make: how many differences a change evaluates, a board without memory,
+//! and drawn commands.
 mod against;
 mod drawn;
 mod report;
@@ -12,8 +13,8 @@ use station_ledger::StationLedger;
 use std::alloc::Global;
 
 // A command in short. An event has its transaction, its sequence number, its minute after ten o'clock
-// and its reading in watt-hours; number 0 is Started, all others are Updated. The others name an event
-// of transaction T1.
+// and its reading in watt-hours; number 0 is Started, all others are Updated. The other commands name
+// an event of transaction T1.
 #[derive(Clone, Copy)]
 enum Asked {
     Deliver(&'static str, u32, u64, Option<u64>),
@@ -69,7 +70,7 @@ fn opened(alloc: Global) -> Option<StationLedger> {
 
 const MIDDLE: Asked = Asked::Deliver("T1", 1, 14, Some(1_200));
 
-// The pair across the late event's place is taken back, and two come; a void is the other way round.
+// The pair across the late event's place goes, and two come; with a void it is the other way round.
 const DIFFERENCES: &[(Asked, u64)] = &[
     (Asked::Deliver("T1", 0, 0, Some(1_000)), 0),
     (Asked::Deliver("T1", 2, 31, Some(1_600)), 1),
@@ -81,14 +82,14 @@ const DIFFERENCES: &[(Asked, u64)] = &[
     (Asked::Erase(1), 0),
 ];
 
-// How many differences the command takes.
+// How many differences the command evaluates.
 fn spent(ledger: &mut StationLedger, alloc: Global, asked: Asked, work: &mut Work) -> Option<u64> {
     let before = work.count();
     ledger.apply(command(alloc, asked)?, work);
     work.count().checked_sub(before)
 }
 
-// Tells whether each command takes its differences.
+// Returns whether each command evaluates as many differences as it should.
 fn takes(
     ledger: &mut StationLedger,
     alloc: Global,
@@ -103,7 +104,7 @@ fn takes(
     true
 }
 
-// What the board of the ledger shows; it is asked for once more where it found no memory.
+// What the board of the ledger shows; if it found no memory, it is asked for once more.
 fn shown(ledger: &StationLedger, alloc: Global) -> Option<u64> {
     let board = match ledger.board(alloc) {
         Ok(board) => board,
@@ -112,14 +113,15 @@ fn shown(ledger: &StationLedger, alloc: Global) -> Option<u64> {
     Some(board.figures().up)
 }
 
-// Tells whether each command of a new ledger takes its differences, and what its board shows then.
+// Returns whether each command of a new ledger evaluates as many differences as it should, and what
+// its board shows then.
 fn after_all(alloc: Global, work: &mut Work) -> Option<(bool, u64)> {
     let mut ledger = opened(alloc)?;
     let are_taken = takes(&mut ledger, alloc, DIFFERENCES, work);
     Some((are_taken, shown(&ledger, alloc)?))
 }
 
-// Run with each allocation refused in turn, too: a board that finds no memory leaves the ledger as it was.
+// Also run with each allocation refused in turn: a board that finds no memory leaves the ledger as it was.
 #[test]
 fn differences_of_a_late_event(rt: HostRuntime) {
     let mut work = Work::open(&rt);

@@ -95,7 +95,7 @@ delivered_pass stations p command (Err e) p' h same =
     let P : Held → Type 0 = λ q. IsNextPass p q in
     subst P (sym same) (record { station = refl; changes = omega arith })
 
--- the reply that tells that there was no memory
+-- the reply that reports OutOfMemory
 memory_at : (f : Frame) → IsMemoryReply f (memory_reply (codes "-1"))
 memory_at (Called id TransactionEvent payload) = inl refl
 memory_at (Called id BootNotification payload) = refl

@@ -1,4 +1,4 @@
--- What a text of a station is answered, and what it changes.
+-- The answer to a station's text, and the changes that it makes.
 use Rattle.std.specs.Prelude.{◌≡◌, ℕ, ◌+◌, ◌≤◌, Bool, true, false, List, Option, None, Some, slice_get}
 use Rattle.ledger_model.specs.declared.answer.Answer.{Answer}
 use Rattle.ledger_model.specs.declared.answer.Answer.TheVariants.{Refused}
@@ -26,21 +26,24 @@ pub record Asks (text : List ℕ) (key : KeyName) (event : EventContent) : Type 
   pub key_is : request.key ≡ key
   pub event_is : request.event ≡ event
 
--- What a desk of these stations can answer to a command of a pass; a pass of no station of the desk is told that changes are exhausted.
+-- What a desk of these stations can answer to a command of a pass; a pass of no station of the desk
+-- gets ChangesExhausted.
 pub record IsSubmitted (stations : List StationPlace) (p : Held) (command : Command) (answer : Answer) (p' : Held) (told : Option Known) : Type 0 where
   pub settled : (at : StationPlace) → slice_get stations p.station ≡ Some at → Submitted at p command answer p' told
   pub stranger : slice_get stations p.station ≡ None → (answer ≡ Refused ChangesExhausted) × IsUnchanged p p' told
 
--- What comes with the answer to a command with a pass of the station of this number: what is known of it at the station's place.
+-- What comes with the answer to a command with a pass of the station of this number: what is known of it at the
+-- station's place.
 abbrev pub IsGivenAt : {M : Type 0} → (ℕ → StationPlace → Command → Answer → Option Known → Option M → Type 0) → List StationPlace → ℕ → Command → Answer → Option Known → Option M → Type 0
 IsGivenAt gives stations number command answer told seen = (at : StationPlace) → slice_get stations number ≡ Some at → gives number at command answer told seen
 
--- The pass after one text: it is of the same station, and made at most one change more.
+-- The pass after one text: it belongs to the same station, and made at most one more change.
 pub record IsNextPass (p p' : Held) : Type 0 where
   pub station : p'.station ≡ p.station
   pub changes : p'.changes ≤ p.changes + 1
 
--- The reply to an event is that to an answer which the desk can give to its delivery, and what comes with it is of that answer.
+-- The reply to an event is the reply to an answer that the desk can give to its delivery, and what comes with it
+-- belongs to that answer.
 pub record IsDelivered {M : Type 0} (gives : ℕ → StationPlace → Command → Answer → Option Known → Option M → Type 0) (stations : List StationPlace) (p : Held) (id : List ℕ) (request : Request) (text : Option (List ℕ)) (p' : Held) (told : Option Known) (seen : Option M) : Type 0 where
   pub answer : Answer
   pub submitted : IsSubmitted stations p (Deliver request.key request.event) answer p' told
@@ -52,24 +55,25 @@ pub record IsReady (expected : Option (List ℕ)) (p : Held) (text : Option (Lis
   pub same : text ≡ expected
   pub unchanged : IsUnchanged p p' told
 
--- The reply tells that there was no memory, and nothing changed.
+-- The reply reports OutOfMemory, and nothing changed.
 pub record TellsMemory (words : List ℕ) (p : Held) (text : Option (List ℕ)) (p' : Held) (told : Option Known) : Type 0 where
   pub reply : List ℕ
   pub tells : IsMemoryReply (frame words) reply
   pub ready : IsReady (Some reply) p text p' told
 
--- What a meaning is answered: silence, the ready reply, or the reply to the delivery.
+-- The answer to a meaning: silence, the ready reply, or the reply to the delivery.
 abbrev pub AnswersMeaning : {M : Type 0} → (ℕ → StationPlace → Command → Answer → Option Known → Option M → Type 0) → List StationPlace → Held → Meaning → Option (List ℕ) → Held → Option Known → Option M → Type 0
 AnswersMeaning gives stations p Silence text p' told seen = IsReady None p text p' told
 AnswersMeaning gives stations p (Ready reply) text p' told seen = IsReady (Some reply) p text p' told
 AnswersMeaning gives stations p (Event id request) text p' told seen = IsDelivered gives stations p id request text p' told seen
 
--- What a station's words are answered at a moment; the last tells whether there was no memory to read them.
+-- The answer to a station's text at a moment; the last argument says whether there was no memory to read
+-- it.
 abbrev pub Answers : {M : Type 0} → (ℕ → StationPlace → Command → Answer → Option Known → Option M → Type 0) → List StationPlace → Held → List ℕ → ℕ → Option (List ℕ) → Held → Option Known → Option M → Bool → Type 0
 Answers gives stations p words now text p' told seen true = TellsMemory words p text p' told
 Answers gives stations p words now text p' told seen false = AnswersMeaning gives stations p (message words now) text p' told seen
 
--- The reply in a text that was lent, where there is one.
+-- The reply in the caller's buffer, if there is one.
 abbrev pub reply_of : Bool → List ℕ → Option (List ℕ)
 reply_of true text = Some text
 reply_of false text = None

@@ -1,4 +1,4 @@
--- Whom a desk lets in, by what a handshake saw.
+-- Which requests a desk lets in, by what a handshake saw.
 use Rattle.std.specs.Prelude.{◌≡◌, ◌≢◌, ℕ, List, ◌++◌, true, false, Option, None, Some, unwrap_or, if◌then◌else◌, codes}
 use Rattle.std.specs.declared.result.Result.{Result}
 use Rattle.std.specs.declared.result.Result.TheVariants.{Ok, Err}
@@ -18,7 +18,8 @@ abbrev pub IsPathOf : List ℕ → Option (List ℕ) → Type 0
 IsPathOf path (Some name) = path ≡ codes "/ocpp/" ++ name
 IsPathOf path None = (name : List ℕ) → is_name name ≡ true → path ≢ codes "/ocpp/" ++ name
 
--- Why a request is refused, whatever passes were given out: no request was seen, the subprotocol was not offered, the path names no station, in this order.
+-- Why a request is refused, whatever passes were given out: no request was seen, the subprotocol was not offered, the
+-- path names no station, in this order.
 abbrev pub refusal : List StationPlace → Seen → Option Why
 refusal stations Nothing = Some HandshakeFailed
 refusal stations NoMemory = Some OutOfMemory
@@ -26,11 +27,12 @@ refusal stations (Request false station) = Some NotOcpp
 refusal stations (Request true None) = Some UnknownStation
 refusal stations (Request true (Some name)) = if list_any (λ p. bytes_eq name p.name) stations then None else Some UnknownStation
 
--- What a request is told that gets no pass: why it is refused, or else that its station gave out all its passes.
+-- The reason for a request that gets no pass: why it is refused, or else that its station gave out all its
+-- passes.
 abbrev pub IsRefusal : List StationPlace → Seen → Why → Type 0
 IsRefusal stations seen why = why ≡ unwrap_or (refusal stations seen) TooManyPasses
 
--- A request that is not refused gets a pass of the station that it names, which made no change yet.
+-- A request that is not refused gets a new pass of the station that it names.
 pub record IsAdmitted (stations : List StationPlace) (seen : Seen) (name : List ℕ) (p : Held) : Type 0 where
   pub allowed : refusal stations seen ≡ None
   pub asked : seen ≡ Request true (Some name)

@@ -7,7 +7,7 @@ use Rattle.station_link.specs.declared.ending.Why.TheVariants.{PeerClosed, ReadF
 abbrev pub most_messages : ℕ
 most_messages = 1_000_000
 
--- A session that was given no pass can end so.
+-- A session that got no pass can end so.
 abbrev pub MayLackPass : Why → Type 0
 MayLackPass PeerClosed = ⊥
 MayLackPass ReadFault = ⊥
@@ -22,7 +22,7 @@ MayLackPass TooManyPasses = ⊤
 MayLackPass Replaced = ⊥
 MayLackPass ServerCloses = ⊥
 
--- A session that was given a pass can end so by itself.
+-- A session that got a pass can end so by itself.
 abbrev pub MayHavePass : Why → Type 0
 MayHavePass PeerClosed = ⊤
 MayHavePass ReadFault = ⊤
@@ -52,6 +52,6 @@ IsDismissal TooManyPasses = ⊥
 IsDismissal Replaced = ⊤
 IsDismissal ServerCloses = ⊤
 
--- A session that was given a pass can end so: by itself, or for a reason of who attends it.
+-- A session that got a pass can end so: by itself, or for a reason of its attendant.
 abbrev pub MayEnd : (Why → Type 0) → Why → Type 0
 MayEnd dismisses why = MayHavePass why ⊎ dismisses why

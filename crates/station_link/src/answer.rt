@@ -17,29 +17,29 @@ use std::sync::Wait;
 use std::time::Clock;
 use transaction_event::{Asked, Delivery, deliveries_are_answered, put_event_reply, read_message};
 
-/// What a text of a station came to.
+/// The result of one text of a station.
 #[derive(Drop)]
 pub struct Answered<J: Naming, M> {
-    /// The reply; `None` where the text gets none.
+    /// The reply; `None` if the text gets none.
     pub text: Option<ArrayString<512>>,
-    /// What the site's book told, where the text's event was accepted.
+    /// The `Told` of the site's book, if the text's event was accepted.
     pub told: Option<Told<J>>,
-    /// What the desk handed out with it.
+    /// What the desk returned with the answer.
     pub seen: Option<M>,
-    /// Whether the reply tells that there was no memory; nothing changed then.
+    /// Whether the reply reports OutOfMemory; nothing changed then.
     pub memory: bool,
 }
 
-// What a text of a station came to, whose reply was put into a text that was lent.
+// The result of one text of a station, with the reply in the caller's buffer.
 #[derive(Drop)]
 pub(crate) struct Replied<J: Naming, M> {
-    // Whether it has a reply, which is then the lent text.
+    // Whether it has a reply, which is then in the buffer.
     pub(crate) has_reply: bool,
-    // What the site's book told, where the text's event was accepted.
+    // The `Told` of the site's book, if the text's event was accepted.
     pub(crate) told: Option<Told<J>>,
-    // What the desk handed out with it.
+    // What the desk returned with the answer.
     pub(crate) seen: Option<M>,
-    // Whether the reply tells that there was no memory; nothing changed then.
+    // Whether the reply reports OutOfMemory; nothing changed then.
     pub(crate) memory: bool,
 }
 
@@ -63,17 +63,17 @@ fn deliver<J: Naming, M: Drop, D: Delivers<J, M>, G: Gate, R: Wait + Clock>(
     desk.deliver(rt, alloc, pass, ordered, gate)
 }
 
-// The reply that tells that there was no memory.
+// The reply that reports OutOfMemory.
 fn memory_reply() -> ArrayString<512>
     ensures { result.bytes ≡ memory_reply (codes "-1") }
 {
     error_text("-1", ErrorCode::InternalError, "OutOfMemory")
 }
 
-/// Answers a text of a pass's station at a moment (OCPP 2.0.1 Part 4): an event is delivered to the desk,
-/// and the reply is that to the desk's answer; any other text has a ready reply or none. It may wait for the
-/// locks of the station and its site. Memory is taken only before the desk takes the event, so a text that finds
-/// none changes nothing.
+/// Answers a text of a pass's station at a moment (OCPP 2.0.1 Part 4). It delivers an event to the desk, and the
+/// reply is that to the desk's answer; any other text has a ready reply or none. It may wait for the locks of
+/// the station and its site. It takes memory only before the desk takes the event, so a text that finds none
+/// changes nothing.
 pub fn answer_text<J: Naming, M: Drop, D: Delivers<J, M>, G: Gate, R: Wait + Clock>(
     desk: &D,
     rt: &R,
@@ -102,8 +102,8 @@ pub fn answer_text<J: Naming, M: Drop, D: Delivers<J, M>, G: Gate, R: Wait + Clo
     }
 }
 
-// Answers a text as `answer_text` does, and puts the reply into `reply`, in the place of what it had. What that holds
-// where the text gets none has no meaning.
+// Answers a text as `answer_text` does, and puts the reply into `reply`, in place of what was there. If the text gets
+// no reply, what `reply` has means nothing.
 pub(crate) fn put_answer<J: Naming, M: Drop, D: Delivers<J, M>, G: Gate, R: Wait + Clock>(
     desk: &D,
     rt: &R,

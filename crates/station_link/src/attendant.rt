@@ -1,31 +1,32 @@
-//! Who attends a session.
+//! The attendant of a session.
 use crate::ending::Why;
 
-/// What stands beside a session: it may end it, and says how long its stream is waited for.
+/// Watches over a session: it may end the session, and says whether a read that gave up waiting
+/// goes on.
 pub trait Attendant {
     ghost use Rattle.std.specs.Prelude.{◌≢◌, IfSome};
     ghost use Rattle.station_link.specs.declared.ending.Why.{Why};
 
-    /// For what it may end the session.
+    /// The reasons for which it may end the session.
     ghost dismisses: { Self → Why → Type 0 };
 
-    /// Why the session is no longer wanted. It is asked before each message and each time that a read of the
-    /// stream gives up waiting (`WouldBlock`).
+    /// Why the session is no longer wanted, if so. The session asks before each message, and each time that
+    /// a read of the stream gives up waiting (`WouldBlock`).
     fn dismissal(&self) -> Option<Why>
         ensures known { IfSome result (dismisses self.now) }
         ensures unspent { IfSome result (λ why. why ≢ Why.MessagesSpent) };
 
-    /// Tells whether a read that gives up waiting is tried again. Else it ends the session.
+    /// Returns whether to try a read again that gave up waiting. If not, the session ends.
     fn is_patient(&self) -> bool;
 
-    /// The reason that the close frame of a session has which ended so.
+    /// The reason in the close frame of a session that ended for this cause.
     fn reason(&self, why: Why) -> &'static str;
 
-    /// The session is over, but for its close frame and what is read after it.
+    /// The session is over, except for its close frame and the reads after it.
     fn leaves(&self);
 }
 
-/// Nobody attends: the session ends by itself, also where a read gives up waiting, and its close frame has no reason.
+/// Nobody attends: the session ends by itself, also if a read gives up waiting, and its close frame has no reason.
 #[derive(Clone, Copy, Debug)]
 pub struct Nobody;
 

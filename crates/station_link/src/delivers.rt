@@ -1,4 +1,4 @@
-//! What takes the events of a session.
+//! The taker of a session's events.
 use ledger_model::{Answer, Command, Event, Key};
 use site_book::{Naming, Told};
 use site_desk::{Desk, Gate};
@@ -18,8 +18,8 @@ pub struct Ordered<'a> {
     pub event: Event,
 }
 
-/// What takes the events that the texts of sessions ask to deliver: a desk, or one with a journal. With an answer it may
-/// hand out what it saw of its journal then (M); `gives` says what that tells of the command on the station of this number
+/// Takes the events that the texts of sessions ask to deliver: a desk, or one with a journal. With an answer it may
+/// return what it saw of its journal then (M); `gives` is what that says of the command on the station of this number
 /// and place.
 pub trait Delivers<J: Naming, M> {
     ghost use Rattle.std.specs.Prelude.{◌≡◌, ℕ, List, Option, IfOk, OnErr};
@@ -33,8 +33,8 @@ pub trait Delivers<J: Naming, M> {
 
     ghost gives: { Self → ℕ → StationPlace → Command → Answer → Option Known → Option M → Type 0 };
 
-    /// Takes the delivery that a text asks for, with a pass, and answers it as
-    /// [`Desk::submit`](site_desk::Desk::submit) does. Where there is no memory, nothing changed.
+    /// Takes the delivery that a text asks for, with a pass, and returns the answer as
+    /// [`Desk::submit`](site_desk::Desk::submit) does. If there is no memory, nothing changes.
     ///
     /// Condition: the text asks for this delivery.
     fn deliver<G: Gate, R: Wait + Clock>(

@@ -11,12 +11,12 @@ use websocket::error::ProtocolError;
 pub enum Why {
     /// The station closed the session, or its stream ended.
     PeerClosed,
-    /// The stream failed to read, or what it gave is no message: too long (closed with code 1009), no UTF-8
+    /// A read of the stream failed, or its bytes are no message: too long (closed with code 1009), no UTF-8
     /// (1007), or against the protocol of RFC 6455 (1002).
     ReadFault,
-    /// The stream failed to write.
+    /// A write to the stream failed.
     WriteFault,
-    /// No opening handshake was finished.
+    /// The opening handshake was not finished.
     HandshakeFailed,
     /// The path names no station of the desk (closed with code 1008).
     UnknownStation,
@@ -37,7 +37,7 @@ pub enum Why {
 }
 
 impl Why {
-    /// Its name, as a live server tells it and has it as the reason of its close frame.
+    /// Its name, as a live server prints it and as the reason in the close frame.
     pub fn name(self) -> &'static str {
         match self {
             Why::PeerClosed => "PeerClosed",
@@ -56,7 +56,7 @@ impl Why {
     }
 }
 
-// How a session ends: why, and the code that its close frame has, where it sends one (RFC 6455).
+/// How a session ends: why, and the code of its close frame, if it sends one (RFC 6455).
 #[derive(Clone, Copy)]
 pub struct Ending {
     pub(crate) why: Why,
@@ -84,7 +84,7 @@ impl Ending {
     }
 }
 
-// How a session ends where a read of its socket fails.
+// How a session ends if a read of its socket fails.
 pub(crate) fn end_of_read(error: &Error) -> Ending
     ensures has { MayHavePass result.why }
     ensures unspent { result.why ≢ Why.MessagesSpent }
@@ -101,7 +101,7 @@ pub(crate) fn end_of_read(error: &Error) -> Ending
     }
 }
 
-// How a session ends to which no pass was given.
+// How a session ends that got no pass.
 pub(crate) fn end_of_refusal(why: Why) -> Ending
     ensures { result.why ≡ why }
 {

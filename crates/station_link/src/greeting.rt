@@ -1,4 +1,4 @@
-//! The opening handshake of a server that lives, which hands out the passes of its sessions itself.
+//! The opening handshake of a live server, which gives out the passes of its sessions itself.
 ghost use Rattle.std.specs.Prelude.{IfErr, IfOk};
 ghost use Rattle.station_link.specs.Session.{MayLackPass};
 
@@ -19,13 +19,14 @@ use tungstenite::{Callback, NoMask, WebSocket};
 pub struct Greeted<S> {
     /// The socket behind it.
     pub socket: WebSocket<S, NoMask>,
-    /// The name of a station that it asks for, or why it is refused whatever stations there are.
+    /// The name of the station that it asks for, or why it is refused whatever stations there are.
     pub asked: Result<Name, Why>,
-    /// What its path has in the place of a name, at most 48 characters, and those that no name has as `?`.
+    /// The part of its path where the name should be: at most 48 characters, with `?` for each that no
+    /// name may have.
     pub shown: ArrayString<MAX_NAME>,
 }
 
-// Notes what a handshake sees, and what its path has in the place of a name.
+// Notes what a handshake sees, and the part of its path where the name should be.
 #[derive(Drop)]
 struct LiveLook<'a> {
     look: Look<'a>,
@@ -44,7 +45,7 @@ impl Callback for LiveLook<'_> {
     }
 }
 
-// The text as it is told to an operator.
+// The text as an operator gets to see it.
 fn shown_text(text: &str) -> ArrayString<MAX_NAME> {
     let mut shown = ArrayString::new();
     for character in text.chars().take(MAX_NAME) {
@@ -57,7 +58,7 @@ fn shown_text(text: &str) -> ArrayString<MAX_NAME> {
     shown
 }
 
-// Tells whether a name may have this character.
+// Returns whether a name may have this character.
 fn is_name_character(character: char) -> bool {
     character.is_ascii_alphanumeric() || "*-_=:+|@.".contains(character)
 }
@@ -81,7 +82,7 @@ pub fn greet<S: Read + Write + Drop>(alloc: Global, stream: S) -> Result<Greeted
     })
 }
 
-/// Tells a client that it is not let in, by a close frame with the name of the cause as its reason, and ends.
+/// Refuses a client by a close frame with the name of the cause as its reason, and ends.
 pub fn refuse<S: Read + Write + Drop>(socket: &mut WebSocket<S, NoMask>, why: Why) {
     say_goodbye(socket, end_of_refusal(why).code, why.name());
 }

@@ -1,21 +1,20 @@
 //! Sessions of charging stations over WebSocket.
 //!
-//! [`serve_connection`] takes one connection of a station: it answers the opening handshake (RFC 6455),
-//! lets in the station that the path names ([`admit`]), and answers each text message in turn until the
-//! session ends ([`serve_session`]). A server that lives greets its connections itself ([`greet`]), and an
-//! [`Attendant`] of each session says whether it is still wanted.
-//! The stream is anything that reads and writes. [`answer_text`] answers one text of a station. The other
-//! side is a [`SimStation`], to try a server of stations with: it sends one transaction, its first event, the
-//! others from the last one down, as if they had been queued and come late, and the first once more, as if
-//! its reply had been lost, and keeps the replies.
+//! [`serve_connection`] takes one connection of a station. It answers the opening handshake (RFC 6455), lets
+//! in the station that the path names ([`admit`]), and answers each text message in turn until the session
+//! ends ([`serve_session`]). A live server greets its connections itself ([`greet`]), and an [`Attendant`] of
+//! each session says whether the session is still wanted. The stream is anything that reads and writes.
+//! [`answer_text`] answers one text of a station. A [`SimStation`] is the other side, to try a server of
+//! stations: it sends one transaction and keeps the replies. It sends the first event, then the others from
+//! the last one down, as if they had been queued and came late, and then the first once more, as if its reply
+//! had been lost.
 //!
-//! The crate's one contract is that of `answer_text`: what is answered is what the text means at the moment, a ready
-//! reply or silence; where it means an event, the reply to an answer that the desk can give to that event's delivery.
-//! What takes the delivery is a desk, or anything else that [`Delivers`]. All memory is taken before it takes the
-//! event, so that a message that found none changed nothing. A session gives back the pass that it was given, whatever
-//! ends it, with at most a million changes; whom it lets in is fixed by what the handshake saw. What a socket
-//! delivered, the paths and the close codes are shown by tests, and so is what a simulated station sends: its clauses
-//! count texts and replies.
+//! The crate's contract is that of `answer_text`: the answer is what the text means at the moment: a ready reply,
+//! silence or, for an event, the reply to an answer that the desk can give to that event's delivery. A desk takes the
+//! delivery, or anything else that [`Delivers`]. All memory is taken before that, so a message that found none changed
+//! nothing. A session gives its pass back, whatever ends it, with at most a million more changes. What the handshake
+//! saw decides whom a session lets in. Tests show what a socket delivered, the paths and the close codes, and what a
+//! simulated station sends: its clauses only count texts and replies.
 //!
 //! ```text
 //! answer_text(&desk, rt, alloc, &mut pass, text, now, &NoGate);      // Answered { text, told, seen, memory }

@@ -1,12 +1,12 @@
 use ledger_model::{FIRST_MOMENT, Moment};
 
-/// What tells a session the present moment.
+/// A source of the present moment, for sessions.
 pub trait MomentSource {
-    /// The present moment; `None` where there is none to tell, which counts as 2000-01-01T00:00:00Z.
+    /// The present moment; `None` if it is unknown, which counts as 2000-01-01T00:00:00Z.
     fn now(&mut self) -> Option<Moment>;
 }
 
-/// The present moment, or the first of all where there is none to tell.
+/// The present moment, or the first of all if it is unknown.
 pub fn present<C: MomentSource>(clock: &mut C) -> Moment {
     match clock.now() {
         Some(moment) => moment,

@@ -1,4 +1,4 @@
-//! What a handshake sees of a client's request, and whom the desk lets in.
+//! What a handshake sees of a client's request, and which requests the desk lets in.
 ghost use Rattle.std.specs.Prelude.{IfOk, IfErr, true, Some};
 ghost use Rattle.station_link.specs.Request.{IsAdmitted, IsAsked, IsPathOf, IsRefusal};
 ghost use Rattle.station_link.specs.Session.{MayLackPass};
@@ -24,7 +24,7 @@ const SUBPROTOCOL: &str = "ocpp2.0.1";
 /// What a handshake saw of the request.
 #[derive(Drop)]
 pub enum Seen {
-    /// No request whose path could be read.
+    /// No request with a path that could be read.
     Nothing,
     /// A request that offers the subprotocol; there was no memory to take it up.
     NoMemory,
@@ -37,7 +37,7 @@ pub enum Seen {
     },
 }
 
-// Notes what the handshake sees, and takes up the subprotocol where it is offered.
+// Notes what the handshake sees, and takes up the subprotocol if it is offered.
 #[derive(Drop)]
 pub(crate) struct Look<'a> {
     pub(crate) seen: &'a Cell<Seen>,
@@ -61,7 +61,7 @@ impl Callback for Look<'_> {
     }
 }
 
-// Answers a request with the subprotocol, where there is memory for it.
+// Answers a request with the subprotocol, if there is memory for it.
 fn take_up(headers: &mut HeaderMap) -> bool {
     headers
         .insert(
@@ -81,7 +81,7 @@ fn station_of(path: &str) -> Option<Name>
     }
 }
 
-// What stands in a path in the place of a station's name.
+// The part of a path where a station's name should be.
 pub(crate) fn station_text(path: &str) -> &str {
     match path.strip_prefix(PATH_START) {
         Some(text) => text,
@@ -89,7 +89,7 @@ pub(crate) fn station_text(path: &str) -> &str {
     }
 }
 
-// Tells whether one of the subprotocols that are offered is that of OCPP 2.0.1.
+// Returns whether one of the offered subprotocols is that of OCPP 2.0.1.
 fn is_offered(headers: &HeaderMap) -> bool {
     for value in headers.get_all("sec-websocket-protocol") {
         if let Ok(text) = value.to_str() {
@@ -101,12 +101,12 @@ fn is_offered(headers: &HeaderMap) -> bool {
     false
 }
 
-// Tells whether a list with commas names the subprotocol.
+// Returns whether a list with commas names the subprotocol.
 fn names_subprotocol(list: &str) -> bool {
     list.split(',').any(|part| part.trim() == SUBPROTOCOL)
 }
 
-// A pass of the station of this name, which made no change yet.
+// A new pass of the station of this name.
 fn enlist<J: Naming, R: Wait + Threads>(rt: &R, desk: &Desk<J>, name: &Name) -> Result<Pass, Why>
     ensures refused { IfErr result (λ why. IsRefusal desk.now.stations (Seen.Request true (Some name.now)) why) }
     ensures admitted { IfOk result (λ p. IsAdmitted desk.now.stations (Seen.Request true (Some name.now)) name.now p) }
@@ -138,9 +138,10 @@ pub(crate) fn asked_of(seen: Seen) -> Result<Name, Why>
     }
 }
 
-/// Lets a request in: a pass of the station that it names, which made no change yet, with that name. Else it
-/// tells why not: no request was seen, there was no memory to take up the subprotocol, the subprotocol is
-/// not offered, the path names no station of the desk, or the station gave out all its passes, in this order.
+/// Lets a request in: returns a new pass of the station that it names, with that name. Else the error says
+/// why not, the first of these that applies: no request was seen; there was no memory to take up the
+/// subprotocol; the subprotocol is not offered; the path names no station of the desk; the station gave out
+/// all its passes.
 pub fn admit<J: Naming, R: Wait + Threads>(
     rt: &R,
     desk: &Desk<J>,

@@ -29,14 +29,14 @@ use tungstenite::{
 /// How many messages a session takes (this product's profile).
 pub const MAX_MESSAGES: u64 = 1_000_000;
 
-// How many bytes a message may have before the session ends: twice the longest text that is read, so that
-// a text that is a little too long still gets its reply.
+// How many bytes a message may have before the session ends: twice the longest text that is read, so a
+// text that is a little too long still gets its reply.
 const MAX_SOCKET_BYTES: usize = 524_288;
 
 // How many bytes one read of the stream asks for.
 const READ_BYTES: usize = 4_096;
 
-// How many messages are read after a close frame, so that the peer gets its code before the stream ends.
+// How many messages are read after a close frame, so the peer gets its code before the stream ends.
 const MAX_LAST_READS: u32 = 64;
 
 /// A client that was let in: its socket behind the handshake, the name of its station, and a pass of that station.
@@ -55,16 +55,17 @@ pub struct Client<'a, S: Read + Write + Drop> {
 pub struct SessionEnd {
     /// Why it ended.
     pub why: Why,
-    /// The pass of its station, where it was given one.
+    /// The pass of its station, if it got one.
     pub pass: Option<Pass>,
-    /// How many messages it took, up to a million, with the one, or the try to read one, that ended it.
+    /// How many messages it took, up to a million, including the one, or the failed read, that ended
+    /// it.
     pub messages: u64,
-    /// How many of them were texts that were answered, or got no reply.
+    /// How many of them were texts, with a reply or without one.
     pub texts: u64,
 }
 
 impl SessionEnd {
-    // The end of a session that was given no pass.
+    // The end of a session that got no pass.
     fn refused(why: Why) -> SessionEnd
         ensures { result ≡ record { why = why; pass = None; messages = 0; texts = 0 } }
     {
@@ -115,12 +116,12 @@ pub fn serve_connection<
     }
 }
 
-/// Serves a session that was let in with a pass until it ends or is no longer wanted: up to a million messages. Each
-/// text is answered as by [`answer_text`](crate::answer_text) at the clock's moment, and `gate.after` is called with the
-/// text's number, from 1, once its reply was sent, or once it was decided that it gets none. Ping and Pong count as
-/// messages and reach neither. A text whose reply tells that there was no memory does not end the session. What was
-/// accepted stays accepted when its reply can't be sent. At the end the attendant is told, and then the close frame is
-/// sent. It gives the pass back whatever ends the session, want of memory included.
+/// Serves a session that was let in with a pass, until it ends or is no longer wanted: up to a million messages. It
+/// answers each text as [`answer_text`](crate::answer_text) does, at the clock's moment. After it sent the reply, or
+/// decided that there is none, it calls `gate.after` with the text's number, counted from 1. Ping and Pong count only
+/// as messages. A reply that reports OutOfMemory does not end the session. What was accepted stays accepted if its
+/// reply can't be sent. At the end it calls the attendant's `leaves`, and then sends the close frame. It gives the pass
+/// back whatever ends the session, also a lack of memory.
 pub fn serve_session<
     J: Naming,
     M: Drop,
@@ -166,7 +167,7 @@ pub fn serve_session<
     }
 }
 
-// The socket behind a handshake, whose look notes what it saw.
+// The socket behind a handshake. The handshake's look notes what it saw.
 pub(crate) fn shake_hands<S: Read + Write + Drop, L: Callback + Drop>(
     alloc: Global,
     stream: S,
@@ -185,7 +186,8 @@ pub(crate) fn shake_hands<S: Read + Write + Drop, L: Callback + Drop>(
     }
 }
 
-// What messages came to: how the session ends, how many it took with the one that ended it, and how many texts.
+// The result of all messages: how the session ends, how many messages it took, the last one included, and how
+// many texts.
 #[derive(Drop)]
 struct Ended {
     end: Ending,
@@ -244,7 +246,7 @@ fn answer_all<
     end_after(end, MAX_MESSAGES, texts)
 }
 
-// The end of a session that took so many messages, and so many texts among them.
+// The end of a session after this many messages, with this many texts among them.
 fn end_after(end: Ending, messages: u64, texts: u64) -> Ended
     ensures { result ≡ record { end = end; messages = messages; texts = texts } }
 {
@@ -255,8 +257,8 @@ fn end_after(end: Ending, messages: u64, texts: u64) -> Ended
     }
 }
 
-// Waits for the next message for as long as the session is wanted. What waits to be sent goes first, so that a
-// fault of it is no fault of the read.
+// Waits for the next message as long as the session is wanted. It first sends what is waiting, so a fault of
+// that is no fault of the read.
 fn await_message<R: Wait, S: Read + Write + Drop, A: Attendant>(
     rt: &R,
     socket: &mut WebSocket<S, NoMask>,
@@ -284,7 +286,7 @@ fn await_message<R: Wait, S: Read + Write + Drop, A: Attendant>(
     unreachable!()
 }
 
-// Tells whether a read gave up waiting, and may go on.
+// Returns whether a read only gave up waiting, and may go on.
 fn is_tick(error: &Error) -> bool {
     match error {
         Error::Io(error) => error.kind() == ErrorKind::WouldBlock,
@@ -292,7 +294,7 @@ fn is_tick(error: &Error) -> bool {
     }
 }
 
-// Answers a message that came, with a text for the reply, and tells whether it was a text.
+// Answers a message, with a buffer for the reply, and returns whether it was a text.
 fn answer_message<
     J: Naming,
     M: Drop,
@@ -355,8 +357,8 @@ fn send_reply<S: Read + Write + Drop>(
     }
 }
 
-// Sends a close frame where the session ends with a code, with this reason, and then reads what the peer had sent
-// before it got that, lest unread bytes reset the connection.
+// Sends a close frame with this reason, if the session ends with a code. Then it reads what the peer had sent
+// before it got that frame, since unread bytes would reset the connection.
 pub(crate) fn say_goodbye<S: Read + Write + Drop>(
     socket: &mut WebSocket<S, NoMask>,
     code: Option<CloseCode>,

@@ -1,4 +1,4 @@
-//! Stations that are simulated: each sends one transaction and keeps the replies.
+//! Simulated stations: each sends one transaction and keeps the replies.
 ghost use Rattle.std.specs.Prelude.{◌≡◌, ◌≤◌, ◌+◌, IfOk, OnOk, length};
 ghost use Rattle.station_link.specs.Sim.{IsSimulated};
 
@@ -31,14 +31,14 @@ const READ_BYTES: usize = 4_096;
 // How many messages it reads while it waits for a reply, or for the server's end.
 const MAX_READS: u64 = 1_000_000;
 
-/// Why a simulated station has not all its replies.
+/// Why a simulated station did not get all its replies.
 #[derive(Clone, Copy, Debug, PartialEq, Eq)]
 pub enum SimFault {
     /// The opening handshake was not finished.
     HandshakeFailed,
-    /// The stream failed to read, or ended before a reply.
+    /// A read of the stream failed, or the stream ended before a reply.
     ReadFault,
-    /// The stream failed to write.
+    /// A write to the stream failed.
     WriteFault,
     /// There was no memory.
     OutOfMemory,
@@ -57,7 +57,7 @@ impl<T: Drop> From<AllocFailed<T>> for SimFault {
 }
 
 /// A simulated station: `CS-<number>`, with a transaction `SIM-<number>` of so many events at EVSE 1, five
-/// minutes apart, whose register rises by 100 Wh each time.
+/// minutes apart; the register rises by 100 Wh each time.
 #[derive(Debug, Drop)]
 pub struct SimStation {
     number: u16,
@@ -97,7 +97,7 @@ impl SimStation {
         Ok(texts)
     }
 
-    // Adds the message of this id that tells the event of this number.
+    // Adds the message of this id with the event of this number.
     fn put_text(
         &self,
         alloc: Global,
@@ -113,7 +113,7 @@ impl SimStation {
         Ok(())
     }
 
-    // The message of this id that tells the event of this number.
+    // The message of this id with the event of this number.
     fn text(&self, alloc: Global, id: u32, seq: u32) -> Result<String, AllocError>
         requires { seq ≤ 64 }
     {
@@ -126,7 +126,7 @@ impl SimStation {
         )
     }
 
-    // What kind of event this number has.
+    // The kind of the event of this number.
     fn kind(&self, seq: u32) -> &'static str {
         if seq == 0 {
             "Started"
@@ -137,8 +137,8 @@ impl SimStation {
         }
     }
 
-    /// Sends the texts over a stream to a server, each once the one before has its reply, and gives the
-    /// replies in order. It may wait for the stream.
+    /// Sends the texts over a stream to a server, each after the reply to the one before, and returns
+    /// the replies in order. It may wait for the stream.
     pub fn run<R: RandomSource, S: Read + Write + Drop>(
         &self,
         rt: &R,
@@ -188,7 +188,7 @@ fn moment_of(seq: u32) -> Moment
     }
 }
 
-// The members that tell an event's kind, moment and number.
+// The members with an event's kind, moment and number.
 fn event_part(alloc: Global, kind: &str, at: &str, seq: u32) -> Result<String, AllocError> {
     format!(in alloc;
         "\"eventType\":\"{kind}\",\"timestamp\":\"{at}\",\"triggerReason\":\"MeterValuePeriodic\",\"seqNo\":{seq}"
@@ -213,7 +213,7 @@ fn with_subprotocol(mut request: Request<()>) -> Result<Request<()>, SimFault> {
     }
 }
 
-// The random bytes that a handshake's key is made of.
+// The random bytes for a handshake's key.
 fn nonce_of<R: RandomSource>(rt: &R) -> Result<[u8; 16], SimFault> {
     let mut nonce = [0; 16];
     match rt.fill_bytes(&mut nonce) {
@@ -249,7 +249,7 @@ fn handshake_fault(error: &Error) -> SimFault {
     }
 }
 
-// The replies to the texts, each sent once the one before has its reply.
+// The replies to the texts, each sent after the reply to the one before.
 fn ask_all<S: Read + Write + Drop, K: MaskKeys + Drop>(
     alloc: Global,
     socket: &mut WebSocket<S, K>,
@@ -314,7 +314,7 @@ fn reply_of(alloc: Global, message: Message) -> Result<Option<String>, SimFault>
     }
 }
 
-// Closes the connection and waits until the server has done so, too.
+// Closes the connection and waits until the server has closed it too.
 fn leave<S: Read + Write + Drop, K: MaskKeys + Drop>(socket: &mut WebSocket<S, K>) {
     if socket.close(None).is_err() {
         return;

@@ -1,4 +1,4 @@
--- What a message means can be asked of a ledger: the parts of a request lie in their ranges.
+-- What a message means can be delivered to a ledger: the parts of a request are in their ranges.
 use Rattle.std.proofs.Common.{◌≡◌, ℕ, ◌-◌, ◌<◌, ◌≤◌, Bool, true, false, List, [], ◌∷◌, ◌++◌, length, Result, Option, Ok, Err, Some, None, IfSome, ℤ, pos, negsuc, refl, ap, subst, arith, leb-true, ltb-true, length-append}
 use Rattle.std.specs.Prelude.{◌≢◌, ◌&&◌, not, All, nat_le, nat_lt, unsigned_abs, if◌then◌else◌, codes}
 use Rattle.std.specs.Int.Signed.{le_z}

@@ -1,4 +1,4 @@
--- Which replies tell OutOfMemory.
+-- Which replies report OutOfMemory.
 use Rattle.std.proofs.Common.{◌≡◌, ◌≢◌, Bool, true, false, inl, inr, ◌∙◌, ℕ, List, sym, ap, arith, codes, refl}
 use Rattle.std.specs.Prelude.{IsTrue, ◌↔◌, Err}
 use Rattle.serde_json.specs.Data.{Data}
@@ -13,7 +13,7 @@ use Rattle.transaction_event.specs.Message as meaning
 use Rattle.transaction_event.specs.MessageMeaning.{Answers, IsMemoryReply}
 use Rattle.transaction_event.specs.Reply.{fault_code, fault_reply, memory_reply}
 
--- only OutOfMemory is told by such a reply
+-- such a reply reports only OutOfMemory
 pub told_by_memory_alone : (id other : List ℕ) (fault : PayloadFault) → fault_reply id fault ≡ memory_reply other → fault ≡ OutOfMemory
 told_by_memory_alone id other Format e = absurd (other_last_letter id other (fault_code Format) (codes "Forma") 116 (omega arith) e)
 told_by_memory_alone id other Missing e = absurd (other_last_letter id other (fault_code Missing) (codes "Missin") 103 (omega arith) e)
@@ -24,7 +24,7 @@ told_by_memory_alone id other Decimal e = absurd (other_last_letter id other (fa
 told_by_memory_alone id other Moment e = absurd (other_last_letter id other (fault_code Moment) (codes "Momen") 116 (omega arith) e)
 told_by_memory_alone id other OutOfMemory e = refl
 
--- a fault's reply tells OutOfMemory where that is the fault
+-- a fault's reply reports OutOfMemory where that is the fault
 pub fault_tells : (id : List ℕ) (payload : Data) (fault : PayloadFault) (reply : List ℕ) (memory : Bool) → (IsTrue memory ↔ (fault ≡ OutOfMemory)) → (fault ≡ OutOfMemory → PayloadGrows payload) → reply ≡ fault_reply id fault → IsTrue memory ↔ IsMemoryReply (Called id TransactionEvent payload) reply
 fault_tells id payload fault reply memory is grows told =
     let memory_alone : (other : List ℕ) → reply ≡ memory_reply other → IsTrue memory = λ other same. is.1 (told_by_memory_alone id other fault (sym told ∙ same)) in (
@@ -32,7 +32,7 @@ fault_tells id payload fault reply memory is grows told =
       λ wants. elim wants [ inl unread ↦ memory_alone (codes "-1") unread | inr same ↦ memory_alone id same.0 ],
     )
 
--- OutOfMemory while a text is read is told with the id `-1`
+-- OutOfMemory while a text is read is reported with the id `-1`
 pub unread_tells : (asked : Frame) (reply : List ℕ) → reply ≡ memory_reply (codes "-1") → IsMemoryReply asked reply
 unread_tells (Called id BootNotification payload) reply e = e
 unread_tells (Called id Heartbeat payload) reply e = e

@@ -1,4 +1,4 @@
--- Where the readings of a request need more memory: at a counted reading, when all checks before it have passed.
+-- Where the readings of a request need more memory: at a counted reading, after all checks before it passed.
 use Rattle.std.specs.Prelude.{◌≡◌, ◌⊎◌, ℕ, List, [], ◌∷◌, ◌++◌, Some, Ok, IsOk, codes}
 use Rattle.serde_json.specs.Data.{Data}
 use Rattle.marked_json.specs.Reading.{text_of, items_of}
@@ -10,7 +10,7 @@ use Rattle.transaction_event.specs.Sampled.{sample}
 use Rattle.transaction_event.specs.MeterValues.{meter_value}
 use Rattle.transaction_event.specs.Request.{kind_of, key_of, evse_of, has_token}
 
--- Among items that are taken in turn by `step` there is one at which more is needed, and all before it pass.
+-- `step` takes items in turn; one of them needs more memory, and all before it pass.
 abbrev pub GrowsAmong : {A B : Type 0} → (B → A → Checked B) → (B → A → Type 0) → B → List A → Type 0
 GrowsAmong step Grows so_far [] = ⊥
 GrowsAmong {A} {B} step Grows so_far (item ∷ items) =

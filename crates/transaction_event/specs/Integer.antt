@@ -30,7 +30,7 @@ integer_in low high tree = ok_or (integer_of tree) WrongType >>= within low high
 abbrev pub integer_within : ℤ → ℤ → List ℕ → Checked ℤ
 integer_within low high token = ok_or (integer_of_token token) WrongType >>= within low high
 
--- A member that has to be there, an integer from low to high.
+-- A member that must be there, an integer from low to high.
 abbrev pub required_integer_of : ℤ → ℤ → Option Data → Checked ℤ
 required_integer_of low high member = required_of integer_of member >>= within low high
 
@@ -38,7 +38,7 @@ required_integer_of low high member = required_of integer_of member >>= within l
 abbrev pub required_integer : ℤ → ℤ → List ℕ → Data → Checked ℤ
 required_integer low high name tree = required_integer_of low high (field_of name tree)
 
--- An integer that is there lies between low and high.
+-- An integer that is there is between low and high.
 abbrev pub if_within : ℤ → ℤ → Option ℤ → Checked (Option ℤ)
 if_within low high None = Ok None
 if_within low high (Some n) = checked_map Some (within low high n)

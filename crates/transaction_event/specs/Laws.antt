@@ -15,6 +15,7 @@ use Rattle.transaction_event.specs.Reply.{answers_delivery}
 abbrev pub EachDeliveryIsAnswered : Type 0
 EachDeliveryIsAnswered = (limits : Bounds) (content : Content) (key : KeyName) (event : EventContent) → answers_delivery (answer limits content (Deliver key event)) ≡ true
 
--- Whatever a text means at a moment, an event that it delivers can be asked of a ledger: each part lies in its range.
+-- Whatever a text means at a moment, an event that it delivers can be delivered to a ledger: each part is in its
+-- range.
 abbrev pub EachDeliveryIsAdmissible : Type 0
 EachDeliveryIsAdmissible = (text : List ℕ) (now : ℕ) (id : List ℕ) (request : Request) → message text now ≡ Event id request → IsAdmissible (Deliver request.key request.event)

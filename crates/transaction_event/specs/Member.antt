@@ -1,4 +1,4 @@
--- The members of an object: absent where there is none of the name, or it is null.
+-- The members of an object: a member is absent if there is none of its name, or it is null.
 use Rattle.std.specs.Prelude.{ℕ, List, Option, Some, None, Ok, if◌then◌else◌}
 use Rattle.std.specs.Option.{ok_or}
 use Rattle.serde_json.specs.Data.{Data}
@@ -10,7 +10,7 @@ use Rattle.transaction_event.specs.Steps.{Checked, checked_map, ◌>>=◌}
 abbrev pub object_of : Data → Option Data
 object_of tree = if is_object tree then Some tree else None
 
--- A member that has to be there, of a kind.
+-- A member that must be there, of a kind.
 abbrev pub required_of : {A : Type 0} → (Data → Option A) → Option Data → Checked A
 required_of kind member = ok_or member Missing >>= (λ there. ok_or (kind there) WrongType)
 
@@ -18,7 +18,7 @@ required_of kind member = ok_or member Missing >>= (λ there. ok_or (kind there)
 abbrev pub required : {A : Type 0} → (Data → Option A) → List ℕ → Data → Checked A
 required kind name tree = required_of kind (field_of name tree)
 
--- What a member that is there has to be.
+-- The kind that a member must have if it is there.
 abbrev pub if_there : {A : Type 0} → (Data → Option A) → Option Data → Checked (Option A)
 if_there kind None = Ok None
 if_there kind (Some member) = checked_map Some (ok_or (kind member) WrongType)

@@ -1,4 +1,4 @@
--- What a station's text means at a moment (OCPP 2.0.1 Part 4). Running out of memory is no part of it.
+-- What a station's text means at a moment (OCPP 2.0.1 Part 4). A lack of memory is no part of it.
 use Rattle.std.specs.Prelude.{ℕ, List, Ok, Err}
 use Rattle.serde_json.specs.Data.{Data}
 use Rattle.ocppj_frame.specs.declared.action.Action.{Action}
@@ -12,13 +12,13 @@ use Rattle.transaction_event.specs.Steps.{Checked}
 use Rattle.transaction_event.specs.Request.{Request, event_reading}
 use Rattle.transaction_event.specs.Reply.{fault_reply}
 
--- An event to deliver, with the id of its call; or a reply that is ready; or nothing to say.
+-- An event to deliver, with the id of its call; or a ready reply; or silence.
 pub data Meaning : Type 0 where
   Event : List ℕ → Request → Meaning
   Ready : List ℕ → Meaning
   Silence : Meaning
 
--- What a TransactionEventRequest means: the event, or the reply that tells of its first fault.
+-- What a TransactionEventRequest means: the event, or the reply that reports its first fault.
 abbrev pub event_or_fault : List ℕ → Checked Request → Meaning
 event_or_fault id (Ok request) = Event id request
 event_or_fault id (Err fault) = Ready (fault_reply id fault)

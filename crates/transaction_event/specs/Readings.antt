@@ -1,4 +1,4 @@
--- The counted readings of an event, in the order in which they were sent.
+-- The counted readings of an event, in the order sent.
 use Rattle.std.specs.Prelude.{List, [], ◌∷◌, ◌++◌, length, nat_lt, if◌then◌else◌, Ok, Err}
 use Rattle.ledger_model.specs.Ranges.{most_event_readings}
 use Rattle.ledger_model.specs.Event.{MeterReading}

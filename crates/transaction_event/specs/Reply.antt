@@ -1,4 +1,4 @@
--- The replies to a TransactionEventRequest (OCPP 2.0.1 Part 4); which fault takes which code is this product's profile.
+-- The replies to a TransactionEventRequest (OCPP 2.0.1 Part 4); the codes of the faults are this product's profile.
 use Rattle.std.specs.Prelude.{ℕ, Bool, true, false, List}
 use Rattle.ledger_model.specs.declared.answer.Answer.{Answer}
 use Rattle.ledger_model.specs.declared.answer.Answer.TheVariants.{Accepted, Repeat, Refused}
@@ -29,11 +29,11 @@ fault_code OutOfMemory = InternalError
 abbrev pub fault_reply : List ℕ → PayloadFault → List ℕ
 fault_reply id fault = error_bytes id (fault_code fault) (fault_name fault)
 
--- The reply that tells OutOfMemory.
+-- The reply that reports OutOfMemory.
 abbrev pub memory_reply : List ℕ → List ℕ
 memory_reply id = fault_reply id OutOfMemory
 
--- Tells whether a delivery can be refused so.
+-- Whether a delivery can get this refusal.
 abbrev pub refuses_delivery : Refusal → Bool
 refuses_delivery ConflictingEvent = true
 refuses_delivery TooManyTransactions = true
@@ -44,7 +44,7 @@ refuses_delivery AlreadyVoided = false
 refuses_delivery NotVoided = false
 refuses_delivery ChangesExhausted = true
 
--- Tells whether a delivery can be answered so.
+-- Whether a delivery can get this answer.
 abbrev pub answers_delivery : Answer → Bool
 answers_delivery (Accepted changes) = true
 answers_delivery Repeat = true

@@ -1,4 +1,5 @@
--- What a TransactionEventRequest tells (OCPP 2.0.1 Part 2, block E), its members checked in this order; the ranges are this product's profile.
+-- What a TransactionEventRequest says (OCPP 2.0.1 Part 2, block E), with its members checked in
+-- this order; the ranges are this product's profile.
 use Rattle.std.specs.Prelude.{ℕ, ◌-◌, Bool, List, pos, unsigned_abs, is_some, if◌then◌else◌, Option, Some, None, Ok, Err, codes}
 use Rattle.std.specs.Option.{ok_or}
 use Rattle.std.specs.Str.{bytes_eq}
@@ -47,7 +48,7 @@ abbrev pub evse_number : Option Data → Checked (Option ℕ)
 evse_number None = Ok None
 evse_number (Some evse) = checked_map (λ n. Some (unsigned_abs n)) (required_integer (pos 1) (pos greatest_evse) (codes "id") evse)
 
--- The EVSE of an event, where it names one.
+-- The EVSE of an event, if it names one.
 unfoldable pub evse_of : Data → Checked (Option ℕ)
 evse_of request = optional object_of (codes "evse") request >>= evse_number
 

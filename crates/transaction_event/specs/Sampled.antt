@@ -1,4 +1,5 @@
--- Sampled values of energy registers (SampledValueType of OCPP 2.0.1 Part 2, J02); which of them count is this product's profile.
+-- Sampled values of energy registers (SampledValueType of OCPP 2.0.1 Part 2, J02); which of them count is this
+-- product's profile.
 use Rattle.std.specs.Prelude.{ℕ, Bool, true, ◌&&◌, List, is_none, if◌then◌else◌, Option, Some, None, Result, Ok, Err, codes}
 use Rattle.std.specs.Option.{ok_or}
 use Rattle.std.specs.Str.{bytes_eq}
@@ -20,14 +21,15 @@ abbrev pub absent_or : List ℕ → Option (List ℕ) → Bool
 absent_or text None = true
 absent_or text (Some given) = bytes_eq given text
 
--- The direction of the active energy register that a measurand names: import where it is absent.
+-- The direction of the active energy register that a measurand names: import if it is absent.
 abbrev pub direction_of : Option (List ℕ) → Option Direction
 direction_of measurand =
     if absent_or (codes "Energy.Active.Import.Register") measurand then Some Import
     else (if absent_or (codes "Energy.Active.Export.Register") measurand then Some Export
     else None)
 
--- A value counts that is of one of the two active energy registers, of no single phase, and taken at the outlet: in the direction of its register.
+-- A value counts if it is of one of the two active energy registers, of no single phase, and taken
+-- at the outlet; it counts in the direction of its register.
 abbrev pub counted_toward : Option (List ℕ) → Option (List ℕ) → Option (List ℕ) → Option Direction
 counted_toward measurand phase location = if is_none phase && absent_or (codes "Outlet") location then direction_of measurand else None
 
@@ -39,7 +41,7 @@ counts sampled = do
   location ← optional text_of (codes "location") sampled
   Ok (counted_toward measurand phase location)
 
--- What is no reading of a register is refused.
+-- A value that is no reading of a register is refused.
 abbrev pub decimal : Result ℕ DecimalFault → Checked ℕ
 decimal (Ok mwh) = Ok mwh
 decimal (Err fault) = Err Decimal
@@ -58,7 +60,7 @@ if_counted moment so_far sampled None = Ok so_far
 if_counted moment so_far sampled (Some direction) =
     sampled_mwh sampled >>= (λ mwh. one_more so_far (record { moment = moment; mwh = mwh; direction = direction }))
 
--- The readings so far, and that of a sampled value where it counts.
+-- The readings so far, and that of a sampled value, if it counts.
 unfoldable pub sample : ℕ → List MeterReading → Data → Checked (List MeterReading)
 sample moment so_far value = do
   sampled ← ok_or (object_of value) WrongType

@@ -1,4 +1,5 @@
--- How a sampled value is scaled (unitOfMeasure of SampledValueType, OCPP 2.0.1 Part 2, J02); the units are this product's profile.
+-- How a sampled value is scaled (unitOfMeasure of SampledValueType, OCPP 2.0.1 Part 2, J02); the units are this
+-- product's profile.
 use Rattle.std.specs.Prelude.{List, ℤ, pos, negsuc, unwrap_or, if◌then◌else◌, ℕ, Option, Some, None, Ok, Err, codes}
 use Rattle.std.specs.Str.{bytes_eq}
 use Rattle.serde_json.specs.Data.{Data}
@@ -10,7 +11,7 @@ use Rattle.transaction_event.specs.Steps.{Checked, ◌>>=◌}
 use Rattle.transaction_event.specs.Member.{optional}
 use Rattle.transaction_event.specs.Integer.{optional_integer}
 
--- The unit of that name; watt-hours where none is named.
+-- The unit of that name; watt-hours if none is named.
 abbrev pub unit_named : Option (List ℕ) → Checked EnergyUnit
 unit_named None = Ok Wh
 unit_named (Some name) =

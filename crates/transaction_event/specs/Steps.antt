@@ -1,4 +1,4 @@
--- Checks one after another: the first fault answers.
+-- Checks one after another: the first fault is reported.
 use Rattle.std.specs.Prelude.{List, [], ◌∷◌, Result, Ok, Err}
 use Rattle.transaction_event.specs.declared.fault.PayloadFault.{PayloadFault}
 

@@ -8,7 +8,7 @@ use Rattle.transaction_event.specs.declared.fault.PayloadFault.TheVariants.{Mome
 use Rattle.transaction_event.specs.Steps.{Checked, ◌>>=◌}
 use Rattle.transaction_event.specs.Member.{required_of}
 
--- What is no moment is refused.
+-- A text that is no moment is refused.
 abbrev pub moment : Result ℕ MomentFault → Checked ℕ
 moment (Ok nanos) = Ok nanos
 moment (Err fault) = Err Moment

@@ -1,9 +1,10 @@
-//! An event to deliver, as a text gave it.
+//! An event to deliver, as a text has it.
 
 use arrayvec::ArrayString;
 use ledger_model::{Event, Key};
 
-/// An event that a text asks to deliver; its reply is [`event_reply`](crate::event_reply) of the answer.
+/// An event that a text asks to deliver. [`event_reply`](crate::event_reply) makes its reply from the
+/// ledger's answer.
 #[derive(Drop)]
 pub struct Delivery {
     /// The id of the call, of at most 36 characters.

@@ -5,18 +5,18 @@ ghost use Rattle.ocppj_frame.specs.Reply.{is_letter};
 ghost use Rattle.transaction_event.specs.declared.fault.PayloadFault.TheVariants.{OutOfMemory};
 ghost use Rattle.transaction_event.specs.Fault.{fault_number, fault_name};
 
-/// Why a TransactionEventRequest (OCPP 2.0.1 Part 2, block E) is refused: the first fault in the order
-/// of the checks.
+/// Why a TransactionEventRequest (OCPP 2.0.1 Part 2, block E) is refused. The first fault in the order
+/// of the checks is reported.
 #[derive(Clone, Copy, Debug, PartialEq, Eq)]
 pub enum PayloadFault {
     /// The payload is no object.
     Format,
     /// A member that is required is absent or null.
     Missing,
-    /// A member or an element is of another JSON kind, or a number where an integer is wanted has a
-    /// point or an exponent.
+    /// A member or an element is of another JSON kind, or an integer is written with a point or an
+    /// exponent.
     WrongType,
-    /// A value lies outside the range, or the set, that its member has.
+    /// A value is outside the range, or the set, of its member.
     Range,
     /// More than 1,024 readings count.
     TooManyReadings,
@@ -24,7 +24,7 @@ pub enum PayloadFault {
     Decimal,
     /// A timestamp is no instant of the years 2000 to 2099.
     Moment,
-    /// A growth of memory was refused.
+    /// The allocator refused memory.
     OutOfMemory,
 }
 
@@ -63,7 +63,7 @@ impl PayloadFault {
         }
     }
 
-    // Tells whether a growth of memory was refused.
+    // Returns whether the allocator refused memory.
     pub(crate) fn is_out_of_memory(self) -> bool
         ensures { IsTrue result ↔ (self ≡ OutOfMemory) }
     {

@@ -45,7 +45,7 @@ fn integer_in(member: Node, low: i64, high: i64) -> Result<i64, PayloadFault>
     }
 }
 
-/// An integer from `low` to `high` that has to be there: `Missing`, `WrongType` or `Range`.
+/// An integer from `low` to `high` that must be there. Faults: `Missing`, `WrongType`, `Range`.
 pub fn required_integer_of(member: Option<Node>, low: i64, high: i64) -> Result<i64, PayloadFault>
     ensures value { result ≡ spec.required_integer_of low high (option_map node member.entry) }
     ensures range { IfOk result (λ n. (low ≤ℤ n) × (n ≤ℤ high)) }
@@ -57,7 +57,7 @@ pub fn required_integer_of(member: Option<Node>, low: i64, high: i64) -> Result<
     }
 }
 
-/// As [`required_integer_of`], by the member's name.
+/// [`required_integer_of`] of the member of this name.
 pub fn required_integer(object: Node, name: &str, low: i64, high: i64) -> Result<i64, PayloadFault>
     requires { length name.now ≤ 63 }
     ensures value { result ≡ spec.required_integer low high name.now (node object.entry) }
@@ -67,7 +67,7 @@ pub fn required_integer(object: Node, name: &str, low: i64, high: i64) -> Result
     required_integer_of(object.field(name), low, high)
 }
 
-/// An integer from `low` to `high`, or none where the member is absent: `WrongType` or `Range`.
+/// An integer from `low` to `high`, or none if the member is absent. Faults: `WrongType`, `Range`.
 pub fn optional_integer(
     object: Node,
     name: &str,

@@ -1,16 +1,15 @@
 //! OCPP 2.0.1 messages of a charging station, as events of the ledger and as replies.
 //!
-//! [`message_of`] takes a text that a station sent, and the moment, and gives what it asks for: an event
-//! to deliver with its [`Key`](ledger_model::Key) (a TransactionEventRequest, OCPP 2.0.1 Part 2, block E),
-//! a reply that is ready (BootNotification, Heartbeat, StatusNotification, MeterValues, and every fault),
-//! or silence for an answer; [`read_message`] does the same with a reply that was lent. [`event_reply`] writes the reply
-//! to an event by the ledger's answer.
-//! [`event_of`] reads a payload alone, and borrows from its tree; only the list of readings takes memory.
+//! [`message_of`] takes a station's text and the moment, and gives what the text asks for: an event to deliver with its
+//! [`Key`](ledger_model::Key) (a TransactionEventRequest, OCPP 2.0.1 Part 2, block E), a ready reply (BootNotification,
+//! Heartbeat, StatusNotification, MeterValues, and every fault), or silence for an answer. [`read_message`] does the
+//! same with a buffer that the caller lends for the reply. [`event_reply`] writes the reply to an event by the ledger's
+//! answer. [`event_of`] reads only a payload, and borrows from its tree; only the list of readings takes memory.
 //!
-//! The crate's one contract: what a text means at a moment is the function `message` of
-//! `specs/Message.antt`, on the frame that the text is. A payload means what `event_reading` of
-//! `specs/Request.antt` says, member by member in the order of the checks; the first fault answers. Both
-//! give that and nothing else, in both directions, but for running out of memory, which is a reply of its own.
+//! The crate's contract: the function `message` of `specs/Message.antt` says what a text means at a moment,
+//! from the frame that the text is. `event_reading` of `specs/Request.antt` says what a payload means,
+//! member by member in the order of the checks; the first fault is reported. Both calls give just that, in
+//! both directions, except that a lack of memory has a reply of its own.
 //!
 //! ```text
 //! message_of(alloc, r#"[2,"a","Heartbeat",{}]"#, now)

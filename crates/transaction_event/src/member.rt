@@ -1,4 +1,4 @@
-//! The members of an object, each of the JSON kind that is wanted.
+//! The members of an object, each of the expected JSON kind.
 ghost use Rattle.std.specs.Prelude.{◌≡◌, ◌≤◌, length, option_map, ◌≢◌, IfErr};
 ghost use Rattle.marked_json.specs.Reading.{node, left_of, text_of, items_of, number_of};
 ghost use Rattle.transaction_event.specs.Steps.{checked_map};
@@ -8,7 +8,7 @@ ghost use Rattle.transaction_event.specs.declared.fault.PayloadFault.TheVariants
 use crate::PayloadFault;
 use marked_json::{Items, Node};
 
-/// A text that has to be there: `Missing`, or `WrongType`.
+/// A text that must be there. Faults: `Missing`, `WrongType`.
 pub fn required_text_of<'a>(member: Option<Node<'a>>) -> Result<&'a str, PayloadFault>
     ensures value { checked_map (λ s. s.now) result ≡ required_of text_of (option_map node member.entry) }
     ensures memory { IfErr result (λ f. f ≢ OutOfMemory) }
@@ -19,7 +19,7 @@ pub fn required_text_of<'a>(member: Option<Node<'a>>) -> Result<&'a str, Payload
     }
 }
 
-/// As [`required_text_of`], by the member's name.
+/// [`required_text_of`] of the member of this name.
 pub fn required_text<'a>(object: Node<'a>, name: &str) -> Result<&'a str, PayloadFault>
     requires { length name.now ≤ 63 }
     ensures value { checked_map (λ s. s.now) result ≡ required text_of name.now (node object.entry) }
@@ -28,7 +28,7 @@ pub fn required_text<'a>(object: Node<'a>, name: &str) -> Result<&'a str, Payloa
     required_text_of(object.field(name))
 }
 
-/// A text, or none where the member is absent: `WrongType`.
+/// A text, or none if the member is absent. Fault: `WrongType`.
 pub fn optional_text<'a>(object: Node<'a>, name: &str) -> Result<Option<&'a str>, PayloadFault>
     requires { length name.now ≤ 63 }
     ensures value { checked_map (option_map (λ s. s.now)) result
@@ -44,7 +44,7 @@ pub fn optional_text<'a>(object: Node<'a>, name: &str) -> Result<Option<&'a str>
     }
 }
 
-/// An object that has to be there: `Missing`, or `WrongType`.
+/// An object that must be there. Faults: `Missing`, `WrongType`.
 pub fn required_object_of<'a>(member: Option<Node<'a>>) -> Result<Node<'a>, PayloadFault>
     ensures value { checked_map node result ≡ required_of object_of (option_map node member.entry) }
     ensures memory { IfErr result (λ f. f ≢ OutOfMemory) }
@@ -56,7 +56,7 @@ pub fn required_object_of<'a>(member: Option<Node<'a>>) -> Result<Node<'a>, Payl
     }
 }
 
-/// An object, or none where the member is absent: `WrongType`.
+/// An object, or none if the member is absent. Fault: `WrongType`.
 pub fn optional_object_of<'a>(member: Option<Node<'a>>) -> Result<Option<Node<'a>>, PayloadFault>
     ensures value { checked_map (option_map node) result ≡ if_there object_of (option_map node member.entry) }
     ensures memory { IfErr result (λ f. f ≢ OutOfMemory) }
@@ -68,7 +68,7 @@ pub fn optional_object_of<'a>(member: Option<Node<'a>>) -> Result<Option<Node<'a
     }
 }
 
-/// As [`optional_object_of`], by the member's name.
+/// [`optional_object_of`] of the member of this name.
 pub fn optional_object<'a>(object: Node<'a>, name: &str) -> Result<Option<Node<'a>>, PayloadFault>
     requires { length name.now ≤ 63 }
     ensures value { checked_map (option_map node) result
@@ -78,7 +78,7 @@ pub fn optional_object<'a>(object: Node<'a>, name: &str) -> Result<Option<Node<'
     optional_object_of(object.field(name))
 }
 
-/// The items of an array that has to be there: `Missing`, or `WrongType`.
+/// The items of an array that must be there. Faults: `Missing`, `WrongType`.
 pub fn required_items<'a>(object: Node<'a>, name: &str) -> Result<Items<'a>, PayloadFault>
     requires { length name.now ≤ 63 }
     ensures value { checked_map left_of result ≡ required items_of name.now (node object.entry) }
@@ -90,7 +90,7 @@ pub fn required_items<'a>(object: Node<'a>, name: &str) -> Result<Items<'a>, Pay
     }
 }
 
-/// The items of an array, or none where the member is absent: `WrongType`.
+/// The items of an array, or none if the member is absent. Fault: `WrongType`.
 pub fn optional_items_of<'a>(member: Option<Node<'a>>) -> Result<Option<Items<'a>>, PayloadFault>
     ensures value { checked_map (option_map left_of) result ≡ if_there items_of (option_map node member.entry) }
     ensures memory { IfErr result (λ f. f ≢ OutOfMemory) }
@@ -104,7 +104,7 @@ pub fn optional_items_of<'a>(member: Option<Node<'a>>) -> Result<Option<Items<'a
     }
 }
 
-/// The token of a number that has to be there: `Missing`, or `WrongType`.
+/// The token of a number that must be there. Faults: `Missing`, `WrongType`.
 pub fn required_number<'a>(object: Node<'a>, name: &str) -> Result<&'a str, PayloadFault>
     requires { length name.now ≤ 63 }
     ensures value { checked_map (λ s. s.now) result ≡ required number_of name.now (node object.entry) }

@@ -1,4 +1,4 @@
-//! A station's text, as what it asks of the ledger.
+//! A station's text, and what it asks for.
 ghost use Rattle.std.specs.Prelude.{◌≡◌, ◌≢◌, ◌≤◌, ℕ, false, length};
 ghost use Rattle.transaction_event.specs.MessageMeaning.{IsMeaningOf, IsMeaningOfFrame, IsMemoryTold, IsMemoryToldOfFrame, HasShortId, IsOutOfMemory, with_reply};
 ghost use Rattle.ocppj_frame.specs.Ranges.{longest_message};
@@ -18,7 +18,8 @@ use std::alloc::Global;
 /// What a station's text asks for.
 #[derive(Drop)]
 pub enum Message {
-    /// An event to deliver; its reply is [`event_reply`](crate::event_reply) of the answer.
+    /// An event to deliver. [`event_reply`](crate::event_reply) makes its reply from the ledger's
+    /// answer.
     Event {
         /// The id of the call, of at most 36 characters.
         id: ArrayString<144>,
@@ -33,25 +34,24 @@ pub enum Message {
     Reply {
         /// The reply.
         text: ArrayString<512>,
-        /// Whether it tells OutOfMemory.
+        /// Whether it reports OutOfMemory.
         memory: bool,
     },
-    /// An answer of the station, which gets none.
+    /// An answer of the station, which gets no reply.
     Silent,
 }
 
-/// What a station's text asks for, where the text of a ready reply was put into one that was lent: an answer of less
-/// room than a [`Message`].
+/// As [`Message`], but the text of a ready reply is in the caller's buffer, so the value is smaller.
 #[derive(Drop)]
 pub enum Asked {
     /// An event to deliver.
     Event(Delivery),
-    /// A ready reply, whose text is the lent one.
+    /// A ready reply; its text is in the caller's buffer.
     Reply {
-        /// Whether it tells OutOfMemory.
+        /// Whether it reports OutOfMemory.
         memory: bool,
     },
-    /// An answer of the station, which gets none.
+    /// An answer of the station, which gets no reply.
     Silent,
 }
 
@@ -101,8 +101,8 @@ fn other_reply(call: &Call, now: Moment) -> ArrayString<512>
     }
 }
 
-/// What a station's text means at a moment. Memory runs out only while a text of at most 262,144 bytes is
-/// read as JSON, or at a counted reading of a payload that passed all checks before it.
+/// What a station's text means at a moment. Memory can run out only while a text of at most 262,144 bytes
+/// is read as JSON, or at a counted reading of a payload, after all checks before it passed.
 pub fn message_of(alloc: Global, text: &str, now: Moment) -> Message
     ensures meaning { IsMeaningOf text.now now result }
     ensures memory { IsMemoryTold text.now result }
@@ -132,8 +132,8 @@ pub fn message_of(alloc: Global, text: &str, now: Moment) -> Message
     }
 }
 
-/// Reads a text as [`message_of`] does, and puts the text of a ready reply into `reply`, in the place of what it had;
-/// what it holds after another answer has no meaning.
+/// Reads a text as [`message_of`] does. It puts the text of a ready reply into `reply`, in place of what was there;
+/// after any other result, what `reply` has means nothing.
 pub fn read_message(alloc: Global, text: &str, now: Moment, reply: &mut ArrayString<512>) -> Asked
     ensures meaning { IsMeaningOf text.now now (with_reply result reply.new) }
     ensures memory { IsMemoryTold text.now (with_reply result reply.new) }

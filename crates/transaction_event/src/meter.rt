@@ -74,7 +74,8 @@ fn elements_in_turn(
     Ok(())
 }
 
-/// The counted readings of a request, in the order in which they were sent.
+/// The counted readings of a request's meter values (MeterValueType, OCPP 2.0.1 Part 2, J02), in
+/// the order sent. The first fault is reported.
 #[tactic(auto, unfolding(crate::specs::MeterValues::meter_values, crate::specs::Steps::for_each))]
 pub fn meter_values(
     alloc: Global,

@@ -28,7 +28,7 @@ impl Model for CountedReadings {
 }
 
 impl CountedReadings {
-    /// No reading.
+    /// No reading yet; the list takes memory only when it grows.
     pub fn new(alloc: Global) -> CountedReadings
         ensures { result ≡ [] }
     {
@@ -37,7 +37,7 @@ impl CountedReadings {
         }
     }
 
-    /// Takes one more: `TooManyReadings` where there are 1,024, or `OutOfMemory`.
+    /// Takes one more. Faults: `TooManyReadings` if there are 1,024 already, `OutOfMemory`.
     pub fn add(&mut self, reading: Reading) -> Result<(), PayloadFault>
         ensures ok { OnOk result (spec.one_more self.old reading ≡ Ok self.new) }
         ensures err { IfErr result (λ f. f ≢ OutOfMemory → spec.one_more self.old reading ≡ Err f) }

@@ -27,7 +27,7 @@ fn fault_code(fault: PayloadFault) -> ErrorCode
     }
 }
 
-/// The CALLERROR to a payload with a fault.
+/// The CALLERROR to a payload with a fault, without blanks; the fault's name is its description.
 pub fn fault_reply(id: &str, fault: PayloadFault) -> ArrayString<512>
     requires { character_count id.now ≤ longest_message_id }
     ensures { result.bytes ≡ spec.fault_reply id.now fault }
@@ -57,10 +57,10 @@ fn name_of(refusal: Refusal) -> &'static str
     refusal.name()
 }
 
-/// The reply to an event by the answer to its delivery (OCPP 2.0.1 Part 4): a CALLRESULT where it was
-/// accepted or is a repeat, with `idTokenInfo` where the request had an `idToken`, else a CALLERROR
-/// with the refusal's name. The id has at most 36 characters, which are Unicode scalar values, and the
-/// answer is one that a delivery can get.
+/// The reply to an event by the answer to its delivery (OCPP 2.0.1 Part 4): a CALLRESULT if it was
+/// accepted or is a repeat, with `idTokenInfo` if the request had an `idToken`; else a CALLERROR with
+/// the refusal's name. The id has at most 36 characters, counted as Unicode scalar values, and the
+/// answer must be one that a delivery can get.
 pub fn event_reply(id: &str, token: bool, answer: &Answer) -> ArrayString<512>
     requires id { character_count id.now ≤ longest_message_id }
     requires delivery { spec.answers_delivery answer.now ≡ true }
@@ -71,7 +71,7 @@ pub fn event_reply(id: &str, token: bool, answer: &Answer) -> ArrayString<512>
     reply
 }
 
-/// Puts the reply to an event, as [`event_reply`] gives it, into a text, in the place of what it had.
+/// Puts the reply to an event, as [`event_reply`] gives it, into a text, in place of what was there.
 pub fn put_event_reply(reply: &mut ArrayString<512>, id: &str, token: bool, answer: &Answer)
     requires id { character_count id.now ≤ longest_message_id }
     requires delivery { spec.answers_delivery answer.now ≡ true }

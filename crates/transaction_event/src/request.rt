@@ -35,11 +35,11 @@ fn read_event(alloc: Global, members: &RequestMembers) -> Result<(Key, Event, bo
 /// Reads the payload of a TransactionEventRequest (OCPP 2.0.1 Part 2, block E): the event's key, the
 /// event with its counted readings, and whether an `idToken` was there.
 ///
-/// The checks come in this order, and the first fault answers: the payload an object; `eventType`;
-/// `timestamp`; `triggerReason`; `seqNo`, 0 to 2,147,483,647; `transactionInfo` with its
+/// The checks come in this order, and the first fault is reported: the payload is an object;
+/// `eventType`; `timestamp`; `triggerReason`; `seqNo`, 0 to 2,147,483,647; `transactionInfo` with its
 /// `transactionId`; `evse` with its `id`, 1 to 64; `idToken`; `meterValue`, each element in turn, and
-/// in it each sampled value. `OutOfMemory` comes only where the list of readings could not grow: at a
-/// counted reading, when all checks before it have passed.
+/// in it each sampled value. `OutOfMemory` comes only if the list of readings could not grow: at a
+/// counted reading, after all checks before it passed.
 pub fn event_of(alloc: Global, payload: Node) -> Result<(Key, Event, bool), PayloadFault>
     ensures ok { IfOk result
         (λ r. spec.event_reading (node payload.entry)

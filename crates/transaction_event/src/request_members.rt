@@ -1,4 +1,4 @@
-//! The members of a TransactionEventRequest, and what each of them tells.
+//! The members of a TransactionEventRequest, and what each of them says.
 ghost use Rattle.std.specs.Prelude.{◌≡◌, ◌≢◌, ◌≤◌, option_map, Some, IfOk, IfErr, codes};
 ghost use Rattle.marked_json.specs.Reading.{node, text_of, items_of, left_of};
 ghost use Rattle.transaction_event.specs.Steps.{checked_map};
@@ -17,7 +17,7 @@ use crate::timestamp::NamedMoment;
 use ledger_model::{EvseId, GREATEST_EVSE, Key, Kind, SEQUENCE_END, TxId};
 use marked_json::{Items, Node, Wanted};
 
-/// The members of a request that are looked at, all found in one walk.
+/// The members of a request that the reader looks at, all found in one walk.
 #[derive(Drop)]
 pub struct RequestMembers<'a> {
     request: Node<'a>,
@@ -95,7 +95,7 @@ impl<'a> RequestMembers<'a> {
         }
     }
 
-    /// The kind of the event: `eventType`.
+    /// The kind of the event: `eventType`. Faults: `Missing`, `WrongType`, `Range`.
     #[tactic(auto, unfolding(crate::specs::Request::kind_of))]
     pub fn kind(&self) -> Result<Kind, PayloadFault>
         requires { AreFound self.now }
@@ -105,7 +105,7 @@ impl<'a> RequestMembers<'a> {
         kind_named(required_text_of(self.event_type)?)
     }
 
-    /// The moment of the event: `timestamp`.
+    /// The moment of the event: `timestamp`. Faults: `Missing`, `WrongType`, `Moment`.
     #[tactic(auto, unfolding(crate::specs::Timestamp::timestamp))]
     pub fn timestamp(&self) -> Result<NamedMoment<'a>, PayloadFault>
         requires { AreFound self.now }
@@ -115,7 +115,7 @@ impl<'a> RequestMembers<'a> {
         NamedMoment::of(self.timestamp)
     }
 
-    /// Any text: `triggerReason`.
+    /// Any text: `triggerReason`. Faults: `Missing`, `WrongType`.
     pub fn trigger_reason(&self) -> Result<&'a str, PayloadFault>
         requires { AreFound self.now }
         ensures value { checked_map (λ s. s.now) result
@@ -125,7 +125,8 @@ impl<'a> RequestMembers<'a> {
         required_text_of(self.trigger_reason)
     }
 
-    /// The key of the event: `seqNo`, and the `transactionId` of `transactionInfo`.
+    /// The key of the event: `seqNo`, 0 to 2,147,483,647, and the `transactionId` of
+    /// `transactionInfo`. Faults: `Missing`, `WrongType`, `Range`.
     #[tactic(auto, unfolding(crate::specs::Request::key_of))]
     pub fn key(&self) -> Result<Key, PayloadFault>
         requires { AreFound self.now }
@@ -138,7 +139,8 @@ impl<'a> RequestMembers<'a> {
         Ok(Key::new(tx, seq.unsigned_abs() as u32).unwrap())
     }
 
-    /// The EVSE of the event, where it names one: `evse` with its `id`.
+    /// The EVSE of the event, if it names one: `evse` with its `id`, 1 to 64. Faults: `Missing` (an
+    /// `evse` without `id`), `WrongType`, `Range`.
     #[tactic(auto, unfolding(crate::specs::Request::evse_of))]
     pub fn evse(&self) -> Result<Option<EvseId>, PayloadFault>
         requires { AreFound self.now }
@@ -149,7 +151,7 @@ impl<'a> RequestMembers<'a> {
         evse_number(optional_object_of(self.evse)?)
     }
 
-    /// Whether an `idToken` is there; nothing in it is looked at.
+    /// Whether an `idToken` is there; its members are not read. Fault: `WrongType`.
     #[tactic(auto, unfolding(crate::specs::Request::has_token))]
     pub fn has_token(&self) -> Result<bool, PayloadFault>
         requires { AreFound self.now }
@@ -159,7 +161,7 @@ impl<'a> RequestMembers<'a> {
         Ok(optional_object_of(self.id_token)?.is_some())
     }
 
-    /// The elements of `meterValue`, where it is there.
+    /// The elements of `meterValue`, if it is there. Fault: `WrongType`.
     pub fn meter_values(&self) -> Result<Option<Items<'a>>, PayloadFault>
         requires { AreFound self.now }
         ensures value { checked_map (option_map left_of) result

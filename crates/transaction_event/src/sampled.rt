@@ -37,7 +37,7 @@ fn direction_of(measurand: Option<&str>) -> Option<Direction>
     }
 }
 
-// In which direction a sampled value counts, once its three texts are checked.
+// In which direction a sampled value counts, if it does; its three texts are all checked first.
 #[tactic(auto, unfolding(crate::specs::Sampled::counts))]
 fn counts(sampled: Node) -> Result<Option<Direction>, PayloadFault>
     ensures value { result ≡ spec.counts (node sampled.entry) }
@@ -88,7 +88,9 @@ fn add_counted(
     }
 }
 
-/// Adds the reading of a sampled value, where it counts.
+/// Adds the reading of a sampled value, if it counts: one of an active energy register, of no
+/// single phase, taken at the outlet (SampledValueType, OCPP 2.0.1 Part 2, J02). Faults:
+/// `WrongType`, `Range`, `Missing`, `Decimal`, `TooManyReadings`, `OutOfMemory`.
 #[tactic(auto, unfolding(crate::specs::Sampled::sample))]
 pub fn sample(
     moment: Moment,

@@ -54,7 +54,8 @@ fn named_scale(measure: Node) -> Result<Scale, PayloadFault>
 }
 
 impl Scale {
-    /// The scale of a unit of measure; watt-hours as they stand where there is none.
+    /// The scale of a unit of measure; plain watt-hours if there is none. Faults: `WrongType`, and
+    /// `Range` for another unit than Wh and kWh or a multiplier outside -12 to 12.
     pub fn of(measure: Option<Node>) -> Result<Scale, PayloadFault>
         ensures value { result ≡ spec.scale_of (option_map node measure.entry) }
         ensures memory { IfErr result (λ f. f ≢ OutOfMemory) }
@@ -68,12 +69,14 @@ impl Scale {
         }
     }
 
+    /// The unit of the value.
     pub fn unit(&self) -> Unit
         ensures value { result ≡ self.now.unit }
     {
         self.unit
     }
 
+    /// The power of ten that the value is multiplied by, -12 to 12.
     pub fn multiplier(&self) -> i8
         ensures value { result ≡ self.now.multiplier }
         ensures low { negsuc 11 ≤ℤ result }

@@ -38,7 +38,7 @@ impl<'a> Model for NamedMoment<'a> {
 }
 
 impl<'a> NamedMoment<'a> {
-    /// The moment that a timestamp names: `Missing`, `WrongType` or `Moment`.
+    /// The moment that a timestamp names. Faults: `Missing`, `WrongType`, `Moment`.
     pub fn of(timestamp: Option<Node<'a>>) -> Result<NamedMoment<'a>, PayloadFault>
         ensures value { result ≡ spec.timestamp_of (option_map node timestamp.entry) }
         ensures memory { IfErr result (λ f. f ≢ OutOfMemory) }
@@ -55,8 +55,8 @@ impl<'a> NamedMoment<'a> {
         self.moment
     }
 
-    /// The moment that the timestamp of an object names: `Missing`, `WrongType` or `Moment`. Most meter values name the
-    /// moment of their request by the same text, which is not read again then.
+    /// The moment that the timestamp of an object names. Faults: `Missing`, `WrongType`, `Moment`. Most meter values
+    /// have the same text as their request, which is then not read again.
     #[tactic(auto, unfolding(crate::specs::Timestamp::timestamp))]
     pub fn timestamp(&self, object: Node) -> Result<Moment, PayloadFault>
         ensures value { result ≡ spec.timestamp (node object.entry) }

@@ -92,7 +92,7 @@ module _ {X : Type 0} where
         | false ↦ names-find q es
       ]
 
--- Rising lists in which the same ids are found have the same ids.
+-- Rising lists have the same ids if the same ids are found in them.
 pub same_ids : {X Y : Type 0} (xs : List (List ℕ × X)) (ys : List (List ℕ × Y)) → AreRising xs → AreRising ys → ((q : List ℕ) → is_some (find id_cmp q xs) ≡ is_some (find id_cmp q ys)) → map (λ r. r.0) xs ≡ map (λ r. r.0) ys
 same_ids xs ys xr yr same =
     let named : names xs ≡ names ys =

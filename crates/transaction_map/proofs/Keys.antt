@@ -9,7 +9,7 @@ use Rattle.transaction_map.specs.Map.{AreRising, id_cmp}
 use Rattle.transaction_map.proofs.Rising.{id_total, turned, below_at}
 
 module _ {X : Type 0} where
-  -- Neighbours stand in order.
+  -- Neighbours are in order.
   rising_pair : (es : List (List ℕ × X)) (k : ℕ) (d : List ℕ × X) → AreRising es → k + 1 < length es → is_lt (id_cmp (get_or es (k + 1) d).0 (get_or es k d).0) ≡ false
   rising_pair [] k d h lt = absurd (omega arith)
   rising_pair (e ∷ es) zero d h lt = ap is_lt (turned e.0 (get_or es 0 d).0 Less (below_at e.0 es 0 d (first _ _ h) (omega arith)))

@@ -1,4 +1,4 @@
--- What stands at a place that was searched for.
+-- What is at a place that was searched for.
 use Rattle.std.proofs.Common.{◌≡◌, ℕ, zero, suc, ◌<◌, ◌≤◌, not, T, cond, List, [], ◌∷◌, length, get_or, set, Some, None, Result, Ok, Err, IfOk, IfErr, refl, sym, ap, subst, ◌∙◌, arith}
 use Rattle.std.specs.declared.cmp.Ordering.TheVariants.{Less, Equal, Greater}
 use Rattle.std.specs.Ordering.{is_eq, eq_by_cmp}
@@ -14,7 +14,7 @@ use Rattle.transaction_map.proofs.Rising.{exact_ids, find_below, turned, below_a
 use Rattle.transaction_map.proofs.Keys.{searchable}
 
 module _ {X : Type 0} where
-  -- An id that was found stands there.
+  -- An id that was found is there.
   pub at_from_found : (key : List ℕ) (es : List (List ℕ × X)) (i : ℕ) (d : List ℕ × X) → AreRising es → i < length es → id_cmp (get_or es i d).0 key ≡ Equal → IsAt key es i
   at_from_found key [] i d h lt e = absurd (omega arith)
   at_from_found key (x ∷ es) zero d h lt e = turned x.0 key Equal e
@@ -54,13 +54,13 @@ module _ {X : Type 0} where
   gap_within key (e ∷ es) zero h = omega arith
   gap_within key (e ∷ es) (suc i) h = omega (arith, gap_within key es i h.1)
 
-  -- The id that stands there is the one that was searched for.
+  -- The id that is there is the one that was searched for.
   pub key_at : (key : List ℕ) (es : List (List ℕ × X)) (i : ℕ) (d : List ℕ × X) → IsAt key es i → (get_or es i d).0 ≡ key
   key_at key [] i d h = absurd h
   key_at key (e ∷ es) zero d h = sym (exact_ids key e.0 h)
   key_at key (e ∷ es) (suc i) d h = key_at key es i d h.1
 
-  -- What the map has under an id that stands there.
+  -- What the map has under an id that is there.
   pub find_at : (key : List ℕ) (es : List (List ℕ × X)) (i : ℕ) (d : List ℕ × X) → IsAt key es i → find id_cmp key es ≡ Some (get_or es i d).1
   find_at key [] i d h = absurd h
   find_at key (e ∷ es) zero d h = ap (λ r. cond (is_eq r) (Some e.1) (find id_cmp key es)) h
@@ -102,7 +102,7 @@ module _ {X : Type 0} where
   without_below key (e ∷ es) h =
       ap (λ r. cond (not (is_eq r)) (e ∷ without key es) (without key es)) (less (id_cmp key e.0) (first _ _ h)) ∙ ap (λ rest. e ∷ rest) (without_below key es (second _ _ h))
 
-  -- To remove what stands there leaves the rows without the id.
+  -- To remove what is there leaves the rows without the id.
   pub without_at : (key : List ℕ) (es : List (List ℕ × X)) (i : ℕ) → AreRising es → IsAt key es i → filter (λ r. not (eq_by_cmp id_cmp key r.0)) es ≡ remove es i
   without_at key [] i h g = absurd g
   without_at key (e ∷ es) zero h g =
@@ -119,7 +119,7 @@ module _ {X : Type 0} where
   without_gap key (e ∷ es) (suc i) h g =
       ap (λ r. cond (not (is_eq r)) (e ∷ without key es) (without key es)) g.0 ∙ ap (λ rest. e ∷ rest) (without_gap key es i (second _ _ h) g.1)
 
-  -- The value of an id, written where it stands.
+  -- The value of an id, written at its place.
   pub written : (key : List ℕ) (es : List (List ℕ × X)) (i : ℕ) (x w : List ℕ × X) (v : X) → IsAt key es i → x ≡ get_or es i x → w ≡ (x.0, v) → set es i w ≡ put id_cmp key v es
   written key es i x w v at is write =
       let same : x.0 ≡ key = ap (λ (e : List ℕ × X). e.0) is ∙ key_at key es i x at in

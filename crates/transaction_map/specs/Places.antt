@@ -1,10 +1,10 @@
--- Where an id stands, or belongs, among rows.
+-- Where an id is, or belongs, among rows.
 use Rattle.std.specs.Prelude.{◌≡◌, ℕ, zero, suc, List, [], ◌∷◌}
 use Rattle.std.specs.declared.cmp.Ordering.TheVariants.{Less, Equal, Greater}
 use Rattle.transaction_map.specs.Map.{id_cmp}
 
 module _ {X : Type 0} where
-  -- The id stands at this place, and all before it are smaller.
+  -- The id is at this place, and all before it are smaller.
   abbrev pub IsAt : List ℕ → List (List ℕ × X) → ℕ → Type 0
   IsAt key [] i = ⊥
   IsAt key (e ∷ es) zero = id_cmp key e.0 ≡ Equal

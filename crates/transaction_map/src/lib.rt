@@ -1,12 +1,12 @@
 //! Values by transaction id, in one sorted run.
 //!
-//! A run holds as many transactions as [`TransactionMap::open`] reserved, so that a look-up among 4,096
-//! is twelve comparisons of ids. `open` asks the allocator, and nothing else here asks it again.
+//! A run has room for as many transactions as [`TransactionMap::open`] reserved; a look-up among 4,096
+//! is twelve comparisons of ids. Only `open` asks the allocator.
 //!
-//! The crate's one contract: a map is a list of ids, each with a value, by rising id.
-//! [`TransactionMap::get`] finds the value of one, [`TransactionMap::put`] writes it or puts it in,
-//! and [`TransactionMap::remove`] takes it out; all else stays. After [`TransactionMap::seek`] these
-//! calls find the transaction without a search.
+//! The crate's contract: a map is a list of ids by rising id, each with a value.
+//! [`TransactionMap::get`] finds a value, [`TransactionMap::put`] writes or adds it, and
+//! [`TransactionMap::remove`] takes it out; all else stays the same. After [`TransactionMap::seek`]
+//! these calls find the transaction without a search.
 //!
 //! ```text
 //! let mut map = TransactionMap::open(rt.alloc(), 4)?;

@@ -10,13 +10,13 @@ use ledger_model::TxId;
 use std::alloc::{AllocError, Global};
 use std::marker::Model;
 
-/// Values by transaction id, in one sorted run reserved by `open`. Contracts see the rows by rising
-/// id, and how many there may be.
+/// Values by transaction id, in one sorted run that `open` reserves. Contracts see the rows by
+/// rising id, and how many there may be.
 #[derive(Drop)]
 pub struct TransactionMap<V> {
     rows: Vec<NamedValue<V>>,
     capacity: u32,
-    // Where the row that was sought last stood or belonged: it saves a search, and changes no answer.
+    // Where the row of the last search is or belongs: it saves a search, and changes no answer.
     near: usize,
 }
 
@@ -32,7 +32,7 @@ impl<V> Model for TransactionMap<V> {
     ghost invariant = { λ m. IsMap m.rows.items m.capacity (vec_capacity m.rows) };
 }
 
-// Where the row of an id stands among rows by rising id, or else where it belongs.
+// The place of the row of an id among rows by rising id; the error says where it belongs.
 #[inline(never)]
 fn place<V: Copy>(rows: &[NamedValue<V>], tx: &TxId) -> Result<usize, usize>
     requires { AreRising rows.now }
@@ -42,7 +42,8 @@ fn place<V: Copy>(rows: &[NamedValue<V>], tx: &TxId) -> Result<usize, usize>
     rows.binary_search_by(|row| row.cmp_id(tx))
 }
 
-// Where the row of an id stands, or else where it belongs; the place given is looked at first.
+// The place of the row of an id; the error says where it belongs. The call looks at the place
+// `near` first.
 fn place_near<V: Copy>(rows: &[NamedValue<V>], near: usize, tx: &TxId) -> Result<usize, usize>
     requires { AreRising rows.now }
     ensures at { IfOk result (λ i. IsAt tx.now rows.now i) }
@@ -55,7 +56,8 @@ fn place_near<V: Copy>(rows: &[NamedValue<V>], near: usize, tx: &TxId) -> Result
 }
 
 impl<V: Copy> TransactionMap<V> {
-    /// A map without transactions, with room for so many.
+    /// A map without transactions, with room for `capacity` of them; the error says that the
+    /// allocator refused memory.
     pub fn open(alloc: Global, capacity: u32) -> Result<Self, AllocError>
         ensures rows { IfOk result (λ m. m.rows ≡ []) }
         ensures capacity { IfOk result (λ m. m.capacity ≡ capacity) }
@@ -68,8 +70,8 @@ impl<V: Copy> TransactionMap<V> {
         })
     }
 
-    /// The value of a transaction, and the place of its row; none where it is absent. It is searched once
-    /// for the calls that come next, and nothing that they answer changes.
+    /// The value of a transaction, and the place of its row; none if it is absent. The next calls need no
+    /// search for it; their answers stay the same.
     pub fn seek(&mut self, tx: &TxId) -> Option<(usize, V)>
         ensures value { option_map (λ f. f.1) result ≡ find id_cmp tx.now self.old.rows }
         ensures at { IfSome result (λ f. IsAt tx.now self.old.rows f.0) }
@@ -87,13 +89,13 @@ impl<V: Copy> TransactionMap<V> {
         }
     }
 
-    /// Where the transaction that was sought last stood or belonged, for [`TransactionMap::look_near`]
-    /// of a map that has about the same transactions.
+    /// Where the transaction of the last search is or belongs, for [`TransactionMap::look_near`] of a
+    /// map that has about the same transactions.
     pub fn near(&self) -> usize {
         self.near
     }
 
-    /// Looks at this place first, before it searches. Nothing that it answers changes.
+    /// The next search looks at this place first. No answer changes.
     pub fn look_near(&mut self, near: usize)
         ensures { self.new ≡ self.old }
     {
@@ -116,7 +118,7 @@ impl<V: Copy> TransactionMap<V> {
         self.capacity
     }
 
-    /// The value of a transaction; none where it is absent.
+    /// The value of a transaction; none if it is absent.
     pub fn get(&self, tx: &TxId) -> Option<V>
         ensures { result ≡ find id_cmp tx.now self.now.rows }
     {
@@ -126,7 +128,7 @@ impl<V: Copy> TransactionMap<V> {
         }
     }
 
-    /// The value of a transaction, and the place of its row; none where it is absent.
+    /// The value of a transaction, and the place of its row; none if it is absent.
     pub fn find(&self, tx: &TxId) -> Option<(usize, V)>
         ensures value { option_map (λ f. f.1) result ≡ find id_cmp tx.now self.now.rows }
         ensures at { IfSome result (λ f. IsAt tx.now self.now.rows f.0) }
@@ -147,7 +149,7 @@ impl<V: Copy> TransactionMap<V> {
         }
     }
 
-    /// Writes the value of a transaction, or puts it in where it is absent; then there is room.
+    /// Writes the value of a transaction, or adds it if it is absent; then the map must have room.
     pub fn put(&mut self, tx: &TxId, value: V)
         requires { find id_cmp tx.now self.old.rows ≡ None → length self.old.rows < self.old.capacity }
         ensures rows { self.new.rows ≡ put_row id_cmp tx.now value self.old.rows }
@@ -156,7 +158,7 @@ impl<V: Copy> TransactionMap<V> {
         put_in(&mut self.rows, self.near, tx, value);
     }
 
-    /// Writes the value of a transaction whose row is at this place.
+    /// Writes the value of a transaction that has its row at this place.
     pub fn set_at(&mut self, place: usize, tx: &TxId, value: V)
         requires { IsAt tx.now self.old.rows place }
         ensures rows { self.new.rows ≡ put_row id_cmp tx.now value self.old.rows }
@@ -165,7 +167,7 @@ impl<V: Copy> TransactionMap<V> {
         write_at(&mut self.rows, place, tx, value);
     }
 
-    /// Takes out the value of a transaction, and answers it; nothing where it is absent.
+    /// Takes out the value of a transaction, and returns it; `None` if it is absent.
     pub fn remove(&mut self, tx: &TxId) -> Option<V>
         ensures value { result ≡ find id_cmp tx.now self.old.rows }
         ensures rows { self.new.rows ≡ filter (λ r. not (eq_by_cmp id_cmp tx.now r.0)) self.old.rows }
@@ -184,7 +186,7 @@ fn write_at<V: Copy>(rows: &mut Vec<NamedValue<V>>, at: usize, tx: &TxId, value:
     rows[at].set(value);
 }
 
-// Writes the row of an id, or puts it in where the id is new.
+// Writes the row of an id, or adds it if the id is new.
 fn put_in<V: Copy>(rows: &mut Vec<NamedValue<V>>, near: usize, tx: &TxId, value: V)
     requires rising { AreRising rows.old.items }
     requires room { find id_cmp tx.now rows.old.items ≡ None → vec_len rows.old < vec_capacity rows.old }
@@ -200,7 +202,7 @@ fn put_in<V: Copy>(rows: &mut Vec<NamedValue<V>>, near: usize, tx: &TxId, value:
     }
 }
 
-// Takes out the row of an id, and answers its value.
+// Takes out the row of an id, and returns its value.
 fn take_out<V: Copy>(rows: &mut Vec<NamedValue<V>>, near: usize, tx: &TxId) -> Option<V>
     requires rising { AreRising rows.old.items }
     ensures value { result ≡ find id_cmp tx.now rows.old.items }

@@ -40,7 +40,7 @@ impl<V: Copy> NamedValue<V> {
         self.value
     }
 
-    // Tells whether it is the row of this transaction.
+    // Returns whether it is the row of this transaction.
     pub(crate) fn is_of(&self, id: &TxId) -> bool
         ensures { IsTrue result ↔ (self.now.0 ≡ id.now) }
     {

@@ -43,7 +43,7 @@ View = Callable[[Asked], Awaitable[Response]]
 
 
 def view(role: str) -> Callable[[View], Callable[[Request], Awaitable[Response]]]:
-    """Makes a view of programs whose token has a role an endpoint."""
+    """Makes a view an endpoint for programs with a token of a role."""
 
     def made(job: View) -> Callable[[Request], Awaitable[Response]]:
         @functools.wraps(job)
@@ -86,7 +86,7 @@ class Paging(NamedTuple):
         return cls(int(text), key)
 
     def page(self, name: str, rows: Sequence[Json], key: Callable[[Json], Sequence[str]]) -> Json:
-        """The page of these rows, of which one more than asked for shows that there are others."""
+        """The page of these rows; one row more than asked for shows that there are others."""
         some = rows[: self.rows]
         more = cursor_of(key(some[-1])) if len(rows) > self.rows else None
         return {name: some, "next": more}

@@ -230,7 +230,7 @@ class Late:
         return transaction_of(text)
 
     async def places(self, fetch: Fetch, texts: list[str]) -> dict[int, Transaction]:
-        """Which of these lines are for archived transactions, and for which."""
+        """The lines that are for archived transactions, with the transactions."""
         if not self.has_archived:
             return {}
         named = [self.named(text) for text in texts]

@@ -58,7 +58,7 @@ def run(*words: str | Path) -> None:
 
 
 def connection(dsn: str) -> str:
-    """The words by which pg_basebackup finds the server, of which any host may give the copy."""
+    """The words by which pg_basebackup finds the server; any of its hosts may give the copy."""
     pairs, user, database = places(dsn)
     hosts, ports = (",".join(str(pair[part]) for pair in pairs) for part in (0, 1))
     words = {"host": hosts, "port": ports, "user": user, "dbname": database}

@@ -94,7 +94,7 @@ class Month(NamedTuple):
     end: datetime
 
     def has(self, at: datetime | None) -> bool:
-        """Whether a moment lies in it."""
+        """Whether a moment is in it."""
         return at is not None and self.begin <= at < self.end
 
 

@@ -166,7 +166,7 @@ class Closing:
         ]
 
     def finished(self, changes: list[Line], whole: Figures, day: date) -> set[Transaction]:
-        """The transactions that are complete, all moments of which lie before the day, and those that were named."""
+        """The complete transactions with all moments before the day, and those that were named."""
         begin = datetime.combine(day, time(), self.zone)
         open_ones, unread = set[Transaction | None](), set[str]()
         for line in changes:
@@ -326,7 +326,7 @@ class Closing:
         return Sorted(live, late, known, gone, whole, rest, was, now)
 
     async def shares(self, log_lines: Sorted, in_file: Figures) -> dict[str, Share]:
-        """What of an archive is this site's, and others' at which sessions were archived that something came for."""
+        """The part of an archive for this site, and that for sites with archived sessions that something came for."""
         known = log_lines.known
         others = sorted({self.homes[one] for one in known} - {self.site})
         if not others:
@@ -406,7 +406,7 @@ class Closing:
         shares: dict[str, Share],
         settled: dict[str, list[tuple[Any, ...]]],
     ) -> list[Booking]:
-        """What is written for this site, and for others at which it corrects something."""
+        """What is written for this site, and for others where it corrects something."""
         made = list[Booking]()
         for site in sorted(shares.keys() | settled.keys()):
             number, last, reckoning = closing, day, self.reckoning
@@ -633,7 +633,7 @@ def differences(new: Flows, old: Flows) -> Flows:
 
 
 def totals(share: Share, moved: Flows) -> list[tuple[Any, ...]]:
-    """By how much an archive changes the total lines of stations, as far as these tell of sessions and energies, and
+    """By how much an archive changes the total lines of stations, as far as these have sessions and energies, and
     which numbers of sessions that were archived before it corrects."""
     rows, flows = list[tuple[Any, ...]](), dict[str, Flow]()
     for (station, _), flow in moved.items():

@@ -30,7 +30,7 @@ HAD = """
 select station, transaction from own_archived_transaction
 where shard = $1 and (station, transaction) in (select * from unnest($2::text[], $3::text[]))
 """
-# What an earlier version archived, whose lines are only in its files.
+# What an earlier version archived, with its lines only in files.
 UNPACKED = """
 select t.station, t.transaction, t.site, t.closing, c.archive
 from own_archived_transaction t join own_closing c using (shard, site, closing)
@@ -38,7 +38,7 @@ where c.shard = $1 and not c.packed and t.station = any($2) and not exists (
     select from own_archived_lines l where (l.shard, l.station, l.transaction) = (t.shard, t.station, t.transaction))
 """
 MAY_BE_UNPACKED = "select from own_closing where shard = $1 and not packed limit 1"
-# Closings all lines of which are packed; they are not looked at again.
+# Closings with all lines packed; they are not looked at again.
 ARE_PACKED = """
 update own_closing c set packed = true where shard = $1 and not packed and not exists (
     select from own_archived_transaction t

@@ -288,7 +288,7 @@ async def within(seconds: float, session: Any, call: str, *values: Any) -> Any:
 
 
 async def listen(session: Any, channel: str, heard: Callable[..., None]) -> None:
-    """Has a session hear the notifications of a channel of the tools, whose name who only reads does not know."""
+    """Lets a session hear a channel of the tools; a role that only reads does not know the channel's name."""
     name = await within(ADMISSION, session, "fetchval", "select channel_of($1)", channel)
     await session.add_listener(name, heard)
 

@@ -74,5 +74,5 @@ def citrine_event(text: str) -> Event | None:
 
 
 def maeve_event(station: str, text: str) -> Event | None:
-    """What MaEVe publishes: an object of which the frame is made. Raises Refused."""
+    """What MaEVe publishes: an object that the frame is made from. Raises Refused."""
     return event_of(station, MaeveForm.frame(members_of(text)))

@@ -1,4 +1,4 @@
-"""The log as a feed appends to it: batches of events, the cells' databases, and strays whose stations no plan has."""
+"""The log as a feed appends to it: batches of events, the cells' databases, and strays of stations that no plan has."""
 
 import asyncio
 import logging
@@ -168,7 +168,7 @@ class Log:
         await asyncio.gather(*(cell.until_done(nothing) for cell in self.cells))
 
     async def settled(self, events: list[Event]) -> list[Event]:
-        """Waits while shards of these stations move, and gives the events whose stations no plan has."""
+        """Waits while shards of these stations move, and returns the events of stations that no plan has."""
         while True:
             await self.open()
             strays = [event for event in events if not self.is_here(event.station)]
@@ -213,7 +213,7 @@ class Log:
         return station in cell.homes and station not in cell.moving
 
     async def adopt(self) -> None:
-        """Appends the strays whose stations a plan has by now; where no plan is new there are none."""
+        """Appends the strays of stations that a plan has by now; if no plan is new there are none."""
         await self.open()
         loads = sum(cell.loads for cell in self.cells)
         if loads == self.looked:

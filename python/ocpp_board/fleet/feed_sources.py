@@ -313,7 +313,7 @@ class RabbitSource(BrokerSource):
                 if time.monotonic() > looked + LOOK and not lost.done():
                     await channel.get_queue(
                         self.words.queue, ensure=True
-                    )  # Were it deleted, nobody would tell.
+                    )  # If it were deleted, nobody would report it.
                     looked = time.monotonic()
         except aiormq.exceptions.ChannelNotFoundEntity:
             raise Fault(f"{self.where} has no queue {self.words.queue!r}") from None
@@ -326,7 +326,7 @@ class RabbitSource(BrokerSource):
             self.tell_once(f"{self.where}: the connection ended; tried again and again")
 
     def batch(self, messages: list[Any]) -> Batch:
-        """The events of these messages, the last of which is acknowledged with all before it."""
+        """The events of these messages; the last is acknowledged with all before it."""
         where = f"a message of {self.words.queue}"
         events = [self.take(where, lambda: self.read(message)) for message in messages]
         return Batch(

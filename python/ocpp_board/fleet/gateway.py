@@ -57,7 +57,7 @@ log = logging.getLogger(__name__)
 SILENT = logging.getLogger("ocpp_board.fleet.gateway.websockets")
 SILENT.setLevel(logging.CRITICAL)
 
-# Messages of OCPP 2.0.1 Part 2 that a station sends unasked and whose response is empty, by block.
+# Messages of OCPP 2.0.1 Part 2 that a station sends unasked and that get an empty response, by block.
 NOTIFICATIONS = {
     "SecurityEventNotification": "A",
     "NotifyReport": "B",
@@ -85,7 +85,7 @@ BATCH, BATCH_BYTES, GATHERED = 1000, 4_000_000, 0.015
 # notification brought, which come one after the other where there are some, and for all else while nothing notifies.
 ANSWER, HANDSHAKE, SILENCE, LOOKS = 10, 10, 600, 0.05
 POLLS, FAST_POLLS, CATCHING_UP = 1.0, 0.1, 5.0
-# Shards of which a change of the plan was heard that are read by their numbers; of more all are read.
+# After changes of the plan for at most so many shards only these are read; after more, all shards are read.
 REPLANNED = 1_000
 # The answer to one who is not let in, whatever of it was wrong.
 ASKED = "a station's name and its password are asked for\n"
@@ -148,7 +148,7 @@ where p.station = any($1) and t.retired is null order by p.station, set_at desc
 
 
 def empty_answer(text: str) -> str | None:
-    """The answer to a notification whose response is empty."""
+    """The answer to a notification that gets an empty response."""
     try:
         call = parsed(text)
     except (ValueError, RecursionError):
@@ -190,7 +190,7 @@ def digest(data: bytes) -> bytes:
 
 
 class Wait(NamedTuple):
-    """What waits for its answer: whose it is, its text, by what that is known again, and since when."""
+    """A message that waits for its answer: its station, its text, how that is recognised, and since when it waits."""
 
     link: "StationLink"
     text: str
@@ -216,10 +216,10 @@ class Cell:
         self.let_in: dict[str, int] = {}
         self.heard = set[str]()
         self.has_let_in, self.has_heard = asyncio.Event(), asyncio.Event()
-        # Stations whose passwords changed, as somebody notified, or that may be retired.
+        # Stations with changed passwords, as a notification said, or that may be retired.
         self.changed = set[str]()
         self.has_changed = asyncio.Event()
-        # Shards whose plan changed, as somebody notified.
+        # Shards with a changed plan, as a notification said.
         self.replanned = set[int]()
         self.has_plan = asyncio.Event()
         self.second: Any = None
@@ -343,7 +343,7 @@ class Cell:
             self.has_changed.set()
 
     async def look_at_changed(self) -> None:
-        """Ends connections of stations that are retired, and of those whose password is none any more."""
+        """Ends connections of stations that are retired or have a new password."""
         while True:
             await self.has_changed.wait()
             self.has_changed.clear()
@@ -590,7 +590,7 @@ class StationLink(Link):
             )
 
     async def judge(self, event: Request, given: Given) -> None:
-        """Lets a station in whose password is right; one that the plan does not have gets the answer to a wrong one."""
+        """Lets a station in if its password is right; a station that the plan lacks gets the answer to a wrong one."""
         name = self.name
         peer = str((self.transport.get_extra_info("peername") or ("",))[0])
         address = passwords.address_of(peer, event.headers, self.gateway.words.proxy)
@@ -638,7 +638,7 @@ class StationLink(Link):
         """The station has a newer connection, here or at another gateway."""
         if not self.is_lost:
             self.gateway.replaced.add(self.name)
-            log.info("station %s connected again while its older connection stood", self.name)
+            log.info("station %s connected again while its older connection was open", self.name)
         self.close(1000, "the station connected again")
 
     def text(self, data: bytes) -> None:
@@ -777,13 +777,13 @@ class Gateway:
             link.close(1008, why)
 
     def end_revoked(self) -> None:
-        """Ends connections whose certificates are revoked."""
+        """Ends connections with revoked certificates."""
         for station, link in list(self.served.items()):
             if self.certificates.is_revoked(link.transport):
                 self.end(station, "its certificate is revoked")
 
     def is_served(self, station: str, number: int) -> bool:
-        """Whether the connection of this number is still the one by which the station is served here."""
+        """Whether the station is still served here by the connection of this number."""
         link = self.served.get(station)
         return link is not None and link.number == number
 

@@ -149,7 +149,7 @@ async def replayed(program: str, plan: Plan, site: str, lines: Sequence[str]) ->
 
 
 def own_lines(rows: Iterable[Any], station: str, transaction: str) -> list[Any]:
-    """The rows whose lines are of a session."""
+    """The rows with lines of a session."""
     own = (station, transaction)
     found = []
     for row in rows:
@@ -160,7 +160,7 @@ def own_lines(rows: Iterable[Any], station: str, transaction: str) -> list[Any]:
 
 
 def without_archived(rows: Sequence[Any], archived: set[str]) -> list[Any]:
-    """The rows whose lines reach the shard's replay."""
+    """The rows with lines that reach the shard's replay."""
     if not archived:
         return list(rows)
     return [

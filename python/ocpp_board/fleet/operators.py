@@ -46,7 +46,7 @@ Ask = Callable[..., Awaitable[Any]]
 
 
 class Operator(NamedTuple):
-    """Who asks: the name, what it may do, and at which sites; at all of them where these are None."""
+    """Who asks: the name, what it may do, and its sites; None means all sites."""
 
     name: str
     roles: frozenset[str]

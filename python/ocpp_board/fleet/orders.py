@@ -1,6 +1,6 @@
 """How the lines of a shard get their places, by the worker that took it last.
 
-What came lies in `inbox`, or in `inbox_kept` where nobody would append it again. Whoever holds a shard moves its lines
+What came is in `inbox`, or in `inbox_kept` if nobody would append it again. Whoever holds a shard moves its lines
 from there into the log, each with the next place, in one transaction that is on disk before it ends. A shard that was
 taken since has another number in `numbering`, which is locked until that transaction ends: so of two that believe to
 hold a shard only the later one moves lines, and it begins behind what the earlier one moved.

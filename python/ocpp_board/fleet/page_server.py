@@ -1,4 +1,4 @@
-"""The server of the page: uvicorn, whose connections have an end each, so that who is slow holds up nobody.
+"""The server of the page: uvicorn. Each of its connections has an end, so a slow client holds up nobody.
 
 A connection has one request, which has so many seconds to come whole, and so many for all. Where too many connections
 are open, of one address or of all, the oldest whose request is not whole ends.
@@ -24,7 +24,7 @@ REQUEST, WHOLE, ENDING, CONNECTIONS, EACH = 10.0, 180.0, 20.0, 256, 64
 class Patient(H11Protocol):  # type: ignore[misc]
     """A connection that ends in time."""
 
-    # Connections whose request is not whole yet, the oldest first, and all of each address.
+    # Connections with a request that is not whole yet, the oldest first, and all of each address.
     unfinished: "dict[Patient, None]" = {}
     by_address: "dict[str, dict[Patient, None]]" = {}
     # Who names the addresses of connections.

@@ -38,7 +38,7 @@ FILE = re.compile(
     r"board(\.\d{4}-\d\d-\d\d(\.\d{1,4})?|\.\d{1,4})?\.html|board\.(periods|transactions)\.csv"
 )
 FILE_DAY = re.compile(r"board\.(\d{4}-\d\d-\d\d)\.")
-# Periods of a site's day, of which there is no more.
+# The most periods of a site's day.
 MOST_PERIODS = 1_000_000_000
 # Rows of a table, and lines of a session that are shown as they are.
 MOST_ROWS, MOST_LINES = 500, 2_000
@@ -273,7 +273,7 @@ class Part(NamedTuple):
 
 
 def gap_words(text: str | None) -> str:
-    """Missing numbers in a cell, of which many are cut."""
+    """Missing numbers in a cell; if there are many, they are cut."""
     words = (text or "none").split(", ")
     return ", ".join(words[:20]) + (
         f" and {len(words) - 20:,} ranges more" if len(words) > 20 else ""

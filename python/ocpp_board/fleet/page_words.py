@@ -82,7 +82,7 @@ class Words(NamedTuple):
 
 
 class ClosingWords(NamedTuple):
-    """Which day of which site an operator wants closed, and why."""
+    """The site and the day that an operator wants closed, and why."""
 
     site: str
     day: str

@@ -135,7 +135,7 @@ def address_by(peer: str, named: Sequence[str], proxies: Sequence[str]) -> str:
 
 
 def network_of(address: str) -> str:
-    """What failures of an address are counted by: of IPv6 its /64, of which one host has all."""
+    """How failures of an address are counted: for IPv6 by its /64, since one host has all of that."""
     try:
         one = ipaddress.ip_address(address)
     except ValueError:

@@ -27,7 +27,7 @@ NAME = "ocpp-board place"
 FILLED, SITES, READINGS = 56, 16, 1_048_576
 # Readings that a new station may keep (the plan's default).
 NEW = 2_048
-# Cells whose loads differ by less than this part are left.
+# Cells with loads that differ by less than this part are left.
 NEAR = 0.2
 
 SHARDS = "select * from placement()"

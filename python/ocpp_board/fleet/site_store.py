@@ -17,7 +17,7 @@ from ocpp_board.fleet.states import figures_said, station_states
 
 # Sites whose pages are kept, processes at once that make some with those that wait, and seconds for one.
 KEPT, MAKERS, WAITING, PATIENCE = 16, 2, 16, 60
-# Days of which a site's pages have the archived periods. One before them is made by itself.
+# A site's pages have the archived periods of so many days. One before them is made by itself.
 DAYS = 92
 # A shard has no more stations.
 MOST_STATIONS = 64

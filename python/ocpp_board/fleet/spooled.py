@@ -15,7 +15,7 @@ from ocpp_board.fleet.lines import Transaction, station_of
 
 
 class Stored(NamedTuple):
-    """A line of a spool: where it lies, and what is asked of it often."""
+    """A line of a spool: where it is, and what is asked of it often."""
 
     spool: "Spool"
     front: int
@@ -59,7 +59,7 @@ class Spool:
         return self.names.setdefault(name, name)
 
     def read(self, front: int, size: int) -> str:
-        """What lies there. Raises OSError."""
+        """The text of these bytes. Raises OSError."""
         if not self.is_written:
             self.file.flush()
             self.is_written = True
@@ -71,7 +71,7 @@ class Spool:
 
 
 class Texts(Sequence[str]):
-    """The texts of lines, each of which is read when it is asked for."""
+    """The texts of lines; each is read when it is asked for."""
 
     def __init__(self, lines: Iterable[Stored]) -> None:
         self.lines = list(lines)

@@ -7,7 +7,7 @@ from ocpp_board.boards import Numbers
 from ocpp_board.energies import FLOW
 
 PROVISIONAL, SETTLED, CORRECTED = "provisional", "settled", "corrected"
-# The numbers of a total line that tell of sessions, which closings settle by archiving these; and those of events,
+# The numbers of a total line that count sessions, which closings settle by archiving these; and those of events,
 # which are only of the log, so that each closing changes them.
 SESSIONS, EVENTS = ("transactions", "complete", "missing"), ("events", "voided")
 # Energies, with what is reckoned of them.

@@ -32,7 +32,7 @@ def texts_of(value: Any) -> Iterator[str]:
 
 
 def is_named(value: Any, token: str | None) -> bool:
-    """Whether a value names this token, whose letters may be large or small (OCPP 2.0.1, IdTokenType); None: any."""
+    """Whether a value names this token; its letters may be large or small (OCPP 2.0.1, IdTokenType); None: any."""
     if token is None:
         return value not in ({}, [], "")
     return any(text.casefold() == token.casefold() for text in texts_of(value))

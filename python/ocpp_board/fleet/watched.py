@@ -67,7 +67,7 @@ class Watched:
         self.refused, self.taken = list[Row](), list[int]()
 
     def take(self, place: int, line: str, answer: str) -> None:
-        """Takes a line of the log with its answer; one whose answer is not known is left."""
+        """Takes a line of the log with its answer; one with an unknown answer is left."""
         kind, _, rest = line.partition(" ")
         if kind != "msg" or not answer:
             return

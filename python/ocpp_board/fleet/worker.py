@@ -107,7 +107,7 @@ ANSWERING = 0.3
 SWEEP, SETTLING, FENCING = 20, 5, 5
 # Seconds between notes of progress, and the longest pause before a shard that another worker took is taken again.
 NOTING, CONTEST = 0.5, 0.05
-# Shards whose boards are made at once.
+# How many shards' boards are made at once.
 SHOWN = 8
 # From which part of the queue of notifications on answers take the other way, by a table.
 SLOW_QUEUE = 0.005
@@ -166,10 +166,10 @@ class Session:
         # Whether the queue of notifications has so much in it that what goes there comes late.
         self.is_queue_slow = False
         self.shards: dict[int, Shard] = {}
-        # Shards whose lock is held and that are not open yet.
+        # Shards with a held lock that are not open yet.
         self.opening: set[int] = set()
         self.refused: dict[int, int] = {}
-        # Shards whose log has not been read to its end, and those with lines in an inbox, with the first of them.
+        # Shards with a log that is not read to its end, and those with lines in an inbox, with the first of them.
         self.behind: set[int] = set()
         self.woken: dict[str, dict[int, int]] = {channel: {} for channel in INBOXES}
         self.waking, self.planned = asyncio.Event(), asyncio.Event()
@@ -179,7 +179,7 @@ class Session:
         self.lost: asyncio.Future[None] = asyncio.get_running_loop().create_future()
 
     def spawn(self, job: Coroutine[Any, Any, Any]) -> asyncio.Task[Any]:
-        """A task whose fault ends the session."""
+        """A task; its fault ends the session."""
         task = asyncio.create_task(job)
         self.jobs.add(task)
         task.add_done_callback(self.ended)
@@ -344,7 +344,7 @@ class Session:
         await self.ask("select release_shard($1)", number)
 
     def reopen(self, shard: Shard) -> None:
-        """A new replay for a shard, whose lock stays held. One that ends again and again gets time in between."""
+        """A new replay for a shard; its lock stays held. One that ends again and again gets time in between."""
         if self.shards.get(shard.number) is not shard:
             return
         del self.shards[shard.number]
@@ -354,7 +354,7 @@ class Session:
         self.spawn(self.open(shard.number, 0 if lived > 2 else 0.5))
 
     async def open(self, number: int, pause: float) -> None:
-        """Begins the replay of a shard whose lock is held, after so many seconds."""
+        """Begins the replay of a shard, with its lock held, after so many seconds."""
         await asyncio.sleep(pause)
         await self.committed(TAKE, [number])
         state = (await self.read_state([number])).get(number)
@@ -502,7 +502,7 @@ class Session:
                     self.behind.add(shard.number)
 
     def loaded(self, shard: Shard) -> None:
-        """The shard's log was read to its end; what lies in its inboxes comes next."""
+        """The shard's log was read to its end; what is in its inboxes comes next."""
         self.behind.discard(shard.number)
         shard.is_loaded, shard.read = True, shard.last
         took = asyncio.get_running_loop().time() - shard.began

@@ -1,4 +1,4 @@
-//! The tables of tokens and texts with what each stands for.
+//! Tables of tokens and texts, each with its value or its fault.
 use ledger_model::{Period, Quarter};
 use reading_decimal::{
     DecimalFault, MomentFault, Unit, is_of, moment_of, moment_text, multiplier_ok, mwh_of, quarter,
@@ -9,7 +9,7 @@ const ZEROS_34: &str = "1.0000000000000000000000000000000000";
 
 const ZEROS_35: &str = "1.00000000000000000000000000000000000";
 
-// A token, a power of ten, a unit, and the milliwatt-hours that they stand for, or the fault.
+// A token, a power of ten, a unit, and their milliwatt-hours or their fault.
 const DECIMALS: [(&str, i8, Unit, Result<u64, DecimalFault>); 9] = [
     ("1.2345678", 0, Unit::KWh, Ok(1_234_567)),
     ("12.5", -1, Unit::Wh, Ok(1_250)),
@@ -22,7 +22,8 @@ const DECIMALS: [(&str, i8, Unit, Result<u64, DecimalFault>); 9] = [
     ("1e100", 0, Unit::Wh, Err(DecimalFault::ExponentRange)),
 ];
 
-// Tells whether a token times a power of ten of a unit is read so.
+// Returns whether a token times a power of ten of a unit is read as these milliwatt-hours or with
+// this fault.
 fn is_mwh(token: &str, multiplier: i8, unit: Unit, want: Result<u64, DecimalFault>) -> bool {
     multiplier_ok(multiplier) && mwh_of(token, multiplier, unit) == want
 }
@@ -70,7 +71,7 @@ fn lenient_number(rt: HostRuntime) {
     }
 }
 
-// Each token has two faults or more, and answers the first.
+// Each token has two faults or more; the first is reported.
 const ORDER: [(&str, DecimalFault); 4] = [
     (
         "01000000000000000000000000000000000000",
@@ -111,7 +112,7 @@ const SECOND: u64 = 1_000_000_000;
 // Ten o'clock on the first of March 2026.
 const TEN: u64 = 1_772_359_200 * SECOND;
 
-// Tells whether a time is read as so many nanoseconds since 1970, or with this fault.
+// Returns whether a time is read as this many nanoseconds since 1970, or with this fault.
 fn is_moment(text: &str, want: Result<u64, MomentFault>) -> bool {
     match moment_of(text) {
         Ok(moment) => want == Ok(moment.nanos()),
@@ -174,7 +175,8 @@ fn moment_limits(rt: HostRuntime) {
     }
 }
 
-// A time, a period's seconds, the quarter that the time falls into, and where that begins.
+// A time, a period's seconds, the number of the period that the time falls into, and that period's
+// beginning.
 const QUARTERS: [(&str, u16, u32, &str); 15] = [
     (
         "2026-03-01T10:31:00Z",
@@ -268,7 +270,7 @@ const QUARTERS: [(&str, u16, u32, &str); 15] = [
     ),
 ];
 
-// Tells whether a time falls into the quarter of this number and beginning.
+// Returns whether a time falls into the period of this number and beginning.
 fn is_quarter(text: &str, seconds: u16, number: u32, start: &str) -> Option<bool> {
     let period = Period::new(seconds)?;
     let quarter = quarter(moment_of(text).ok()?, period);
@@ -286,7 +288,7 @@ fn quarters(rt: HostRuntime) {
     }
 }
 
-// A number, a period's seconds, and whether the period has a quarter of that number.
+// A number, a length in seconds, and whether there is a period of that number and length.
 const OWN: [(u32, u16, bool); 10] = [
     (3_155_615, 300, false),
     (3_155_616, 300, true),
@@ -300,7 +302,7 @@ const OWN: [(u32, u16, bool); 10] = [
     (13_674_815, 3_600, false),
 ];
 
-// Tells whether a period has a quarter of this number.
+// Returns whether there is a period of this number and length.
 fn is_own(number: u32, seconds: u16) -> Option<bool> {
     Some(is_of(Quarter::new(number)?, Period::new(seconds)?))
 }

@@ -1,5 +1,5 @@
-//! What each text of a station means while there is memory, and when there is none. Readings, replies and ids are rows
-//! of the program.
+//! What each text of a station means while there is memory, and when there is none. Stored rows of the program test
+//! readings, replies and ids.
 
 use arrayvec::ArrayString;
 use ledger_model::{Answer, Moment};
@@ -24,8 +24,8 @@ fn ten() -> Result<Moment, Fail> {
     Ok(Moment::new(1_772_359_200_000_000_000).ok_or("ten o'clock")?)
 }
 
-// Tells whether the payload of a call is an event of number 0 with one reading and no token, and the call
-// itself is none.
+// Returns whether the payload of a call is an event of number 0 with one reading and no token, and
+// the call itself is no such payload.
 fn has_event(alloc: Global, marked: &Marked) -> Option<bool> {
     let payload = marked.root().items()?.nth(3)?;
     let (key, event, token) = event_of(alloc, payload).ok()?;
@@ -39,7 +39,7 @@ const REPLIED: [&str; 3] = [
     r#"[2,"a","TransactionEvent",{}]"#,
 ];
 
-// Tells whether a text gets a reply that does not tell want of memory.
+// Returns whether a text gets a reply that does not report a lack of memory.
 fn is_replied(alloc: Global, text: &str) -> Result<bool, Fail> {
     let message = message_of(alloc, text, ten()?);
     Ok(matches!(message, Message::Reply { memory: false, .. }))
@@ -49,7 +49,7 @@ fn is_silent(alloc: Global, text: &str) -> Result<bool, Fail> {
     Ok(matches!(message_of(alloc, text, ten()?), Message::Silent))
 }
 
-// With ample memory nothing tells that it is out.
+// With ample memory nothing reports a lack of it.
 #[test]
 fn always_out_of_memory(rt: HostRuntime) -> Result<(), Fail> {
     let marked = read_marked(rt.alloc(), EVENT)?;
@@ -63,7 +63,7 @@ fn always_out_of_memory(rt: HostRuntime) -> Result<(), Fail> {
     Ok(())
 }
 
-// What is sent back, and whether it tells OutOfMemory; the empty text for silence.
+// What is sent back, and whether it reports OutOfMemory; the empty text for silence.
 fn told(alloc: Global, text: &str) -> Result<(ArrayString<512>, bool), Fail> {
     Ok(match message_of(alloc, text, ten()?) {
         Message::Event { id, token, .. } => (
@@ -75,7 +75,7 @@ fn told(alloc: Global, text: &str) -> Result<(ArrayString<512>, bool), Fail> {
     })
 }
 
-// Tells whether what is sent back is this text, or tells want of memory.
+// Returns whether what is sent back is this text, or reports a lack of memory.
 fn is_right_or_out(alloc: Global, text: &str, want: &str) -> Result<bool, Fail> {
     let (reply, memory) = told(alloc, text)?;
     let unread = reply.as_str() == r#"[4,"-1","InternalError","OutOfMemory",{}]"#;
@@ -94,7 +94,8 @@ const RIGHT: [(&str, &str); 4] = [
     (EVENT, TAKEN),
 ];
 
-// Where a growth is refused, by `rt try --test --fail-alloc N`, the reply is right or tells OutOfMemory.
+// If the allocator refuses memory (`rt try --test --fail-alloc N`), the reply is right or reports
+// OutOfMemory.
 #[test]
 fn right_or_out_of_memory(rt: HostRuntime) -> Result<(), Fail> {
     for (text, want) in &RIGHT {

@@ -1,5 +1,5 @@
-//! What no clause says: that calls are read while there is memory. Texts as OCPP 2.0.1 Part 4 and this product's
-//! profile give them are rows of the program.
+//! No clause says that calls are read while there is memory; these tests show it. Stored rows of the program
+//! test the texts of OCPP 2.0.1 Part 4 and of this product's profile.
 
 use ocppj_frame::{Action, Incoming, read_frame};
 use std::alloc::Global;
@@ -16,7 +16,7 @@ const ANSWERS: [(&str, &str); 4] = [
 
 const OUT_OF_MEMORY: &str = r#"[4,"-1","InternalError","OutOfMemory",{}]"#;
 
-// Tells whether a text gets its answer, or the reply that tells want of memory.
+// Returns whether a text gets its answer, or the reply that reports a lack of memory.
 fn is_answered(alloc: Global, text: &str, answer: &str) -> bool {
     match read_frame(alloc, text) {
         Incoming::Call(_) => answer == "call",
@@ -27,7 +27,8 @@ fn is_answered(alloc: Global, text: &str, answer: &str) -> bool {
     }
 }
 
-// Each allocation refused in turn, by hand: each text gets its answer, or the reply that tells OutOfMemory.
+// Run by hand with each allocation refused in turn: each text gets its answer, or the reply that reports
+// OutOfMemory.
 #[test]
 fn refused_memory(rt: HostRuntime) {
     for (text, answer) in &ANSWERS {
@@ -52,7 +53,7 @@ const CALLS: [(&str, Action); 5] = [
     ),
 ];
 
-// Tells whether a text is a call of this action with id `a`, whose payload has 1 under `b`.
+// Returns whether a text is a call of this action with id `a`, and a payload with 1 under `b`.
 fn is_call(alloc: Global, text: &str, action: Action) -> bool {
     match read_frame(alloc, text) {
         Incoming::Call(call) => {

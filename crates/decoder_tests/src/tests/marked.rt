@@ -1,5 +1,5 @@
-//! What no clause says: that reads succeed while there is memory, and examples of the marked reading whose answers
-//! come from RFC 8259 and from this product's profile.
+//! No clause says that reads succeed while there is memory; these tests show it. They have examples of the marked
+//! reading, with answers from RFC 8259 and from this product's profile.
 
 ghost use Rattle.std.specs.Prelude.{◌≤◌, length};
 
@@ -8,7 +8,7 @@ use std::alloc::Global;
 use std::process::Abort;
 use std::test::Fail;
 
-// Tells whether a text is refused with this fault.
+// Returns whether a text is refused with this fault.
 fn is_refused(alloc: Global, text: &str, fault: JsonFault) -> bool {
     matches!(read_marked(alloc, text), Err(told) if told == fault)
 }
@@ -70,7 +70,7 @@ fn faults(rt: HostRuntime) {
     }
 }
 
-// Tells whether a text is read as this number, and as nothing else.
+// Returns whether a text is read as this number, and as nothing else.
 fn is_number(alloc: Global, text: &str, token: &str) -> Result<bool, JsonFault> {
     let marked = read_marked(alloc, text)?;
     let root = marked.root();
@@ -92,7 +92,7 @@ fn numbers(rt: HostRuntime) {
     }
 }
 
-// Tells whether a text is read as this text, and as nothing else.
+// Returns whether a text is read as this text, and as nothing else.
 fn is_string(alloc: Global, text: &str, content: &str) -> Result<bool, JsonFault> {
     let marked = read_marked(alloc, text)?;
     let root = marked.root();
@@ -122,14 +122,14 @@ fn strings(rt: HostRuntime) {
 
 const FIELDS: &str = r#"{"a":null,"b":7,"c":1,"c":null,"d":{},"e":[null]}"#;
 
-// Tells whether a field stands there.
+// Returns whether the field is there.
 fn has(marked: &Marked, name: &str) -> bool
     requires { length name.now ≤ 63 }
 {
     marked.root().field(name).is_some()
 }
 
-// Tells whether `b` is 7 and no object, `d` is an object, and `e` is a list of one.
+// Returns whether `b` is 7 and no object, `d` is an object, and `e` is a list of one.
 fn have_kinds(marked: &Marked) -> Option<bool> {
     let root = marked.root();
     let (number, list) = (root.field("b")?, root.field("e")?);
@@ -152,7 +152,7 @@ fn fields(rt: HostRuntime) -> Result<(), Fail> {
     Ok(())
 }
 
-// So many times the character.
+// The character `count` times.
 fn repeated(alloc: Global, c: char, count: usize) -> Result<String, Fail> {
     let mut text = String::new(alloc);
     for _ in 0..count {
@@ -161,7 +161,7 @@ fn repeated(alloc: Global, c: char, count: usize) -> Result<String, Fail> {
     Ok(text)
 }
 
-// So many lists within one another.
+// `depth` lists, each in the next.
 fn nested(alloc: Global, depth: usize) -> Result<String, Fail> {
     let opened = repeated(alloc, '[', depth)?;
     let closed = repeated(alloc, ']', depth)?;

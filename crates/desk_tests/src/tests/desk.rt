@@ -75,7 +75,7 @@ fn delivery_of(alloc: Global, asked: Asked) -> Option<Command> {
     Some(Command::Deliver(key_of(asked.seq)?, event))
 }
 
-// The answer to a delivery, where it could be made.
+// The answer to a delivery, if it could be made.
 fn deliver<J: Naming, R: Wait + Clock>(
     rt: &R,
     alloc: Global,
@@ -114,24 +114,25 @@ fn figures(seven: [u64; 7]) -> Figures {
     }
 }
 
-// Tells whether the closed desk has so many stations and sites.
+// Returns whether the closed desk has this many stations and sites.
 fn has<J: Naming>(closed: &Closed<J>, stations: usize, sites: usize) -> bool {
     closed.stations() == stations && closed.sites() == sites
 }
 
-// Tells whether the closed desk has the station, which made so many changes, and its row shows its figures.
+// Returns whether the closed desk has the station with this many changes, and its row shows its
+// figures.
 fn is_tied<J: Naming>(closed: &Closed<J>, station: u16, changes: u64) -> bool {
     (station as usize) < closed.stations()
         && closed.changes(station) == changes
         && closed.row(station) == closed.ledger(station).figures()
 }
 
-// Tells whether these are the figures of the station's ledger.
+// Returns whether these are the figures of the station's ledger.
 fn has_figures<J: Naming>(closed: &Closed<J>, station: u16, figures: Figures) -> bool {
     (station as usize) < closed.stations() && closed.ledger(station).figures() == figures
 }
 
-// Tells whether these are the totals of the site.
+// Returns whether these are the totals of the site.
 fn has_totals<J: Naming>(closed: &Closed<J>, site: u16, totals: Figures) -> bool {
     (site as usize) < closed.sites() && closed.totals(site) == totals
 }

@@ -20,9 +20,9 @@ ghost use Rattle.ledger_model.specs.declared.order.Order.{Order};
 ghost use Rattle.ledger_model.specs.declared.reading.Direction.{Direction};
 ghost use Rattle.ledger_model.specs.declared.reading.Direction.TheVariants.{Export};
 
-/// The gaps of rising numbers are the maximal ranges of what is missing between them, rising, and no
-/// other list is; with the numbers themselves they make up the range from the lowest to the highest.
-/// The live numbers of a transaction rise.
+/// The gaps of rising numbers are the maximal ranges of the numbers missing between them, rising; no
+/// other list is. Gaps and numbers together make up the range from the lowest to the highest. The
+/// live numbers of a transaction rise.
 pub fn gaps_are_missing_numbers()
     ensures gaps { (numbers : List ℕ) → AreRising numbers → AreGaps numbers (gaps numbers) }
     ensures only { (numbers : List ℕ) (gs : List Gap) → AreRising numbers → AreGaps numbers gs → gs ≡ gaps numbers }
@@ -30,8 +30,8 @@ pub fn gaps_are_missing_numbers()
     ensures rising { (tx : List ℕ) (c : Content) → AreRising (numbers_of tx (entries c)) }
 {}
 
-/// A transaction is complete exactly where its lowest live event is Started, its highest is Ended,
-/// none between is either, and no number is missing.
+/// A transaction is complete exactly if its lowest live event is Started, its highest is Ended, no
+/// other is either, and no number is missing.
 pub fn complete_is_four_conditions()
     ensures { (tx : List ℕ) (es : List Entry) → (is_complete tx es ≡ true) ↔ AreComplete (kinds_of tx es) (missing (numbers_of tx es)) }
 {}
@@ -42,7 +42,8 @@ pub fn energy_by_quarter()
     ensures { (order : Order) (d : Direction) (period : Periods) (es : List Entry) → energy_by order d es ≡ sum_of_energies (map (λ quarter. energy_in_by order d period quarter es) (quarters_by order period es)) }
 {}
 
-/// The energy of a station in a direction is the sum over its EVSEs, of which 0 stands for none named.
+/// The energy of a station in a direction is the sum over its EVSEs, with 0 for transactions that name
+/// none.
 pub fn energy_by_evse()
     ensures { (order : Order) (d : Direction) (es : List Entry) → energy_by order d es ≡ sum_of_energies (map (λ evse. energy_at_by order d evse es) (evses es)) }
 {}
@@ -52,9 +53,9 @@ pub fn energy_by_transaction()
     ensures { (order : Order) (d : Direction) (es : List Entry) → energy_by order d es ≡ sum_of_energies (map (λ tx. energy_of_by order d tx es) (transactions_of (live es))) }
 {}
 
-/// A station shows each quarter that has a pair of readings of either direction, each EVSE that has a transaction with a
-/// live event, and each such transaction: once, the numbers rising and the transactions in the order
-/// of their ids' bytes.
+/// A station shows each period that has a pair of readings of either direction, each EVSE that has a transaction with a
+/// live event, and each such transaction. It shows each once: periods and EVSEs by rising number, transactions in the
+/// order of their ids' bytes.
 pub fn shown_once_and_rising()
     ensures quarters { (order : Order) (period : Periods) (es : List Entry) (quarter : ℕ) → IsIn quarter (quarters_by order period es) ↔ IsIn quarter (map (quarter_of period) (pairs_of_both order es)) }
     ensures quarters_rise { (order : Order) (period : Periods) (es : List Entry) → AreRising (quarters_by order period es) }
@@ -64,7 +65,8 @@ pub fn shown_once_and_rising()
     ensures transactions_rise { (c : Content) → IsStrictlySortedBy (slice_cmp nat_cmp) (transactions_of (live (entries c))) }
 {}
 
-/// The energy of a site's quarter is, in each direction, the sum over its stations, shown there or not.
+/// The energy of a site's period is, in each direction, the sum over its stations, whether a station
+/// shows the period or not.
 pub fn site_quarters_are_sums()
     ensures { (order : Order) (period : Periods) (quarter : ℕ) (stations : List (List Entry)) → flows_under quarter (quarters_over order period stations) ≡ flows_over order period quarter stations }
 {}
@@ -75,9 +77,9 @@ pub fn site_figures_are_sums()
     ensures site { (period : Periods) (stations : List (List ℕ × Board)) → AreSums (site_board period stations).figures (map (λ s. s.1.figures) stations) }
 {}
 
-/// One post more gives its row the posted figures and leaves every other row; with the row's old
-/// figures, the totals are those before with the posted ones. Over posts for n rows the totals are
-/// the sums over these rows.
+/// One more post gives its row the posted figures and leaves every other row as it was. The new
+/// totals and the row's old figures add up to the old totals and the posted figures. After posts
+/// for n rows, the totals are the sums over these rows.
 pub fn totals_after_a_post()
     ensures totals { (row : ℕ) (f : Figures) (ps : List Post) → plus_figures (totals_after (ps ++ (row, f) ∷ [])) (row_after row ps) ≡ plus_figures (totals_after ps) f }
     ensures posted { (row : ℕ) (f : Figures) (ps : List Post) → row_after row (ps ++ (row, f) ∷ []) ≡ f }

@@ -1,4 +1,5 @@
-//! Laws of one live event more: what a delivery, a restoration or a void changes, and what it leaves.
+//! Laws of one more live event: what a delivery, a restoration or a void changes, and what stays the
+//! same.
 ghost use Rattle.std.specs.Prelude.{◌≡◌, ℕ, ◌+◌, ◌≤◌, true, false, List, ◌∷◌, ◌++◌, None, filter, length, nat_lt};
 ghost use Rattle.std.specs.FinMap.{find};
 ghost use Rattle.std.specs.Str.{bytes_eq};
@@ -13,17 +14,17 @@ ghost use Rattle.ledger_model.specs.Event.{EventContent, MeterReading, toward};
 ghost use Rattle.ledger_model.specs.Gaps.{missing};
 ghost use Rattle.ledger_model.specs.Key.{KeyName, key_cmp};
 
-/// The pairs of readings in a row, when some are put in between: the pair across their place goes,
-/// and those come that they make with one another and with the readings on either side. So for each
-/// measure of a pair, and for as many readings put in as there are, one pair goes at most, and one
-/// more comes at most than there are readings.
+/// How the pairs of a list of readings change when readings are put in between: the pair across
+/// their place goes, and the pairs come that they make with one another and with the readings on
+/// either side. The sum of each measure of a pair changes in the same way. At most one pair goes,
+/// and at most one pair more comes than there are new readings.
 pub fn pairs_of_readings_put_in()
     ensures { (front mid back : List MeterReading) → ArePutBetween front mid back }
 {}
 
-/// A delivery of a new key, and a restoration, make one live event more, in the place of its key;
-/// before a void there was one more. An erasure leaves the live events. Of its own transaction's events
-/// those of smaller numbers stand in front of a key, and those of greater ones behind it.
+/// The delivery of a new key and a restoration add one live event, in the place of its key; a void
+/// takes one away. An erasure leaves the live events as they are. Of the events of a key's transaction,
+/// those with smaller numbers are in front of the key and those with greater numbers behind it.
 pub fn one_event_more_or_less()
     ensures delivered { DeliveryMakesOneMore }
     ensures restored { RestorationMakesOneMore }
@@ -33,10 +34,10 @@ pub fn one_event_more_or_less()
     ensures behind { (key : KeyName) (es : List Entry) → own_events key.tx (behind_key key es) ≡ filter (λ e. nat_lt key.seq e.0.seq) (live_of key.tx es) }
 {}
 
-/// One live event more stands in its transaction alone, whose pairs of a direction change at its place
-/// alone. The station's pairs with the event and without it are, in some order, those that are kept,
-/// and those that come or go. In a direction of which the event has no reading none comes or goes, and
-/// in one of which it has r, r above 0, at most r + 2 do.
+/// One more live event changes the pairs of its own transaction only, and in each direction only at
+/// its place. The station's pairs with the event, and those without it, are, in some order, the pairs
+/// that are kept and the pairs that come or go. In a direction without a reading of the event no pair
+/// comes or goes; with r readings, r above 0, at most r + 2 do.
 pub fn pairs_with_one_event_more()
     ensures moved { (d : Direction) (es more front : List Entry) (e : Entry) (back : List Entry) → IsOneMore es more front e back → PairsMove d es more front e back }
     ensures events_without { (es more front : List Entry) (e : Entry) (back : List Entry) → IsOneMore es more front e back → live_of e.0.tx es ≡ own_events e.0.tx front ++ own_events e.0.tx back }
@@ -45,17 +46,18 @@ pub fn pairs_with_one_event_more()
     ensures few_moved { (d : Direction) (e : Entry) (front back : List Entry) → length (gone_by d front e back) + length (came_by d front e back) ≤ most_for (length (toward d e.1.event.readings)) }
 {}
 
-/// With one live event more, the energies in a direction of the station, of the event's transaction and
-/// of each quarter lose the pair that goes and gain those that come, and so does the number of a
-/// quarter's pairs. The transaction's energy is taken from the EVSE where it was and brought whole to the one
+/// With one more live event, the energies in a direction of the station, of the event's transaction and of
+/// each period lose the pair that goes and gain the pairs that come; so does the number of a period's pairs.
+/// The transaction's old energy is taken from the EVSE where it was, and its new energy is added to the EVSE
 /// where it is.
 pub fn energies_with_one_event_more()
     ensures { (d : Direction) (es more front : List Entry) (e : Entry) (back : List Entry) → IsOneMore es more front e back → EnergiesMove d es more front e back }
 {}
 
-/// With one live event more, one event more is live, and a transaction more where the event's had
-/// none. How many are complete, how many numbers are missing and how many transactions an EVSE has
-/// change by that transaction alone. How many events are voided changes by the command.
+/// With one more live event, the number of live events rises by one, and the number of transactions
+/// by one if the event's transaction had no live event. How many transactions are complete, how
+/// many numbers are missing and how many transactions an EVSE has change only by that transaction.
+/// The number of voided events changes as the command says.
 pub fn figures_with_one_event_more()
     ensures counts { (es more front : List Entry) (e : Entry) (back : List Entry) → IsOneMore es more front e back → CountsMove e.0.tx es more }
     ensures voided_by_delivery { (es : List Entry) (key : KeyName) (event : EventContent) → IsRising es → find key_cmp key es ≡ None → count_voided (entries_after es (Deliver key event)) ≡ count_voided es }

@@ -1,4 +1,4 @@
-//! Laws of the step, of the order of readings, and worked examples of both.
+//! Laws of the step and of the order of readings, with worked examples of both.
 
 ghost use Rattle.std.specs.Prelude.{◌≡◌, ℕ, ◌+◌, ◌<◌, ◌≤◌, List, [], ◌∷◌, All, length, IsPermutation};
 ghost use Rattle.ledger_model.specs.declared.reading.Direction.{Direction};
@@ -19,28 +19,28 @@ ghost use Rattle.ledger_model.specs.Energy.{readings_of, energy};
 ghost use Rattle.ledger_model.specs.Laws.{AreAccepted, left_by, answers, by_number, Sent, deliveries, DeliversTheSame, IsLeftByRun};
 ghost use Rattle.ledger_model.specs.Examples.{narrow_limits, first_run, late_event, falling_register, conflict, void_and_restore, void_and_restore_answers, full_until_erased, other_direction};
 
-/// An accepted void, then an accepted restoration of the same key, gives back the events and which of
-/// them are voided; both are counted.
+/// An accepted void and then an accepted restoration of the same key leave the same events, with the
+/// same ones voided; both changes are counted.
 pub fn inverses()
     ensures events { (limits : Bounds) (c : Content) (key : KeyName) → AreAccepted limits c (Void key ∷ Restore key ∷ []) → (left_by limits c (Void key ∷ Restore key ∷ [])).events ≡ c.events }
     ensures counted { (limits : Bounds) (c : Content) (key : KeyName) → AreAccepted limits c (Void key ∷ Restore key ∷ []) → (left_by limits c (Void key ∷ Restore key ∷ [])).changes ≡ c.changes + 2 }
 {}
 
-/// A repeated or refused command leaves the content, its count included.
+/// A repeat or a refusal leaves the content as it was, its count of changes included.
 pub fn unchanged()
     ensures repeated { (limits : Bounds) (c : Content) (command : Command) → (step limits c command).1 ≡ Repeat → (step limits c command).0 ≡ c }
     ensures refused { (limits : Bounds) (c : Content) (command : Command) (why : Refusal) → (step limits c command).1 ≡ Refused why → (step limits c command).0 ≡ c }
 {}
 
-/// Deliveries that are all accepted in one order are, from the same content, all accepted in every
-/// order, and they leave the same content.
+/// If deliveries are all accepted in one order, then from the same content they are all accepted in
+/// every order, and they leave the same content.
 pub fn orders()
     ensures { (limits : Bounds) (c : Content) (one other : List Sent) → IsPermutation one other → AreAccepted limits c (deliveries one) → DeliversTheSame limits c one other }
 {}
 
-/// A content is reached by so many changes exactly where some list of so many admissible commands, each
-/// accepted, leaves it of the empty content. It has counted them, and they are no more than its limit
-/// of changes; what it stores and its figures are such as its limits allow.
+/// A content is reached by n changes exactly if some list of n admissible commands, all accepted, leads
+/// to it from the empty content. Its count of changes is then n, at most its limit. What it stores and
+/// its figures are within its limits.
 pub fn reached()
     ensures run { (limits : Bounds) (n : ℕ) (c : Content) → Reached limits n c → (commands : List Command) × IsLeftByRun limits n c commands }
     ensures each_run { (limits : Bounds) (n : ℕ) (c : Content) (commands : List Command) → IsLeftByRun limits n c commands → Reached limits n c }
@@ -52,13 +52,13 @@ pub fn reached()
     ensures figures { (order : Order) (limits : Bounds) (n : ℕ) (c : Content) → Reached limits n c → AreWithin limits (figures_by order (entries c)) }
 {}
 
-/// The readings of a transaction in a direction, in order, are those met by looking at the numbers 0, 1, .. one by one,
-/// up to any that is above each number that is stored.
+/// The readings of a transaction in a direction, in order, are those found by looking at the numbers 0, 1, .. one by
+/// one, up to any number above all stored ones.
 pub fn readings_in_order()
     ensures { (d : Direction) (tx : List ℕ) (c : Content) (n : ℕ) → All (λ e. e.0.seq < n) (entries c) → by_number d tx c n ≡ readings_of d tx (entries c) }
 {}
 
-/// Worked examples: the energies that three runs leave, and the answers to four.
+/// Worked examples: the energies after three runs, and the answers of four.
 pub fn examples()
     ensures first_run { energy Import (entries (left_by default_limits empty_content first_run)) ≡ record { up = 600_000; down = 0 } }
     ensures late_event { energy Import (entries (left_by default_limits empty_content late_event)) ≡ record { up = 600_000; down = 0 } }

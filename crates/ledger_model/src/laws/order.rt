@@ -16,8 +16,8 @@ ghost use Rattle.ledger_model.specs.OrderLaws.{HaveSameEnergies, IsOneMoreInPlac
 ghost use Rattle.ledger_model.specs.Settling.{default_periods};
 ghost use Rattle.ledger_model.specs.ReadingOrder.{numbered_by, runs_of, taken_when, IsOneReadingMore, IsRepeat};
 
-/// The periods and energies of four short transactions, by moment and by sequence: one whose end tells
-/// its readings again, the same with an event of it voided, and one with two readings of one moment and
+/// The periods and energies of short transactions, by moment and by sequence: one with an end that
+/// lists its readings again, the same with an event voided, and one with two readings of one moment and
 /// a clock that goes back.
 pub fn order_examples()
     ensures read_again_at_end { (board_by Moment default_periods readings_again_at_end).quarters ≡ (ten, took 200_000) ∷ (ten + 2, took 400_000) ∷ (ten + 3, took 100_000) ∷ [] }
@@ -27,9 +27,10 @@ pub fn order_examples()
     ensures ties_by_sequence { energy_by Sequence Import ties_and_clocks ≡ record { up = 300_000; down = 200_000 } }
 {}
 
-/// By moment, no reading is earlier than the one in front of it, and readings of one moment stand as
-/// they do by sequence; no other list is so. Each reading is there as often. Readings that no moment
-/// puts elsewhere stay as they are, and those that pass a test are the same by moment as among all.
+/// By moment, no reading is earlier than the one in front of it, and readings of one moment are in
+/// the same order as in the given list; no other list has both properties. It has each reading as
+/// often as the given list. A list in which no reading is earlier than the one in front of it stays
+/// as it is. To sort the readings that pass a test gives those that pass it of the sorted readings.
 pub fn readings_by_moment()
     ensures rises { (rs : List MeterReading) → AreInTime taken_when (in_order Moment taken_when rs) }
     ensures stable { (moment : ℕ) (rs : List MeterReading) → filter (λ r. r.moment == moment) (in_order Moment taken_when rs) ≡ filter (λ r. r.moment == moment) rs }
@@ -39,24 +40,24 @@ pub fn readings_by_moment()
     ensures passed { (p : MeterReading → Bool) (rs : List MeterReading) → in_order Moment taken_when (filter p rs) ≡ filter p (in_order Moment taken_when rs) }
 {}
 
-/// Where no reading of a transaction is earlier than the one in front of it by sequence, the two orders
+/// If no reading of a transaction is earlier than the one in front of it by sequence, the two orders
 /// give equal boards.
 pub fn orders_agree()
     ensures { (period : Periods) (es : List Entry) → ((d : Direction) (tx : List ℕ) → AreInTime taken_when (readings_of d tx es)) → board_by Moment period es ≡ board_by Sequence period es }
 {}
 
-/// By moment, where some readings of a transaction and direction have a moment and all of these have one
-/// level, one more reading of that moment and level in a live event of the transaction changes no
-/// energy: not that of a transaction, of an EVSE, of a period or of the station. A period of zero
-/// energy may come to be shown.
+/// By moment: if a transaction has readings of a direction at a moment, and all of these have one level,
+/// then one more reading of that moment and level in a live event of the transaction changes no energy:
+/// not that of a transaction, of an EVSE, of a period or of the station. A board may come to show a
+/// period of zero energy.
 pub fn repeats_change_no_sum()
     ensures { (d : Direction) (es more : List Entry) (key : KeyName) (r : MeterReading) → IsOneReadingMore es more key r → IsRepeat r (readings_by Moment r.direction key.tx es) → HaveSameEnergies d es more }
 {}
 
 /// In either order, the readings of a transaction without one of its events are its readings with that
-/// one's struck out. Where the event comes, the pairs across its runs go, and those come of which one of
-/// its readings is; so for r readings in g runs no more than r + 2g come and go. By sequence they stand
-/// in one run.
+/// event's left out. When the event comes, the pairs across its runs go, and the pairs come that have
+/// one of its readings; for r readings in g runs, at most r + 2g pairs come or go. By sequence its
+/// readings are in one run.
 pub fn readings_with_one_event_more()
     ensures readings { (order : Order) (d : Direction) (tx : List ℕ) (es : List Entry) → map (λ n. n.1) (numbered_by order d tx es) ≡ readings_by order d tx es }
     ensures moved { (order : Order) (d : Direction) (es more : List Entry) (e : Entry) → IsOneMoreInPlace es more e → ReadingsMove order d es more e }

@@ -1,4 +1,4 @@
-//! Laws of worlds: what runs leave, station by station, and what a board depends on.
+//! Laws of worlds: what a run leaves, station by station, and what a board depends on.
 
 ghost use Rattle.std.specs.Prelude.{◌≡◌, ℕ, List, map};
 ghost use Rattle.ledger_model.specs.Periods.{Periods};
@@ -9,18 +9,18 @@ ghost use Rattle.ledger_model.specs.Content.{Entry, live};
 ghost use Rattle.ledger_model.specs.World.{World, Happens, run};
 ghost use Rattle.ledger_model.specs.WorldLaws.{AreReordered, station_left};
 
-/// A run leaves of each station what its own commands, one after the other, leave of it.
+/// A run leaves each station as that station's own commands, one after the other, leave it.
 pub fn each_station_by_its_own_commands()
     ensures { (w : World) (hs : List Happens) → run w hs ≡ map (station_left hs) w }
 {}
 
-/// Two runs of deliveries whose accepted ones are, station by station, the same in another order leave
-/// the same world.
+/// Two runs of deliveries leave the same world if, station by station, they have the same accepted
+/// deliveries in another order.
 pub fn orders_of_runs()
     ensures { (w : World) (one other : List Happens) → AreReordered w one other → run w one ≡ run w other }
 {}
 
-/// Contents with the same live events have boards that differ in the number of voided events alone.
+/// Contents with the same live events have boards that differ only in the number of voided events.
 pub fn live_events_alone()
     ensures { (order : Order) (period : Periods) (es fs : List Entry) → live es ≡ live fs → board_by order period es ≡ with_voided (figures_by order es).voided (board_by order period fs) }
 {}

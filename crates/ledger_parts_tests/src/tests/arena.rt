@@ -27,7 +27,7 @@ fn an_arena_of_no_slots_takes_nothing(rt: HostRuntime) -> Result<(), Fail> {
     Ok(())
 }
 
-// Two values, the first of which was changed in its slot.
+// Two values; the first was changed in its slot.
 fn changed(arena: &mut SlotArena<u32>) -> Option<(u32, u32)> {
     let first = arena.take(10).ok()?;
     let second = arena.take(20).ok()?;
@@ -42,12 +42,12 @@ fn a_changed_value_stays_in_its_slot(rt: HostRuntime) -> Result<(), Fail> {
     Ok(())
 }
 
-// The value that stands in the slot `index` in the round `round`.
+// The value in the slot `index` in the round `round`.
 fn value_of(index: u32, round: u32) -> u32 {
     index.wrapping_mul(2_654_435_761).wrapping_add(round)
 }
 
-// Fills an arena that is empty, and gives the ids in the order in which they came.
+// Fills an empty arena, and returns the ids in the order in which they came.
 fn fill(alloc: Global, arena: &mut SlotArena<u32>, round: u32) -> Result<Vec<SlotId>, Fail> {
     let mut ids = Vec::with_capacity(alloc, MAX_SLOTS as usize)?;
     for index in 0..MAX_SLOTS {
@@ -60,7 +60,7 @@ fn fill(alloc: Global, arena: &mut SlotArena<u32>, round: u32) -> Result<Vec<Slo
     Ok(ids)
 }
 
-// Gives the slots back, the last first; tells whether each held its value of the first round.
+// Gives the slots back, the last first; returns whether each held its value of the first round.
 fn give_back(arena: &mut SlotArena<u32>, ids: &[SlotId]) -> bool {
     let mut index = MAX_SLOTS;
     for id in ids.iter().rev() {
@@ -125,7 +125,7 @@ fn values_are_dropped_once(rt: HostRuntime) -> Result<(), Fail> {
     Ok(())
 }
 
-// Compiles only where an arena may be handed to another thread.
+// Compiles only if an arena may be moved to another thread.
 fn crosses<T: Send + Drop>(_value: T) {}
 
 #[test]

@@ -22,13 +22,13 @@ fn event(alloc: Global) -> Option<Event> {
     Event::new(Kind::Started, moment, EvseId::new(3), readings).ok()
 }
 
-// Chains for so many transactions, events and readings.
+// Chains with room for so many transactions, events and readings.
 fn chains(alloc: Global, transactions: u64, events: u64, readings: u64) -> Option<Chains> {
     let limits = Limits::new(transactions, events, readings, 9)?;
     Chains::open(alloc, &limits).ok()
 }
 
-// What is done with chains that were just opened.
+// What to do with chains that were just opened.
 #[derive(Clone, Copy)]
 enum Scene {
     SmallArena,
@@ -49,7 +49,7 @@ impl Scene {
         }
     }
 
-    // Tells whether each answer was the right one.
+    // Returns whether each answer was the right one.
     fn play(self, chains: &mut Chains, sent: &Event) -> bool {
         match self {
             Scene::SmallArena => puts_the_later_number_first(chains, sent),
@@ -61,7 +61,7 @@ impl Scene {
     }
 }
 
-// Opens chains and plays a scene with them; tells whether all was right.
+// Opens chains and plays a scene with them; returns whether all was right.
 fn plays(alloc: Global, scene: Scene) -> bool {
     let (transactions, events) = scene.room();
     match (chains(alloc, transactions, events, events), event(alloc)) {
@@ -75,7 +75,7 @@ fn key(tx: &str, seq: u32) -> Option<Key> {
     Key::new(TxId::new(tx)?, seq)
 }
 
-// Puts an event in where there is room and its key is new, and tells whether it did.
+// Puts an event in if there is room and its key is new; returns whether it did.
 fn put_key(chains: &mut Chains, key: Key, event: &Event) -> bool {
     let fits = chains.room_for(key.tx(), event.readings().len()) == Room::Fits;
     if fits && chains.find(&key) == None {
@@ -85,7 +85,7 @@ fn put_key(chains: &mut Chains, key: Key, event: &Event) -> bool {
     false
 }
 
-// Puts an event in under a transaction and a number, and tells whether it did.
+// Puts an event in under a transaction and a number, and returns whether it did.
 fn put(chains: &mut Chains, tx: &str, seq: u32, event: &Event) -> bool {
     match key(tx, seq) {
         Some(key) => put_key(chains, key, event),
@@ -93,7 +93,7 @@ fn put(chains: &mut Chains, tx: &str, seq: u32, event: &Event) -> bool {
     }
 }
 
-// Tells how a number of a transaction is stored.
+// How a number of a transaction is stored.
 fn found(chains: &Chains, tx: &str, seq: u32) -> Option<Found> {
     chains.find(&key(tx, seq)?)
 }
@@ -107,7 +107,7 @@ fn void_key(chains: &mut Chains, key: &Key) -> bool {
     is_live
 }
 
-// Voids a number of a transaction where it is live, and tells whether it did.
+// Voids a number of a transaction if it is live; returns whether it did.
 fn void(chains: &mut Chains, tx: &str, seq: u32) -> bool {
     match key(tx, seq) {
         Some(key) => void_key(chains, &key),
@@ -124,7 +124,7 @@ fn restore_key(chains: &mut Chains, key: &Key) -> bool {
     is_voided
 }
 
-// Makes a number of a transaction live again where it is voided, and tells whether it did.
+// Makes a number of a transaction live again if it is voided; returns whether it did.
 fn restore(chains: &mut Chains, tx: &str, seq: u32) -> bool {
     match key(tx, seq) {
         Some(key) => restore_key(chains, &key),
@@ -141,7 +141,7 @@ fn erase_key(chains: &mut Chains, key: &Key) -> bool {
     is_voided
 }
 
-// Takes a number of a transaction out where it is voided, and tells whether it did.
+// Takes out a number of a transaction if it is voided; returns whether it did.
 fn erase(chains: &mut Chains, tx: &str, seq: u32) -> bool {
     match key(tx, seq) {
         Some(key) => erase_key(chains, &key),
@@ -149,7 +149,8 @@ fn erase(chains: &mut Chains, tx: &str, seq: u32) -> bool {
     }
 }
 
-// Tells whether a transaction runs from a lowest to a highest live number, with so many live events.
+// Returns whether a transaction runs from a lowest to a highest live number, with so many live
+// events.
 fn is_run(chains: &Chains, tx: &str, first: u32, last: u32, count: u32) -> bool {
     match TxId::new(tx) {
         Some(id) => {
@@ -161,7 +162,7 @@ fn is_run(chains: &Chains, tx: &str, first: u32, last: u32, count: u32) -> bool 
     }
 }
 
-// Tells whether so many events and readings are stored.
+// Returns whether so many events and readings are stored.
 fn stores(chains: &Chains, events: u32, readings: u32) -> bool {
     chains.stored_events() == events && chains.stored_readings() == readings
 }
@@ -171,7 +172,7 @@ fn room(chains: &Chains, tx: &str, readings: usize) -> Option<Room> {
     Some(chains.room_for(&TxId::new(tx)?, readings))
 }
 
-// Puts an event in under each of these numbers, and tells whether it did.
+// Puts an event in under each of these numbers, and returns whether it did.
 fn fill(chains: &mut Chains, tx: &str, numbers: &[u32], event: &Event) -> bool {
     let mut all = true;
     for seq in numbers {
@@ -180,7 +181,8 @@ fn fill(chains: &mut Chains, tx: &str, numbers: &[u32], event: &Event) -> bool {
     all
 }
 
-// Tells whether a walk goes over these numbers of a transaction, with this one gap or none between.
+// Returns whether a walk goes over these numbers of a transaction, with this one gap or none
+// between.
 fn is_walk(chains: &Chains, tx: &str, numbers: &[u32], gap: Option<(u32, u32)>) -> bool {
     match TxId::new(tx) {
         Some(id) => {
@@ -192,7 +194,7 @@ fn is_walk(chains: &Chains, tx: &str, numbers: &[u32], gap: Option<(u32, u32)>) 
     }
 }
 
-// Tells whether a walk goes over these numbers, one after the other.
+// Returns whether a walk goes over these numbers, one after the other.
 fn walks_over(walk: &TxWalk, numbers: &[u32]) -> bool {
     let mut place = walk.start();
     for number in numbers {
@@ -262,7 +264,7 @@ fn an_emptied_transaction_gives_its_place_back(rt: HostRuntime) {
     assert!(rt; plays(rt.alloc(), Scene::Emptied));
 }
 
-// Tells whether the first two transactions are `a` and `b`.
+// Returns whether the first two transactions are `a` and `b`.
 fn lists_a_then_b(chains: &Chains) -> bool {
     let mut ids = chains.transactions();
     ids.next() == TxId::new("a") && ids.next() == TxId::new("b")
@@ -310,7 +312,7 @@ impl Random {
     }
 }
 
-// Up to two readings, told by a number.
+// Up to two readings, chosen by a number.
 fn readings_of(alloc: Global, moment: Moment, number: u32) -> Option<Vec<Reading>> {
     let mut readings = Vec::new(alloc);
     for step in 0..number % 3 {
@@ -324,7 +326,7 @@ fn readings_of(alloc: Global, moment: Moment, number: u32) -> Option<Vec<Reading
     Some(readings)
 }
 
-// The kind that a number tells.
+// The kind that a number chooses.
 fn kind_of(number: u32) -> Kind {
     match number % 4 {
         0 => Kind::Started,
@@ -333,7 +335,7 @@ fn kind_of(number: u32) -> Kind {
     }
 }
 
-// The EVSE that a number tells, for one in five.
+// The EVSE that a number chooses; only one in five does.
 fn evse_of(number: u32) -> Option<EvseId> {
     match number % 5 {
         0 => EvseId::new((1 + number / 5 % 64) as u8),
@@ -341,7 +343,7 @@ fn evse_of(number: u32) -> Option<EvseId> {
     }
 }
 
-// An event with up to two readings, all told by a number.
+// An event with up to two readings, all chosen by a number.
 fn event_of(alloc: Global, number: u32) -> Option<Event> {
     let moment = new_year()?;
     let readings = readings_of(alloc, moment, number)?;
@@ -360,7 +362,7 @@ fn transaction_of(number: u32) -> (u32, &'static str) {
     }
 }
 
-// Chains, and a plain list that is to hold the same.
+// Chains, and a plain list that has to hold the same.
 #[derive(Drop)]
 struct Pair {
     chains: Chains,
@@ -393,12 +395,12 @@ impl Pair {
         }
     }
 
-    // Tells whether both answer the same of a key.
+    // Returns whether both give the same answers for a key.
     fn answers_agree(&self, key: &Key, tx: u32, readings: usize) -> bool {
         Answers::of(&self.chains, key, readings) == self.plain.answers(tx, key.seq(), readings)
     }
 
-    // Tells whether a walk goes over the live numbers that the plain list has.
+    // Returns whether a walk goes over the live numbers that the plain list has.
     fn walk_agrees(&self, alloc: Global, key: &Key, tx: u32) -> Option<bool> {
         let numbers = self.plain.numbers(alloc, tx).ok()?;
         Some(walks_over(&self.chains.walk(key.tx()), &numbers))
@@ -416,7 +418,7 @@ impl Pair {
         Some(agree && walked && self.change(key, tx, &event, random.next())?)
     }
 
-    // Makes so many random calls; tells the first that was not answered alike.
+    // Makes so many random calls; returns the first with different answers.
     fn first_difference(&mut self, alloc: Global, calls: u32) -> Option<u32> {
         let mut random = Random { state: 17 };
         for call in 0..calls {

@@ -6,7 +6,7 @@ use std::marker::Model;
 use std::process::Abort;
 use std::test::Fail;
 
-// A walk over a slice, whose places are what is left of it.
+// A walk over a slice; a place is the rest of the slice.
 #[derive(Drop)]
 struct SliceWalk<'a> {
     numbers: &'a [u32],
@@ -70,7 +70,7 @@ fn are_gaps(walk: &SliceWalk<'_>, gaps: &[(u32, u32)]) -> bool {
     left.is_empty()
 }
 
-// Compares the gaps of these numbers, and how many are missing, with what they are to be.
+// Compares the gaps of these numbers, and how many are missing, with what they should be.
 fn expect_gaps(rt: &impl Abort, label: &str, numbers: &[u32], gaps: &[(u32, u32)], missing: u64)
     requires { AreRising numbers.now }
 {

@@ -9,7 +9,7 @@ fn key(transaction: u32, number: u32) -> IndexKey {
     IndexKey::new(transaction, number & 0x7fff_ffff)
 }
 
-// What stands under a key: the number, and marks that follow from it.
+// What is filed under a key: the number, and marks that follow from it.
 fn filed(slot: u32) -> Filed<u32> {
     Filed {
         value: slot,
@@ -30,7 +30,7 @@ fn slot_of(index: &Index, key: IndexKey) -> Option<u32> {
     }
 }
 
-// Puts a key in where it is absent and there is room, and tells whether it did.
+// Puts a key in if it is absent and there is room; returns whether it did.
 fn put(index: &mut Index, key: IndexKey, slot: u32) -> bool {
     let place = index.place(key);
     if index.get(place, key).is_some() || index.len() >= index.capacity() {
@@ -40,7 +40,7 @@ fn put(index: &mut Index, key: IndexKey, slot: u32) -> bool {
     true
 }
 
-// Takes a key out where it is there, and tells whether it did.
+// Takes a key out if it is there; returns whether it did.
 fn cut(index: &mut Index, key: IndexKey) -> bool {
     if index.get(KeyPlace::UNKNOWN, key).is_none() {
         return false;
@@ -49,7 +49,7 @@ fn cut(index: &mut Index, key: IndexKey) -> bool {
     true
 }
 
-// The slot number of an entry, 0 where there is none.
+// The slot number of an entry, 0 if there is none.
 fn slot_in(entry: Option<Entry<IndexKey, u32>>) -> u32 {
     match entry {
         Some(entry) => entry.filed().value,
@@ -124,7 +124,7 @@ fn jumping(n: u32) -> IndexKey {
     key(mixed & 0xff, mixed >> 8)
 }
 
-// Fills the index by that walk; tells whether each entry went in.
+// Fills the index by that walk; returns whether each entry went in.
 fn fill(index: &mut Index) -> bool {
     for n in 0..65_536 {
         if !put(index, jumping(n), n) {
@@ -134,7 +134,7 @@ fn fill(index: &mut Index) -> bool {
     true
 }
 
-// Takes out all but each eighth entry; tells whether each was there.
+// Takes out all but each eighth entry; returns whether each was there.
 fn thin(index: &mut Index) -> bool {
     for n in 0..65_536u32 {
         let is_there = slot_of(index, jumping(n)) == Some(n);
@@ -160,7 +160,7 @@ fn behind(found: IndexKey) -> IndexKey {
     key(found.transaction(), found.number().wrapping_add(1))
 }
 
-// How many entries stand one after the other, up to one more than there is room for.
+// How many entries follow one another, up to one more than there is room for.
 fn count_rising(index: &Index) -> u32 {
     let mut at = key(0, 0);
     for count in 0..65_537 {
@@ -182,7 +182,7 @@ fn ten_entries(index: &mut Index) -> bool {
     true
 }
 
-// Sets the marks of a key where it is there.
+// Sets the marks of a key if it is there.
 fn set_live(index: &mut Index, key: IndexKey, live: bool) -> bool {
     if index.get(KeyPlace::UNKNOWN, key).is_none() {
         return false;
@@ -228,7 +228,7 @@ fn index_at(index: &mut Index, place: KeyPlace, key: IndexKey) {
     }
 }
 
-// Clears the marks of all entries but each thousandth; tells whether each was there.
+// Clears the marks of all entries but each thousandth; returns whether each was there.
 fn unmark(index: &mut Index) -> bool {
     for n in 0..65_536u32 {
         if !set_live(index, jumping(n), n % 1_000 == 0) {
@@ -238,7 +238,7 @@ fn unmark(index: &mut Index) -> bool {
     true
 }
 
-// How many live entries stand one after the other, up to one more than there is room for.
+// How many live entries follow one another, up to one more than there is room for.
 fn count_live(index: &Index) -> u32 {
     let mut at = key(0, 0);
     for count in 0..65_537 {

@@ -7,14 +7,14 @@ use ledger_model::Quarter;
 use quarter_table::QuarterTable;
 use std::test::Fail;
 
-// The quarter that begins at 10:30 on the first of March 2026.
+// The period that begins at 10:30 on the first of March 2026.
 const HALF_PAST_TEN: u32 = 1_969_290;
 
 fn quarter(number: u32) -> Result<Quarter, Fail> {
     Ok(Quarter::new(number).ok_or("no quarter")?)
 }
 
-// What a difference of this direction counts for among imports, and among exports.
+// What a difference of this direction adds to imports, and what to exports.
 fn parted(direction: Direction, flow: Flow) -> (Flow, Flow)
     ensures import { result.0 ≡ (flows_toward direction flow).flow }
     ensures export { result.1 ≡ (flows_toward direction flow).export }
@@ -25,7 +25,7 @@ fn parted(direction: Direction, flow: Flow) -> (Flow, Flow)
     }
 }
 
-// Adds a pair where it may be added, and tells whether it did.
+// Adds a pair if it may be added; returns whether it did.
 fn put(table: &mut QuarterTable, quarter: Quarter, direction: Direction, flow: Flow) -> bool {
     let (imported, exported) = parted(direction, flow);
     let row = table.row(quarter);
@@ -39,7 +39,7 @@ fn put(table: &mut QuarterTable, quarter: Quarter, direction: Direction, flow: F
     true
 }
 
-// Takes a pair out where it may be taken out, and tells whether it did.
+// Takes a pair out if it may be taken out; returns whether it did.
 fn cut(table: &mut QuarterTable, quarter: Quarter, direction: Direction, flow: Flow) -> bool {
     let (imported, exported) = parted(direction, flow);
     let row = table.row(quarter);

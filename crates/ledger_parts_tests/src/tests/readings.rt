@@ -24,13 +24,13 @@ impl Sample {
         Some(MomentKey::new(3, Direction::Import, moment, u32::from(self.number), 0))
     }
 
-    // The reading, whose level is the number of its event.
+    // The reading; its level is the number of its event.
     fn reading(self) -> Option<Reading> {
         Reading::new(self.moment()?, u64::from(self.number), Direction::Import)
     }
 }
 
-// Puts a reading in where there is none and there is room; tells whether it did.
+// Puts a reading in if there is none and there is room; returns whether it did.
 fn put(index: &mut ReadingIndex, sample: Sample) -> bool {
     let (Some(key), Some(reading)) = (sample.key(), sample.reading()) else {
         return false;
@@ -53,7 +53,7 @@ fn is_sample(found: Option<(MomentKey, Reading)>, wanted: Option<Sample>) -> boo
     }
 }
 
-// Whether these readings stand on either side of a key.
+// Whether these readings are on either side of a key.
 fn stand_around(
     index: &ReadingIndex,
     sample: Sample,
@@ -118,7 +118,7 @@ fn readings_go_by_moment_then_number(rt: HostRuntime) -> Result<(), Fail> {
     Ok(())
 }
 
-// Whether nothing of another transaction, or of the other direction, stands around a key.
+// Whether nothing of another transaction, or of the other direction, is around a key.
 fn is_alone(index: &ReadingIndex, slot: u32, direction: Direction) -> bool {
     let Some(moment) = sample_at(5, 0).moment() else {
         return false;

@@ -7,21 +7,23 @@ use memchr::memchr;
 use std::alloc::AllocError;
 use std::io::BufRead;
 
-/// What one look at the reader gave of a line, and whether all that the reader showed was consumed.
+/// The part of a line that one look at the reader gave, and whether all bytes that the reader
+/// showed were consumed.
 #[derive(Clone, Copy, Debug, PartialEq, Eq)]
 pub enum Piece {
     /// The input is at its end.
     End,
     /// A byte past the limit was read.
     Beyond,
-    /// So many bytes of a line that goes on.
+    /// This many bytes of a line that goes on.
     Part(usize, bool),
-    /// So many bytes, of which the last is the line feed that ends the line.
+    /// This many bytes; the last is the line feed that ends the line.
     WholeLine(usize, bool),
 }
 
-/// Reads up to the next line feed, up to `room` bytes or all that the reader shows, and keeps the first
-/// `max_line_bytes + 1` bytes of the line in `held`.
+/// Reads up to the next line feed, but at most `room` bytes and at most the bytes that the reader
+/// shows. With no room left it reads one byte, which is `Beyond`. Keeps the first `max_line_bytes +
+/// 1` bytes of the line in `held`. Faults: `ReadFault`, `OutOfMemory`.
 pub fn read_piece<R: BufRead>(
     reader: &mut R,
     held: &mut Vec<u8>,
@@ -62,7 +64,7 @@ pub fn read_piece<R: BufRead>(
     }
 }
 
-// The piece, unless its bytes found no memory.
+// The piece, if there was memory for its bytes.
 fn piece_where_kept(kept: Result<(), AllocError>, piece: Piece) -> Result<Piece, ReplayFault>
     ensures ok { OnOk kept (result ≡ Ok piece) }
     ensures err { OnErr kept (result ≡ Err ReplayFault.OutOfMemory) }
@@ -73,7 +75,7 @@ fn piece_where_kept(kept: Result<(), AllocError>, piece: Piece) -> Result<Piece,
     }
 }
 
-// Appends what `held` still has room for, up to `max_line_bytes + 1` bytes.
+// Appends the bytes that `held` still has room for, up to `max_line_bytes + 1` bytes.
 fn keep(held: &mut Vec<u8>, bytes: &[u8], max_line_bytes: usize) -> Result<(), AllocError>
     requires short { max_line_bytes < 2 ^ 62 }
     requires kept { length held.old.items ≤ max_line_bytes + 1 }

@@ -23,7 +23,7 @@ use std::sync::Wait;
 use std::thread::Threads;
 use std::time::Clock;
 
-// The request of a station of this name, which offers the subprotocol beside another.
+// The request of a station of this name, with the subprotocol beside another.
 fn head(alloc: Global, station: &str) -> Option<String> {
     let text = format!(in alloc;
         "GET /ocpp/{station} HTTP/1.1\r\nHost: h\r\nConnection: Upgrade\r\nUpgrade: websocket\r\nSec-WebSocket-Version: 13\r\nSec-WebSocket-Key: dGhlIHNhbXBsZSBub25jZQ==\r\nSec-WebSocket-Protocol: ocpp1.6, ocpp2.0.1\r\n\r\n"
@@ -35,7 +35,7 @@ fn head(alloc: Global, station: &str) -> Option<String> {
 const FIRST: &str =
     "[2,\"1\",\"TransactionEvent\",{\"eventType\":\"Started\",\"timestamp\":\"2026-03-01T10:00:00Z\",\"triggerReason\":\"MeterValuePeriodic\",\"seqNo\":0,\"transactionInfo\":{\"transactionId\":\"T1\"},\"meterValue\":[{\"timestamp\":\"2026-03-01T10:00:00Z\",\"sampledValue\":[{\"value\":1000}]}]}]";
 
-// A clock that always tells ten o'clock.
+// A clock that always says ten o'clock.
 #[derive(Drop)]
 struct TenOClock;
 
@@ -45,7 +45,7 @@ impl MomentSource for TenOClock {
     }
 }
 
-// What is played on the desk of the plan.
+// What a test plays on the desk of the plan.
 #[derive(Clone, Copy)]
 enum Scene {
     NoPassLeft,
@@ -53,7 +53,7 @@ enum Scene {
     EachText,
 }
 
-// The passes that a scene leaves, or none where something else was seen.
+// The passes after a scene; none if the scene saw something wrong.
 fn play<J: Naming, R: Threads + Wait + Clock>(
     rt: &R,
     alloc: Global,
@@ -82,7 +82,7 @@ fn at_desk<J: Naming, R: Threads + Wait + Clock>(
     Some(changes_at_close(alloc, desk, passes))
 }
 
-// How many changes the stations A and B of one site made, where the desk closes with the passes of the scene.
+// How many changes the stations A and B of one site made, if the desk closes with the passes of the scene.
 fn plays<R: Threads + Wait + Clock>(
     rt: &R,
     alloc: Global,
@@ -107,12 +107,13 @@ impl EndedSession {
         Some(self.pass.as_ref()?.changes())
     }
 
-    // Tells whether it ended so, after so many changes, and these frames were answered.
+    // Returns whether it ended for this reason, after this many changes, and answered with these
+    // frames.
     fn is(&self, why: Why, changes: u64, frames: &[u8]) -> bool {
         self.why == why && self.changes() == Some(changes) && self.frames() == frames
     }
 
-    // The frames behind the answer to the handshake; all that was written where there is no such answer.
+    // The frames behind the answer to the handshake; all that was written, if there is no such answer.
     fn frames(&self) -> &[u8] {
         let written = self.written.as_slice();
         match written

@@ -7,10 +7,10 @@ use station_ledger::{EvseLine, StationBoard, StationLedger, TxLine};
 use std::alloc::Global;
 use std::test::Fail;
 
-// The quarter that begins at 10:00 on the day of the events.
+// The period that begins at 10:00 on the day of the events.
 const TEN: u32 = 1_969_288;
 
-// Tells whether the energies of both directions rise and fall by these.
+// Returns whether the energies of both directions rise and fall by these.
 fn is_energy(import: Flow, export: Flow, energy: Energy) -> bool {
     (import.up(), import.down(), export.up(), export.down()) == energy
 }
@@ -27,7 +27,7 @@ fn are_figures(shown: Figures, want: &Sums) -> bool {
     counts == want.counts() && energy == want.energy()
 }
 
-// Tells whether the line shows this transaction.
+// Returns whether the line shows this transaction.
 fn is_line(shown: &TxLine, want: &Line) -> bool {
     Some(shown.tx().copied()) == id(want.tx)
         && shown.evse().number() == want.evse
@@ -39,7 +39,7 @@ fn is_line(shown: &TxLine, want: &Line) -> bool {
         && shown.gaps() == want.gaps.as_slice()
 }
 
-// Tells whether the board shows these transactions.
+// Returns whether the board shows these transactions.
 fn are_lines(board: &StationBoard, want: &[Line]) -> bool {
     let shown = board.transactions();
     shown.len() == want.len()
@@ -49,7 +49,7 @@ fn are_lines(board: &StationBoard, want: &[Line]) -> bool {
             .all(|(shown, want)| is_line(shown, want))
 }
 
-// Tells whether the board shows these quarters, and no others.
+// Returns whether the board shows these periods, and no others.
 fn are_quarters(board: &StationBoard, want: &Sums) -> bool {
     let mut shown = board.quarters().iter();
     let mut number = TEN;
@@ -76,7 +76,7 @@ fn count_evses(want: &Sums) -> u64 {
     count
 }
 
-// Tells whether the line shows an EVSE of these transactions.
+// Returns whether the line shows an EVSE of these transactions.
 fn is_evse(shown: &EvseLine, want: &Sums) -> bool {
     match want.evse(shown.evse().number()) {
         Some(energy) => is_energy(shown.flow(), shown.export(), energy),
@@ -84,13 +84,13 @@ fn is_evse(shown: &EvseLine, want: &Sums) -> bool {
     }
 }
 
-// Tells whether the board shows the EVSEs of these transactions, and no others.
+// Returns whether the board shows the EVSEs of these transactions, and no others.
 fn are_evses(board: &StationBoard, want: &Sums) -> bool {
     let shown = board.evses();
     shown.len() as u64 == count_evses(want) && shown.iter().all(|shown| is_evse(shown, want))
 }
 
-// Tells whether the ledger answers these energies of its EVSEs; no event names the last.
+// Returns whether the ledger answers these energies of its EVSEs; no event names the last.
 fn answers_evses(ledger: &StationLedger, want: &Sums) -> bool {
     for number in 0..5 {
         let energy = want.evse(number).unwrap_or(NO_ENERGY);
@@ -103,7 +103,7 @@ fn answers_evses(ledger: &StationLedger, want: &Sums) -> bool {
     true
 }
 
-// The first of the calls that answers something else.
+// The first call with another answer.
 fn apart(ledger: &StationLedger, scratch: &Scratch, want: &Sums) -> Option<&'static str> {
     if ledger.changes() != scratch.changes {
         Some("changes")
@@ -118,7 +118,7 @@ fn apart(ledger: &StationLedger, scratch: &Scratch, want: &Sums) -> Option<&'sta
     }
 }
 
-// Tells whether the board shows these sums.
+// Returns whether the board shows these sums.
 fn is_board(board: &StationBoard, want: &Sums) -> bool {
     are_figures(board.figures(), want)
         && are_evses(board, want)
@@ -149,7 +149,7 @@ impl Pair {
         })
     }
 
-    // Gives both the command, compares what they answer, and tells the answer.
+    // Gives both the command, compares their answers, and returns the answer.
     fn apply(
         &mut self,
         alloc: Global,
@@ -167,14 +167,14 @@ impl Pair {
         }
     }
 
-    // The most differences that the event which is meant may cost as it stands.
+    // The most differences that the command's event may cost as it is now.
     fn most(&self, alloc: Global, asked: Asked) -> Result<u64, &'static str> {
         let most = self.scratch.most(alloc, asked.tx, asked.seq);
         most.ok().ok_or("no memory")
     }
 
     // The same, and compares how many differences were evaluated with the most that were allowed: those of
-    // the event where it stands live, before the command or behind it, and none where nothing changed.
+    // the event when it is live, before the command or after it; none if nothing changed.
     fn apply_within(
         &mut self,
         alloc: Global,
@@ -231,7 +231,7 @@ fn mark(seen: &mut [bool; 10], answer: Answer) {
     }
 }
 
-// Gives both a drawn command, compares, and tells the answer.
+// Gives both a drawn command, compares their answers, and returns the answer.
 fn step(
     pair: &mut Pair,
     alloc: Global,

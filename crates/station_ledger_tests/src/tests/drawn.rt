@@ -31,8 +31,8 @@ pub(crate) struct Told {
     pub(crate) exported: bool,
 }
 
-// An event: its kind, its minute after ten o'clock, its EVSE, 0 where it names none, and its readings,
-// of which so many count.
+// An event: its kind, its minute after ten o'clock, its EVSE, 0 if it names none, and its readings;
+// `count` of them count.
 #[derive(Clone, Copy, PartialEq, Eq)]
 pub(crate) struct Sent {
     pub(crate) kind: Kind,
@@ -42,7 +42,7 @@ pub(crate) struct Sent {
     pub(crate) readings: [Told; 3],
 }
 
-// What is asked of the event of a transaction and a sequence number.
+// What a command asks for the event of a transaction and a sequence number.
 #[derive(Clone, Copy)]
 pub(crate) enum Wish {
     Deliver(Sent),
@@ -51,7 +51,7 @@ pub(crate) enum Wish {
     Erase,
 }
 
-// A command in short. Its transactions are told by numbers that stand in the order of their ids.
+// A command in short. Numbers in the order of their ids stand for its transactions.
 #[derive(Clone, Copy)]
 pub(crate) struct Asked {
     pub(crate) tx: u8,
@@ -64,7 +64,7 @@ pub(crate) fn id(tx: u8) -> Option<TxId> {
     TxId::new(["a", "B", "b2", "c", "d-1"][tx as usize % 5])
 }
 
-// Mostly 0 is Started, 2 and the highest number are Ended, and the others are Updated.
+// Usually 0 is Started, 2 and the highest number are Ended, and the others are Updated.
 fn kind(place: u8, drawn: u8) -> Kind {
     match (drawn % 8, place) {
         (0, _) => Kind::Started,
@@ -84,7 +84,8 @@ fn draw_told(draws: &mut Draws) -> Told {
     }
 }
 
-// A reading of an event of a transaction. One of four is one of four that its events list again and again.
+// A reading of an event of a transaction. Every fourth is one of four readings that the transaction's
+// events list again and again.
 fn draw_reading(draws: &mut Draws, tx: u8) -> Told {
     if draws.next() % 4 == 0 {
         let listed = draws.next() % 4;
@@ -94,8 +95,8 @@ fn draw_reading(draws: &mut Draws, tx: u8) -> Told {
     }
 }
 
-// An event of no reading to three, that names no EVSE or one of 1 to 3. It is drawn from its key and a
-// version, so that the same one comes again, and another one under the same key.
+// An event of no reading to three, with no EVSE or one of 1 to 3. It is drawn from its key and a
+// version, so the same event comes again, and another one comes under the same key.
 fn draw_event(tx: u8, place: u8, version: u8) -> Sent {
     let mut draws = Draws::from_seed(tx as u64 * 65_536 + place as u64 * 256 + version as u64);
     Sent {
@@ -139,7 +140,7 @@ fn readings_of(alloc: Global, sent: &Sent) -> Option<Vec<Reading>> {
     Some(readings)
 }
 
-// The EVSE, where one is named.
+// The EVSE, if one is named.
 fn evse_of(number: u8) -> Option<EvseId> {
     if number == 0 {
         None
@@ -161,8 +162,8 @@ fn event(alloc: Global, sent: &Sent) -> Option<Event> {
 }
 
 impl Asked {
-    // Half are events, of which one in four is some other one under its key. Two transactions have three
-    // numbers without a gap, and are often complete; three have eight.
+    // Half are events; one in four of these is another event under the same key. Two transactions have
+    // three numbers without a gap, and are often complete; three have eight.
     pub(crate) fn draw(draws: &mut Draws) -> Self {
         let tx = draws.next() % 5;
         let place = draws.next() % if tx < 2 { 3 } else { 8 };
@@ -177,7 +178,7 @@ impl Asked {
         Asked { tx, seq, wish }
     }
 
-    // The key that is meant.
+    // The command's key.
     fn key(self) -> Option<Key> {
         Key::new(id(self.tx)?, self.seq)
     }

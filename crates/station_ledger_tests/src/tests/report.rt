@@ -13,12 +13,12 @@ use ledger_model::{
 use station_ledger::{StationBoard, StationLedger};
 use std::alloc::{AllocError, AllocFailed, Global};
 
-// What is asked of transaction T1: to take an event with its kind, number, minute after ten o'clock and
-// reading in watt-hours.
+// A delivery for transaction T1: the event's kind, number, minute after ten o'clock and reading in
+// watt-hours.
 #[derive(Clone, Copy)]
 struct Asked(Kind, u32, u64, u64);
 
-// A site: the figures that are handed in, its stations with what is asked of each, and its text.
+// A site: the figures that are handed in, its stations with the deliveries to each, and its text.
 #[derive(Clone, Copy)]
 struct Site {
     figures: [u64; 7],
@@ -81,7 +81,7 @@ fn command(alloc: Global, asked: Asked) -> Option<Command> {
     Some(Command::Deliver(Key::new(TxId::new("T1")?, seq)?, event))
 }
 
-// Why there is no board: no memory, a command that is refused, or a name that is none.
+// Why there is no board: no memory, a command that is refused, or a text that is no name.
 #[derive(Drop)]
 struct Refused;
 
@@ -177,7 +177,7 @@ fn board_of(alloc: Global, work: &mut Work, site: &Site) -> Option<SiteBoard> {
     .ok()
 }
 
-// The text of a site's board. What found no memory is asked for once more.
+// The text of a site's board. If it found no memory, it is asked for once more.
 fn text_of(alloc: Global, work: &mut Work, site: &Site) -> Option<Vec<u8>> {
     let board = match board_of(alloc, work, site) {
         Some(board) => board,
@@ -189,7 +189,7 @@ fn text_of(alloc: Global, work: &mut Work, site: &Site) -> Option<Vec<u8>> {
     }
 }
 
-// Tells whether this is the text of a site's board.
+// Returns whether this is the text of a site's board.
 fn is_text(alloc: Global, work: &mut Work, site: &Site) -> bool {
     match text_of(alloc, work, site) {
         Some(text) => text.as_slice() == site.text.as_bytes(),
@@ -213,7 +213,7 @@ fn a_board_without_memory_is_made_again(rt: HostRuntime) {
 const GREATEST: &str =
     "total events=18446744073709551615 voided=18446744073709551615 transactions=18446744073709551615 complete=18446744073709551615 missing=18446744073709551615 up=18446744073709551615 down=18446744073709551615 export_up=18446744073709551615 export_down=18446744073709551615";
 
-// Tells whether the longest total line fits.
+// Returns whether the longest total line fits.
 fn is_greatest() -> bool {
     let figures = Figures {
         export_up: u64::MAX,
@@ -228,7 +228,8 @@ fn is_energy(flow: Flow, want: &str) -> bool {
     energy_text(flow).as_str() == want
 }
 
-// Tells whether the energies of the greatest rise, of the greatest fall and of both are written so.
+// Returns whether the energies of the greatest rise, of the greatest fall and of both are written
+// as they should be.
 fn are_energies(rise: Flow, fall: Flow) -> bool {
     is_energy(Flow::zero(), "energy up=0 down=0")
         && is_energy(rise, "energy up=18446744073709551615 down=0")

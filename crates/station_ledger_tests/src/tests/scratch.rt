@@ -1,4 +1,4 @@
-//! A station's events in a plain list, of which all that a ledger shows is summed up from scratch.
+//! A station's events in a plain list; all that a ledger shows is summed up from it, from scratch.
 use super::drawn::{Asked, Sent, Told, Wish};
 use ledger_model::{Answer, Kind, Order, Refusal};
 use std::alloc::{AllocError, Global};
@@ -6,7 +6,7 @@ use std::alloc::{AllocError, Global};
 // Rise and fall of the import register, and of the export register, in milliwatt-hours.
 pub(crate) type Energy = (u64, u64, u64, u64);
 
-// None of either.
+// No energy.
 pub(crate) const NO_ENERGY: Energy = (0, 0, 0, 0);
 
 // A stored event.
@@ -45,7 +45,7 @@ impl Scratch {
         }
     }
 
-    // How many events stand in front of a number's place.
+    // How many events are in front of a number's place.
     fn place(&self, tx: u8, seq: u32) -> usize {
         let mut place: usize = 0;
         for row in &self.rows {
@@ -165,15 +165,15 @@ impl Scratch {
         Ok(readings)
     }
 
-    // The most differences that the live event of a number may cost, 0 where there is none: one for each
-    // of its readings, and two for each run in which they stand.
+    // The most differences that the live event of a number may cost, 0 if there is none: one for each of
+    // its readings, and two for each run that they form.
     pub(crate) fn most(&self, alloc: Global, tx: u8, seq: u32) -> Result<u64, AllocError> {
         let imported = self.readings(alloc, tx, false)?;
         let exported = self.readings(alloc, tx, true)?;
         Ok(most_in_runs(&imported, seq).wrapping_add(most_in_runs(&exported, seq)))
     }
 
-    // What is shown of these events.
+    // What a board shows of these events.
     pub(crate) fn sums(&self, alloc: Global) -> Result<Sums, AllocError> {
         let mut sums = Sums::none(alloc);
         for row in &self.rows {
@@ -193,7 +193,7 @@ impl Scratch {
     }
 }
 
-// How many readings stand in front of the place of one of this minute: by sequence all of them, and by
+// How many readings are in front of the place of one of this minute: by sequence all of them, and by
 // moment those that are not later.
 fn stand_before(readings: &[Placed], minute: u8, order: Order) -> usize {
     let mut place: usize = 0;
@@ -236,7 +236,7 @@ fn most_in_runs(readings: &[Placed], seq: u32) -> u64 {
     most
 }
 
-// Tells whether both events are the same; readings that do not count are not compared.
+// Returns whether both events are the same; readings that do not count are not compared.
 fn is_same(one: &Sent, other: &Sent) -> bool {
     let count = usize::from(one.count);
     (one.kind, one.minute, one.evse, one.count)
@@ -244,7 +244,7 @@ fn is_same(one: &Sent, other: &Sent) -> bool {
         && one.readings.get(..count) == other.readings.get(..count)
 }
 
-// What is shown of a transaction, and how many of its events are no Updated.
+// What a board shows of a transaction, and how many of its events are Started or Ended.
 #[derive(Drop)]
 pub(crate) struct Line {
     pub(crate) tx: u8,
@@ -261,7 +261,7 @@ pub(crate) struct Line {
 }
 
 impl Line {
-    // A transaction without an event, whose lowest is to be this one.
+    // A transaction without an event; this one will be its lowest.
     fn of(alloc: Global, row: &Stored) -> Line {
         Line {
             tx: row.tx,
@@ -278,7 +278,7 @@ impl Line {
         }
     }
 
-    // Takes the next event into account, but for its readings.
+    // Takes the next event into account, except for its readings.
     fn see(&mut self, row: &Stored) -> Result<(), AllocError> {
         let next = self.last.wrapping_add(1);
         if row.seq > next {
@@ -313,7 +313,7 @@ fn plus(one: Energy, other: Energy) -> Energy {
     )
 }
 
-// What the register of the later reading rose and fell by since the earlier one.
+// The rise and fall of the register from the earlier reading to the later one.
 fn between(earlier: Told, later: Told) -> Energy {
     let up = 1_000 * u64::from(later.watt_hours.saturating_sub(earlier.watt_hours));
     let down = 1_000 * u64::from(earlier.watt_hours.saturating_sub(later.watt_hours));
@@ -324,7 +324,7 @@ fn between(earlier: Told, later: Told) -> Energy {
     }
 }
 
-// What is shown of a list of events. A quarter is counted from ten o'clock.
+// What a board shows of a list of events. Periods are counted from ten o'clock.
 #[derive(Drop)]
 pub(crate) struct Sums {
     pub(crate) voided: u64,
@@ -352,7 +352,7 @@ impl Sums {
         Ok(())
     }
 
-    // The energy of the transactions of an EVSE; none where there is no such transaction.
+    // The energy of the transactions of an EVSE; none if there is no such transaction.
     pub(crate) fn evse(&self, evse: u8) -> Option<Energy> {
         let mut energy = None;
         for line in &self.lines {

@@ -16,7 +16,7 @@ returns-clause-sums c =
     let lines = c.in_ok-lines.lines.items in
     c.reverse.ensures.items ∙ c.in_ok-quarters.ensures ∙ ap quarter_sums c.deref.ensures.value ∙ sums_permuted lines _ c.put_in_order.ensures.same ∙ ap quarter_sums c.in_ok-lines.ensures.lines
 
--- of quarters of the lines
+-- of periods of the lines
 pub returns-clause-own : goal.returns-clause-own
 returns-clause-own c = λ period of.
     let lines = c.in_ok-lines.lines.items in

@@ -6,7 +6,7 @@ use Rattle.board_report.specs.Sums.{AreQuartersOf}
 use Rattle.board_report.proofs.SumLemmas.{stations_more}
 use Rattle.board_report.proofs.sums.station_quarters.Goals as goal
 
--- the next station's lines are of quarters of its board's period
+-- the next station's lines are of periods of its board's length
 pub loop-station-preserved : goal.loop-station-preserved
 loop-station-preserved c = record {
   lines = c.in_ok-extend_from_slice.ensures.items ∙ (λ i. c.loop-station.invariant.lines i ++ c.quarters.ensures.value i)

@@ -9,7 +9,7 @@ use std::sync::Wait;
 use std::thread;
 use std::thread::Threads;
 
-// What is done with a book of two rows and its two viewers.
+// What a scene does with a book of two rows and its two viewers.
 #[derive(Clone, Copy)]
 enum Scene {
     Rows,
@@ -24,14 +24,14 @@ fn events(events: u64) -> Figures {
     }
 }
 
-// The limits of a station for which none are named.
+// The limits of a station that declares none.
 fn default_limits() -> Option<Limits>
     ensures { IfSome result (λ l. l.readings ≡ 16_384) }
 {
     Limits::new(1_024, 16_384, 16_384, 1 << 63)
 }
 
-// A post, where the book takes it.
+// A post, if the book takes it.
 fn posted<J: Naming>(
     book: &mut SiteBook<J>,
     limits: &Limits,
@@ -45,7 +45,7 @@ fn posted<J: Naming>(
     }
 }
 
-// What a viewer is told by its site's book.
+// A viewer learns what its site's book gave.
 fn learnt<J: Naming>(viewer: &mut Viewer<J>, told: Told<J>) -> bool {
     let is_mine = told.site() == viewer.site();
     if is_mine {
@@ -63,7 +63,7 @@ fn is_taken<J: Naming>(book: &mut SiteBook<J>, viewer: Viewer<J>) -> bool {
     is_mine
 }
 
-// Whether this is a book of site 1 with two rows of these limits, to which nothing was posted.
+// Whether this is a book of site 1 with two rows of these limits, without a post.
 fn is_new<J: Naming>(book: &SiteBook<J>, limits: &Limits) -> bool {
     let other = Limits::new(1_024, 16_384, 16_384, 9);
     let holds = book.holds(1, limits) && !book.holds(2, limits);
@@ -76,7 +76,7 @@ fn is_blank<J: Naming>(viewer: &mut Viewer<J>) -> bool {
     viewer.site() == 1 && viewer.glance() == Figures::zero()
 }
 
-// Plays a scene; tells whether all was as it should be, `None` where a post is refused.
+// Plays a scene; returns whether all was as it should be, `None` if a post is refused.
 fn play<J: Naming + Send + Sync, R: Threads + Wait + Sync>(
     rt: &R,
     book: &mut SiteBook<J>,
@@ -95,7 +95,8 @@ fn play<J: Naming + Send + Sync, R: Threads + Wait + Sync>(
     }
 }
 
-// Opens a book of the second of two tables and plays a scene with it; it takes back its viewers then.
+// Opens a book of the second of two tables and plays a scene with it; then the book takes back its
+// viewers.
 fn at_book<J: Naming + Send + Sync, R: Threads + Wait + Sync>(
     rt: &R,
     alloc: Global,
@@ -122,7 +123,7 @@ fn plays<R: Threads + Wait + Sync>(rt: &R, alloc: Global, scene: Scene) -> bool 
     }
 }
 
-// Whether rows 0, 1 and 0 again are posted and told as they should be; `None` where one is refused.
+// Whether posts for rows 0, 1 and 0 again give what they should; `None` if one is refused.
 fn three_posts<J: Naming>(
     book: &mut SiteBook<J>,
     viewer: &mut Viewer<J>,
@@ -154,8 +155,8 @@ fn posts_and_plans(rt: HostRuntime) {
     assert!(rt; plays(&rt, rt.alloc(), Scene::Rows));
 }
 
-// Whether a viewer that was told of one post late, and one that was told of none, see the last; `None` where a
-// post is refused.
+// Whether a viewer that learns one post late, and one that learns none, see the last; `None` if a post is
+// refused.
 fn sees_late<J: Naming>(
     book: &mut SiteBook<J>,
     told_nothing: &mut Viewer<J>,
@@ -198,7 +199,8 @@ fn numbered(post: u64) -> Figures {
     }
 }
 
-// Glances until it sees the last post; tells whether each glance was a post's totals, and none went back.
+// Glances until it sees the last post; returns whether each glance gave the totals of a post, and
+// none went back.
 fn sees_posts_alone<J: Naming, R: Wait>(rt: &R, viewer: &mut Viewer<J>) -> bool {
     let mut last = 0;
     for _ in rt.forever() {
@@ -224,7 +226,7 @@ fn post_all<J: Naming>(book: &mut SiteBook<J>, limits: &Limits) -> bool {
     true
 }
 
-// Whether two viewers see posts alone while they are made.
+// Whether two viewers see only totals of posts while posts are made.
 fn two_watch<J: Naming + Send + Sync, R: Threads + Wait + Sync>(
     rt: &R,
     book: &mut SiteBook<J>,

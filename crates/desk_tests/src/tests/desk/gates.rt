@@ -12,7 +12,7 @@ use std::thread;
 use std::thread::Threads;
 use std::time::Clock;
 
-// Delivers the first event under the gate. It gives back the pass where that is its first change.
+// Delivers the first event under the gate. Returns the pass if that is its first change.
 fn send<J: Naming, R: Wait + Clock>(
     rt: &R,
     alloc: Global,
@@ -27,7 +27,7 @@ fn send<J: Naming, R: Wait + Clock>(
     }
 }
 
-// Sends an event to B, once the gate holds A.
+// Sends an event to B after the gate holds A.
 fn send_then<J: Naming, R: Wait + Clock>(
     rt: &R,
     alloc: Global,
@@ -74,7 +74,8 @@ fn gate_holds_one_station(rt: HostRuntime) -> Result<(), Fail> {
     plays(&rt, rt.alloc(), Scene::HeldStation)
 }
 
-// Delivers so many events, with each second number from this one on; tells whether all were accepted.
+// Delivers 400 events, with every second number from 0 or 1 on; returns the pass if all were
+// accepted.
 fn deliver_each_second<J: Naming, R: Wait + Clock>(
     rt: &R,
     alloc: Global,

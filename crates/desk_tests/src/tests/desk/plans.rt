@@ -12,7 +12,7 @@ use std::test::Fail;
 use std::thread::Threads;
 use std::time::Clock;
 
-// A desk that was not closed, which handed all back.
+// A desk that was not closed, with all that it handed back.
 #[derive(Drop)]
 struct Back<J: Naming> {
     desk: Desk<J>,
@@ -20,7 +20,7 @@ struct Back<J: Naming> {
     viewers: Vec<Viewer<J>>,
 }
 
-// Closing is refused so, and hands back what it was given.
+// The close is refused with this fault, and hands back all that it was given.
 fn not_closed<J: Naming>(back: Back<J>, fault: CloseFault) -> Option<Back<J>> {
     let counts = (back.passes.len(), back.viewers.len());
     let refused = back.desk.close(back.passes, back.viewers).err()?;
@@ -36,7 +36,8 @@ fn not_closed<J: Naming>(back: Back<J>, fault: CloseFault) -> Option<Back<J>> {
     })
 }
 
-// Closing without the passes, and then without the viewers, hands all back; then it succeeds.
+// A close without the passes, and then one without the viewers, hands all back; then a close
+// succeeds.
 pub fn closes_with_all<J: Naming>(
     alloc: Global,
     desk: Desk<J>,
@@ -77,14 +78,14 @@ fn three_events<J: Naming, R: Wait + Threads + Clock>(
     Some(pass)
 }
 
-// Tells whether A has its board of the three events.
+// Returns whether A has its board of the three events.
 fn shows_board<J: Naming, R: Wait>(rt: &R, alloc: Global, desk: &Desk<J>) -> Option<bool> {
     let board = desk.station_board(rt, alloc, &Name::new("A")?).ok()?;
     let is_summed = board.figures() == figures([3, 0, 1, 0, 0, 600_000, 0]);
     Some(board.quarters().len() == 2 && is_summed)
 }
 
-// Tells whether Z has no board, nor a pass.
+// Returns whether Z has neither a board nor a pass.
 fn knows_no_z<J: Naming, R: Wait + Threads>(rt: &R, alloc: Global, desk: &Desk<J>) -> Option<bool> {
     let name = Name::new("Z")?;
     let none = desk.station_board(rt, alloc, &name).err()?;
@@ -111,7 +112,7 @@ fn posts_and_plans(rt: HostRuntime) -> Result<(), Fail> {
     plays(&rt, rt.alloc(), Scene::Posts)
 }
 
-// A pass that delivers the first event and voids it, both of which are told.
+// A pass that delivers the first event and voids it; both answers come with a `Told`.
 fn two_changes<J: Naming, R: Wait + Threads + Clock>(
     rt: &R,
     alloc: Global,
@@ -136,7 +137,7 @@ fn one_of(alloc: Global, pass: Pass) -> Option<Vec<Pass>> {
     Some(passes)
 }
 
-// Changes of a desk that does what it is asked.
+// Changes at a desk that does what it should.
 pub fn changes<J: Naming, R: Wait + Threads + Clock>(
     rt: &R,
     alloc: Global,
@@ -145,7 +146,7 @@ pub fn changes<J: Naming, R: Wait + Threads + Clock>(
     one_of(alloc, two_changes(rt, alloc, desk)?)
 }
 
-// Tells whether the desk closed on the two changes.
+// Returns whether the desk closed on the two changes.
 pub fn has_changes<J: Naming>(closed: &Closed<J>) -> bool {
     let voided = figures([0, 1, 0, 0, 0, 0, 0]);
     has(closed, 1, 1)
@@ -159,8 +160,8 @@ fn desk_refuses_all(rt: HostRuntime) -> Result<(), Fail> {
     plays(&rt, rt.alloc(), Scene::Changes)
 }
 
-// A desk that refuses a pass although the station has one more would be refused here: no clause knows how
-// many passes the cell behind the lock gave out.
+// This fails for a desk that refuses a pass although the station has one more: no clause knows how many
+// passes the cell behind the lock gave out.
 pub fn each_pass<J: Naming, R: Wait + Threads>(
     rt: &R,
     alloc: Global,
@@ -189,8 +190,8 @@ fn events_of<J: Naming, R: Wait>(rt: &R, alloc: Global, desk: &Desk<J>, text: &s
     Some(board.figures().events)
 }
 
-// The board of another station under equal limits would be refused here: no clause knows what lies behind
-// which lock.
+// This fails for the board of another station under equal limits: no clause knows what is behind which
+// lock.
 pub fn second_board<J: Naming, R: Threads + Wait + Clock>(
     rt: &R,
     alloc: Global,

@@ -1,4 +1,5 @@
-// Scenes at a desk of one site, which closes after each, and not before it has all passes and viewers.
+// Scenes at a desk of one site. It closes after each scene, but not before it has all passes and
+// viewers.
 ghost use Rattle.std.specs.Prelude.{ℕ, ◌<◌, length};
 ghost use Rattle.site_book.specs.Tables.{HasTable, NamedBy};
 
@@ -37,7 +38,7 @@ fn stations(scene: Scene) -> &'static [(u16, &'static str)] {
     }
 }
 
-// The passes that are left, or none where something else was seen.
+// The passes that are left; none if the scene saw something wrong.
 fn play<J: Naming + Send + Sync, R: Threads + Wait + Clock + Sync>(
     rt: &R,
     alloc: Global,
@@ -56,7 +57,7 @@ fn play<J: Naming + Send + Sync, R: Threads + Wait + Clock + Sync>(
     }
 }
 
-// Tells whether the desk closed as the scene left it.
+// Returns whether the desk closed as the scene left it.
 fn is_left<J: Naming>(alloc: Global, closed: &Closed<J>, scene: Scene) -> bool {
     match scene {
         Scene::Changes => has_changes(closed),

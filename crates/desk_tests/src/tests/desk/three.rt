@@ -109,8 +109,8 @@ fn by_operator<J: Naming, R: Wait + Clock>(rt: &R, desk: &Desk<J>, mut pass: Pas
     Some(pass)
 }
 
-// B's side: three events of a falling register, of which the viewer learns the last. It gives what
-// the viewer sees then.
+// B's side: three events of a falling register; the viewer learns the last. Returns what the viewer
+// sees then.
 fn on_b<J: Naming, R: Wait + Clock>(
     rt: &R,
     alloc: Global,
@@ -176,7 +176,7 @@ fn at_once<J: Naming + Send + Sync, R: Threads + Wait + Clock + Sync>(
     })
 }
 
-// Passes of A, B and A again, once the first event is there.
+// Passes of A, B and A again, after the first event is there.
 fn enlisted<J: Naming, R: Threads + Wait + Clock>(
     rt: &R,
     alloc: Global,
@@ -191,7 +191,7 @@ fn enlisted<J: Naming, R: Threads + Wait + Clock>(
     }
 }
 
-// Tells whether an event that differs in one part of its content is refused, for each part.
+// Returns whether an event that differs in one part of its content is refused, for each part.
 fn conflicts<J: Naming, R: Wait + Clock>(
     rt: &R,
     alloc: Global,
@@ -207,7 +207,7 @@ fn conflicts<J: Naming, R: Wait + Clock>(
     true
 }
 
-// Tells whether a repeat is one, and the erasure of what is not voided is refused.
+// Returns whether a repeat is one, and the erasure of what is not voided is refused.
 fn repeats<J: Naming, R: Wait + Clock>(
     rt: &R,
     alloc: Global,
@@ -230,7 +230,7 @@ fn second() -> Figures {
     figures([3, 0, 1, 0, 0, 50_000, 1_500_000])
 }
 
-// Tells whether the station's board has these figures, so many quarters, and one transaction.
+// Returns whether the station's board has these figures, this many periods, and one transaction.
 fn has_board<J: Naming, R: Wait>(
     rt: &R,
     alloc: Global,
@@ -243,7 +243,7 @@ fn has_board<J: Naming, R: Wait>(
     Some(shown == expected && board.transactions().len() == 1)
 }
 
-// The board of a station, which is within the limits of its ledger.
+// The board of a station; it is within the limits of its ledger.
 fn board_within(alloc: Global, ledger: &StationLedger) -> Result<StationBoard, AllocError>
     ensures few { ledger.now.limits.readings ≤ most_readings }
     ensures within { IfOk result (λ b. IsBoardWithin ledger.now.limits b) }
@@ -252,7 +252,7 @@ fn board_within(alloc: Global, ledger: &StationLedger) -> Result<StationBoard, A
     ledger.board(alloc)
 }
 
-// The boards of both stations by name, where both are by the default period; their sums fit.
+// The boards of both stations by name, if both have the default length of periods; their sums fit.
 fn boards_of<J: Naming>(
     alloc: Global,
     closed: &Closed<J>,
@@ -289,13 +289,13 @@ fn board_of<J: Naming>(alloc: Global, closed: &Closed<J>) -> Option<SiteBoard> {
     .ok()
 }
 
-// Tells whether the threads leave the board of their script.
+// Returns whether the threads leave the board of their script.
 fn is_board_of_script<J: Naming>(alloc: Global, closed: &Closed<J>) -> Option<bool> {
     let text = write_board(alloc, &board_of(alloc, closed)?).ok()?;
     Some(text.as_slice() == BOARD.as_bytes())
 }
 
-// Tells whether each station's board and the answers of A are right after the three sides.
+// Returns whether each station's board and the answers of A are right after the three sides.
 fn is_right<J: Naming, R: Wait + Clock>(
     rt: &R,
     alloc: Global,
@@ -317,7 +317,7 @@ fn list_of(alloc: Global, a: Pass, b: Pass, operator: Pass) -> Option<Vec<Pass>>
     Some(passes)
 }
 
-// Two stations and an operator at once. What B told is seen by the viewer.
+// Two stations and an operator at once. The viewer sees B's posts.
 pub fn three_sides<J: Naming + Send + Sync, R: Threads + Wait + Clock + Sync>(
     rt: &R,
     alloc: Global,
@@ -334,7 +334,7 @@ pub fn three_sides<J: Naming + Send + Sync, R: Threads + Wait + Clock + Sync>(
     }
 }
 
-// Tells whether the desk closed on what the three sides did.
+// Returns whether the desk closed on what the three sides did.
 pub fn has_three<J: Naming>(alloc: Global, closed: &Closed<J>) -> bool {
     let both = figures([6, 0, 2, 0, 0, 650_000, 1_500_000]);
     has(closed, 2, 1)

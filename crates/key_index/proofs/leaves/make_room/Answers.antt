@@ -9,7 +9,7 @@ use Rattle.key_index.proofs.Belonging.{read_leaf, first_is}
 use Rattle.key_index.proofs.Edits.{filled_round, upper_read, other_half, ready_lower, ready_upper, ready_first}
 use Rattle.key_index.proofs.leaves.make_room.Goals as goal
 
--- A split told with the next number is one told with the successor.
+-- A split given with the next number is one given with the successor.
 split_told : {V : Type 0} (old new : List (List (Entry V))) (at i : ℕ) → i ≡ suc at → new ≡ insert (set old at (take 64 (get_or old at []))) i (drop 64 (get_or old at []))
     → new ≡ insert (set old at (take 64 (get_or old at []))) (suc at) (drop 64 (get_or old at []))
 split_told old new at i up is = is ∙ ap (λ n. insert (set old at (take 64 (get_or old at []))) n (drop 64 (get_or old at []))) up

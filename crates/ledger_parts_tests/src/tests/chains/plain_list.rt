@@ -1,4 +1,4 @@
-//! The events of a station in a plain list by transaction and number, with which chains are compared.
+//! The events of a station in a plain list by transaction and number, to compare chains with.
 use event_chain::{Chains, Found, Room, TxStanding};
 use ledger_model::{Direction, Event, EvseId, Key, Kind, Reading};
 use std::alloc::{AllocError, Global};
@@ -17,7 +17,7 @@ fn ends_toward(readings: &[Reading], direction: Direction) -> Sides {
     ends
 }
 
-// An event of the list. Its transaction is told by a number.
+// An event of the list. A number says its transaction.
 #[derive(Clone, Copy)]
 struct PlainRow {
     tx: u32,
@@ -30,8 +30,8 @@ struct PlainRow {
     readings: usize,
 }
 
-// What is answered of a key, of the room for one event more, and of the key's transaction: by one call, and
-// by a call for each.
+// The answers about a key, about the room for one more event, and about the key's transaction: by one call,
+// and by a call for each.
 #[derive(Clone, Copy, Debug, PartialEq, Eq)]
 pub(crate) struct Answers {
     found: Option<Found>,
@@ -65,7 +65,7 @@ impl Answers {
     }
 }
 
-// What is seen of the live events of a transaction.
+// What a walk has seen of the live events of a transaction.
 #[derive(Clone, Copy)]
 struct Seen {
     standing: TxStanding,
@@ -151,7 +151,7 @@ impl PlainList {
         }
     }
 
-    // How many events stand in front of a number's place.
+    // How many events are in front of a number's place.
     fn place(&self, tx: u32, seq: u32) -> usize {
         let mut place: usize = 0;
         for row in &self.rows {
@@ -177,8 +177,8 @@ impl PlainList {
         }
     }
 
-    // The room for an event with so many readings, where its transaction is there or not, and so many
-    // transactions are.
+    // The room for an event with so many readings, whether its transaction is stored or not, with so
+    // many transactions stored.
     fn room(&self, there: bool, transactions: usize, readings: usize) -> Room {
         if !there && transactions >= self.transactions {
             Room::NoTransaction

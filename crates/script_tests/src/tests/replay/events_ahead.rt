@@ -1,4 +1,5 @@
-// What no clause says: which events are found ahead of their lines, and that threads find them.
+// No clause says which events are found ahead of their lines, and that threads find them; these
+// tests show it.
 use ledger_model::Moment;
 use message_ahead::{Chunk, Lookahead, Pieces, SentEvent};
 use std::alloc::Global;
@@ -27,7 +28,7 @@ fn is_of(sent: Option<SentEvent>, id: &str) -> bool {
     }
 }
 
-// The lines, and the room before each where 100,000 bytes may be read before the first.
+// The lines, and the room before each; 100,000 bytes may be read before the first.
 fn lines(alloc: Global) -> Result<(Vec<u8>, Vec<usize>), Fail> {
     let mut bytes = Vec::new(alloc);
     let mut rooms = Vec::new(alloc);
@@ -47,7 +48,7 @@ fn lines(alloc: Global) -> Result<(Vec<u8>, Vec<usize>), Fail> {
     Ok((bytes, rooms))
 }
 
-// What is read of these lines, as one piece.
+// The chunk of these lines, read as one piece.
 fn chunk_of(alloc: Global, bytes: &[u8]) -> Result<Chunk, Fail> {
     let pieces = Arc::new(alloc, Pieces::cut(alloc, Vec::new(alloc), bytes, 65_536)?)?;
     Ok(Chunk::read(alloc, pieces, 0, 100_000))
@@ -76,7 +77,7 @@ fn events_are_found_at_their_lines(rt: HostRuntime) -> Result<(), Fail> {
     Ok(())
 }
 
-// Whether there is a piece for each of these lines, which stand one behind the other, and each is claimed once.
+// Whether there is a piece for each of these lines, one behind the other, and each is claimed once.
 fn are_claimed(pieces: &Pieces, rooms: &[usize], end: usize) -> bool {
     let mut begin = 0;
     for line in 0..rooms.len() {
@@ -98,8 +99,8 @@ fn each_piece_is_claimed_once(rt: HostRuntime) -> Result<(), Fail> {
     Ok(())
 }
 
-// Whether nothing is given for a line before all, for another line at the fifth line's place, for that line
-// once its event was dropped, and for the lines before it.
+// Whether nothing comes for a line before all, for another line at the fifth line's place, for the fifth
+// line after its event was dropped, and for the lines before it.
 fn gives_no_other(chunk: &mut Chunk, rooms: &[usize]) -> bool {
     let [first, .., last, _] = rooms else {
         return false;
@@ -123,7 +124,7 @@ fn text_of(line: &[u8]) -> Option<&str> {
     str::from_utf8(line).ok()?.strip_prefix("msg A ")
 }
 
-// Whether an event that was read ahead is as it is when its line is read now.
+// Whether an event that was read ahead is the same when its line is read now.
 fn is_read_now(alloc: Global, sent: &SentEvent, line: &[u8], moment: Moment) -> bool {
     let Some(text) = text_of(line) else {
         return false;
@@ -151,7 +152,7 @@ struct Count {
     wrong: u64,
 }
 
-// Takes the event of a line, where it has one that was read ahead.
+// Takes the event of a line, if it has one that was read ahead.
 fn count_event(
     alloc: Global,
     ahead: &mut Lookahead,
@@ -168,8 +169,8 @@ fn count_event(
     }
 }
 
-// Walks over the lines as a caller does; tells how many events were read ahead, or `None` where one was not
-// as it is when read now, or memory ran out.
+// Walks over the lines as a caller does; returns how many events were read ahead, or `None` if one was not
+// the same when read now, or memory ran out.
 fn walk<X: Threads + Clock>(rt: &X, alloc: Global, bytes: &[u8], moment: Moment) -> Option<u64> {
     let mut ahead = Lookahead::new(alloc);
     let mut counted = Count { right: 0, wrong: 0 };

@@ -1,11 +1,12 @@
-// A long script, whose events threads read ahead where its reader shows them.
+// A long script; threads read its events ahead if its reader shows them.
 use script_replay::replay_stream;
 use std::alloc::Global;
 use std::io::BufReader;
 use std::test::Fail;
 use std::thread::Threads;
 
-// Lines of all kinds, some of which a thread reads as the line before them leaves it, and some not.
+// Lines of all kinds. A thread can read some of them before the lines in front are answered, and
+// others not.
 fn long_script(alloc: Global) -> Result<Vec<u8>, Fail> {
     let mut script = Vec::new(alloc);
     script.extend_from_slice(b"station north A\nstation north B\n")?;
@@ -22,7 +23,8 @@ fn station_of(at: u32) -> &'static str {
     if at % 3 == 0 { "B" } else { "A" }
 }
 
-// The sequence number of a step: some events come again, and some before the one in front of them.
+// The sequence number of a step: some events come again, and some come before an event of a lower
+// number.
 fn number_of(at: u32) -> u32 {
     if at % 7 == 6 { at / 2 } else { at ^ 1 }
 }
@@ -65,7 +67,7 @@ fn put_other(alloc: Global, script: &mut Vec<u8>, at: u32) -> Result<(), Fail> {
     Ok(())
 }
 
-// Whether a script that is shown so many bytes at a time is replayed to its end; what it writes comes behind the text.
+// Whether a script, shown so many bytes at a time, is replayed to its end; its output is appended to the text.
 fn is_replayed<X: AllocGlobal + Threads>(
     rt: &X,
     script: &[u8],
@@ -76,7 +78,7 @@ fn is_replayed<X: AllocGlobal + Threads>(
     Ok(replay_stream(rt, &mut shown, text).is_ok())
 }
 
-// Whether it writes this text, where it is shown so much at a time that threads read ahead.
+// Whether it writes this text if so much is shown at a time that threads read ahead.
 fn writes<X: AllocGlobal + Threads>(
     rt: &X,
     script: &[u8],
@@ -88,7 +90,7 @@ fn writes<X: AllocGlobal + Threads>(
     Ok(is_replayed && written.as_slice() == text)
 }
 
-// Whether a script that ends so many bytes earlier gives the same text where threads read ahead and where none does.
+// Whether a script that ends so many bytes earlier gives the same text with threads that read ahead and without.
 fn is_same_without<X: AllocGlobal + Threads>(
     rt: &X,
     script: &[u8],

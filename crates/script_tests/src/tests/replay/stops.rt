@@ -50,7 +50,7 @@ fn written_by_complete(count: usize) -> usize {
     written
 }
 
-// The first `count` bytes, or all where there are no more.
+// The first `count` bytes, or all if there are fewer.
 fn front(bytes: &[u8], count: usize) -> &[u8] {
     &bytes[..bytes.len().min(count)]
 }
@@ -66,7 +66,8 @@ fn stream_gives_up(rt: HostRuntime) -> Result<(), Fail> {
     Ok(())
 }
 
-// A reader that shows `step` bytes at a time and fails after `count`: the text of the complete lines stands.
+// A reader that shows `step` bytes at a time and fails after `count`: the text of the complete lines is
+// written.
 fn stops_reading<X: AllocGlobal + Threads>(
     rt: &X,
     script: &[u8],
@@ -84,7 +85,7 @@ fn stops_reading<X: AllocGlobal + Threads>(
     result == Err(ReplayFault::ReadFault) && written.as_slice() == stands
 }
 
-// A writer that takes `room` bytes, and then fails or takes none: just those bytes stand.
+// A writer that takes `room` bytes, and then fails or takes none: just those bytes are written.
 fn stops_writing<X: AllocGlobal + Threads>(
     rt: &X,
     script: &[u8],
@@ -131,8 +132,9 @@ fn text_stops_at_each_byte(rt: HostRuntime) -> Result<(), Fail> {
     Ok(())
 }
 
-// A reader that fails once, when it was asked so many times, and would go on: the text of the complete lines
-// stands. All of the script is shown at once, so that what comes is looked at after each line.
+// A reader that fails once, after it was asked so many times, and would then go on: the text of the complete
+// lines is written. It shows all of the script at once, so the replay looks at the bytes to come after each
+// line.
 fn fails_once<X: AllocGlobal + Threads>(rt: &X, script: &[u8], text: &[u8], asked: usize) -> bool {
     let mut reader = FlakyReader {
         rest: script,
@@ -160,7 +162,8 @@ fn failed_look_is_told(rt: HostRuntime) -> Result<(), Fail> {
     Ok(())
 }
 
-// A full disk behind a buffer: what the buffer can't hand on is a WriteFault, at whichever byte.
+// A full disk behind a buffer: if the buffer can't hand its bytes on, that is a WriteFault, at any
+// byte.
 fn stops_behind_buffer<X: AllocGlobal + Threads>(
     rt: &X,
     script: &[u8],

@@ -32,7 +32,7 @@ impl BufRead for FailingReader<'_> {
     }
 }
 
-// Shows `step` bytes at a time, and fails once, when it was asked so many times.
+// Shows `step` bytes at a time, and fails once, after it was asked so many times.
 #[derive(Drop)]
 pub struct FlakyReader<'a> {
     pub rest: &'a [u8],
@@ -145,7 +145,7 @@ impl Write for CountingWriter<'_> {
     }
 }
 
-// Takes all bytes, and fails at a flush once so many have passed.
+// Takes all bytes, and fails at a flush after so many have passed.
 #[derive(Drop)]
 pub struct FailingFlush {
     pub passes: u32,

@@ -1,4 +1,4 @@
-// Flushes: answers are out before the reader is waited for, and a flush that fails is told.
+// Flushes: answers are out before the replay waits for its reader, and a failed flush is reported.
 use crate::tests::replay::streams::{CountingWriter, FailingFlush, WaitingReader};
 use script_replay::{ReplayFault, replay_stream};
 use std::cell::Cell;
@@ -8,7 +8,7 @@ use std::thread::Threads;
 const SCRIPT: &[u8] = b"station north A\nfrob\nenergy A\nenergy Z";
 
 // The flushes of the script shown `step` bytes at a time by a reader that refuses to wait while an answer is not
-// flushed; `None` where the run failed or left something unflushed.
+// flushed; `None` if the run failed or left something unflushed.
 fn flushes_of<X: AllocGlobal + Threads>(rt: &X, step: usize) -> Option<u32> {
     let unflushed = Cell::new(0);
     let mut reader = WaitingReader {
@@ -31,7 +31,8 @@ fn flushes_of<X: AllocGlobal + Threads>(rt: &X, step: usize) -> Option<u32> {
 
 #[test]
 fn answers_are_out_before_a_wait(rt: HostRuntime) -> Result<(), Fail> {
-    // The script has 38 bytes: it is flushed each time all that was shown is consumed, and at its end.
+    // The script has 38 bytes: there is a flush each time all that was shown is consumed, and at the
+    // end.
     assert!(rt; flushes_of(&rt, 38) == Some(2));
     assert!(rt; flushes_of(&rt, 19) == Some(3));
     assert!(rt; flushes_of(&rt, 2) == Some(20));
@@ -39,7 +40,7 @@ fn answers_are_out_before_a_wait(rt: HostRuntime) -> Result<(), Fail> {
     Ok(())
 }
 
-// How the script ends, shown `step` bytes at a time, where a flush fails after so many passed.
+// How the script ends, shown `step` bytes at a time, if a flush fails after so many bytes passed.
 fn end_after_flushes<X: AllocGlobal + Threads>(
     rt: &X,
     step: usize,
@@ -56,7 +57,8 @@ fn end_after_flushes<X: AllocGlobal + Threads>(
     replay_stream(rt, &mut reader, &mut writer)
 }
 
-// A flush that fails in the middle of a run, or at its end, is told; a dropped answer of it would be Ok.
+// A flush that fails in the middle of a run, or at its end, is reported; a replay that ignored it would
+// end with Ok.
 #[test]
 fn flush_fails(rt: HostRuntime) -> Result<(), Fail> {
     for passes in 0..20 {

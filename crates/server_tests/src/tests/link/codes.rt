@@ -10,7 +10,8 @@ use std::sync::Wait;
 use std::thread::Threads;
 use std::time::Clock;
 
-// Tells whether a session of station B is refused, with a close frame of this code and nothing else.
+// Returns whether a session of station B is refused, with a close frame of this code and nothing
+// else.
 fn is_refused<J: Naming, R: Threads + Wait + Clock>(
     rt: &R,
     alloc: Global,
@@ -24,7 +25,7 @@ fn is_refused<J: Naming, R: Threads + Wait + Clock>(
     Some(served.why == why && served.frames() == answers.bytes())
 }
 
-// Takes all passes of station B; tells whether it gave them.
+// Takes all passes of station B; returns whether it gave them.
 fn takes_all<J: Naming, R: Threads + Wait + Clock>(rt: &R, desk: &Desk<J>) -> Option<bool> {
     let name = Name::new("B")?;
     for _ in 0..MAX_PASSES {
@@ -35,7 +36,7 @@ fn takes_all<J: Naming, R: Threads + Wait + Clock>(rt: &R, desk: &Desk<J>) -> Op
     Some(true)
 }
 
-// A station that gave out all its passes, which are lost.
+// A station that gave out all its passes; they are lost.
 pub(super) fn all_taken<J: Naming, R: Threads + Wait + Clock>(
     rt: &R,
     alloc: Global,

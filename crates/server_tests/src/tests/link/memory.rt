@@ -3,8 +3,8 @@ use std::cell::RefCell;
 use std::io;
 use std::io::{ErrorKind, Read, Write};
 
-// What the other side of a stream does: the bytes that it sends, those of the handshake apart, since they
-// come in a read of their own; after how many bytes it ends or fails; and how many writes it takes.
+// What the other side of a stream does: the bytes that it sends, with those of the handshake apart, since
+// they come in a read of their own; after how many bytes it ends or fails; and how many writes it takes.
 #[derive(Clone, Copy)]
 pub(super) struct Peer<'a> {
     pub(super) head: &'a [u8],
@@ -15,7 +15,7 @@ pub(super) struct Peer<'a> {
 }
 
 impl<'a> Peer<'a> {
-    // A peer that sends all this and takes all that is written.
+    // A peer that sends all these bytes and takes all that is written.
     pub(super) fn of(head: &'a [u8], frames: &'a [u8]) -> Self {
         Peer {
             head,
@@ -104,7 +104,7 @@ pub(super) const PONG: u8 = 0x8a;
 #[derive(Drop)]
 pub(super) struct Frames {
     bytes: Vec<u8>,
-    // A client masks its frames; the key is 0 throughout, so that payloads stand as they are.
+    // A client masks its frames; the key is 0 throughout, so payloads stay as they are.
     is_client: bool,
 }
 
@@ -138,7 +138,7 @@ impl Frames {
         self.bytes.extend_from_slice(payload)
     }
 
-    // The length of a frame's payload, with the bit that tells whether it is masked.
+    // The length of a frame's payload, with the bit that says whether it is masked.
     fn add_length(&mut self, length: usize) -> Result<(), AllocError> {
         let mask = if self.is_client { 0x80 } else { 0 };
         let bytes = &mut self.bytes;

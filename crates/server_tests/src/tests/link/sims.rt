@@ -28,13 +28,13 @@ const REPLIES: [&str; 4] = [
     "[3,\"4\",{}]",
 ];
 
-// Tells whether these are such strings.
+// Returns whether these are the expected strings.
 fn are(strings: &[String], expected: &[&str]) -> bool {
     let mut pairs = strings.iter().zip(expected);
     strings.len() == expected.len() && pairs.all(|(text, expected)| text.as_str() == *expected)
 }
 
-// Tells whether a text of the pass has this reply, and is told to the site's viewers or not.
+// Returns whether a text of the pass has this reply, and comes with a `Told` or not.
 fn is_answered<J: Naming, R: Wait + Clock>(
     rt: &R,
     alloc: Global,
@@ -49,8 +49,8 @@ fn is_answered<J: Naming, R: Wait + Clock>(
     Some(is_reply && answered.told.is_some() == is_told && !answered.memory)
 }
 
-// The pass of the station's texts when they are answered one by one: the last one repeats the first, and alone
-// is told to nobody.
+// The pass of the station's texts when they are answered one by one: the last one repeats the first, and only
+// that comes without a `Told`.
 fn pass_of_texts<J: Naming, R: Threads + Wait + Clock>(
     rt: &R,
     alloc: Global,
@@ -92,7 +92,7 @@ pub(super) fn each_text<J: Naming, R: Threads + Wait + Clock>(
     }
 }
 
-// Tells whether the simulated station sends these texts.
+// Returns whether the simulated station sends these texts.
 fn are_its_texts(alloc: Global) -> bool {
     match SimStation::new(7, 3).texts(alloc) {
         Ok(texts) => are(&texts, &TEXTS),
@@ -116,7 +116,7 @@ impl RandomSource for Zeros {
     }
 }
 
-// The answer to a request whose key is made of such bytes.
+// The answer to a request with a key of such bytes.
 const ANSWER: &[u8] =
     b"HTTP/1.1 101 Switching Protocols\r\nConnection: Upgrade\r\nUpgrade: websocket\r\nSec-WebSocket-Accept: ICX+Yqv66kxgM0FcWaLWlFLwTAI=\r\nSec-WebSocket-Protocol: ocpp2.0.1\r\n\r\n";
 
@@ -137,7 +137,8 @@ fn answers(alloc: Global) -> Option<Frames> {
     Some(frames)
 }
 
-// What the station sends then: the pong goes behind its first text, and a close behind the last.
+// The bytes that the station sends then: the pong goes behind its first text, and a close behind
+// the last.
 fn sent(alloc: Global) -> Option<Frames> {
     let mut frames = Frames::of_client(alloc);
     for text in TEXTS {
@@ -150,7 +151,7 @@ fn sent(alloc: Global) -> Option<Frames> {
     Some(frames)
 }
 
-// Tells whether the station asks, sends its texts and has its replies.
+// Returns whether the station connects, sends its texts and gets its replies.
 fn plays_its_part(alloc: Global) -> Option<bool> {
     let answers = answers(alloc)?;
     let (replies, written) = run(alloc, Peer::of(ANSWER, answers.bytes()));
@@ -164,12 +165,13 @@ fn simulated_station(rt: HostRuntime) {
     assert!(rt; plays_its_part(rt.alloc()) == Some(true));
 }
 
-// Why the station has not all its replies.
+// Why the station did not get all its replies.
 fn fault(alloc: Global, peer: Peer<'_>) -> Option<SimFault> {
     run(alloc, peer).0.err()
 }
 
-// Tells whether the station gives up where its stream ends in the handshake, fails, ends, and takes no more.
+// Returns whether the station gives up if its stream ends in the handshake, fails, ends, or takes
+// no more.
 fn gives_up(alloc: Global) -> Option<bool> {
     let answers = text_frames(alloc, false, &[REPLIES[0]])?;
     let peer = Peer::of(ANSWER, answers.bytes());

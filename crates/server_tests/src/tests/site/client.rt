@@ -20,7 +20,7 @@ const CLOSE: &[u8] = b"\x88\x82\0\0\0\0\x03\xe8";
 
 const CLOSED: &[u8] = b"\x88\x02\x03\xe8";
 
-// Sends bytes, and tells whether what comes then ends so before the stream does.
+// Sends bytes, and returns whether the bytes that come then end like this before the stream ends.
 fn is_answered(alloc: Global, stream: &mut TcpStream, sent: &[u8], end: &[u8]) -> Option<bool> {
     stream.write_all(sent).ok()?;
     let mut read = Vec::new(alloc);
@@ -37,8 +37,8 @@ fn is_answered(alloc: Global, stream: &mut TcpStream, sent: &[u8], end: &[u8]) -
     Some(false)
 }
 
-// A whole session with a request: the first event, and the close. `None` where the stream fails; else it tells
-// whether all was answered.
+// A whole session with a request: the first event, and the close. `None` if the stream fails, else whether all
+// was answered.
 pub(super) fn sends_one<R: Net<Listener = TcpListener, Stream = TcpStream>>(
     rt: &R,
     alloc: Global,

@@ -1,4 +1,4 @@
-// Sessions that go on one after the other, or under one lock, never answer B here.
+// If sessions went on one after the other, or under one lock, B would never get an answer here.
 ghost use Rattle.std.specs.Prelude.{ℕ, ◌<◌, length};
 ghost use Rattle.site_book.specs.Tables.{HasTable, NamedBy};
 
@@ -18,7 +18,7 @@ use std::thread;
 use std::thread::Threads;
 use std::time::Clock;
 
-// A clock that can't tell.
+// A clock that fails.
 #[derive(Drop)]
 struct NoMoment;
 
@@ -28,7 +28,7 @@ impl MomentSource for NoMoment {
     }
 }
 
-// Tells whether A is answered, and B, which connects once the gate holds A.
+// Returns whether A is answered, and B, which connects after the gate holds A.
 fn ask_both<R: Threads + Wait + Clock + Sync + Net<Listener = TcpListener, Stream = TcpStream>>(
     rt: &R,
     alloc: Global,
@@ -77,7 +77,7 @@ fn serve_both<J: Naming + Send + Sync, R: Threads + Wait + Clock + Sync>(
     Some(passes)
 }
 
-// The passes of both connections, where both were answered, and B while A was held.
+// The passes of both connections, if both were answered, and B while A was held.
 fn served_both<
     J: Naming + Send + Sync,
     R: Threads + Wait + Clock + Sync + Net<Listener = TcpListener, Stream = TcpStream>,

@@ -4,7 +4,7 @@ use Rattle.station_cell.specs.Cell.{Cell}
 use Rattle.site_desk.specs.Parts.{AreHeld, AreRowsKept, HaveFewPosts, IsTied}
 use Rattle.site_desk.proofs.parts.post_all.Given as goal
 
--- the rows of the cells so far are tied, each row stands where it stood, and no book has more posts than there were cells
+-- the rows of the cells so far are tied, each row is in its old place, and no book has more posts than there were cells
 abbrev pub invariant-loop-cell : goal.invariant-loop-cell
 invariant-loop-cell g l = record {
   held : AreHeld l.cells l.books;

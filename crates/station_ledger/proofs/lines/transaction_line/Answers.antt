@@ -32,7 +32,7 @@ invariant_of-result c =
       export_in_range = subst IsStationFlow (ap (λ s. s.export) (sym s)) (own_flow order c.args.chains.now.limits es c.requires.within Export tx);
     }
 
--- what stands of it is what is shown, with its first and its last number
+-- the standing is what is shown, with its first and its last number
 pub returns : goal.returns
 returns c =
     let es = stored c.args.chains.now in let tx = c.args.tx.now in let ns = numbers_of tx es in let order = order_in c.args.sums.now in

@@ -19,7 +19,7 @@ is_meant : (now : ℕ) (id shown : List ℕ) (action named : Action) (payload : 
 is_meant now id shown action named payload body reply is same means told =
     ap (λ a. called now id a payload) is ∙ means ∙ ap Ready (ap (λ i. result_bytes i body) (sym same) ∙ sym told)
 
--- no result tells OutOfMemory
+-- no result reports OutOfMemory
 is_no_error : (id : List ℕ) (body : Body) (reply : List ℕ) → reply ≡ result_bytes id body → reply ≢ memory_reply (codes "-1")
 is_no_error id body reply told memory =
     let same : ◌≡◌ {A = ℕ} 51 52 = ap (λ text. get_or text 1 0) (sym told ∙ memory) in

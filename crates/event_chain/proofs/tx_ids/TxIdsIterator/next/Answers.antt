@@ -10,7 +10,7 @@ use Rattle.event_chain.proofs.tx_ids.TxIdsIterator.next.Goals as goal
 abbrev ids : List TxRow → List (List ℕ)
 ids rows = map (λ (r : TxRow). r.0) rows
 
--- The id that was read stands at the place.
+-- The id that was read is at the place.
 read_id : (c : After-copied) → slice_get (ids c.self.inside.table.now.rows) c.self.inside.next ≡ Some c.copied.result
 read_id c = sym c.in-Some.ensures.id ∙ ap (λ (t : List ℕ). Some t) (sym c.copied.ensures)
 

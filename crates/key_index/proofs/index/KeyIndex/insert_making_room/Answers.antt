@@ -8,7 +8,7 @@ use Rattle.key_index.proofs.Edits.{filled_set}
 use Rattle.key_index.proofs.Cuts.{rising_leaf, put_all, rising_put, length_put}
 use Rattle.key_index.proofs.index.KeyIndex.insert_making_room.Goals as goal
 
--- An entry put in, told by its parts.
+-- An entry put in, given by its parts.
 put_told : {V : Type 0} (new ls : List (List (Entry V))) (at : ℕ) (e f : Entry V) → new ≡ set ls at (insert (get_or ls at []) (length (below e.0 (get_or ls at []))) e) → e ≡ f → new ≡ set ls at (insert (get_or ls at []) (length (below f.0 (get_or ls at []))) f)
 put_told {V} new ls at e f is same = is ∙ ap (λ (x : Entry V). set ls at (insert (get_or ls at []) (length (below x.0 (get_or ls at []))) x)) same
 

@@ -8,13 +8,13 @@ use Rattle.slot_arena.proofs.Rooms.{holding_within}
 use Rattle.slot_arena.proofs.Threads.{first_links, threaded-take, shown_at, shown_length, shown_set}
 use Rattle.slot_arena.proofs.arena.SlotArena.take.Goals as goal
 
--- No slot is free exactly where the arena is full.
+-- No slot is free exactly if the arena is full.
 none_free : {X : Type 0} (row : List (Option (Slot X))) (slots : List (Option X)) (first spare : ℕ) → values_in row ≡ slots → IsThreaded row first spare → (spare ≡ 0) ↔ IsFull slots
 none_free row slots first spare shows t =
     let held = ap held_count shows in let as_long = ap length shows in
     (λ none. omega (arith, shown_length row), λ full. omega (arith, shown_length row))
 
--- The id of a free slot stands for no value.
+-- The id of a free slot has no value.
 free_shows_none : {X : Type 0} (row : List (Option (Slot X))) (slots : List (Option X)) (first id next : ℕ) → values_in row ≡ slots → id ≡ first → get_or row first None ≡ Some (Free next) → (id < length slots) × (value_at slots id ≡ None)
 free_shows_none row slots first id next shows same links =
     let as_long = ap length shows in (
