@@ -358,7 +358,7 @@ class Reader:
         return is_of_part and kind in NEXT.get(self.before, ())
 
     def begin_board(self, number: int, site: str, seconds: str, order: str, settle: str) -> None:
-        """A board begins, whose periods have so many seconds. `order`: what is said of readings by moment, if so;
+        """A board begins; its periods have so many seconds. `order`: what is said of readings by moment, if so;
         `settle`: the same of readings that close periods."""
         self.break_off(number, "another board begins")
         self.counts["boards"] += 1

@@ -4,7 +4,8 @@ use Rattle.ledger_model.specs.declared.figures.Figures.{Figures}
 use Rattle.ledger_model.specs.declared.order.Order.{Order}
 use Rattle.ledger_model.specs.Board.{Board, Flowed}
 
--- A site's board under the site's name: its settlement periods, the order of its readings, its figures, its quarters with their energies, and its stations' boards by name.
+-- A site's board under the site's name: its settlement periods, the order of its readings, its
+-- figures, its periods with their energies, and its stations' boards by name.
 pub record NamedBoard : Type 0 where
   pub name : List ℕ
   pub period : Periods

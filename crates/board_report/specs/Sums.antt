@@ -16,10 +16,10 @@ pub record QuartersFit (lines : List Flowed) : Type 0 where
   pub export_up : (quarter : ℕ) → (flows_under quarter lines).export.up < 2 ^ 64
   pub export_down : (quarter : ℕ) → (flows_under quarter lines).export.down < 2 ^ 64
 
--- The stations' boards are by these settlement periods.
+-- The stations' boards have these settlement periods.
 abbrev pub AreOfPeriod : Periods → List (List ℕ × Board) → Type 0
 AreOfPeriod period stations = All (λ s. s.1.period ≡ period) stations
 
--- Each line is of one of these periods.
+-- Each line is of a period of this length.
 abbrev pub AreQuartersOf : Periods → List Flowed → Type 0
 AreQuartersOf period lines = All (λ line. IsQuarterOf period.length line.0) lines

@@ -48,7 +48,7 @@ total_text f =
     ++ (field (codes " transactions=") f.transactions ++ (field (codes " complete=") f.complete
     ++ (field (codes " missing=") f.missing ++ flows_fields f.up f.down f.export_up f.export_down))))
 
--- The text of a quarter's first moment, by these settlement periods.
+-- The text of the first moment of a period of this length.
 unfoldable pub start_text : Periods → ℕ → List ℕ
 start_text period quarter = text_of (quarter_start period.length quarter)
 
@@ -97,16 +97,18 @@ abbrev pub order_field : Order → List ℕ
 order_field Sequence = []
 order_field Moment = codes " order=moment"
 
--- ` settle=closing`, where differences count in the period that their later reading closes
+-- ` settle=closing` if differences count in the period that their later reading closes
 abbrev pub settle_field : Settle → List ℕ
 settle_field Later = []
 settle_field Closing = codes " settle=closing"
 
--- `board <name> period=<seconds>`, the order of readings where it is not by sequence, and the rule of settling where it is not by the later reading
+-- `board <name> period=<seconds>`, the order of readings if it is not by sequence, and the rule of
+-- settling if it is not by the later reading
 unfoldable pub heading : List ℕ → Periods → Order → List ℕ
 heading name period order = line (codes "board " ++ (name ++ (field (codes " period=") period.length ++ (order_field order ++ settle_field period.rule))))
 
--- The text of a site's board: its name with its settlement periods and order of readings, its total, its quarters, its stations, and `end`.
+-- The text of a site's board: its name with its settlement periods and its order of readings, its
+-- total, its periods, its stations, and `end`.
 abbrev pub board_text : NamedBoard → List ℕ
 board_text b =
     heading b.name b.period b.order ++ (line (total_text b.figures) ++ (flat_map (quarter_line b.period) b.quarters

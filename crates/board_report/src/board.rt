@@ -39,7 +39,7 @@ impl SiteBoard {
         &self.name
     }
 
-    /// The settlement periods that its quarters are counted by.
+    /// Its settlement periods.
     pub fn period(&self) -> Periods
         ensures { result ≡ self.now.period }
     {

@@ -230,7 +230,8 @@ fn order_field(order: Order) -> &'static str
     }
 }
 
-// Nothing for differences that count by the later reading, ` settle=closing` for those that count in the period that it closes.
+// Nothing if differences count in the period of their later reading, ` settle=closing` if they count in the
+// period that it closes.
 fn settle_field(settle: Settle) -> &'static str
     ensures { result.now ≡ settle_field settle }
 {
@@ -240,8 +241,8 @@ fn settle_field(settle: Settle) -> &'static str
     }
 }
 
-// Appends the name of a site, the length of its settlement periods, the order of its readings where that is by moment, and
-// the rule by which differences count where that is not by the later reading.
+// Appends the name of a site, the length of its periods, the order of its readings if that is by moment, and
+// the rule of settling if that is not by the later reading.
 #[tactic(auto, unfolding(crate::specs::Texts::heading))]
 fn put_heading(text: &mut Vec<u8>, board: &SiteBoard) -> Result<(), AllocError>
     ensures { OnOk result (text.new.items ≡ text.old.items ++ heading board.now.name board.now.period board.now.order) }
@@ -259,9 +260,10 @@ fn put_heading(text: &mut Vec<u8>, board: &SiteBoard) -> Result<(), AllocError>
     Ok(())
 }
 
-/// The text of a site's board: its name with its settlement periods and order of readings, its total and its
-/// quarters, then each station with its name, its total, its EVSEs, its quarters and its transactions, each of
-/// these with its gaps, and `end`. Each line ends with a line feed.
+/// The text of a site's board: its name with its settlement periods and its order of readings, its total
+/// and its periods; then each station with its name, its total, its EVSEs, its periods and its transactions,
+/// each of these with its gaps; then `end`. Each line ends with a line feed. The error says that the allocator
+/// refused memory.
 pub fn write_board(alloc: Global, board: &SiteBoard) -> Result<Vec<u8>, AllocError>
     ensures { IfOk result (λ text. text.items ≡ board_text board.now) }
 {

@@ -90,7 +90,8 @@ shown_by order es tx = record {
   gaps = gaps (numbers_of tx es);
 }
 
--- The board of a station: its settlement periods, its figures, its EVSEs and its quarters with their energies, and its transactions with a live event.
+-- The board of a station: its settlement periods, its figures, its EVSEs and its periods with their
+-- energies, and its transactions with a live event.
 pub record Board : Type 0 where
   pub period : Periods
   pub figures : Figures
@@ -98,7 +99,7 @@ pub record Board : Type 0 where
   pub quarters : List Flowed
   pub transactions : List Shown
 
--- The board of a station, the readings of each transaction in an order, by these settlement periods.
+-- The board of a station, with the readings of each transaction in the given order and these settlement periods.
 abbrev pub board_by : Order → Periods → List Entry → Board
 board_by order period es = record {
   period = period;
@@ -117,14 +118,15 @@ abbrev pub flows_under : ℕ → List Flowed → Flows
 flows_under quarter [] = no_flows
 flows_under quarter (line ∷ lines) = if line.0 == quarter then plus_flows line.1 (flows_under quarter lines) else flows_under quarter lines
 
--- The board of a site: its settlement periods, the sums of its stations' figures and of their quarters, and its stations' boards by name in the order of declaration.
+-- The board of a site: its settlement periods, the sums of its stations' figures and of their periods,
+-- and its stations' boards by name in the order of declaration.
 pub record SiteBoard : Type 0 where
   pub period : Periods
   pub figures : Figures
   pub quarters : List Flowed
   pub stations : List (List ℕ × Board)
 
--- The board of a site of these settlement periods over its stations' boards, which are by the same.
+-- The board of a site with these settlement periods over its stations' boards, which have the same.
 abbrev pub site_board : Periods → List (List ℕ × Board) → SiteBoard
 site_board period stations =
     let lines = flat_map (λ (s : List ℕ × Board). s.1.quarters) stations in

@@ -92,15 +92,15 @@ void_and_restore_board = record first_run_board { figures = record { events = 2;
 abbrev pub quarter_boundary : List Entry
 quarter_boundary = metered Started 0 0 1_000 ∷ metered Updated 1 15 1_100 ∷ []
 
--- Settlement periods of 900 seconds, of which each later reading closes one.
+-- Settlement periods of 900 seconds, in which a difference counts if its later reading closes it.
 abbrev pub closing_periods : Periods
 closing_periods = record { length = default_period; rule = Closing }
 
--- Readings at the beginnings of quarters.
+-- Readings at the beginnings of periods.
 abbrev pub quarter_closed : List Entry
 quarter_closed = metered Started 0 0 1_000 ∷ metered Updated 1 15 1_400 ∷ metered Updated 2 30 1_600 ∷ metered Ended 3 40 1_700 ∷ []
 
--- Two readings at the first moment there is, which begins the quarter 1,051,872.
+-- Two readings at the first moment there is, with which the period 1,051,872 begins.
 abbrev pub at_first_moment : List Entry
 at_first_moment = told Updated 0 0 None (record (reading 0 1_000) { moment = first_moment } ∷ record (reading 0 1_400) { moment = first_moment } ∷ []) ∷ []
 

@@ -70,7 +70,8 @@ energy_by order d es = energy_over (all_pairs_by order d es)
 abbrev pub energy : Direction → List Entry → Energy
 energy d es = energy_by Sequence d es
 
--- The quarter of a pair, by the settlement periods of a site: the one that its rule finds by the later reading.
+-- The period of a pair, by the settlement periods of a site: the one that their rule gives for the
+-- later reading.
 abbrev pub quarter_of : Periods → Pair → ℕ
 quarter_of period p = settled_at period p.1.moment
 

@@ -4,7 +4,7 @@ use Rattle.std.specs.Coded.{Coded, code_by, coded×, coded_ℕ}
 use Rattle.ledger_model.specs.contracts.settle.Settle as settles
 use Rattle.ledger_model.specs.declared.settle.Settle.{Settle}
 
--- How long each is, in seconds, and by which rule differences count in them.
+-- The length of each in seconds, and the rule by which differences count in them.
 pub record Periods : Type 0 where
   pub length : ℕ
   pub rule : Settle

@@ -6,19 +6,22 @@ use Rattle.ledger_model.specs.declared.settle.Settle.TheVariants.{Later, Closing
 use Rattle.ledger_model.specs.Moment.{first_moment}
 use Rattle.ledger_model.specs.Quarter.{default_period, quarter_at}
 
--- The settlement period of so many seconds that a moment closes: that of the nanosecond before it. The first moment closes none: it has the period that begins there.
+-- The settlement period of so many seconds that a moment closes: that of the nanosecond before it. The
+-- first moment closes none; it gets the period that begins there.
 abbrev pub closed_at : ℕ → ℕ → ℕ
 closed_at period nanos = quarter_at period (max (nanos - 1) first_moment)
 
--- The settlement period of so many seconds in which a difference counts by a rule, its later reading taken at this moment.
+-- The settlement period of so many seconds in which a difference counts by this rule, if its later
+-- reading was taken at this moment.
 abbrev pub settled_by : Settle → ℕ → ℕ → ℕ
 settled_by Later period nanos = quarter_at period nanos
 settled_by Closing period nanos = closed_at period nanos
 
--- The settlement period of a site in which a difference counts, its later reading taken at this moment.
+-- The settlement period of a site in which a difference counts, if its later reading was taken at this
+-- moment.
 abbrev pub settled_at : Periods → ℕ → ℕ
 settled_at period nanos = settled_by period.rule period.length nanos
 
--- The settlement periods of a site for which none are declared.
+-- The settlement periods of a site that declares none.
 abbrev pub default_periods : Periods
 default_periods = record { length = default_period; rule = Later }

@@ -5,7 +5,7 @@ use crate::period::Period;
 use crate::settle::Settle;
 use std::marker::Model;
 
-/// The settlement periods of a site: how long each is, and by which rule differences count in them.
+/// The settlement periods of a site: their length, and the rule by which differences count in them.
 #[derive(Clone, Copy, Debug, PartialEq, Eq)]
 pub struct Periods {
     length: Period,
@@ -32,7 +32,7 @@ impl Periods {
         Periods { length, rule }
     }
 
-    /// How long each period is.
+    /// The length of each period.
     pub fn length(self) -> Period
         ensures value { result ≡ self.length }
         ensures range { IsPeriod result }
@@ -40,7 +40,7 @@ impl Periods {
         self.length.copied()
     }
 
-    /// By which rule differences count in them.
+    /// The rule by which differences count in them.
     pub fn rule(self) -> Settle
         ensures { result ≡ self.rule }
     {
@@ -85,7 +85,7 @@ impl Default for Periods {
 
     ghost is_default = { λ periods. periods ≡ default_periods };
 
-    /// Those of a site for which none are declared: 900 seconds, by the later reading.
+    /// Those of a site that declares none: 900 seconds, by the later reading.
     fn default() -> Self {
         Periods {
             length: Period::default(),

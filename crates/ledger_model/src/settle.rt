@@ -16,7 +16,7 @@ impl Default for Settle {
 
     ghost is_default = { λ rule. rule ≡ Later };
 
-    /// The rule of a site for which none is declared: by the later reading.
+    /// The rule of a site that declares none: by the later reading.
     fn default() -> Self {
         Settle::Later
     }

@@ -88,12 +88,14 @@ pub record AsksService (found : Found) (service : Service) : Type 0 where
   pub connections : GivesWithin found (codes "connections") 8 1 1 64 service.connections
   pub watch : Gives found (codes "watch") 16 0 service.glances
 
--- The rule of settling that a word asks for: the one that it names, and by the later reading where it names none or there is no word.
+-- The rule of settling that a word asks for: the one that it names; by the later reading if it names none
+-- or there is no word.
 abbrev pub asked_rule : Option (List ℕ) → Settle
 asked_rule None = Later
 asked_rule (Some word) = unwrap_or (settle_word word) Later
 
--- The length of the settlement periods of all sites of a server: that of its option, where it is one.
+-- The length of the settlement periods of all sites of a server: that of its option, if that is one of
+-- the four.
 pub record AsksLength (found : Found) (seconds : ℕ) : Type 0 where
   pub given : ℕ
   pub gives : Gives found (codes "period") 16 default_period given
@@ -121,7 +123,9 @@ option_words found option = option_map raw_values (matched_of found option)
 abbrev pub station_words : Found → List (List ℕ)
 station_words found = unwrap_or (option_words found (codes "stations")) []
 
--- The plan under these limits is that of the words, in which each site has the settlement periods and the order of readings that are asked for, and a viewer where its totals are watched; where words state no limits, that is told.
+-- The plan under these limits is that of the words; each site has the settlement periods and the order
+-- of readings that the options ask for, and a viewer if its totals are watched. If words state no
+-- limits, that is reported.
 abbrev pub AsksStations : Found → ℕ → Option Bounds → Result Plan WordFault → Type 0
 AsksStations found glances None plan = plan ≡ Err BadLimits
 AsksStations found glances (Some limits) plan = (period : Periods) × (AsksPeriod found period × ((order : Order) × (AsksOrder found order × AnswersWords plan (if nat_lt 0 glances then 1 else 0) period order limits (station_words found))))

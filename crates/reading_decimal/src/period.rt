@@ -19,8 +19,8 @@ pub fn quarter(moment: Moment, period: Period) -> Quarter
     Quarter::new(number as u32).unwrap()
 }
 
-/// The quarter in which a difference counts by the settlement periods of its site, its later reading taken
-/// at this moment.
+/// The period in which a difference counts by the settlement periods of its site, if its later reading was
+/// taken at this moment.
 pub fn settled_quarter(moment: Moment, periods: Periods) -> Quarter
     ensures value { result ≡ settled_at periods moment }
     ensures own { IsQuarterOf periods.length result }
@@ -31,7 +31,7 @@ pub fn settled_quarter(moment: Moment, periods: Periods) -> Quarter
     }
 }
 
-// The moment a nanosecond earlier; the first moment has none, and stands for itself.
+// The moment one nanosecond earlier; the first moment itself if it is that.
 fn moment_before(moment: Moment) -> Moment
     ensures { result ≡ max (moment - 1) first_moment }
 {

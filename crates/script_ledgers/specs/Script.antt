@@ -28,7 +28,10 @@ use Rattle.script_lines.specs.Lines.{Line, text_by}
 use Rattle.script_lines.specs.LineMeaning.{LineMeaning, nothing, fails, sets_limits, declares, sets_period, sets_order, sets_settle, tells, sends, commands, asks_energy, asks_export, asks_total, asks_board, line_meaning}
 use Rattle.script_lines.specs.Texts.{ended_line, fault_line, answer_text}
 
--- where a script stands: the limits of the stations that are declared next; the sites of the plan so far in the order of their first mention, the settlement periods of each and the order of its readings; the world, whose stations are those of the plan and have empty contents until the ledgers are opened; whether they are; and the moment
+-- the state of a script: the limits of the stations that are declared next; the sites of the plan
+-- so far in the order of their first mention, each with its settlement periods and the order of its
+-- readings; the world: the plan's stations, with empty contents until the ledgers are opened;
+-- whether the ledgers are opened; and the moment
 pub record Script : Type 0 where
   pub limits : Bounds
   pub sites : List (List ℕ)
@@ -92,7 +95,8 @@ limited_to s transactions events readings changes =
 abbrev pub sites_with : List ℕ → List (List ℕ) → List (List ℕ)
 sites_with site sites = if is_among site sites then sites else sites ++ site ∷ []
 
--- the settlement periods of these sites, those of one behind those of the other, once this one is mentioned: one that begins has the default ones
+-- the settlement periods of these sites, one value for each, after this site is mentioned: a new one has
+-- the default
 abbrev pub periods_with : List ℕ → List (List ℕ) → List Periods → List Periods
 periods_with site sites periods = if is_among site sites then periods else periods ++ default_periods ∷ []
 
@@ -113,12 +117,12 @@ abbrev pub period_of : Option ℕ → List Periods → Periods
 period_of None periods = default_periods
 period_of (Some number) periods = get_or periods number default_periods
 
--- a change of the settlement periods of the site of this number, where there is one
+-- a change of the settlement periods of the site of this number, if there is one
 abbrev pub settled_by : Option ℕ → Script → (Periods → Periods) → Script × List ℕ
 settled_by None s change = (s, fault_line UnknownSite)
 settled_by (Some number) s change = (record s { periods = slice_set s.periods number (change (get_or s.periods number default_periods)) }, [])
 
--- periods of so many seconds, and periods in which differences count by this rule
+-- periods with this length, and periods with this rule
 abbrev pub lasting : ℕ → Periods → Periods
 lasting seconds p = record p { length = seconds }
 
@@ -186,11 +190,13 @@ abbrev pub total_answer : (List ℕ → Order) → Option Station → List ℕ
 total_answer order None = fault_line UnknownStation
 total_answer order (Some station) = ended_line (total_text (figures_by (order station.site) (entries station.content)))
 
--- the board of a station under its name by an order of readings and settlement periods, computed from all its events
+-- the board of a station under its name by an order of readings and settlement periods, computed from all
+-- its events
 abbrev pub shown_station : Order → Periods → Station → List ℕ × Board
 shown_station order period station = (station.name, board_by order period (entries station.content))
 
--- the board of a site by its order and its settlement periods over these stations: the sums of their figures and of their quarters, and their boards
+-- the board of a site by its order and its settlement periods over these stations: the sums of their
+-- figures and of their periods, and their boards
 abbrev pub shown_site : List ℕ → Order → Periods → World → NamedBoard
 shown_site site order period stations =
     let b = site_board period (map (shown_station order period) stations) in
@@ -204,7 +210,8 @@ period_named s site = period_of (site_number site s.sites) s.periods
 abbrev pub order_named : Script → List ℕ → Order
 order_named s site = order_of (site_number site s.sites) s.orders
 
--- the board of the site of this name by its order and its settlement periods, computed from all events of its stations
+-- the board of the site of this name by its order and its settlement periods, computed from all events of
+-- its stations
 abbrev pub board_of_site : Script → List ℕ → NamedBoard
 board_of_site s site = shown_site site (order_named s site) (period_named s site) (stations_of site s.world)
 

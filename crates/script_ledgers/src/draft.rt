@@ -161,8 +161,8 @@ impl Draft {
         }
     }
 
-    // Gives the settlement periods of a site another length, or puts the fault that it is none, or that there is
-    // no such site, into the reply.
+    // Gives the settlement periods of a site another length, or puts a fault into the reply: it is no such
+    // length, or there is no such site.
     fn period_by(
         &mut self,
         site: &Name,
@@ -210,7 +210,7 @@ impl Draft {
         self.plan.set_order(site, order);
     }
 
-    // Gives a site another rule of settling, or puts the fault that there is no such site into the reply.
+    // Gives a site another rule of settling, or puts a fault into the reply: there is no such site.
     fn settle_by(
         &mut self,
         site: &Name,
@@ -274,7 +274,7 @@ impl Draft {
     }
 }
 
-// The length of settlement periods of so many seconds, if it is one.
+// The length of settlement periods of this many seconds, if it is one of the four.
 fn period_of(seconds: u64) -> Option<Period>
     ensures is { is_some result ≡ is_period seconds }
     ensures value { IfSome result (λ p. p ≡ seconds) }

@@ -23,7 +23,8 @@ use Rattle.script_lines.specs.declared.script_line.Operation.{Operation}
 use Rattle.script_lines.specs.declared.script_line.Operation.TheVariants as operation
 use Rattle.script_lines.specs.Lines.{Line}
 
--- what a line says: nothing, a fault, the limits of the stations that follow, a station's declaration, the length of a site's settlement periods, the order of its readings, the rule by which differences count in those periods, a moment, a message of a station, a command on a station, or a question for a station's imported or exported energy or its figures or for a site's board
+-- what a line says: nothing, a fault, the limits of the stations that follow, a station's declaration, the length of a site's settlement periods, the order of its readings, the rule by which differences count in
+-- those periods, a moment, a message of a station, a command on a station, or a question for a station's imported or exported energy or its figures or for a site's board
 pub data LineMeaning : Type 0 where
   nothing : LineMeaning
   fails : LineFault → LineMeaning

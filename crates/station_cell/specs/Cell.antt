@@ -12,7 +12,9 @@ use Rattle.station_ledger.specs.Ledger.{bounds_code, content_code}
 abbrev pub most_passes : ℕ
 most_passes = 65_536
 
--- A station's cell: the station's number in the plan, its site's number, its row in the site's book, its limits, its settlement periods, the order of its readings, its content, and how many changes each of its passes made.
+-- A station's cell: the station's number in the plan, its site's number, its row in the site's
+-- book, its limits, its settlement periods, the order of its readings, its content, and how many
+-- changes each of its passes made.
 pub record Cell : Type 0 where
   pub station : ℕ
   pub site : ℕ

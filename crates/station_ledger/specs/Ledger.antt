@@ -11,7 +11,8 @@ use Rattle.ledger_model.specs.Content.{Content, Stored}
 use Rattle.ledger_model.specs.declared.order.Order.{Order}
 use Rattle.ledger_model.specs.contracts.order.Order as orders
 
--- A station's ledger: its limits, its settlement periods, the order in which it takes the readings of a transaction, and what it holds.
+-- A station's ledger: its limits, its settlement periods, the order in which it takes the readings of
+-- a transaction, and what it holds.
 pub record Ledger : Type 0 where
   pub limits : Bounds
   pub period : Periods

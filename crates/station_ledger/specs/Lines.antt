@@ -24,7 +24,8 @@ pub record IsShown (first last : ℕ) (flow export : Energy) : Type 0 where
   pub flow_in_range : IsStationFlow flow
   pub export_in_range : IsStationFlow export
 
--- No line has more energy than the readings of one station can show, and each quarter is one of the periods.
+-- No line has more energy than the readings of one station can show, and each settlement period is of
+-- this length.
 pub record AreStationLines (period : Periods) (evses quarters : List Flowed) : Type 0 where
   pub evse_flows : All (λ line. AreStationFlows line.1) evses
   pub quarter_flows : All (λ line. AreStationFlows line.1) quarters

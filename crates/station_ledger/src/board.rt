@@ -245,7 +245,7 @@ impl Model for StationBoard {
 }
 
 impl StationBoard {
-    /// The settlement periods that its quarters are counted by.
+    /// Its settlement periods.
     pub fn period(&self) -> Periods
         ensures { result ≡ self.now.period }
     {

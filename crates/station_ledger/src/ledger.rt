@@ -53,8 +53,8 @@ impl Model for StationLedger {
 }
 
 impl StationLedger {
-    /// A ledger without events, within these limits, whose board is by settlement periods of this length, takes
-    /// the readings of a transaction in this order and counts their differences by this rule. Only it and
+    /// A ledger without events, for these limits. Its board has settlement periods of this length, takes the
+    /// readings of a transaction in this order and counts differences by this rule. Only this call and
     /// [`StationLedger::board`] can run out of memory.
     pub fn open(
         alloc: Global,

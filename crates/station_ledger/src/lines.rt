@@ -125,7 +125,7 @@ pub(crate) fn board_of(
     let evses = evse_lines(alloc, &sums.evses)?;
     let quarters = quarter_lines(alloc, &sums.quarters)?;
     Ok(StationBoard {
-        // Quarters of one of the four lengths begin at moments.
+        // Settlement periods of one of the four lengths begin at moments.
         period: sums.period.copied(),
         figures,
         evses: Listed::of(evses),

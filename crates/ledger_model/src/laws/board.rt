@@ -36,8 +36,8 @@ pub fn complete_is_four_conditions()
     ensures { (tx : List ℕ) (es : List Entry) → (is_complete tx es ≡ true) ↔ AreComplete (kinds_of tx es) (missing (numbers_of tx es)) }
 {}
 
-/// The energy of a station in a direction is the sum over its quarters, whatever the settlement periods: so
-/// every rule by which differences count in them shows the same sum.
+/// The energy of a station in a direction is the sum over its settlement periods, whatever their length and
+/// their rule: so each rule shows the same energy in all.
 pub fn energy_by_quarter()
     ensures { (order : Order) (d : Direction) (period : Periods) (es : List Entry) → energy_by order d es ≡ sum_of_energies (map (λ quarter. energy_in_by order d period quarter es) (quarters_by order period es)) }
 {}
@@ -87,8 +87,8 @@ pub fn totals_after_a_post()
     ensures rows { (n : ℕ) (ps : List Post) → All (λ p. p.0 < n) ps → totals_after ps ≡ sum_of_figures (map (λ row. row_after row ps) (range_with_len 0 n)) }
 {}
 
-/// Boards, figures and quarters of a few short transactions, by periods of 900 seconds, and by the later reading
-/// where nothing else is said.
+/// Boards, figures and periods of a few short transactions, with periods of 900 seconds, and by the later
+/// reading if nothing else is said.
 pub fn board_examples()
     ensures first_run { board default_periods first_run ≡ first_run_board }
     ensures first_run_site { site_board default_periods ((codes "A", board default_periods first_run) ∷ []) ≡ first_run_site }
