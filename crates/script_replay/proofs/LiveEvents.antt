@@ -5,6 +5,7 @@ use Rattle.std.proofs.lemmas.Bool.{cases_Bool}
 use Rattle.std.proofs.lemmas.Slice.Eq.{bytes_eq-Decides}
 use Rattle.board_report.specs.Named.{NamedBoard}
 use Rattle.ledger_model.specs.Periods.{Periods}
+use Rattle.ledger_model.specs.Settling.{default_periods}
 use Rattle.ledger_model.specs.declared.order.Order.{Order}
 use Rattle.ledger_model.specs.declared.reading.Direction.{Direction}
 use Rattle.ledger_model.specs.declared.reading.Direction.TheVariants.{Import, Export}
@@ -216,8 +217,8 @@ other_station name one other m =
 
 -- Only live events make energies.
 same_energy : (order : Order) (d : Direction) (a b : Station) → live (entries a.content) ≡ live (entries b.content) → energy_by order d (entries a.content) ≡ energy_by order d (entries b.content)
-same_energy order Import a b same = let board = same_board order 0 a b same in λ i. record { up = (board i).figures.up; down = (board i).figures.down }
-same_energy order Export a b same = let board = same_board order 0 a b same in λ i. record { up = (board i).figures.export_up; down = (board i).figures.export_down }
+same_energy order Import a b same = let board = same_board order default_periods a b same in λ i. record { up = (board i).figures.up; down = (board i).figures.down }
+same_energy order Export a b same = let board = same_board order default_periods a b same in λ i. record { up = (board i).figures.export_up; down = (board i).figures.export_down }
 
 pub live_events_make_energies : LiveEventsMakeEnergies
 live_events_make_energies one other name line m says =
@@ -237,5 +238,5 @@ live_events_make_totals one other name line m says =
       other_figures = figures_by (order_named (after other) b.site) (entries b.content);
       one_answers = totals_are_from_scratch one line name a says m.is;
       other_answers = totals_are_from_scratch other line name b says o.is;
-      alike = ap (λ order. figures_but_voided (figures_by order (entries a.content))) o.order ∙ ap (λ (x : Board). x.figures) (same_board (order_named (after other) b.site) 0 a b o.live_events);
+      alike = ap (λ order. figures_but_voided (figures_by order (entries a.content))) o.order ∙ ap (λ (x : Board). x.figures) (same_board (order_named (after other) b.site) default_periods a b o.live_events);
     }
