@@ -18,6 +18,8 @@ log = logging.getLogger(__name__)
 # The script's first line, and the one that ends its declarations.
 BEGIN = b"# a script that ocpp-board live keeps: its stations, and what they sent\n"
 DECLARED = b"#\n"
+# Bytes of the script that are written at once.
+BUFFER = 1_048_576
 # Bytes that are looked at for the end of a last line that was cut.
 BLOCK = 65_536
 
@@ -42,7 +44,7 @@ class KeptScript:
             self.put(self.path, head)
         self.mend()
         self.declare(head)
-        self.file: IO[bytes] = open(self.path, "ab")
+        self.file: IO[bytes] = open(self.path, "ab", BUFFER)
         self.size, self.is_reported = self.file.tell(), False
 
     def put(self, path: Path, data: bytes) -> None:
@@ -117,7 +119,7 @@ class KeptScript:
         """Has these lines in place of those that it has. Raises OSError."""
         self.file.close()
         self.put(self.path, lines)
-        self.file = open(self.path, "ab")
+        self.file = open(self.path, "ab", BUFFER)
         self.size, self.is_reported = self.file.tell(), False
 
     def check_room(self, count: int) -> None:
