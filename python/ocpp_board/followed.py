@@ -245,8 +245,8 @@ class Followed:
         try:
             self.go_on(now)
         except FileNotFoundError:
-            pass  # A rotation is under way; it is tried again.
-        return lines
+            return lines  # A rotation is under way; it is tried again.
+        return lines or self.lines()
 
     def go_on(self, now: os.stat_result) -> None:
         """Reads the next file. Raises FileNotFoundError where it is not there yet."""

@@ -40,7 +40,9 @@ class KeptScript:
         except BlockingIOError:
             raise Mistaken(f"another ocpp-board live keeps its script in {folder}") from None
         head = BEGIN + declarations + DECLARED
-        if not self.path.exists() or self.path.stat().st_size == 0:
+        # Whether it has only its declarations.
+        self.is_new = not self.path.exists() or self.path.stat().st_size == 0
+        if self.is_new:
             self.put(self.path, head)
         self.mend()
         self.declare(head)
@@ -86,10 +88,23 @@ class KeptScript:
                 sync(new)
         os.replace(made, self.path)
 
+    def declare_anew(self, declarations: bytes) -> None:
+        """Has these declarations in place of those that it has. Raises OSError."""
+        self.file.close()
+        self.declare(BEGIN + declarations + DECLARED)
+        self.file = open(self.path, "ab", BUFFER)
+        self.size = self.file.tell()
+
     def lines(self) -> Iterator[bytes]:
         """The lines that it has."""
         with open(self.path, "rb") as file:
             yield from file
+
+    def blocks(self) -> Iterator[bytes]:
+        """Its lines, many at once."""
+        with open(self.path, "rb") as file:
+            while lines := file.readlines(BUFFER):
+                yield b"".join(lines)
 
     def place(self) -> Place | None:
         """How far the log was read; None where nothing was."""
