@@ -1,5 +1,6 @@
 """Work that is shared among processes."""
 
+import gc
 import os
 from collections.abc import Callable, Sequence
 from typing import TypeVar
@@ -34,6 +35,8 @@ def copied(work: Callable[[Sequence[Piece]], None], part: Sequence[Piece]) -> in
     number = os.fork()
     if number:
         return number
+    # A look for objects that nothing needs would touch all memory, which both share.
+    gc.disable()
     status = 1
     try:
         work(part)
