@@ -9,10 +9,10 @@ import threading
 from collections import deque
 from collections.abc import Callable, Iterator
 from datetime import datetime
+from functools import lru_cache
 from typing import NamedTuple, Protocol
 
 from ocpp_board.limits import DEFAULT_LIMITS, LONGEST_LINE
-from ocpp_board.line_faults import words_of
 from ocpp_board.processes import BUILD, replay_environment
 from ocpp_board.statuses import Mistaken
 
@@ -25,6 +25,8 @@ MARKED = (b"fault PlanLimit\n", b"fault DeclaredLate\n")
 BAD_LINE = b"fault BadLine\n"
 # Bytes that are handed to the replay at once.
 BUFFER = 65_536
+# Moments that are kept, since many messages come in one second.
+KEPT_MOMENTS = 1_024
 # Comments that say when the message behind them was received, and who had the operator's line behind them done.
 RECEIVED, OPERATOR = b"# received ", b"# operator "
 
@@ -185,6 +187,7 @@ class Answered(NamedTuple):
         return self.answer.startswith(("[4,", "fault "))
 
 
+@lru_cache(KEPT_MOMENTS)
 def moment_of(text: bytes) -> datetime | None:
     """The moment of a line of a script; None where it is none."""
     try:
@@ -218,7 +221,7 @@ class Messages:
             self.declare(line)
         if not line.line.startswith(b"msg "):
             return None
-        _, station, message = (*words_of(line.line.decode("utf-8", "replace")), "", "")[:3]
+        _, station, message = (*line.line.decode("utf-8", "replace").split(" ", 2), "")[:3]
         answer = text.decode("utf-8", "replace").rstrip("\n")
         received, site = moment_of(line.received), self.sites.get(station, "")
         return Answered(line.number, site, station, received, message, answer)

@@ -1,6 +1,6 @@
 """The pages of boards: one of all of them, one for each day, and further ones where these are full."""
 
-from collections.abc import Callable, Iterable, Iterator
+from collections.abc import Callable, Iterable, Iterator, Sequence
 from dataclasses import dataclass, field
 from datetime import date, datetime, timedelta, timezone
 from html import escape
@@ -46,6 +46,7 @@ from ocpp_board.pages import (
 )
 from ocpp_board.pictures import Scale
 from ocpp_board.powers import peak_cell, peak_said
+from ocpp_board.shared_work import shared
 
 # A page's body with more bytes than this goes on on the next page.
 PAGE_BYTES = 250_000
@@ -66,6 +67,8 @@ SITES: Heads = [
 ]
 # Days of a session that are looked at.
 MOST_DAYS = 62
+# Days of stations that are written by a process of their own.
+FEWEST = 60
 
 
 @dataclass
@@ -343,6 +346,8 @@ class DayPages:
         self.until: datetime | None = None
         # The days with pages that are as they would be written.
         self.standing: frozenset[date] | set[date] = frozenset()
+        # Boards whose pages are written at the end, by days.
+        self.boards = list[tuple[Board, dict[date, list[DayPart]]]]()
 
     def add(self, board: Board) -> None:
         """Adds a board to the page of each of its days. All its stations have one scale."""
@@ -361,8 +366,13 @@ class DayPages:
                 one = DayPart(part, f"b{board.number}-{number}", day, periods, scale, lanes)
                 days.setdefault(day, []).append(one)
         self.shown.update(days)
-        for day in sorted(days.keys() - self.standing):
-            self.add_day(board, day, days[day])
+        new = {day: days[day] for day in sorted(days.keys() - self.standing)}
+        if self.layout.standing is None:
+            # Further boards may follow.
+            for day, parts in new.items():
+                self.add_day(board, day, parts)
+        else:
+            self.boards.append((board, new))
 
     def is_written(self, day: date) -> bool:
         """Whether the page of a day is not as it would be written."""
@@ -418,15 +428,25 @@ class DayPages:
 
     def close(self) -> None:
         """Gives each page its title, and links to the days beside it."""
+        stations = max((len(board.stations) for board, _ in self.boards), default=1)
+        days = sorted(self.days.keys() | {day for _, days in self.boards for day in days})
+        shared(self.write_days, days, 1 + FEWEST // (1 + stations))
+
+    def write_days(self, some: Sequence[date]) -> None:
+        """Gives the pages of these days what they lack."""
         days = sorted(self.shown)
-        for before, day, after in zip([None, *days], days, [*days[1:], None]):
-            if day in self.days:
-                links = [
-                    day_link(self.layout, before, "\N{LEFTWARDS ARROW} "),
-                    link(self.layout.index(), "All days, stations and sessions"),
-                    day_link(self.layout, after, "\N{RIGHTWARDS ARROW} "),
-                ]
-                self.frame(day, " ".join(filter(None, links)))
+        beside = dict(zip(days, zip([None, *days], [*days[1:], None])))
+        for day in some:
+            for board, new in self.boards:
+                if day in new:
+                    self.add_day(board, day, new[day])
+            before, after = beside[day]
+            links = [
+                day_link(self.layout, before, "\N{LEFTWARDS ARROW} "),
+                link(self.layout.index(), "All days, stations and sessions"),
+                day_link(self.layout, after, "\N{RIGHTWARDS ARROW} "),
+            ]
+            self.frame(day, " ".join(filter(None, links)))
 
     def frame(self, day: date, links: str) -> None:
         """Gives the pages of a day their title and links."""

@@ -11,6 +11,8 @@ from ocpp_board.limits import MOMENT
 
 # The rows of more days in a row without a period are left out: a clock that was set wrong may be years away.
 LONGEST_PAUSE = 62
+# Characters of a moment to the second, without its offset.
+TO_SECOND = len("2026-03-01 10:00:00")
 
 
 class Calendar:
@@ -45,6 +47,10 @@ class Calendar:
     def time(self, moment: datetime) -> str:
         """The hour and the minute of a moment."""
         return self.local(moment).strftime("%H:%M")
+
+    def second(self, at: float) -> str:
+        """The day and the time to the second of a moment in seconds since 1970."""
+        return datetime.fromtimestamp(at, self.zone).isoformat(" ", "seconds")[:TO_SECOND]
 
     def label(self, moment: datetime) -> str:
         """The hour and the minute of a moment. In an hour that comes twice they are 2A:15 and later 2B:15."""

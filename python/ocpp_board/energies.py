@@ -33,7 +33,7 @@ class Flow(NamedTuple):
     @property
     def net(self) -> int:
         """What was imported less what was exported."""
-        return self.above - self.below
+        return self.up - self.down - self.export_up + self.export_down
 
     def plus(self, other: "Flow") -> "Flow":
         """Both together."""

@@ -22,7 +22,7 @@ FRONT, PACKED_FRONT = 4_096, 65_536
 # after which one look will do.
 GONE, STILL = 4, 5
 # Lines and bytes that are given at once, at most.
-MOST_LINES, MOST_BYTES = 1_000, 4_000_000
+MOST_LINES, MOST_BYTES = 10_000, 4_000_000
 # The names' ends of files that can't be read.
 PACKED = (".bz2", ".xz", ".zst")
 
@@ -245,8 +245,8 @@ class Followed:
         try:
             self.go_on(now)
         except FileNotFoundError:
-            pass  # A rotation is under way; it is tried again.
-        return lines
+            return lines  # A rotation is under way; it is tried again.
+        return lines or self.lines()
 
     def go_on(self, now: os.stat_result) -> None:
         """Reads the next file. Raises FileNotFoundError where it is not there yet."""

@@ -18,6 +18,8 @@ log = logging.getLogger(__name__)
 # The script's first line, and the one that ends its declarations.
 BEGIN = b"# a script that ocpp-board live keeps: its stations, and what they sent\n"
 DECLARED = b"#\n"
+# Bytes of the script that are written at once.
+BUFFER = 1_048_576
 # Bytes that are looked at for the end of a last line that was cut.
 BLOCK = 65_536
 
@@ -38,11 +40,13 @@ class KeptScript:
         except BlockingIOError:
             raise Mistaken(f"another ocpp-board live keeps its script in {folder}") from None
         head = BEGIN + declarations + DECLARED
-        if not self.path.exists() or self.path.stat().st_size == 0:
+        # Whether it has only its declarations.
+        self.is_new = not self.path.exists() or self.path.stat().st_size == 0
+        if self.is_new:
             self.put(self.path, head)
         self.mend()
         self.declare(head)
-        self.file: IO[bytes] = open(self.path, "ab")
+        self.file: IO[bytes] = open(self.path, "ab", BUFFER)
         self.size, self.is_reported = self.file.tell(), False
 
     def put(self, path: Path, data: bytes) -> None:
@@ -84,10 +88,23 @@ class KeptScript:
                 sync(new)
         os.replace(made, self.path)
 
+    def declare_anew(self, declarations: bytes) -> None:
+        """Has these declarations in place of those that it has. Raises OSError."""
+        self.file.close()
+        self.declare(BEGIN + declarations + DECLARED)
+        self.file = open(self.path, "ab", BUFFER)
+        self.size = self.file.tell()
+
     def lines(self) -> Iterator[bytes]:
         """The lines that it has."""
         with open(self.path, "rb") as file:
             yield from file
+
+    def blocks(self) -> Iterator[bytes]:
+        """Its lines, many at once."""
+        with open(self.path, "rb") as file:
+            while lines := file.readlines(BUFFER):
+                yield b"".join(lines)
 
     def place(self) -> Place | None:
         """How far the log was read; None where nothing was."""
@@ -117,7 +134,7 @@ class KeptScript:
         """Has these lines in place of those that it has. Raises OSError."""
         self.file.close()
         self.put(self.path, lines)
-        self.file = open(self.path, "ab")
+        self.file = open(self.path, "ab", BUFFER)
         self.size, self.is_reported = self.file.tell(), False
 
     def check_room(self, count: int) -> None:

@@ -49,6 +49,7 @@ from ocpp_board.ledger import Ended, Ledger
 from ocpp_board.live_pages import Pages
 from ocpp_board.log_feed import LogFeed
 from ocpp_board.near_limits import NearLimits
+from ocpp_board.processes import keep_many
 from ocpp_board.refusals import Refusals
 from ocpp_board.script_plan import add_plan, check_plan
 from ocpp_board.sources import is_gzip
@@ -381,6 +382,7 @@ def keep_pages(words: argparse.Namespace) -> int:
 def main(argv: Sequence[str], prog: str) -> NoReturn:
     """Runs the tool with these words, and ends the process: threads may still wait for input that never comes."""
     words = arguments(argv, prog)
+    keep_many()
     signal.signal(signal.SIGTERM, interrupted)
     status = ended(partial(keep_pages, words))
     sys.stdout.flush()

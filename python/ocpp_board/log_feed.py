@@ -8,6 +8,7 @@ from collections import Counter
 from collections.abc import Callable
 from datetime import datetime, timedelta, timezone
 from functools import partial
+from pathlib import Path
 
 from ocpp_board.answered import RECEIVED, Answered, Line, moment_of
 from ocpp_board.archive import Archive, Takers, grouped, next_begin
@@ -16,7 +17,7 @@ from ocpp_board.fitting_limits import fitting, said, sent_in
 from ocpp_board.followed import Followed, Place
 from ocpp_board.kept_script import KeptScript
 from ocpp_board.ledger import Ledger
-from ocpp_board.limits import MOMENT
+from ocpp_board.limits import GREATEST_LIMITS, MOMENT, MOST_READINGS
 from ocpp_board.line_faults import BYTE_ORDER_MARK
 from ocpp_board.log_reader import LogReader, Taken
 from ocpp_board.logforms import Entry
@@ -44,10 +45,7 @@ class LogFeed:
         """Raises OSError, and Mistaken where the stations are none or another process keeps the script."""
         self.words, self.ledger = words, ledger
         plan = ScriptPlan(words)
-        if not words.limits and plan.site_of:
-            limits = fitting([*plan.site_of], sent_in(words.state / "script"))
-            plan.limits_of |= limits
-            log.info("%s", said(limits))
+        self.fit(plan, words.state / "script")
         self.kept = KeptScript(words.state, plan.declarations())
         ledger.script.path = self.kept.path
         for fault in plan.strangers():
@@ -62,6 +60,8 @@ class LogFeed:
         self.untaken: Counter[str] = Counter()
         self.reported: set[str] = set()
         self.is_ending, self.is_caught_up = threading.Event(), threading.Event()
+        # Lines go to the script, and not yet to the ledger.
+        self.is_gathering = False
         # Set when the script that was kept is handed on.
         self.is_loaded = threading.Event()
         # Held while lines are taken and how far the log was read is not on disk yet.
@@ -98,24 +98,63 @@ class LogFeed:
         """Hands on what the script has, and then what comes. Raises OSError, Mistaken, and Ended."""
         self.archive.load()
         self.mend_closing()
-        for line in self.kept.lines():
-            self.ledger.send(line)
-            if self.words.close and line.startswith(RECEIVED):
-                self.boundary = self.boundary or self.begin_behind(line)
+        if self.is_first():
+            self.gather()
+        for lines in self.kept.blocks():
+            self.ledger.send(lines)
+            if self.words.close and not self.boundary and (received := RECEIPT.search(lines)):
+                self.boundary = self.begin_behind(received[0])
         self.is_loaded.set()
         if self.archive:
             self.ledger.open(next(iter(self.reader.plan.site_of)))
         self.ledger.flush()
-        self.followed = self.opened()
+        self.followed = self.followed or self.opened()
         while self.followed and not self.is_ending.is_set():
-            if lines := self.followed.lines():
-                self.take(lines, self.followed.place)
+            if self.take_next(self.followed):
                 continue
             if self.followed.is_current():
                 self.catch_up()
                 if self.words.once:
                     return
             self.is_ending.wait(AGAIN)
+
+    def take_next(self, followed: Followed) -> bool:
+        """Takes the lines that came, and gives whether there were some."""
+        lines = followed.lines()
+        if lines:
+            self.take(lines, followed.place)
+        return bool(lines)
+
+    def fit(self, plan: ScriptPlan, script: Path) -> bool:
+        """Gives stations the limits that fit what a script has, where none are asked for; returns whether they
+        changed."""
+        if self.words.limits or not plan.site_of:
+            return False
+        limits = fitting([*plan.site_of], sent_in(script))
+        if limits == plan.limits_of:
+            return False
+        plan.limits_of |= limits
+        log.info("%s", said(limits))
+        return True
+
+    def is_first(self) -> bool:
+        """Whether nothing was taken yet of a log that is there, and a station's room depends on what it sends."""
+        plan, is_new = self.reader.plan, self.place is None and self.kept.is_new
+        has_most = len(plan.site_of) * GREATEST_LIMITS["readings"] <= MOST_READINGS
+        is_asked = self.words.limits or self.words.close
+        return is_new and not has_most and not is_asked and bool(self.words.log.exists())
+
+    def gather(self) -> None:
+        """Takes what the log has into the script, whose declarations fit that then."""
+        self.is_gathering, self.followed = True, self.opened()
+        while self.followed and not self.is_ending.is_set():
+            if not self.take_next(self.followed):
+                if self.followed.is_current():
+                    break
+                self.is_ending.wait(AGAIN)
+        self.is_gathering = False
+        if self.fit(self.reader.plan, self.kept.path):
+            self.kept.declare_anew(self.reader.plan.declarations())
 
     def opened(self) -> Followed | None:
         """The log, which is waited for where it is not there yet. Raises OSError."""
@@ -282,7 +321,9 @@ class LogFeed:
 
     def put(self, lines: bytes) -> None:
         """Adds lines to the script, and hands them on."""
-        if lines:
+        if self.is_gathering:
+            self.kept.append(lines)
+        elif lines:
             self.ledger.send(lines, partial(self.kept.append, lines))
 
     def ask(self, line: bytes) -> bytes:

@@ -102,17 +102,17 @@ def member_text(of: Members, field: str) -> str:
     return member_text(members_of(of.texts[first]), rest)
 
 
-def text_member(entry: dict[str, Any], field: str, option: str = "") -> str:
-    """A member that has to be a text. Raises Refused where it is not. `option`: what names the field."""
+def text_member(entry: dict[str, Any], field: str, what: str = "") -> str:
+    """A member that has to be a text. Raises Refused where it is not. `what`: of what it is the field."""
     value = member(entry, field)
     if isinstance(value, str):
         return value
-    raise Refused(f"{shown(field)} is {'missing' if value is None else 'no text'}{option}")
+    raise Refused(f"{shown(field)} is {'missing' if value is None else 'no text'}{named_by(what)}")
 
 
-def named_by(field: str) -> str:
-    """Which option names a field, for a reader."""
-    return f" (--{field}-field names another field)"
+def named_by(what: str) -> str:
+    """Which option names the field of this, for a reader; empty where it has none."""
+    return f" (--{what}-field names another field)" if what else ""
 
 
 def time_member(entry: dict[str, Any], field: str) -> str | None:
@@ -139,8 +139,8 @@ class JsonForm:
         entry = of.values
         if fields.protocol and is_old(member(entry, fields.protocol)):
             return Entry(None, "", None, "", is_stations=False, is_old=True)
-        site = text_member(entry, fields.site, named_by("site")) if fields.has_site else None
-        station = text_member(entry, fields.station, named_by("station"))
+        site = text_member(entry, fields.site, "site") if fields.has_site else None
+        station = text_member(entry, fields.station, "station")
         at = time_member(entry, fields.time)
         is_stations = (
             fields.direction is None or text_member(entry, fields.direction) == fields.incoming
@@ -151,7 +151,7 @@ class JsonForm:
         """The message as the station sent it."""
         field = self.fields.message
         if not self.fields.is_json_message:
-            return text_member(of.values, field, named_by("message"))
+            return text_member(of.values, field, "message")
         value = member(of.values, field)
         if isinstance(value, (dict, list)):
             return member_text(of, field)

@@ -12,6 +12,8 @@ TEXT = r'"((?:[^"\\]|\\.)*+)"'
 BLANKS = re.compile(B)
 ANSWER = re.compile(rf"{B}\[{B}[34]{B}[,\]]")
 CALL = re.compile(rf"{B}\[{B}2{B},{B}{TEXT}{B},{B}{TEXT}", re.DOTALL)
+# The name of a member as most are written, up to its value.
+PLAIN_NAME = re.compile(rf'"([^"\\\x00-\x1f]*)"{B}:{B}')
 # A call up to its action. What begins so, with another action than TransactionEvent, is no event, whatever follows.
 HEAD = re.compile(r'\s*\[\s*2\s*,\s*"[^"\\]*"\s*,\s*"([^"\\]*)"\s*,')
 # Actions with the moment in their replies.
@@ -87,8 +89,11 @@ def each_member(text: str) -> Iterator[tuple[str, Any, str]]:
     """Each member of an object: its name, its value, and the value's text. Raises JSONDecodeError."""
     after = blanks(text, blanks(text, 0) + 1)
     while not text.startswith("}", after):
-        name, colon = JSON.raw_decode(text, after)
-        start = blanks(text, expected(text, colon, ":"))
+        if plain := PLAIN_NAME.match(text, after):
+            name, start = plain[1], plain.end()
+        else:
+            name, colon = JSON.raw_decode(text, after)
+            start = blanks(text, expected(text, colon, ":"))
         value, end = JSON.raw_decode(text, start)
         yield name, value, text[start:end]
         after = blanks(text, end)
@@ -104,6 +109,8 @@ def each_member(text: str) -> Iterator[tuple[str, Any, str]]:
 
 def blanks(text: str, at: int) -> int:
     """Where the blanks that begin here end."""
+    if text[at : at + 1] > " ":
+        return at
     found = BLANKS.match(text, at)
     return found.end() if found else at
 

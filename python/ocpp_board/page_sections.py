@@ -274,7 +274,7 @@ def voided_text(t: Session) -> str:
 
 def when(at: datetime | None, calendar: Calendar) -> str:
     """A moment in a cell, to the second."""
-    return kept(f"{calendar.local(at):%Y-%m-%d %H:%M:%S}") if at else UNKNOWN
+    return kept(calendar.second(at.timestamp())) if at else UNKNOWN
 
 
 def register_text(registers: Registers | None) -> str:

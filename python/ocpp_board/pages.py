@@ -249,11 +249,11 @@ def table(
     for column, side in zip(columns, sides):
         yield f'<th{role("columnheader")} scope="col"{side}>{column.head}</th>'
     yield f'</tr></thead>\n<tbody{role("rowgroup")}>\n'
-    for mark, cells in rows:
-        yield f'<tr{role("row")}{mark}><th{role("rowheader")} scope="row">{cells[0]}</th>'
-        for side, label, cell in zip(sides[1:], labels[1:], cells[1:]):
-            yield f'<td{role("cell")}{side}{label}>{cell}</td>'
-        yield "</tr>\n"
+    row, first = f'<tr{role("row")}', f'><th{role("rowheader")} scope="row">'
+    begins = [f"<td{role('cell')}{side}{label}>" for side, label in zip(sides[1:], labels[1:])]
+    for mark, (name, *cells) in rows:
+        others = "".join([f"{begin}{cell}</td>" for begin, cell in zip(begins, cells)])
+        yield f"{row}{mark}{first}{name}</th>{others}</tr>\n"
     yield "</tbody>\n</table>\n"
 
 

@@ -58,7 +58,8 @@ class KnownPeriods:
         """Adds a session of an EVSE."""
         one = self.evses.setdefault(evse, EvsePeriods())
         for start, flow in flows.items():
-            one.flows[start] = one.flows.get(start, Flow()).plus(flow)
+            had = one.flows.get(start)
+            one.flows[start] = had.plus(flow) if had else flow
         for known in (one.doubts, self.doubts):
             add_doubts(known, doubts)
 
@@ -66,7 +67,8 @@ class KnownPeriods:
 def add_doubts(known: Doubts, more: Doubts) -> None:
     """Adds doubts to those that are known."""
     for start, doubt in more.items():
-        known[start] = known.get(start, SURE).plus(doubt)
+        had = known.get(start)
+        known[start] = had.plus(doubt) if had else doubt
 
 
 def together(parts: Iterable[KnownPeriods]) -> KnownPeriods:

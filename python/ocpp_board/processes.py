@@ -1,5 +1,6 @@
 """Tools that other tools run as processes of their own, or read output from."""
 
+import gc
 import os
 import select
 import shutil
@@ -21,6 +22,13 @@ MODULE = (sys.executable, "-P", "-m")
 # What the C library of a replay is asked for, where that is glibc: as many freed texts of a size at hand as the tree of
 # a message has, and not 7.
 TUNABLES = "glibc.malloc.tcache_count=127"
+# Objects that are made before Python looks for those that nothing needs.
+MANY = 100_000
+
+
+def keep_many() -> None:
+    """Has Python look for objects that only refer to each other where many were made: those of messages all stay."""
+    gc.set_threshold(MANY)
 
 
 def environment() -> dict[str, str]:

@@ -283,8 +283,22 @@ def falls_by_time(events: Sequence[Event]) -> Iterator[Finding]:
     yield from told_falls(falls, readings)
 
 
+def is_rising(found: Sequence[tuple[Event, Reading]]) -> bool:
+    """Whether each reading of a register is more than the one before, or as much and later."""
+    return all(
+        had.mwh < one.mwh
+        or had.mwh == one.mwh
+        and had.at is not None
+        and one.at is not None
+        and had.at < one.at
+        for (_, had), (_, one) in pairwise(found)
+    )
+
+
 def registers(events: Sequence[Event], remedy: str) -> Iterator[Finding]:
     """Where a register falls from one reading to the next, and where readings are listed again."""
+    if all(is_rising(readings_in_order(events, is_export, False)) for is_export in (False, True)):
+        return
     seen = set[Reading]()
     before: dict[bool, Reading] = {}
     falls, repeats, readings = list[Fall](), list[Event](), list[Reading]()

@@ -1,10 +1,12 @@
 """Where the lines of a script are, so that some of them can be read again."""
 
+import os
 from array import array
 from collections.abc import Iterable, Iterator
-from contextlib import ExitStack
 from io import BufferedReader, BytesIO
 from pathlib import Path
+
+from ocpp_board.limits import LONGEST_LINE
 
 
 class ScriptLines:
@@ -47,20 +49,52 @@ class ScriptLines:
         self.starts[number - 1] = start
         self.files[number - 1] = self.file(path) if path else 0
 
+    def opened(self) -> "OpenedLines":
+        """The lines, to be read in a `with`."""
+        return OpenedLines(self)
+
     def read(self, numbers: Iterable[int]) -> Iterator[bytes]:
         """The lines of these numbers, as far as their files have them. Raises OSError."""
-        with ExitStack() as stack:
-            opened: dict[int, BufferedReader | None] = {}
-            for number in numbers:
-                if not 0 < number <= len(self.starts):
-                    continue
-                file = self.files[number - 1]
-                if file not in opened:
-                    path = self.others[file - 1] if file else self.path
-                    is_there = path is not None and path.is_file()
-                    opened[file] = (
-                        stack.enter_context(open(path, "rb")) if path and is_there else None
-                    )
-                if text := opened[file]:
-                    text.seek(self.starts[number - 1])
-                    yield text.readline()
+        with self.opened() as lines:
+            yield from lines.read(numbers)
+
+
+class OpenedLines:
+    """Lines of a script, whose files are opened when they are needed."""
+
+    def __init__(self, lines: ScriptLines) -> None:
+        self.starts, self.files = lines.starts, lines.files
+        self.paths = [lines.path, *lines.others]
+        self.opened: dict[int, BufferedReader | None] = {}
+
+    def __enter__(self) -> "OpenedLines":
+        return self
+
+    def __exit__(self, *_fault: object) -> None:
+        for file in filter(None, self.opened.values()):
+            file.close()
+
+    def read(self, numbers: Iterable[int]) -> Iterator[bytes]:
+        """The lines of these numbers, as far as their files have them. Raises OSError."""
+        for number in numbers:
+            if 0 < number <= len(self.starts) and (file := self.file(self.files[number - 1])):
+                yield self.line(number, file)
+
+    def file(self, number: int) -> BufferedReader | None:
+        """The file of this number; None where it is none that can be read again. Raises OSError."""
+        if number not in self.opened:
+            path = self.paths[number]
+            is_there = path is not None and path.is_file()
+            self.opened[number] = open(path, "rb") if path and is_there else None
+        return self.opened[number]
+
+    def line(self, number: int, file: BufferedReader) -> bytes:
+        """A line, which mostly ends where the next one begins. Raises OSError."""
+        start = self.starts[number - 1]
+        end = self.starts[number] if number < len(self.starts) else start
+        if start < end <= start + LONGEST_LINE:
+            text = os.pread(file.fileno(), end - start, start)
+            if text.endswith(b"\n") and text.count(b"\n") == 1:
+                return text
+        file.seek(start)
+        return file.readline()

@@ -1,10 +1,12 @@
 """The page of a session: its figures, what came with its answers, who voided what and why, and its lines."""
 
+import os
 from collections.abc import Iterator, Mapping, Sequence
 from dataclasses import dataclass, field
 from datetime import datetime
 from html import escape
 from pathlib import Path
+from typing import NamedTuple
 from urllib.parse import quote
 
 from ocpp_board.bills import file_of
@@ -16,20 +18,29 @@ from ocpp_board.operators import Deed
 from ocpp_board.page_sections import UNKNOWN, finding_text, voided_text, when
 from ocpp_board.pages import FOOT, MARK, Row, head, kept, link, ranges, table
 from ocpp_board.refusals import Refusals, Row as Refused
-from ocpp_board.script_lines import ScriptLines
+from ocpp_board.script_lines import OpenedLines, ScriptLines
 from ocpp_board.session_times import duration
 from ocpp_board.session_facts import SessionFacts
-from ocpp_board.transactions import Event, moment
+from ocpp_board.shared_work import shared
+from ocpp_board.transactions import Event
 
 # Rows of a page's tables, and characters of the lines that it has.
 MOST_ROWS, MOST_CHARACTERS = 1_000, 100_000
+# Pages that are written by a process of their own.
+FEWEST = 100
 HEADS = ["Event", " Its time", " Received", " Readings, kWh", " Answer"]
+EXPORTED = " exported"
 DEEDS = ["When", " Who", " What", " Why", " Answer"]
 
 
+def folder_of(out: str) -> Path:
+    """The folder of the pages of sessions. `out`: how the files begin."""
+    return Path(f"{out}.sessions")
+
+
 def path_of(out: str, station: str, tx: str) -> Path:
-    """The page of a session. `out`: how the files begin."""
-    return Path(f"{out}.sessions") / file_of(station, tx, "html")
+    """The page of a session."""
+    return folder_of(out) / file_of(station, tx, "html")
 
 
 def href_of(out: str, station: str, tx: str) -> str:
@@ -48,6 +59,15 @@ class Known:
     mended: MendedMessages = field(default_factory=MendedMessages)
     # By site, station and transaction, what its page shows.
     shown: dict[tuple[str, str, str], int] = field(default_factory=dict)
+
+
+class Shown(NamedTuple):
+    """A session that has a page, and what was refused of it."""
+
+    site: str
+    station: str
+    session: Session
+    refused: Sequence[Refused]
 
 
 class SessionPages:
@@ -74,34 +94,44 @@ class SessionPages:
 
     def write(self) -> int:
         """Writes the pages of sessions that changed, and gives how many. Raises OSError."""
-        count, refused = 0, self.known.refusals.of_sessions()
+        refused = self.known.refusals.of_sessions()
+        new, marks = list[Shown](), dict[tuple[str, str, str], int]()
         for site, station, session in self.sessions:
-            rows = refused.get((station, session.tx), [])
-            if self.is_new(site, station, session, rows):
-                path = path_of(self.out, station, session.tx)
-                path.parent.mkdir(parents=True, exist_ok=True)
-                text = "".join(self.page(site, station, session, rows))
-                path.write_text(text, encoding="utf-8", newline="")
-                count += 1
+            one = Shown(site, station, session, refused.get((station, session.tx), []))
+            key = site, station, session.tx
+            marks[key] = self.mark(one)
+            if self.known.shown.get(key) != marks[key]:
+                new.append(one)
+        if new:
+            folder_of(self.out).mkdir(parents=True, exist_ok=True)
+            shared(self.write_pages, new, FEWEST)
+        # Pages that could not be written are tried again.
+        self.known.shown |= marks
         self.sessions = []
-        return count
+        return len(new)
 
-    def is_new(self, site: str, station: str, session: Session, rows: Sequence[Refused]) -> bool:
-        """Whether a session's page is not written as it would be."""
-        whole = self.known.facts.transactions.of(site, station, session.tx)
-        deeds = self.known.facts.operators.of(station, session.tx)
+    def write_pages(self, some: Sequence[Shown]) -> None:
+        """Writes the pages of these sessions; each is there whole or as it was. Raises OSError."""
+        with self.known.script.opened() as lines:
+            for one in some:
+                path = path_of(self.out, one.station, one.session.tx)
+                made = path.with_name(f".{path.name}.made")
+                with open(made, "w", encoding="utf-8", newline="") as file:
+                    file.write("".join(self.page(one, lines)))
+                os.replace(made, path)
+
+    def mark(self, one: Shown) -> int:
+        """By what is known whether the page of a session is another one."""
+        session = one.session
+        whole = self.known.facts.transactions.of(one.site, one.station, session.tx)
+        deeds = self.known.facts.operators.of(one.station, session.tx)
         counts = (len(whole.events), len(whole.conflicts), sum(whole.again.values()), len(deeds))
-        said = (session.state, session.flow, [str(one) for one in session.findings])
-        mark = hash(repr((counts, said, [(row.refusal, row.times) for row in rows])))
-        key = site, station, session.tx
-        is_new = self.known.shown.get(key) != mark
-        self.known.shown[key] = mark
-        return is_new
+        said = (session.state, session.flow, [str(finding) for finding in session.findings])
+        return hash(repr((counts, said, [(row.refusal, row.times) for row in one.refused])))
 
-    def page(
-        self, site: str, station: str, session: Session, refused: Sequence[Refused]
-    ) -> Iterator[str]:
-        """The page of a session."""
+    def page(self, one: Shown, lines: OpenedLines) -> Iterator[str]:
+        """The page of a session. `lines`: those of the script."""
+        site, station, session, refused = one
         whole = self.known.facts.transactions.of(site, station, session.tx)
         deeds = self.known.facts.operators.of(station, session.tx)
         back = link("", f"Site {escape(site)}")
@@ -121,7 +151,7 @@ class SessionPages:
         some = (row for _, row in rows[-MOST_ROWS:])
         yield "<h2>What came</h2>\n" + "".join(table(caption, HEADS, some, cards=True))
         yield "<h2>Who did what</h2>\n" + deeds_of(deeds)
-        yield from self.lines([line for line, _ in rows if line])
+        yield from lines_of([line for line, _ in rows if line], lines)
         yield FOOT
 
     def rows(
@@ -143,12 +173,13 @@ class SessionPages:
 
     def cells(self, event: Event) -> list[str]:
         """The cells of an event before its answer."""
-        read = ", ".join(
-            f"{kwh(one.mwh)}{' exported' if one.is_export else ''}" for one in event.readings[:20]
-        )
-        more = len(event.readings) - 20
-        read += f" and {more:,} more" if more > 0 else ""
-        times = (when(moment(at), self.calendar) for at in (event.at, event.received))
+        some = [f"{kwh(one.mwh)}{EXPORTED if one.is_export else ''}" for one in event.readings[:20]]
+        more = len(event.readings) - len(some)
+        read = ", ".join(some) + (f" and {more:,} more" if more else "")
+        times = [
+            UNKNOWN if at is None else kept(self.calendar.second(at))
+            for at in (event.at, event.received)
+        ]
         return [f"{event.number} {escape(event.kind)}", *times, read or UNKNOWN]
 
     @staticmethod
@@ -164,21 +195,22 @@ class SessionPages:
         reason = f": {escape(why)}" if why else ""
         return MARK, f"{said}; voided by {escape(who or 'an operator')}{reason}"
 
-    def lines(self, numbers: Sequence[int]) -> Iterator[str]:
-        """The lines of the script that have the session, as far as the page has room for them."""
-        texts, size = list[str](), 0
-        for line in self.known.script.read(numbers):
-            text = escape(line.decode("utf-8", "replace").rstrip("\r\n"))
-            if size + len(text) > MOST_CHARACTERS:
-                break
-            texts.append(text)
-            size += len(text)
-        if not texts:
-            return
-        left = len(numbers) - len(texts)
-        more = f" The script has {left:,} more." if left else ""
-        yield f"<details>\n<summary>Its lines</summary>\n<p>As the script has them.{more}</p>\n"
-        yield '<pre class="across">' + "\n".join(texts) + "</pre>\n</details>\n"
+
+def lines_of(numbers: Sequence[int], lines: OpenedLines) -> Iterator[str]:
+    """The lines of the script that have a session, as far as its page has room for them."""
+    texts, size = list[str](), 0
+    for line in lines.read(numbers):
+        text = escape(line.decode("utf-8", "replace").rstrip("\r\n"))
+        if size + len(text) > MOST_CHARACTERS:
+            break
+        texts.append(text)
+        size += len(text)
+    if not texts:
+        return
+    left = len(numbers) - len(texts)
+    more = f" The script has {left:,} more." if left else ""
+    yield f"<details>\n<summary>Its lines</summary>\n<p>As the script has them.{more}</p>\n"
+    yield '<pre class="across">' + "\n".join(texts) + "</pre>\n</details>\n"
 
 
 def refused_cells(row: Refused, calendar: Calendar) -> list[str]:

@@ -72,6 +72,7 @@ from ocpp_board.calendars import Calendar
 from ocpp_board.energies import kwh_of
 from ocpp_board.escapes import csv_cell
 from ocpp_board.period_table import FLOWS, READINGS, PeriodTable, flow_cells, signed_kwh
+from ocpp_board.processes import keep_many
 from ocpp_board.progress import Progress
 from ocpp_board.quality import Effect, Finding, Kind
 from ocpp_board.refusals import Refusals, UntakenLines
@@ -514,4 +515,5 @@ def run(words: argparse.Namespace) -> int:
 def main(argv: Sequence[str], prog: str) -> int:
     """Runs the tool with these words; gives its exit status."""
     words = arguments(argv, prog)
+    keep_many()
     return ended(lambda: run(words))

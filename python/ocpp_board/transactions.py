@@ -4,7 +4,7 @@ About half a kilobyte is kept of each event.
 """
 
 from bisect import bisect_right
-from collections.abc import Iterable, Iterator
+from collections.abc import Iterable
 from dataclasses import dataclass, field
 from datetime import datetime, timezone
 from typing import Any, NamedTuple
@@ -58,20 +58,33 @@ class Event(NamedTuple):
     received: float | None = None
 
 
+class LiveEvents(list[Event]):
+    """The events of a transaction that a board counts, by their numbers. It keeps the orders of their readings."""
+
+    def __init__(self, events: Iterable[Event]) -> None:
+        super().__init__(events)
+        # By the register, and by whether it is that of their moments.
+        self.orders: dict[tuple[bool, bool], list[tuple[Event, Reading]]] = {}
+
+
 def readings_in_order(
     events: Iterable[Event], is_export: bool, is_by_time: bool
 ) -> list[tuple[Event, Reading]]:
     """The counted readings of a register, each with its event, in the order in which the ledger takes them: that of the
     events, or by time that of their own moments. One whose moment Python can't read is left out then.
     """
-    found = [
-        (event, one)
-        for event in events
-        for one in event.readings
-        if one.is_export == is_export and not (is_by_time and one.at is None)
-    ]
-    # Readings of one moment keep their order.
-    return sorted(found, key=lambda both: both[1].at or 0) if is_by_time else found
+    orders = events.orders if isinstance(events, LiveEvents) else {}
+    order = is_export, is_by_time
+    if order not in orders:
+        found = [
+            (event, one)
+            for event in events
+            for one in event.readings
+            if one.is_export == is_export and not (is_by_time and one.at is None)
+        ]
+        # Readings of one moment keep their order.
+        orders[order] = sorted(found, key=lambda both: both[1].at or 0) if is_by_time else found
+    return orders[order]
 
 
 @dataclass
@@ -93,20 +106,15 @@ class Transaction:
             before = bisect_right(starts, number) - 1
             return first <= number <= last and (before < 0 or gaps[before][1] < number)
 
-        return [self.events[number] for number in sorted(self.events) if is_live(number)]
+        numbers = sorted(self.events)
+        if gaps or numbers and not first <= numbers[0] <= numbers[-1] <= last:
+            numbers = list(filter(is_live, numbers))
+        return LiveEvents(self.events[number] for number in numbers)
 
 
 def moment(seconds: float | None) -> datetime | None:
     """A moment that is given in seconds since 1970, in UTC."""
     return None if seconds is None else datetime.fromtimestamp(seconds, timezone.utc)
-
-
-def sampled_values(payload: dict[str, Any]) -> Iterator[tuple[float | None, dict[str, Any]]]:
-    """The sampled values of an event, each with when it was taken."""
-    for one in payload.get("meterValue") or []:
-        at = seconds_of(one["timestamp"])
-        for sampled in one["sampledValue"]:
-            yield at, sampled
 
 
 def plain(value: Any) -> str:
@@ -125,16 +133,22 @@ def event_of(payload: dict[str, Any], received: datetime | None, line: int = 0) 
     unlike: list[str] = []
     info = payload["transactionInfo"]
     has_details = "idToken" in payload or "remoteStartId" in info
-    for at, sampled in sampled_values(payload):
-        has_details = has_details or "signedMeterValue" in sampled
-        measurand = measurand_of(sampled)
-        if measurand in (IMPORT, EXPORT):
-            mwh = mwh_of(sampled["value"], sampled.get("unitOfMeasure") or NO_UNIT)
-            readings.append(Reading(at, mwh, measurand == EXPORT))
-            if "signedMeterValue" in sampled and (said := unlike_plain(sampled, mwh)):
-                unlike.append(said)
-        elif measurand.startswith(ENERGY):
-            others.add(plain(measurand))
+    for one in payload.get("meterValue") or ():
+        taken = seconds_of(one["timestamp"])
+        for sampled in one["sampledValue"]:
+            if len(sampled) == 1 and "value" in sampled:
+                # Only a value: one of the import register.
+                readings.append(Reading(taken, mwh_of(sampled["value"], NO_UNIT), False))
+                continue
+            has_details = has_details or "signedMeterValue" in sampled
+            measurand = measurand_of(sampled)
+            if measurand in (IMPORT, EXPORT):
+                mwh = mwh_of(sampled["value"], sampled.get("unitOfMeasure") or NO_UNIT)
+                readings.append(Reading(taken, mwh, measurand == EXPORT))
+                if "signedMeterValue" in sampled and (said := unlike_plain(sampled, mwh)):
+                    unlike.append(said)
+            elif measurand.startswith(ENERGY):
+                others.add(plain(measurand))
     at = seconds_of(payload["timestamp"])
     receipt = received.timestamp() if received else None
     return Event(
@@ -181,13 +195,14 @@ class Transactions:
     def take(self, answered: Answered) -> None:
         """Takes a message with its answer. One that is no event, or was refused for another cause, says nothing."""
         self.came(answered.received)
-        if answered.is_accepted:
+        is_accepted = answered.is_accepted
+        if is_accepted:
             self.site_of[answered.station] = answered.site
         head = HEAD.match(answered.message)
-        is_conflict = answered.answer.endswith(CONFLICT)
-        if head and head[1] == "MeterValues" and answered.is_accepted:
+        is_conflict = not is_accepted and answered.answer.endswith(CONFLICT)
+        if head and head[1] == "MeterValues" and is_accepted:
             self.outside.take(answered.site, answered.station, answered.message)
-        if head and head[1] != "TransactionEvent" or not (answered.is_accepted or is_conflict):
+        if head and head[1] != "TransactionEvent" or not (is_accepted or is_conflict):
             return
         try:
             _, _, action, payload = JSON.raw_decode(answered.message.lstrip())[0]

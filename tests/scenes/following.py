@@ -317,6 +317,31 @@ def what_is_refused_is_shown(program: str) -> None:
             )
 
 
+def a_first_start_has_room_for_all(program: str) -> None:
+    """At a first start a station that sent more transactions than a 64th of the room has loses none of them. --once
+    reads the rotated file and the log behind it, and a further one goes on."""
+    with beside(program) as run:
+        names = ["A", *(f"B{number}" for number in range(63))]
+        (run.folder / "stations").write_text("".join(f"north {name}\n" for name in names))
+        texts = [row(message(0, "Started").replace('"T1"', f'"T{n}"')) for n in range(1_102)]
+        run.write(*texts[:600])
+        run.rotate()
+        moment = time.time() - 60
+        os.utime(run.folder / "log.1", (moment, moment))
+        run.write(*texts[600:1_100])
+        for count in (1_100, 1_102):
+            run.start("--once")
+            assert run.tool
+            _, told = run.tool.communicate(timeout=LONGEST_WAIT)
+            expect(f"status {run.tool.returncode}: {told}", run.tool.returncode == 0)
+            expect(told, "each station has room for 1,024 to 4,096 transactions, " in told)
+            found = len(run.rows("transactions")), len(run.rows("refused"))
+            expect(f"transactions and refused messages: {found}", found == (count, 0))
+            pages = len(list((run.folder / "out/north.sessions").glob("*.html")))
+            expect(f"pages of transactions: {pages}", pages == count)
+            run.write(*texts[count:])
+
+
 def of_session(leader: int) -> list[str]:
     """The commands of the processes of a session that still run."""
     found = []
@@ -368,6 +393,7 @@ SCENES = (
     a_new_station,
     closed_sessions_are_shown,
     what_is_refused_is_shown,
+    a_first_start_has_room_for_all,
     a_signal_ends_the_feeder_too,
 )
 

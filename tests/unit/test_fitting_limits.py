@@ -1,5 +1,7 @@
 """Limits of stations where none are asked for."""
 
+import json
+import os
 from pathlib import Path
 
 import pytest
@@ -56,6 +58,51 @@ def test_live_declares_and_reports_them(
     ledger.close()
     feed, ledger, _ = feed_of(stub, tmp_path, "--limits", "1", "2", "3", "4")
     assert "\nlimits 1 2 3 4\nstation north A\n#\n" in script.read_text()
+    feed.kept.lock.close()
+    ledger.close()
+
+
+def started(number: int, station: str) -> str:
+    """A line of a log with the start of a transaction."""
+    at, info = "2026-03-01T10:00:00Z", {"transactionId": f"T{number}"}
+    event = {"eventType": "Started", "timestamp": at, "seqNo": 0, "transactionInfo": info}
+    message = json.dumps([2, "1", "TransactionEvent", event])
+    return json.dumps({"station": station, "time": at, "message": message})
+
+
+def test_a_first_start_has_room_for_what_the_log_shows(
+    reference: str, tmp_path: Path, capsys: pytest.CaptureFixture[str]
+) -> None:
+    names = [f"A{number}" for number in range(64)]
+    lines = [started(number, "A7") for number in range(1_100)] + [started(0, "A8")]
+    (tmp_path / "log.1").write_text("".join(line + "\n" for line in lines[:500]))
+    os.utime(tmp_path / "log.1", (0, 0))
+    (tmp_path / "log").write_text("".join(line + "\n" for line in lines[500:]))
+    feed, ledger, _ = feed_of(reference, tmp_path, stations=names)
+    feed.feed()
+    assert ledger.ask(b"board north").startswith(b"board north")
+    # The ledger has these limits, and the script has them in front of all messages.
+    assert ledger.messages.limits["A7"][0] == 4_096 > ledger.messages.limits["A8"][0] == 1_024
+    assert ledger.counts["accepted"] == 1_101 and ledger.sites() == ["north"]
+    text = (tmp_path / "state/script").read_text()
+    head, _, sent = text.partition("\n#\n")
+    assert "\nlimits 4096 16384 16384 9223372036854775808\nstation north A7\n" in head
+    assert sent.count("msg A7 ") == 1_100 and ledger.counts["lines"] == text.count("\n")
+    assert list(ledger.script.read([text.count("\n")])) == [text.encode().splitlines(True)[-1]]
+    said = [
+        line for line in capsys.readouterr().err.splitlines() if line.startswith("each station")
+    ]
+    assert len(said) == 2 and "room for 1,024 to 4,096 transactions" in said[1]
+    feed.kept.lock.close()
+    ledger.close()
+    # What comes later goes on behind it.
+    with open(tmp_path / "log", "a", encoding="utf-8") as log:
+        log.write(started(1, "A8") + "\n")
+    feed, ledger, _ = feed_of(reference, tmp_path, stations=names)
+    feed.feed()
+    ledger.ask(b"board north")
+    assert ledger.counts["accepted"] == 1_102
+    assert (tmp_path / "state/script").read_text().startswith(text)
     feed.kept.lock.close()
     ledger.close()
 

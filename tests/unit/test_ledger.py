@@ -2,7 +2,9 @@
 
 import argparse
 import logging
+import os
 import threading
+from collections.abc import Sequence
 from pathlib import Path
 
 import pytest
@@ -77,9 +79,11 @@ def test_a_replay_that_ends_lets_nobody_wait(stub: str) -> None:
     assert ledger.close() == 1
 
 
-def feed_of(stub: str, folder: Path, *words: str) -> tuple[LogFeed, Ledger, list[Refusal]]:
-    """A feed of a log of this folder, for station A of north."""
-    (folder / "stations").write_text("north A\n")
+def feed_of(
+    stub: str, folder: Path, *words: str, stations: Sequence[str] = ("A",)
+) -> tuple[LogFeed, Ledger, list[Refusal]]:
+    """A feed of a log of this folder; its stations are of north."""
+    (folder / "stations").write_text("".join(f"north {name}\n" for name in stations))
     paths = [
         word for name in ("log", "stations", "state") for word in (f"--{name}", str(folder / name))
     ]
@@ -128,6 +132,17 @@ def test_a_log_becomes_a_script(
     again, ledger, untaken = feed_of(stub, tmp_path)
     again.feed()
     assert script_of(tmp_path) == lines and len(untaken) == 1
+    ledger.close()
+
+
+def test_once_reads_rotated_files_and_the_log(stub: str, tmp_path: Path) -> None:
+    for number, name in enumerate(("log.2", "log.1", "log")):
+        (tmp_path / name).write_text(row(time=f"2026-03-0{number + 1}T10:00:00Z"))
+        if name != "log":
+            os.utime(tmp_path / name, (number, number))
+    feed, ledger, _ = feed_of(stub, tmp_path)
+    feed.feed()
+    assert sum(line.startswith("msg ") for line in script_of(tmp_path)) == 3
     ledger.close()
 
 

@@ -22,6 +22,16 @@ def test_members_are_cut_out_as_they_are_written() -> None:
     assert values["b"] == "A"
 
 
+def test_names_may_have_escapes_and_nothing() -> None:
+    assert members_of('{"a\\u0041" : 1,"":2, "\u00e9\\"":3}').texts == {
+        "aA": "1",
+        "": "2",
+        '\u00e9"': "3",
+    }
+    with pytest.raises(Refused, match="not JSON: Invalid control character at at character 4"):
+        members_of('{"a\tb":1}')
+
+
 def test_of_two_members_of_one_name_the_last_counts() -> None:
     assert members_of('{"a":1,"a":{}}').texts == {"a": "{}"}
 

@@ -4,6 +4,8 @@ import json
 import os
 from pathlib import Path
 
+import pytest
+
 from ocpp_board import tables
 from ocpp_board.answered import Answered
 from ocpp_board.boards import Part, Session
@@ -50,28 +52,44 @@ def test_a_script_gives_its_page(reference: str, tmp_path: Path) -> None:
     assert page.count("msg A [2,") == 4 and "<exchanged>" not in page
 
 
-def test_a_page_is_written_again_where_it_changes(tmp_path: Path) -> None:
-    told, refusals, script = SessionFacts(), Refusals(), ScriptLines()
-    script.path = tmp_path / "script"
+def known_of(folder: Path) -> Known:
+    """A transaction T1 of station A, whose lines are in a script of this folder."""
+    script = ScriptLines()
+    script.path = folder / "script"
     lines = [line.encode() + b"\n" for line in messages("A", sound("T1", FIRST))]
     for line in lines:
         script.passed(line)
     script.path.write_bytes(b"".join(lines))
+    known = Known(SessionFacts(), Refusals(), script)
     for place, one in enumerate(sound("T1", FIRST)):
         text = json.dumps([2, "1", "TransactionEvent", one.payload])
-        told.take(Answered(2 * place + 2, "north", "A", one.received, text, '[3,"1",{}]'))
-    known = Known(told, refusals, script)
-    session = Session("t1", 1, 4, 0, 3, True, 0, Flow(750_000), state="complete")
+        said = Answered(2 * place + 2, "north", "A", one.received, text, '[3,"1",{}]')
+        known.facts.take(said)
+    return known
+
+
+def written(folder: Path, known: Known, session: Session) -> int:
+    """Writes the pages of a session, and gives how many."""
+    part = Part("A", False, 900, sessions=[session])
+    known.facts.mark("north", part)
+    pages = SessionPages(str(folder / "x"), Calendar(), known, later=True)
+    pages.board(1, "north", 1)
+    pages.part(part)
+    pages.end()
+    return pages.write()
+
+
+def session_of() -> Session:
+    return Session("t1", 1, 4, 0, 3, True, 0, Flow(750_000), state="complete")
+
+
+def test_a_page_is_written_again_where_it_changes(tmp_path: Path) -> None:
+    known, session = known_of(tmp_path), session_of()
+    told, refusals, script = known.facts, known.refusals, known.script
     path = path_of(str(tmp_path / "x"), "A", "t1")
 
     def write() -> int:
-        part = Part("A", False, 900, sessions=[session])
-        told.mark("north", part)
-        pages = SessionPages(str(tmp_path / "x"), Calendar(), known, later=True)
-        pages.board(1, "north", 1)
-        pages.part(part)
-        pages.end()
-        return pages.write()
+        return written(tmp_path, known, session)
 
     assert not path.exists() and write() == 1 and write() == 0
     assert path.read_text().count("msg A [2,") == 4
@@ -81,9 +99,80 @@ def test_a_page_is_written_again_where_it_changes(tmp_path: Path) -> None:
     session.complete, session.last, session.events = False, 2, 3
     assert write() == 1 and "Voided by jo: no end." in path.read_text()
     # Where the script is no file that can be read again, the page has no lines.
+    assert script.path
     os.unlink(script.path)
     told.operators.add(Deed("restore A T1 3", "jo", "why", "", "accepted 6"))
     assert write() == 1 and "Its lines" not in path.read_text()
+
+
+def test_a_page_that_could_not_be_written_is_tried_again(tmp_path: Path) -> None:
+    known = known_of(tmp_path)
+    path = path_of(str(tmp_path / "x"), "A", "t1")
+    (path.parent / ".A.t1.html.made").mkdir(parents=True)
+    with pytest.raises(IsADirectoryError):
+        written(tmp_path, known, session_of())
+    (path.parent / ".A.t1.html.made").rmdir()
+    assert written(tmp_path, known, session_of()) == 1 and path.exists()
+
+
+def test_who_reads_a_page_reads_it_whole(tmp_path: Path) -> None:
+    known = known_of(tmp_path)
+    written(tmp_path, known, session_of())
+    path = path_of(str(tmp_path / "x"), "A", "t1")
+    before = path.read_bytes()
+    with open(path, "rb", 0) as page:
+        front = page.read(1000)
+        known.facts.operators.add(Deed("void A T1 3", "jo", "why", "", "accepted 5"))
+        assert written(tmp_path, known, session_of()) == 1 and path.read_bytes() != before
+        assert front + page.read() == before
+    assert [one.suffix for one in (tmp_path / "x.sessions").iterdir()] == [".html"]
+
+
+def test_pages_are_the_same_in_copies(tmp_path: Path, monkeypatch: pytest.MonkeyPatch) -> None:
+    known, texts = known_of(tmp_path), []
+    transaction = known.facts.transactions.known["north", "A", "t1"]
+    for count in (1, 3):
+        monkeypatch.setattr("os.sched_getaffinity", lambda _process, n=count: set(range(n)))
+        monkeypatch.setattr("ocpp_board.session_pages.FEWEST", 1)
+        pages = SessionPages(str(tmp_path / str(count)), Calendar(), known, later=True)
+        pages.board(1, "north", 1)
+        for number in range(7):
+            known.facts.transactions.known["north", "A", f"t{number}"] = transaction
+            one = session_of()
+            one.tx = f"t{number}"
+            pages.part(Part("A", False, 900, sessions=[one]))
+        assert pages.write() == 7 and known.shown
+        known.shown.clear()
+        folder = tmp_path / f"{count}.sessions"
+        texts.append({path.name: path.read_text() for path in folder.iterdir()})
+    alone, together = texts
+    assert list(sorted(alone)) == [f"A.t{number}.html" for number in range(7)]
+    assert {
+        name: text.replace("../1.html", "../3.html") for name, text in alone.items()
+    } == together
+
+
+def test_lines_are_read_where_they_are(tmp_path: Path) -> None:
+    script, other = ScriptLines(), tmp_path / "other"
+    script.path = tmp_path / "script"
+    script.path.write_bytes(b"one\ntwo\n\nfour\nlast")
+    other.write_bytes(b"2\n5\n")
+    script.passed_all(b"one\ntwo\n\nfour\nlast")
+    script.move(2, other, 0)
+    assert script.passed_in(other, 2) == 6
+    assert [*script.read([1, 2, 3, 4, 5, 6, 7, 0])] == [
+        b"one\n",
+        b"2\n",
+        b"\n",
+        b"four\n",
+        b"last",
+        b"5\n",
+    ]
+    # What was cut out of the script in front of a line.
+    script.path.write_bytes(b"two\nfour\n")
+    for number, start in ((1, 0), (3, 0), (4, 4)):
+        script.move(number, None, start)
+    assert [*script.read([1, 3, 4])] == [b"two\n", b"two\n", b"four\n"]
 
 
 def test_lines_that_a_script_has_beside_what_was_sent_are_counted(
