@@ -38,8 +38,8 @@ from ocpp_board.fleet.passwords import SALT, hashed
 from tests.fleet.client import Client
 from tests.fleet.fleet import BACKEND, CLOCK, CRASHES, UNTOLD, children, ended, free_port, part
 from tests.fleet.measure import PASSWORD
-from tests.fleet.page_client import start_page
-from tests.fleet.strangers import ODD
+from tests.fleet.page_client import make_operator, start_page
+from tests.fleet.strangers import ODD, OPERATOR
 from tests.fleet.trials import Trial, parsed, parser_of, tried
 
 FIRST = date(2026, 3, 1)
@@ -162,6 +162,7 @@ class Soak(Trial):
             *(hashed(PASSWORD.encode(), salt), salt),
         )
         self.login = PASSWORD
+        await asyncio.to_thread(make_operator, self.fleet, OPERATOR, "sees")
         _, self.page = await asyncio.to_thread(start_page, self.fleet)
 
     def start_worker(self, place: int) -> subprocess.Popen[bytes]:
