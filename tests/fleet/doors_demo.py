@@ -5,19 +5,21 @@
 It starts PostgreSQL 15 in a temporary folder and a gateway, and has each role try the work of all. Then the role that
 only reads, whose password a mapping of another cell has, tries to hold a shard, and notifies what gateways and workers
 do: answers for an event that no worker has read yet, that stations were let in elsewhere, lines and plans. None of
-that may reach a station, end its connection or a worker's sessions. The status is 1 where something is not as it must
-be.
+that may reach a station, end its connection or a worker's sessions. No role may enter another database of the server.
+The status is 1 where something is not as it must be.
 """
 
 import argparse
 import asyncio
 import sys
+import time
 from typing import Any
 
 import asyncpg
 
 from ocpp_board.fleet.database import Fault, Unreachable, connect
 from tests.fleet.client import Client
+from tests.fleet.fleet import PATIENCE
 from tests.fleet.trials import Trial, event, parsed, parser_of, tried
 
 # What each role does, and who may do it: nobody else. A move carries all that a shard has.
@@ -142,6 +144,8 @@ FORGED = {
     "plan": ("", "x", "-1", "9" * 30, "\u0663"),
     "password": ("", "A", "x"),
 }
+# What a worker says of databases that its role may enter.
+OPEN_DOOR = "this role may enter other databases, too"
 # Tokens that are guessed: those of the first events of a gateway that counts them.
 GUESSED, AT_ONCE = 2_000, 200
 
@@ -197,6 +201,26 @@ class Demo(Trial):
             self.check(False, "the role that copies files enters the database")
         except (Fault, Unreachable) as fault:
             self.check("denied" in str(fault), f"the role that copies files: {fault}")
+
+    async def elsewhere(self) -> None:
+        """Other databases of the server: no role enters one, and a worker reports one that its role may enter."""
+        for database in ("postgres", "template1"):
+            try:
+                session = await asyncpg.connect(self.fleet.dsn("ledger_reader", database=database))
+                await session.close()
+                said = "it enters"
+            except asyncpg.PostgresError as fault:
+                said = str(fault)
+            self.check("permission denied" in said, f"the reading role and {database}: {said}")
+        self.check(OPEN_DOOR not in self.log.read_text(), "no worker may enter another database")
+        await self.owner.execute("create database elsewhere")
+        self.fleet.worker()
+        end = time.monotonic() + PATIENCE
+        while not (is_said := f"{OPEN_DOOR}: elsewhere" in self.log.read_text()):
+            if time.monotonic() > end:
+                break
+            await asyncio.sleep(0.1)
+        self.check(is_said, "a worker reports a database that all may enter")
 
     async def forged(self, reader: Any, station: Client) -> None:
         """What the reading role notifies as if it were a gateway or a worker."""
@@ -270,6 +294,7 @@ class Demo(Trial):
         self.check(len(rows) == 1, f"the reading role reads the log: {len(rows)} lines")
         await self.forged(reader, station)
         await reader.close()
+        await self.elsewhere()
         await self.owner.close()
 
 

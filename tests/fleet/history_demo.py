@@ -3,8 +3,8 @@
     tests/one fleet.history_demo ocpp_board [--days 365]
 
 It starts PostgreSQL 15 in a temporary folder and fills a shard of 64 stations with so many closed days. Then a day is
-closed for which nothing came, and one with a session, and the shard moves to another cell. The status is 1 where
-something is not as it must be, or takes too long.
+closed for which nothing came, and one with a session; old years leave, also beside a reader's open transaction; and the
+shard moves to another cell. The status is 1 where something is not as it must be, or takes too long.
 """
 
 import asyncio
@@ -20,13 +20,13 @@ from typing import Any
 from ocpp_board.fleet.archives import packed
 from ocpp_board.fleet.database import connect
 from tests.fleet.closings import ClosingTrial, local, session
-from tests.fleet.fleet import FILL, UNSUMMED, ended, tool
+from tests.fleet.fleet import FILL, UNSUMMED, ended
 from tests.fleet.trials import parsed, parser_of, tried
 
 STATIONS = 64
-# Rows of periods that a closing reads at most, the bytes that it takes, and seconds for which a shard that moves takes
-# no lines. How long a closing takes depends on what else the machine does.
-ROWS, MEMORY, MOVE = 500, 200_000_000, 2.0
+# Rows of periods that a closing reads at most, the bytes that it takes, seconds for which a shard that moves takes no
+# lines, and for which others wait while years leave. How long a closing takes depends on what else the machine does.
+ROWS, MEMORY, MOVE, WAIT = 500, 200_000_000, 2.0, 2.0
 # A day of a session three years before, settled and archived with what is there.
 OLD = """
 insert into own_closing (shard, site, closing, day, period, archive, plan, packed)
@@ -45,6 +45,7 @@ LINES = """
 insert into own_archived_lines (shard, site, closing, station, transaction, lines)
 select 0, 'north', max(closing), 'S-02', 'old', $1 from own_closing
 """
+READS = "select count(*) from own_closed_period where starts < '2024-01-01Z'"
 KEPT = """
 select (select count(*) from own_closed_period), (select count(*) from own_archived_period),
     (select count(*) from own_archived_transaction), (select sum(up) from own_settled),
@@ -161,9 +162,8 @@ class Demo(ClosingTrial):
         begin = datetime(2023, 5, 1, 7, 50, tzinfo=timezone.utc)
         old = session("S-02", "OLD", begin, 3)
         await self.owner.execute(LINES, packed(old))
-        words = ("--db", self.fleet.dsn("ledger_keeper"), "--program", self.fleet.program)
-        command = (*tool("forget"), *words, "--archive", self.archives, "--years", 2)
-        status, said = await ended(self.fleet.start(*command, stdout=-1, stderr=-2))
+        await self.held_up()
+        status, said = await self.forgotten()
         files = {path.name: gzip.open(path).read() for path in self.archives.glob("*.gz")}
         counts = {name: data.count(b"\n") - 1 for name, data in files.items()}
         self.check(
@@ -179,6 +179,34 @@ class Demo(ClosingTrial):
         await self.close_measured("a void of what left", "2026-03-04", "1 late lines")
         after = tuple(await self.owner.fetchrow(KEPT))
         self.check(after == before, f"corrects nothing: {after}")
+
+    async def forgotten(self) -> tuple[int, str]:
+        """Has years leave, and gives the status and what is said."""
+        words = ("--db", self.fleet.dsn("ledger_keeper"), "--program", self.fleet.program)
+        more = ("--archive", self.archives, "--years", 2)
+        code = "import ocpp_board.fleet.forget as one; one.PATIENCE = 3"
+        process = self.fleet.patched(code, "forget", *words, *more, stdout=-1, stderr=-2)
+        return await ended(process)
+
+    async def held_up(self) -> None:
+        """Somebody reads history in a transaction that stays open: nothing leaves, and nobody else waits for long."""
+        reader = await connect(self.fleet.dsn("ledger_reader"))
+        for statement in ("set idle_in_transaction_session_timeout = 0", "begin", READS):
+            await reader.execute(statement)
+        job, waits = asyncio.ensure_future(self.forgotten()), list[float]()
+        while not job.done():
+            began = time.monotonic()
+            await self.owner.fetchval(READS)
+            waits.append(time.monotonic() - began)
+            await asyncio.sleep(0.05)
+        status, said = await job
+        is_there = await self.owner.fetchval(READS)
+        self.check(
+            status == 2 and "stays open" in said and is_there == 1 and max(waits) < WAIT,
+            f"beside a reader's open transaction: {said}; others wait {max(waits):.2f} s at most",
+        )
+        await reader.execute("rollback")
+        await reader.close()
 
     async def second(self) -> Any:
         """A session of the other cell's owner."""

@@ -12,23 +12,25 @@ seconds at most where that queue is full. The status is 1 where something is not
 import argparse
 import asyncio
 import secrets
+import subprocess
 import sys
 import time
-from collections.abc import Awaitable, Callable
+from collections.abc import Awaitable
 
 from websockets.frames import OP_CONT, OP_PING, OP_PONG, OP_TEXT, Frame
 
 from ocpp_board.fleet.database import connect
 from ocpp_board.fleet.passwords import FREE, SALT, hashed
 from tests.fleet.client import Client, handshake
+from tests.fleet.crowd import WRONG, address_of
+from tests.fleet.fleet import ended, part
 from tests.fleet.trials import Trial, event, parsed, parser_of, tried
 
 # The station that is looked at, one that does harm, and one with a password that strangers guess.
 TRUE, ODD, GUESSED = "CS-00000", "CS-00001", "CS-00002"
-WRONG = "wrong-0123-4567-89ab"
 # For how many seconds a stranger sends, bytes a second, and the longest wait of a true station.
 SECONDS, RATE, MOST = 5, 1_000_000, 1.0
-STRANGERS = 400
+STRANGERS, GUESSERS = 400, 120
 # What a reader reports: shards with a changed plan, shards with lines, answers; and what stays in the queue while a
 # session that listens is in a transaction.
 NOTIFY = """
@@ -76,7 +78,7 @@ class Demo(Trial):
     def address(self) -> str:
         """An address of this machine that nobody came from yet."""
         self.addresses += 1
-        return f"127.1.{self.addresses // 250}.{self.addresses % 250 + 1}"
+        return address_of(self.addresses - 1)
 
     async def begin(self) -> None:
         """A worker, a gateway, and stations with passwords."""
@@ -180,22 +182,18 @@ class Demo(Trial):
                 f"a station that is let in sends {what}: another waits {wait:.2f} s",
             )
 
-    async def guesses(self, address: str, until: Callable[[], bool]) -> None:
-        """Someone guesses a station's password again and again."""
-        while not until():
-            try:
-                link = await Client.open(self.url, GUESSED, f"{GUESSED}:{WRONG}", address)
-                await link.said(15)
-                link.transport.abort()
-            except (OSError, asyncio.TimeoutError):
-                await asyncio.sleep(0.05)
+    async def crowd(self, what: str, count: int) -> subprocess.Popen[bytes]:
+        """Strangers at addresses of their own, in a process of their own, which begin now."""
+        words = (what, self.url, GUESSED, "--count", count, "--first", self.addresses)
+        self.addresses += count
+        process = self.fleet.start(*part("crowd"), *words, stdout=subprocess.PIPE)
+        assert process.stdout
+        await asyncio.to_thread(process.stdout.readline)
+        return process
 
     async def begun_anew(self) -> None:
         """A gateway that begins anew while strangers guess: the station that they guess is let in at once."""
-        is_over = False
-        jobs = [
-            asyncio.create_task(self.guesses(self.address(), lambda: is_over)) for _ in range(120)
-        ]
+        crowd = await self.crowd("guess", GUESSERS)
         await asyncio.sleep(2)
         port = int(self.url.removesuffix("/ocpp").rpartition(":")[2])
         self.process.kill()
@@ -210,33 +208,20 @@ class Demo(Trial):
             heard, took, link = await self.comes(GUESSED)
             found.append((heard, took))
             link.transport.abort()
-        is_over = True
-        await asyncio.gather(*jobs)
+        crowd.kill()
+        crowd.wait()
         refused = [heard for heard, _ in found if heard != "101"]
         longest = max(took for _, took in found)
-        # The strangers have this machine's processors, too, and this process.
+        # The strangers have this machine's processors, too.
         self.check(
             not refused and longest < 3 * self.limit,
-            f"a station whose password 120 strangers guess: {len(refused)} of 12 tries are refused, "
+            f"a station whose password {GUESSERS} strangers guess: {len(refused)} of 12 tries are refused, "
             f"and the longest takes {longest:.2f} s",
         )
 
     async def many(self) -> None:
         """Strangers at as many addresses, with names that are none and with a station's."""
-        addresses = [self.address() for _ in range(STRANGERS)]
-
-        host, port = self.url.removeprefix("ws://").removesuffix("/ocpp").split(":")
-
-        async def stranger(number: int) -> None:
-            name = GUESSED if number % 2 else f"NOBODY-{number}"
-            reader, writer = await asyncio.open_connection(
-                host, int(port), local_addr=(addresses[number], 0)
-            )
-            writer.write(handshake(name, WRONG))
-            await reader.read(1)
-            writer.transport.abort()
-
-        jobs = [asyncio.create_task(stranger(number)) for number in range(STRANGERS)]
+        crowd = await self.crowd("together", STRANGERS)
         await asyncio.sleep(0.05)
         waits = list[float]()
         for station in (TRUE, GUESSED, ODD):
@@ -244,7 +229,10 @@ class Demo(Trial):
             self.check(heard == "101", f"{station} among {STRANGERS} strangers: {heard}")
             waits.append(took)
             link.transport.abort()
-        await asyncio.gather(*jobs)
+        status, said = await ended(crowd)
+        self.check(
+            status == 0 and said.startswith(f"{STRANGERS} refused, "), f"the strangers: {said}"
+        )
         self.check(max(waits) < self.limit, f"and is let in after {max(waits):.2f} s at most")
 
     async def event(self, link: Client) -> float:

@@ -6,10 +6,12 @@
 At each moment a station sends conflicting events of 32 kB, another one two events of an archived transaction by turns,
 20 a second, and a third one pongs, pings, empty parts of a message or heartbeats without end; a stranger sends pongs
 before the verdict on its password, others guess the password of a station, each from an address of its own, and 260
-hold the page with half a request. Each minute come 400 strangers at 400 addresses, and a reader notifies 300,000 times;
-each five minutes a session that listens stops while a hundredth of the server's queue of notifications fills.
-What the ledger took is recorded. At the end it prints how often each of these was done, how long an operator waited for
-the page, and how long the station whose password is guessed waited until it was let in.
+hold the page with half a request. Each half minute somebody guesses an operator's password until it is locked for that
+address; from elsewhere the operator has to sign in all the same, and an earlier session has to go on. Each minute come
+400 strangers at 400 addresses, and a reader notifies 300,000 times; each five minutes a session that listens stops
+while a hundredth of the server's queue of notifications fills. What the ledger took is recorded. At the end it
+prints how often each of these was done, how long an operator waited for the page and to sign in, and how long the
+station whose password is guessed waited until it was let in.
 """
 
 import argparse
@@ -30,18 +32,23 @@ from websockets.frames import OP_CONT, OP_PING, OP_PONG, OP_TEXT, Frame, Opcode
 from ocpp_board.fleet.database import LOST, Fault, Unreachable, connect
 from ocpp_board.fleet.parts import use_uvloop
 from tests.fleet.client import Client, handshake
+from tests.fleet.page_client import PASSWORD as PAGE_PASSWORD
+from tests.fleet.page_client import Client as Browser
 from tests.fleet.trials import event
 
 # The stations that do harm, by what they do, and the one with the password that is guessed.
 CONFLICTS, TURNS, FRAMES, GUESSED = "ODD-CONFLICTS", "ODD-TURNS", "ODD-FRAMES", "ODD-GUESSED"
 ODD = (CONFLICTS, TURNS, FRAMES, GUESSED)
 WRONG = "wrong-0123-4567-89ab"
+# The operator whose password is guessed, from where it signs in, and guesses of one address: five lock it there.
+OPERATOR, OWN_ADDRESS, TRIES = "ann", "127.3.0.1", 6
 # Bytes of a conflicting event, events by turns a second, and bytes a second of what is sent without end.
 SIZE, BY_TURNS, RATE = 32_000, 20, 1_000_000
 # Guessers, strangers that come together, and half requests at the page.
 GUESSERS, STRANGERS, HALF = 20, 400, 260
-# Seconds between floods, between lookings at the page, and for which one kind of frame is sent.
-MINUTE, LOOK, KIND = 60, 5, 5
+# Seconds between floods, between guesses of an operator's password, between lookings at the page, and for which one
+# kind of frame is sent.
+MINUTE, SIGN_IN, LOOK, KIND = 60, 30, 5, 5
 DAY = "2026-03-01T"
 HEARTBEAT = b'[2,"1","Heartbeat",{}]'
 NOTIFY = """
@@ -57,7 +64,10 @@ STANDS_STILL = (
     "begin",
     "select 1",
 )
-AWAY = (OSError, asyncio.TimeoutError, *LOST, Unreachable, Fault, asyncpg.PostgresError)
+AWAY = (
+    *(OSError, asyncio.TimeoutError, http.client.HTTPException),
+    *(*LOST, Unreachable, Fault, asyncpg.PostgresError),
+)
 
 
 def masked(opcode: Opcode, data: bytes = b"", fin: bool = True) -> bytes:
@@ -80,8 +90,10 @@ class Strangers:
         self.words, self.record = words, record
         self.done = Counter[str]()
         self.addresses = self.turn = 0
-        self.let_in, self.looks = list[float](), list[float]()
+        self.let_in, self.looks, self.sign_ins = list[float](), list[float](), list[float]()
         self.odd = list[str]()
+        # An operator who signed in before, from elsewhere.
+        self.operator: Browser | None = None
 
     def url(self) -> str:
         """The next gateway."""
@@ -289,6 +301,30 @@ class Strangers:
             self.odd.append(f"the page: {found}")
         self.looks.append(time.monotonic() - began)
 
+    async def signs_in(self) -> None:
+        """Somebody guesses an operator's password, who signs in meanwhile, and is signed in elsewhere."""
+        await asyncio.sleep(SIGN_IN)
+        stranger, own = (
+            Browser(self.words.page, source=one) for one in (self.address(), OWN_ADDRESS)
+        )
+        for _ in range(TRIES):
+            await self.signed_in(stranger, WRONG, (403, 429))
+        began = time.monotonic()
+        await self.signed_in(own, PAGE_PASSWORD, (303,))
+        self.sign_ins.append(time.monotonic() - began)
+        self.operator = self.operator or own
+        answer = await asyncio.to_thread(self.operator.get, "/")
+        if answer.status not in (200, 503):
+            self.odd.append(f"an operator who is signed in: {answer.status}")
+
+    async def signed_in(self, browser: Browser, password: str, wanted: tuple[int, ...]) -> None:
+        """Somebody signs in, and has to be answered so. Raises OSError where the page can't answer now."""
+        status = (await asyncio.to_thread(browser.login, OPERATOR, password)).status
+        if status >= 500:
+            raise OSError(f"the page: {status}")
+        if status not in wanted:
+            self.odd.append(f"signing in with {password}: {status}")
+
     async def run(self) -> None:
         """All of it, until its time is over."""
         works = [("stations with conflicts", self.conflicts), ("stations by turns", self.turns)]
@@ -296,9 +332,8 @@ class Strangers:
         works += [("guessers", self.guesses)] * GUESSERS
         works += [("let in while guessed", self.comes), ("400 strangers at once", self.many)]
         works += [("300,000 notifications", self.notifies), ("full queues", self.fills)]
-        works += [("half requests", self.holds)] * HALF + [
-            ("looks at the page", self.looks_at_page)
-        ]
+        works += [("half requests", self.holds)] * HALF
+        works += [("looks at the page", self.looks_at_page), ("signed in", self.signs_in)]
         jobs = [asyncio.create_task(self.again(*one)) for one in works]
         over = asyncio.Event()
         asyncio.get_running_loop().add_signal_handler(signal.SIGTERM, over.set)
@@ -315,7 +350,11 @@ class Strangers:
     def report(self) -> None:
         """What was done and seen."""
         print(", ".join(f"{name} {count}" for name, count in sorted(self.done.items())))
-        for text, waits in (("the page", self.looks), ("being let in while guessed", self.let_in)):
+        for text, waits in (
+            ("the page", self.looks),
+            ("signing in while guessed", self.sign_ins),
+            ("being let in while guessed", self.let_in),
+        ):
             waits = sorted(waits)
             if waits:
                 parts = [waits[int(part * (len(waits) - 1))] for part in (0.5, 0.99, 1)]

@@ -53,7 +53,13 @@ from ocpp_board.fleet.page_render import (  # noqa: E402
     moment,
     rendered,
 )
-from ocpp_board.fleet.page_views import FILE, reading_text  # noqa: E402
+from ocpp_board.fleet.page_views import (  # noqa: E402
+    FILE,
+    MOST_LETTERS,
+    MOST_LINES,
+    reading_text,
+    shown_of,
+)
 from ocpp_board.fleet.page_words import Words, meaning_of, reason_of  # noqa: E402
 from ocpp_board.fleet.passwords import FREE, SALT, address_by, hashed  # noqa: E402
 from ocpp_board.fleet.set_operator import days_of, operator_of, roles_of, sites_of  # noqa: E402
@@ -463,6 +469,13 @@ def test_an_event_shows_its_numbers_as_they_are_written() -> None:
     )
     entry = Entry(text, "", 1, None, None)
     assert reading_text(entry) == "Updated 7, reads 1.50"
+
+
+def test_a_page_shows_so_many_lines_and_letters() -> None:
+    assert shown_of([]) == [] and shown_of(["a", "b"]) == ["a", "b"]
+    assert len(shown_of(["a"] * 5_000)) == MOST_LINES
+    assert len(shown_of([99_999 * "x"] * 20)) == MOST_LETTERS // 100_000
+    assert shown_of([MOST_LETTERS * "x", "a"]) == []
 
 
 def test_months_of_a_zone() -> None:

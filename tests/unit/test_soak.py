@@ -5,7 +5,13 @@ import pytest
 pytest.importorskip("asyncpg")
 pytest.importorskip("websockets")
 
-from tests.fleet.soak import is_within, joined, percentile, waits_told  # noqa: E402
+from tests.fleet.soak import (  # noqa: E402
+    is_within,
+    joined,
+    percentile,
+    unseen,
+    waits_told,
+)
 
 TIMES = [(5.0, 6.0), (1.0, 2.0), (1.5, 3.0), (1.6, 1.7), (10.0, 11.0)]
 
@@ -30,3 +36,20 @@ def test_percentiles_of_waits() -> None:
     assert percentile(waits, 1) == 0.999
     assert waits_told(waits) == "500 / 990 / 999 / 999 ms (median, 99th, 99.9th, longest of 1000)"
     assert waits_told([]) == "there are none"
+
+
+def test_faults_that_nobody_looked_at() -> None:
+    own = (
+        "future: <Task finished coro=<Worker.x() done, defined at python/ocpp_board/fleet/x.py:1>>"
+    )
+    other = "future: <Task finished coro=<S.y() done, defined at /work/tests/fleet/strangers.py:1>>"
+    text = f"""ocpp-board worker: shard 1: it begins anew
+Task exception was never retrieved
+{own}
+Traceback (most recent call last):
+Task exception was never retrieved
+{other}
+Future exception was never retrieved
+future: <Future finished exception=OSError()>"""
+    assert unseen(text) == [own, "future: <Future finished exception=OSError()>"]
+    assert unseen("ocpp-board worker: connected\n") == []

@@ -15,6 +15,8 @@ from ocpp_board.escapes import csv_cell, from_copy, shown
 from ocpp_board import repeats
 from ocpp_board.explain import Plan, Run
 from ocpp_board.fleet import forget, replays
+from ocpp_board.fleet.database import SECRETS
+from ocpp_board.fleet.plans import known_lines
 from ocpp_board.line_faults import bad_line, time_fault
 from ocpp_board.message_faults import message_fault
 from ocpp_board.processes import TUNABLES
@@ -120,6 +122,23 @@ def test_replays_have_texts_at_hand_unless_the_user_says_otherwise(
     assert answered.Replay(str(program)).output.read() == told
     assert asyncio.run(of_the_fleet()) == told
     assert forget.replayed(str(program), []) == told
+
+
+def test_replays_get_no_secrets(tmp_path: Path, monkeypatch: pytest.MonkeyPatch) -> None:
+    program = tmp_path / "program"
+    program.write_text("#!/bin/sh\necho period '<site>' $(env | grep -c secret-of)\n")
+    program.chmod(0o755)
+    for name in SECRETS:
+        monkeypatch.setenv(name, f"secret-of-{name}")
+
+    async def of_the_fleet() -> bytes:
+        replay = await replays.Replay.start(str(program))
+        return (await replay.process.communicate())[0]
+
+    assert asyncio.run(of_the_fleet()) == b"period <site> 0\n"
+    assert forget.replayed(str(program), []) == b"period <site> 0\n"
+    program.write_text("#!/bin/sh\n[ $(env | grep -c secret-of) = 0 ] && echo 'period <site>'\n")
+    assert known_lines(str(program)) == {"period"}
 
 
 def test_escapes() -> None:

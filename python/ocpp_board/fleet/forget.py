@@ -13,17 +13,21 @@ same answers and the same boards. A station that sends the original once more is
 the token again, until the next compaction, closing or run of --after.
 
 --years keeps so many whole years of periods and sessions beside the present one. It writes what is older into FOLDER,
-as CSV packed by gzip, and removes it from the tables and their sums. Archives stay as they are.
+as CSV packed by gzip, and removes it from the tables and their sums. Archives stay as they are. If somebody reads the
+history in a database transaction that stays open, it tries for two minutes, each time for a second, in which others
+wait.
 
 It may end at any time: call it again. Backups have tokens until they are removed.
 """
 
 import argparse
 import asyncio
+import filecmp
 import gzip
 import logging
 import os
 import subprocess
+import time
 from collections.abc import Mapping, Sequence
 from datetime import datetime, timedelta, timezone
 from pathlib import Path
@@ -34,7 +38,7 @@ import asyncpg
 from ocpp_board.fleet import compact, parts
 from ocpp_board.fleet.archives import Late, packed, unpacked, widened
 from ocpp_board.fleet.backup import at_least_one
-from ocpp_board.fleet.begun_anew import reserve
+from ocpp_board.fleet.begun_anew import PATIENCE, PAUSE, reserve
 from ocpp_board.fleet.database import Fault, connect, said, without_secrets
 from ocpp_board.fleet.lines import station_of
 from ocpp_board.fleet.plans import Plan, known_lines
@@ -82,6 +86,9 @@ HISTORY = (
     ("own_archived_transaction", "since", "shard, site, station, transaction"),
 )
 AGE = "select age_history($1)"
+# Whoever reads history from then on waits behind this statement, which waits for who reads it in an open transaction.
+BRIEFLY = "set local lock_timeout = '1s'"
+HELD_UP = (asyncpg.LockNotAvailableError, asyncpg.DeadlockDetectedError)
 
 
 class Keeper:
@@ -293,16 +300,34 @@ async def aged(words: argparse.Namespace) -> int:
                 name = f"{table.removeprefix('own_')}.cell-{cell}.to-{year}.csv.gz"
                 rows += await copied(session, words.archive / name, table, key, order, end)
         if rows:
-            await session.execute(AGE, year, timeout=None)
+            await remove(session, year)
     finally:
         await session.close()
     print(f"{rows:,} rows of periods and sessions up to {year} left the cell")
     return Status.DONE
 
 
+async def remove(session: Any, year: int) -> None:
+    """Removes a year and what lies before it. Raises Fault where somebody reads it in a transaction that stays open for
+    two minutes."""
+    end = time.monotonic() + PATIENCE
+    while True:
+        try:
+            async with session.transaction():
+                await session.execute(BRIEFLY)
+                await session.execute(AGE, year, timeout=None)
+            return
+        except HELD_UP:
+            if time.monotonic() > end:
+                raise Fault(
+                    "somebody reads the history in a transaction that stays open; nothing left the cell"
+                ) from None
+        await asyncio.sleep(PAUSE)
+
+
 async def copied(session: Any, path: Path, table: str, key: str, order: str, end: datetime) -> int:
-    """Writes what a table has of before a moment into a file, and gives how many rows that is. Raises Fault where the
-    file is there already."""
+    """Writes what a table has of before a moment into a file, and gives how many rows that is. Raises Fault where
+    another file is there already; the same one is of an earlier try."""
     fresh = path.with_name(f"{path.name}.part")
     query = f"select * from {table} where {key} < $1 order by {order}"
     with open(fresh, "wb") as file, gzip.GzipFile(fileobj=file, mode="wb", mtime=0) as packed_file:
@@ -317,7 +342,8 @@ async def copied(session: Any, path: Path, table: str, key: str, order: str, end
     try:
         os.link(fresh, path)
     except FileExistsError:
-        raise Fault(f"{path} is there already; nothing left the cell") from None
+        if not await asyncio.to_thread(filecmp.cmp, fresh, path, False):
+            raise Fault(f"{path} is there already; nothing left the cell") from None
     finally:
         fresh.unlink()
     return int(done.split(" ")[1])

@@ -217,13 +217,16 @@ async def history_of(
     own = await asyncio.to_thread(own_lines, rows, station, tx)
     if not own and closing is None:
         raise Wrong(HTTPStatus.NOT_FOUND, f"station {station!r} has no session {name!r}")
-    before = unpacked(closing["lines"]) if closing else []
+    # Long lines take their time, in which others are answered.
+    before = await asyncio.to_thread(unpacked, closing["lines"]) if closing else []
     if closing:
-        plan = plan_of(row, known, before + [one["line"] for one in own])
-        made = await replayed(program, plan, row["site"], before + [one["line"] for one in own])
+        lines = before + [one["line"] for one in own]
+        plan = await asyncio.to_thread(plan_of, row, known, lines)
+        made = await replayed(program, plan, row["site"], lines)
         answers = later(made.answers, len(before))
     else:
-        live = without_archived(rows, {one["transaction"] for one in found})
+        archived = {one["transaction"] for one in found}
+        live = await asyncio.to_thread(without_archived, rows, archived)
         made = await replayed(program, plan_of(row, known), row["site"], [r["line"] for r in live])
         by_place = {one["place"]: text for one, text in zip(live, made.answers)}
         answers = [by_place.get(one["place"], "") for one in own]
@@ -267,23 +270,12 @@ async def whole(
     """The history with its figures, by a replay of its own lines."""
     station, site = row["station"], row["site"]
     lines = [entry.line for entry in entries]
-    plan = plan_of(row, known, lines)
+    plan = await asyncio.to_thread(plan_of, row, known, lines)
     made = await replayed(program, plan, site, lines)
-    found = figures(made.board)
-    numbers = found.get((station, "tx", tx), {})
-    gaps = [gap_of(key[2]) for key in found if key[0] == station and key[1] == "gap"]
+    numbers, gaps, times = await asyncio.to_thread(read_back, row, tx, entries, made.board)
     board = "".join(
         line + "\n" for line in made.board.split("\n") if line.startswith(("tx ", "gap "))
     )
-    messages = Transactions()
-    for entry in entries:
-        if entry.line.startswith("msg "):
-            message = entry.line.split(" ", 2)[2]
-            with suppress(*ODD):
-                messages.take(Answered(0, site, station, entry.at, message, entry.answer))
-    transaction = messages.of(site, station, tx)
-    live = transaction.live(numbers["first"], numbers["last"], gaps) if numbers else []
-    times = times_of(live, row["reading_order"] == "moment")
     history = History(
         *(station, tx, site, row["zone"], plan.lines.decode().splitlines(), entries),
         *(numbers, gaps, board, times, PROVISIONAL),
@@ -296,6 +288,25 @@ async def whole(
         is_open = not all(entry.is_from_archive for entry in entries)
         history.state = PROVISIONAL if is_open else CORRECTED if history.corrections else SETTLED
     return history
+
+
+def read_back(
+    row: Any, tx: str, entries: list[Entry], text: str
+) -> tuple[Numbers, list[tuple[int, int]], SessionTimes]:
+    """A session's numbers and gaps on the board of its own lines, and its times."""
+    station, site = row["station"], row["site"]
+    found = figures(text)
+    numbers = found.get((station, "tx", tx), {})
+    gaps = [gap_of(key[2]) for key in found if key[0] == station and key[1] == "gap"]
+    messages = Transactions()
+    for entry in entries:
+        if entry.line.startswith("msg "):
+            message = entry.line.split(" ", 2)[2]
+            with suppress(*ODD):
+                messages.take(Answered(0, site, station, entry.at, message, entry.answer))
+    transaction = messages.of(site, station, tx)
+    live = transaction.live(numbers["first"], numbers["last"], gaps) if numbers else []
+    return numbers, gaps, times_of(live, row["reading_order"] == "moment")
 
 
 def gap_of(name: str) -> tuple[int, int]:

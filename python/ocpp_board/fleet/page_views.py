@@ -40,8 +40,8 @@ FILE = re.compile(
 FILE_DAY = re.compile(r"board\.(\d{4}-\d\d-\d\d)\.")
 # The most periods of a site's day.
 MOST_PERIODS = 1_000_000_000
-# Rows of a table, and lines of a session that are shown as they are.
-MOST_ROWS, MOST_LINES = 500, 2_000
+# Rows of a table; lines of a session that are shown as they are, and the letters that these have.
+MOST_ROWS, MOST_LINES, MOST_LETTERS = 500, 2_000, 1 << 20
 # Sessions that are not complete: first those that lack messages, the oldest first.
 LACKING = """
 select t.shard, h.moving_to, t.site, t.station, t.transaction, t.first, t.last, t.missing, t.at, p.zone,
@@ -371,6 +371,17 @@ def entry_line(entry: Entry, zone: str) -> Line:
     return Line([reading_text(entry), at, heard, entry.answer, where, why], is_bad)
 
 
+def shown_of(lines: Iterable[str]) -> list[str]:
+    """The lines in front that a page shows as they are."""
+    found, left = list[str](), MOST_LETTERS
+    for line in lines:
+        left -= len(line) + 1
+        if left < 0 or len(found) == MOST_LINES:
+            break
+        found.append(line)
+    return found
+
+
 def deed_line(row: Any, zone: str, is_of_one: bool) -> Line:
     """The row of what an operator did."""
     what = f"{row['command']} {row['number']}"
@@ -431,12 +442,14 @@ async def session(asked: Asked) -> Response:
     desk = asked.desk
     names = (asked.path("station"), asked.path("transaction"))
     history = await history_of(desk.cells, desk.program, desk.known, asked.operator, *names)
-    rows = [entry_line(entry, history.zone) for entry in history.entries[-MOST_ROWS:]]
-    count = len(history.entries)
+    last, count = history.entries[-MOST_ROWS:], len(history.entries)
+    # Long lines take their time, in which others are answered.
+    rows = await asyncio.to_thread(lambda: [entry_line(entry, history.zone) for entry in last])
     caption = "Its lines, in the order in which the ledger took them"
     if count > MOST_ROWS:
         caption += f"; the last {MOST_ROWS:,} of {count:,}"
     script = [*history.declarations, *(entry.line for entry in history.entries)]
+    shown = shown_of(script)
     heads = ("Event", " Its time", " Heard", " Answer", " Where", " Who and why")
     heard = [entry.at for entry in history.entries if entry.at]
     closed = history.closing["at"] if history.closing else None
@@ -455,8 +468,8 @@ async def session(asked: Asked) -> Response:
         rows=rows,
         deed_heads=DEED_HEADS,
         deeds=[deed_line(row, history.zone, True) for row in history.deeds],
-        script="\n".join(script[:MOST_LINES]),
-        left=f"{len(script) - MOST_LINES:,}" if len(script) > MOST_LINES else "",
+        script="\n".join(shown),
+        left=f"{len(script) - len(shown):,}" if len(script) > len(shown) else "",
         until=moment(until, history.zone, UNKNOWN),
     )
 

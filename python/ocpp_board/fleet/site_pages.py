@@ -1,4 +1,4 @@
-"""Makes the pages and tables of one site of a fleet, in a process of its own, since that may take seconds.
+"""Makes the pages and tables of one site of a fleet; of a large one in a process, since that may take seconds.
 
     python3 -m ocpp_board.fleet.site_pages FOLDER < JSON
 

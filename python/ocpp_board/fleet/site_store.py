@@ -1,4 +1,4 @@
-"""The pages of sites, made by a process of its own each (site_pages.py) and kept while their boards stay."""
+"""The pages of sites, made by site_pages.py and kept while their boards stay."""
 
 import asyncio
 import json
@@ -13,12 +13,16 @@ from ocpp_board.fleet import parts
 from ocpp_board.fleet.api_queries import STATIONS
 from ocpp_board.fleet.cells import FINDINGS, Cell, Room, Wrong, board_text
 from ocpp_board.fleet.page_render import zone_of
+from ocpp_board.fleet.site_pages import write
 from ocpp_board.fleet.states import figures_said, station_states
 
 # Sites whose pages are kept, processes at once that make some with those that wait, and seconds for one.
 KEPT, MAKERS, WAITING, PATIENCE = 16, 2, 16, 60
 # A site's pages have the archived periods of so many days. One before them is made by itself.
 DAYS = 92
+# Letters of boards up to which pages are made beside the event loop, in less time than a process takes to begin: a day
+# of a site mostly has fewer. Of more a process makes them, which may take seconds.
+SMALL = 65_536
 # A shard has no more stations.
 MOST_STATIONS = 64
 MARKS = ("shard", "period", "reading_order", "zone", "place", "at", "closing")
@@ -98,14 +102,24 @@ class SiteStore:
             "states": states,
         }
         with tempfile.TemporaryDirectory(prefix="ocpp-page.") as folder:
-            await run_maker(folder, json.dumps(given).encode())
+            await (make(folder, given) if len(text) <= SMALL else run_maker(folder, given))
             files = {path.name: path.read_bytes() for path in Path(folder).iterdir()}
         return SitePages(mark, archived, until, files)
 
 
-async def run_maker(folder: str, data: bytes) -> None:
-    """Has the files made in a folder. Raises Wrong where that fails or takes too long."""
-    words = ["ocpp_board.fleet.site_pages", folder]
+async def make(folder: str, given: dict[str, Any]) -> None:
+    """Makes the files in a folder, beside the event loop. Raises Wrong where that fails."""
+    try:
+        await asyncio.to_thread(write, Path(folder), given)
+    except OSError as fault:
+        raise Wrong(
+            HTTPStatus.INTERNAL_SERVER_ERROR, f"the page could not be made: {fault}"
+        ) from None
+
+
+async def run_maker(folder: str, given: dict[str, Any]) -> None:
+    """Has a process make the files in a folder. Raises Wrong where that fails or takes too long."""
+    words, data = ["ocpp_board.fleet.site_pages", folder], json.dumps(given).encode()
     try:
         made = await parts.completed(words, PATIENCE, data, PGPASSWORD="")
     except TimeoutError:

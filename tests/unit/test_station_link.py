@@ -1,0 +1,177 @@
+"""A station's connection to a gateway: what is read of it before it is let in, and how much behind that."""
+
+import argparse
+import asyncio
+from collections.abc import Callable
+from types import SimpleNamespace
+from typing import Any
+
+import pytest
+
+pytest.importorskip("asyncpg")
+pytest.importorskip("websockets")
+
+from websockets.frames import OP_CONT, OP_PING, OP_PONG, OP_TEXT, Frame, Opcode  # noqa: E402
+
+from ocpp_board.fleet import gateway  # noqa: E402
+from ocpp_board.fleet.gateway import BURST, FRAMES, LONGEST_HEAD, StationLink  # noqa: E402
+from tests.fleet.client import handshake  # noqa: E402
+
+HEARTBEAT = b'[2,"1","Heartbeat",{}]'
+
+
+class Wire(asyncio.Transport):
+    """The other end of a connection: what came there, and whether something is read of it."""
+
+    def __init__(self) -> None:
+        super().__init__({"peername": ("192.0.2.1", 1)})
+        self.written, self.is_read, self.is_cut = b"", True, False
+
+    def write(self, data: Any) -> None:
+        self.written += data
+
+    def is_closing(self) -> bool:
+        return self.is_cut
+
+    def abort(self) -> None:
+        self.is_cut = True
+
+    def can_write_eof(self) -> bool:
+        return True
+
+    def write_eof(self) -> None:
+        pass
+
+    def pause_reading(self) -> None:
+        self.is_read = False
+
+    def resume_reading(self) -> None:
+        self.is_read = True
+
+
+class Gateway:
+    """What a connection asks of its gateway, which lets a station in once a test says so."""
+
+    def __init__(self) -> None:
+        self.words = argparse.Namespace(open=False, client_ca=None, client_header=None, proxy=[])
+        self.links, self.served = set[StationLink](), dict[str, StationLink]()
+        self.homes: dict[str, Any] = {"CS-1": (None, 0)}
+        self.paces: dict[str, Any] = {}
+        self.door = SimpleNamespace(is_known=lambda *_: False)
+        self.own, self.asked = self, list[str]()
+        self.judged = 0
+
+    def spawn(self, job: Any) -> None:
+        """The verdict comes later."""
+        job.close()
+        self.judged += 1
+
+    def serve(self, link: StationLink) -> None:
+        self.served[link.name] = link
+
+    def ask(self, _link: StationLink, text: str) -> None:
+        """A message that is no event."""
+        self.asked.append(text)
+
+
+def connected() -> tuple[StationLink, Wire, Gateway]:
+    """A connection that begins."""
+    own: Any = Gateway()
+    link, wire = StationLink(own), Wire()
+    link.connection_made(wire)
+    return link, wire, own
+
+
+def let_in(link: StationLink, own: Gateway) -> None:
+    """Its password is one that the gateway knows."""
+    own.door.is_known = lambda *_: True
+    link.data_received(handshake("CS-1", "a-password"))
+    assert own.served == {"CS-1": link}
+
+
+def masked(opcode: Opcode, data: bytes = b"", fin: bool = True) -> bytes:
+    return Frame(opcode, data, fin=fin).serialize(mask=True)
+
+
+def ran(job: Callable[[], None]) -> None:
+    """Does something within an event loop."""
+
+    async def run() -> None:
+        job()
+
+    asyncio.run(run())
+
+
+@pytest.mark.parametrize("size", [7, 10_000])
+def test_nothing_is_read_behind_a_handshake_before_the_verdict(size: int) -> None:
+    def job() -> None:
+        link, wire, own = connected()
+        data = handshake("CS-1", "a-password") + masked(OP_PONG) * 1000
+        data += masked(OP_TEXT, HEARTBEAT) * 1000
+        at = 0
+        while wire.is_read:
+            link.data_received(data[at : at + size])
+            at += size
+        assert own.judged == 1 and at < len(data)
+        # What the system had read by then goes nowhere.
+        link.data_received(data[at:])
+        assert not (own.asked or own.paces or link.unread or link.begun or link.head)
+        assert not wire.written and not wire.is_cut
+
+    ran(job)
+
+
+@pytest.mark.parametrize("size", [1, 1000, 1 << 20])
+def test_a_handshake_has_so_many_bytes(size: int) -> None:
+    def job() -> None:
+        link, wire, own = connected()
+        data, read = b"GET /ocpp/CS-1 HTTP/1.1\r\nX: " + b"x" * (1 << 20), 0
+        while not wire.is_cut and read < len(data):
+            link.data_received(data[read : read + size])
+            read += size
+        assert wire.is_cut and read <= LONGEST_HEAD + size and not own.judged
+
+    ran(job)
+
+
+@pytest.mark.parametrize(
+    "front, frame",
+    [
+        (b"", masked(OP_PONG)),
+        (b"", masked(OP_PING)),
+        (masked(OP_TEXT, fin=False), masked(OP_CONT, fin=False)),
+        (b"", masked(OP_TEXT, HEARTBEAT)),
+    ],
+)
+def test_frames_of_any_kind_have_a_pace(
+    front: bytes, frame: bytes, monkeypatch: pytest.MonkeyPatch
+) -> None:
+    now, later = [1000.0], list[Any]()
+    monkeypatch.setattr(gateway, "UNANSWERED", 1 << 30)
+
+    async def run() -> None:
+        loop = asyncio.get_running_loop()
+        clock = SimpleNamespace(monotonic=lambda: now[0])
+        monkeypatch.setattr("ocpp_board.fleet.gateway.time", clock)
+        monkeypatch.setattr(loop, "call_later", lambda *words: later.append(words[1]))
+        link, wire, own = connected()
+        let_in(link, own)
+        counted, count = list[int](), link.count
+
+        def counting(size: int) -> None:
+            counted.append(size)
+            count(size)
+
+        monkeypatch.setattr(link, "count", counting)
+        link.data_received(front + frame * 10_000)
+        # A minute's worth, one more, and what is in the same part of what came.
+        most = BURST * FRAMES + 4096 // len(frame) + 2
+        assert BURST * FRAMES < len(counted) <= most and not wire.is_read
+        had = len(counted)
+        link.data_received(frame * 10_000)
+        assert len(counted) == had
+        now[0] += 1
+        later.pop()()
+        assert had < len(counted) <= had + FRAMES + most - BURST * FRAMES and not wire.is_read
+
+    asyncio.run(run())
