@@ -164,6 +164,7 @@ with_program() {
     as_stored tables/repeats.findings.csv "$made/repeated.findings.csv"
     # Commands that are drawn, at a site by moment and at one by sequence, against plain lists.
     "$one" drawn_orders "$program" || differs drawn_orders
+    "$one" settled_month "$program" || differs settled_month
 
     # The commands of the examples, as they are written there.
     written_as README.md
