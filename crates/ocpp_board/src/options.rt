@@ -309,16 +309,25 @@ fn receipt_times_option<'a>(alloc: Global) -> Result<Arg<'a>, AllocError>
 fn restore_option<'a>(alloc: Global) -> Result<Arg<'a>, AllocError>
     ensures { IfOk result IsOption }
 {
-    Arg::new(alloc, "restore")
+    let option = Arg::new(alloc, "restore")
         .long("restore")
         .action(ArgAction::SetTrue)
         .help("With --live, begin with the script on standard input up to its line `listen`")
         .conflicts_with("stations")?
+        .requires_arg("live")?;
+    without_plan(option)
+}
+
+// The option, which does not go with those that say how sites and stations are.
+fn without_plan<'a>(option: Arg<'a>) -> Result<Arg<'a>, AllocError>
+    requires { IsOption option }
+    ensures { IfOk result IsOption }
+{
+    option
         .conflicts_with("period")?
         .conflicts_with("order")?
         .conflicts_with("settle")?
-        .conflicts_with("limits")?
-        .requires_arg("live")
+        .conflicts_with("limits")
 }
 
 fn allow_left_out_option<'a>(alloc: Global) -> Result<Arg<'a>, AllocError>
