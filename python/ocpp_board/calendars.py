@@ -11,8 +11,8 @@ from ocpp_board.limits import MOMENT
 
 # The rows of more days in a row without a period are left out: a clock that was set wrong may be years away.
 LONGEST_PAUSE = 62
-# Characters of a moment to the second, without its offset.
-TO_SECOND = len("2026-03-01 10:00:00")
+# Characters of a moment to the minute.
+TO_MINUTE = len("2026-03-01 10:00")
 
 
 class Calendar:
@@ -27,6 +27,7 @@ class Calendar:
         self.day = lru_cache(KEPT_MOMENTS)(self.day_of)
         self.times = lru_cache(KEPT_MOMENTS)(self.times_of)
         self.cells = lru_cache(KEPT_MOMENTS)(self.cells_of)
+        self.minute = lru_cache(KEPT_MOMENTS)(self.minute_of)
 
     def day_of(self, moment: datetime) -> date:
         """The day of a moment."""
@@ -50,7 +51,12 @@ class Calendar:
 
     def second(self, at: float) -> str:
         """The day and the time to the second of a moment in seconds since 1970."""
-        return datetime.fromtimestamp(at, self.zone).isoformat(" ", "seconds")[:TO_SECOND]
+        minute, second = divmod(int(at), 60)
+        return f"{self.minute(minute)}:{second:02}"
+
+    def minute_of(self, minute: int) -> str:
+        """The day and the time to the minute of the beginning of a minute since 1970; zones have whole minutes."""
+        return datetime.fromtimestamp(minute * 60, self.zone).isoformat(" ")[:TO_MINUTE]
 
     def label(self, moment: datetime) -> str:
         """The hour and the minute of a moment. In an hour that comes twice they are 2A:15 and later 2B:15."""

@@ -32,6 +32,7 @@ script and of the operator's lines, and with --once the end of the log. It write
 
 import argparse
 import logging
+import math
 import os
 import signal
 import sys
@@ -67,6 +68,8 @@ LONGEST_LINE = 262_500
 # Seconds: from one look at what runs to the next, between showings of the progress, for the ledgers to be opened
 # where the script is at its end, and for what is under way to end.
 LOOK, SHOWN, OPENED, LAST = 0.1, 0.5, 30, 5
+# Seconds behind a signal in which another one is the same.
+SAME = 1
 # Seconds from one writing to the next while what a log had at the start is read, which each writing slows down.
 READING = 60
 
@@ -357,9 +360,18 @@ def arguments(argv: Sequence[str], prog: str) -> argparse.Namespace:
     return words
 
 
-def interrupted(_number: int, _frame: FrameType | None) -> None:
-    """A signal ends the run as Control-C does."""
-    raise KeyboardInterrupt
+def interrupts() -> Callable[[int, FrameType | None], None]:
+    """What a signal does: it ends the run, as Control-C does. Another one right behind it is the same, since `timeout`
+    sends two."""
+    last = -math.inf
+
+    def interrupted(_number: int, _frame: FrameType | None) -> None:
+        nonlocal last
+        before, last = last, time.monotonic()
+        if last - before > SAME:
+            raise KeyboardInterrupt
+
+    return interrupted
 
 
 def keep_pages(words: argparse.Namespace) -> int:
@@ -383,7 +395,10 @@ def main(argv: Sequence[str], prog: str) -> NoReturn:
     """Runs the tool with these words, and ends the process: threads may still wait for input that never comes."""
     words = arguments(argv, prog)
     keep_many()
-    signal.signal(signal.SIGTERM, interrupted)
+    handler = interrupts()
+    for number in (signal.SIGINT, signal.SIGTERM):
+        if signal.getsignal(number) is not signal.SIG_IGN:
+            signal.signal(number, handler)
     status = ended(partial(keep_pages, words))
     sys.stdout.flush()
     os._exit(status)

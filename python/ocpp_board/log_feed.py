@@ -30,8 +30,8 @@ from ocpp_board.session_facts import SessionFacts
 
 log = logging.getLogger(__name__)
 
-# Seconds until the log is looked at again.
-AGAIN = 0.5
+# Seconds until the log is looked at again, and lines of a look from which on it has more.
+AGAIN, FEW = 0.5, 100
 # The receipt of a message in the lines of a script.
 RECEIPT = re.compile(rb"^# received (\S+)$", re.MULTILINE)
 # Bytes of the script that an operator's line may take.
@@ -118,12 +118,12 @@ class LogFeed:
                     return
             self.is_ending.wait(AGAIN)
 
-    def take_next(self, followed: Followed) -> bool:
-        """Takes the lines that came, and gives whether there were some."""
+    def take_next(self, followed: Followed) -> int:
+        """Takes the lines that came, and returns how many."""
         lines = followed.lines()
         if lines:
             self.take(lines, followed.place)
-        return bool(lines)
+        return len(lines)
 
     def fit(self, plan: ScriptPlan, script: Path) -> bool:
         """Gives stations the limits that fit what a script has, where none are asked for; returns whether they
@@ -148,9 +148,10 @@ class LogFeed:
         """Takes what the log has into the script, whose declarations fit that then."""
         self.is_gathering, self.followed = True, self.opened()
         while self.followed and not self.is_ending.is_set():
-            if not self.take_next(self.followed):
-                if self.followed.is_current():
-                    break
+            count = self.take_next(self.followed)
+            if count < FEW and self.followed.is_current():
+                break
+            if not count:
                 self.is_ending.wait(AGAIN)
         self.is_gathering = False
         if self.fit(self.reader.plan, self.kept.path):

@@ -2,7 +2,7 @@
 
 from collections.abc import Iterator, Mapping, Sequence
 from datetime import date, datetime, timedelta
-from typing import TextIO
+from typing import NamedTuple, TextIO
 
 from ocpp_board.boards import Part, know_site
 from ocpp_board.calendars import Calendar
@@ -44,6 +44,14 @@ def heads(calendar: Calendar) -> list[str]:
     return [*FRONT, *times, "period", *FLOWS, *KNOWN, READINGS, SETTLE]
 
 
+class Start(NamedTuple):
+    """The beginning of a period, the same in seconds since 1970, and the cells of the period's times."""
+
+    at: datetime
+    seconds: int
+    times: str
+
+
 class PeriodTable:
     """A writer of the rows of whole boards."""
 
@@ -66,18 +74,18 @@ class PeriodTable:
             self.file.writelines(self.rows(f"{front},{level},", part, starts, flows, doubts))
             for evse, one in sorted(part.known.evses.items()) if part.known else []:
                 level = f"EVSE,{site},{names[part.name]},{evse}"
-                of_evse = {start: one.flows.get(int(start.timestamp()), Flow()) for start in starts}
+                of_evse = {at: one.flows[stamp] for at, stamp, _ in starts if stamp in one.flows}
                 self.file.writelines(
                     self.rows(f"{front},{level}", part, starts, of_evse, one.doubts)
                 )
 
-    def starts(self, day: date, seconds: int) -> list[datetime]:
-        """The beginnings of a day's periods; their cells of times are known then."""
+    def starts(self, day: date, seconds: int) -> list[Start]:
+        """The beginnings of a day's periods, with their cells of times."""
         starts = self.calendar.starts(day, seconds)
         for start in starts:
             if (start, seconds) not in self.times:
                 self.times[start, seconds] = self.time_cells(start, seconds)
-        return starts
+        return [Start(at, int(at.timestamp()), self.times[at, seconds]) for at in starts]
 
     def time_cells(self, start: datetime, seconds: int) -> str:
         """When a period begins and ends, and its label."""
@@ -88,7 +96,7 @@ class PeriodTable:
         self,
         front: str,
         part: Part,
-        starts: Sequence[datetime],
+        starts: Sequence[Start],
         flows: Mapping[datetime, Flow],
         doubts: Doubts | None,
     ) -> Iterator[str]:
@@ -97,16 +105,16 @@ class PeriodTable:
         seconds, last = part.seconds, f"{'by time' if part.is_by_time else 'by sequence'},{rule}\n"
         none = ",".join(map(str, flow_cells(Flow())))
         sure = "measured,0,no" if doubts is not None else ",,"
-        for start in starts:
+        for start, stamp, times in starts:
             flow = flows.get(start)
             if flow is None or not any(flow):
                 cells = f"{none},0"
             else:
                 cells = f"{','.join(map(str, flow_cells(flow)))},{signed_kwh(flow.net)}"
-            doubt = doubts.get(int(start.timestamp()), SURE) if doubts else SURE
+            doubt = doubts.get(stamp, SURE) if doubts else SURE
             how = sure
             if doubt is not SURE and doubt != SURE:
                 figure = "estimated" if doubt.is_estimated else "measured"
                 missing = "yes" if doubt.has_gap else "no"
                 how = f"{figure},{signed_kwh(doubt.shared)},{missing}"
-            yield f"{front},{seconds},{self.times[start, seconds]},{cells},{how},{last}"
+            yield f"{front},{seconds},{times},{cells},{how},{last}"

@@ -1,7 +1,7 @@
 """The page of a session: its figures, what came with its answers, who voided what and why, and its lines."""
 
 import os
-from collections.abc import Iterator, Mapping, Sequence
+from collections.abc import Iterable, Iterator, Mapping, Sequence
 from dataclasses import dataclass, field
 from datetime import datetime
 from html import escape
@@ -26,6 +26,8 @@ from ocpp_board.transactions import Event
 
 # Rows of a page's tables, and characters of the lines that it has.
 MOST_ROWS, MOST_CHARACTERS = 1_000, 100_000
+# Characters that one becomes in HTML, at most.
+LONGEST_ESCAPE = len("&quot;")
 # Pages that are written by a process of their own.
 FEWEST = 100
 HEADS = ["Event", " Its time", " Received", " Readings, kWh", " Answer"]
@@ -116,8 +118,7 @@ class SessionPages:
             for one in some:
                 path = path_of(self.out, one.station, one.session.tx)
                 made = path.with_name(f".{path.name}.made")
-                with open(made, "w", encoding="utf-8", newline="") as file:
-                    file.write("".join(self.page(one, lines)))
+                made.write_bytes("".join(self.page(one, lines)).encode())
                 os.replace(made, path)
 
     def mark(self, one: Shown) -> int:
@@ -198,19 +199,31 @@ class SessionPages:
 
 def lines_of(numbers: Sequence[int], lines: OpenedLines) -> Iterator[str]:
     """The lines of the script that have a session, as far as its page has room for them."""
-    texts, size = list[str](), 0
-    for line in lines.read(numbers):
-        text = escape(line.decode("utf-8", "replace").rstrip("\r\n"))
-        if size + len(text) > MOST_CHARACTERS:
-            break
-        texts.append(text)
-        size += len(text)
+    read = (line.decode("utf-8", "replace").rstrip("\r\n") for line in lines.read(numbers))
+    texts = with_room(read)
+    text = "\n".join(texts)
+    if len(text) * LONGEST_ESCAPE <= MOST_CHARACTERS:
+        text = escape(text)
+    else:
+        texts = with_room(map(escape, texts))
+        text = "\n".join(texts)
     if not texts:
         return
     left = len(numbers) - len(texts)
     more = f" The script has {left:,} more." if left else ""
     yield f"<details>\n<summary>Its lines</summary>\n<p>As the script has them.{more}</p>\n"
-    yield '<pre class="across">' + "\n".join(texts) + "</pre>\n</details>\n"
+    yield f'<pre class="across">{text}</pre>\n</details>\n'
+
+
+def with_room(texts: Iterable[str]) -> list[str]:
+    """The first of these texts, as far as a page has room for them."""
+    found, size = list[str](), 0
+    for text in texts:
+        size += len(text)
+        if size > MOST_CHARACTERS:
+            break
+        found.append(text)
+    return found
 
 
 def refused_cells(row: Refused, calendar: Calendar) -> list[str]:

@@ -4,8 +4,8 @@
 
 PROGRAM serves the stations A and B of site north and C of site south by `serve --live`, anew in each scene:
 sessions that come again over one shelf of passes, a third session of a station, an operator's lines and each of
-their faults, input that ends in the middle of a line, the end while many clients are silent, connections that never
-finish their handshake, a client that reads nothing, the lines of `--log`, limits that are nearly used, and a
+their faults, input that ends in the middle of a line, Control-C, the end while many clients are silent, connections
+that never finish their handshake, a client that reads nothing, the lines of `--log`, limits that are nearly used, and a
 browser's requests. What has to come of it are the frames (RFC 6455) behind the answers to the handshakes, the answers
 to the lines, the boards at the end, and the exit status.
 
@@ -14,6 +14,7 @@ Exit status: 0; 1 when a scene is not as it should be; 2 when the program can't 
 
 import re
 import select
+import signal
 import socket
 import sys
 import threading
@@ -222,6 +223,17 @@ def input_ends_within_a_line(program: str) -> None:
     with Live(program) as server:
         server.input.write(b"close\ntotal A\n")
         server.ends(boards(0, 0, 0))
+
+
+def an_interrupt_writes_no_board(program: str) -> None:
+    """Control-C ends a server by the signal, and it writes no board; the end of its input has it write them."""
+    with Live(program) as server:
+        Station(server, "A").tells(0, 1)
+        server.process.send_signal(signal.SIGINT)
+        server.has_ended("", status=-signal.SIGINT)
+    with Live(program) as server:
+        Station(server, "A").tells(0, 1)
+        server.ends(boards(2, 0, 0))
 
 
 def boards_are_of_one_moment(program: str) -> None:
@@ -450,6 +462,7 @@ SCENES: tuple[Callable[[str], None], ...] = (
     operator_voids_between_events,
     faults_of_lines,
     input_ends_within_a_line,
+    an_interrupt_writes_no_board,
     boards_are_of_one_moment,
     sessions_are_told,
     limits_nearly_used,

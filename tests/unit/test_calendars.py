@@ -1,7 +1,7 @@
 """Days and hours of time zones."""
 
 from argparse import ArgumentTypeError
-from datetime import date, datetime, timezone
+from datetime import date, datetime, timedelta, timezone
 from zoneinfo import ZoneInfo
 
 import pytest
@@ -66,3 +66,14 @@ def test_what_is_said_of_a_zone() -> None:
 def test_a_zone_that_is_none(name: str) -> None:
     with pytest.raises(ArgumentTypeError, match="no time zone of this system"):
         zone(name)
+
+
+@pytest.mark.parametrize("zone", ["UTC", "Europe/Berlin", "Asia/Kathmandu", "America/St_Johns"])
+def test_moments_to_the_second_are_those_of_the_zone(zone: str) -> None:
+    calendar = Calendar(ZoneInfo(zone))
+    first = datetime(2026, 10, 25, 0, 29, 58, tzinfo=timezone.utc)
+    for number in range(4):
+        for part in (0.0, 0.25, 0.999999):
+            at = first + timedelta(seconds=number + part, hours=number)
+            local = at.astimezone(ZoneInfo(zone))
+            assert calendar.second(at.timestamp()) == f"{local:%Y-%m-%d %H:%M:%S}"

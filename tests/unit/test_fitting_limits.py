@@ -7,6 +7,7 @@ from pathlib import Path
 import pytest
 
 from ocpp_board.fitting_limits import fitting, readings_of, said, sent_in
+from ocpp_board.followed import Followed
 from ocpp_board.limits import MOST_READINGS
 from ocpp_board.near_limits import Counts
 from tests.unit.test_ledger import feed_of
@@ -103,6 +104,27 @@ def test_a_first_start_has_room_for_what_the_log_shows(
     ledger.ask(b"board north")
     assert ledger.counts["accepted"] == 1_102
     assert (tmp_path / "state/script").read_text().startswith(text)
+    feed.kept.lock.close()
+    ledger.close()
+
+
+def test_a_log_that_grows_all_the_time_is_gathered_up_to_its_end(
+    reference: str, tmp_path: Path, monkeypatch: pytest.MonkeyPatch
+) -> None:
+    (tmp_path / "log").write_text(started(0, "A1") + "\n")
+    feed, ledger, _ = feed_of(reference, tmp_path, stations=[f"A{n}" for n in range(64)])
+    looks, lines = [], Followed.lines
+
+    def growing(followed: Followed) -> list[bytes | None]:
+        """Each look finds a line more."""
+        looks.append(followed)
+        with open(tmp_path / "log", "a", encoding="utf-8") as log:
+            log.write(started(len(looks), "A1") + "\n" if len(looks) < 9 else "")
+        return lines(followed)
+
+    monkeypatch.setattr(Followed, "lines", growing)
+    feed.gather()
+    assert len(looks) == 1
     feed.kept.lock.close()
     ledger.close()
 

@@ -15,7 +15,7 @@ import pytest
 from ocpp_board.answered import Answered
 from ocpp_board.calendars import Calendar
 from ocpp_board.changed_days import digests
-from ocpp_board.live import READING, Run, arguments, keep_pages
+from ocpp_board.live import READING, Run, arguments, interrupts, keep_pages
 from ocpp_board.live_pages import Pages
 from ocpp_board.refusals import Refusal, Refusals
 from ocpp_board.session_facts import SessionFacts
@@ -58,6 +58,19 @@ def test_pages_wait_for_what_a_log_had_at_the_start() -> None:
     assert Run.pause(run) == 300.0
     words.every, words.log = 10.0, None
     assert Run.pause(run) == 10.0
+
+
+def test_a_signal_right_behind_another_is_the_same(monkeypatch: pytest.MonkeyPatch) -> None:
+    now = [100.0]
+    monkeypatch.setattr("ocpp_board.live.time", SimpleNamespace(monotonic=lambda: now[0]))
+    handler = interrupts()
+    with pytest.raises(KeyboardInterrupt):
+        handler(2, None)
+    now[0] += 0.5
+    handler(15, None)
+    now[0] += 5
+    with pytest.raises(KeyboardInterrupt):
+        handler(2, None)
 
 
 def test_a_day_changes_with_its_periods_alone() -> None:

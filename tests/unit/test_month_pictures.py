@@ -138,9 +138,36 @@ def test_a_day_whose_sessions_changed_is_written_again(tmp_path: Path) -> None:
         standing = frozenset([day])
         days = DayPages(layout(tmp_path, standing=standing, marks=marks))
         days.add(board("north", part))
-        return day in days.days
+        days.close()
+        path = tmp_path / f"x.{day}.html"
+        is_written = path.exists()
+        path.unlink(missing_ok=True)
+        return is_written
 
     assert written(part) and not written(part) and written(marked(2))
+
+
+@pytest.mark.parametrize("standing", [None, frozenset([date(2026, 3, 2)])])
+def test_days_are_the_same_in_copies(
+    standing: frozenset[date] | None, tmp_path: Path, monkeypatch: pytest.MonkeyPatch
+) -> None:
+    periods = [Period(DAY + timedelta(days=n), 900, Flow(100_000 * n)) for n in range(7)]
+    part = Part("A", False, 900, total=marked().total, periods=periods)
+    monkeypatch.setattr("ocpp_board.board_pages.FEWEST", 0)
+    found = []
+    for count in (1, 3):
+        monkeypatch.setattr("os.sched_getaffinity", lambda _process, n=count: set(range(n)))
+        days = DayPages(layout(tmp_path / str(count), standing=standing))
+        (tmp_path / str(count)).mkdir()
+        days.add(board("north", part))
+        days.close()
+        folder = tmp_path / str(count)
+        found.append({path.name: path.read_text() for path in folder.iterdir()})
+    alone, together = found
+    assert alone == together and len(alone) == (7 if standing is None else 6)
+    text = alone["x.2026-03-03.html"]
+    assert 'href="x.2026-03-02.html"' in text and 'href="x.2026-03-04.html"' in text
+    assert text.endswith("</html>\n")
 
 
 def test_the_page_of_all_sites_has_totals_doubts_and_freshness(tmp_path: Path) -> None:

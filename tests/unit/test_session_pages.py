@@ -15,7 +15,7 @@ from ocpp_board.ledger import Ledger
 from ocpp_board.operators import Deed
 from ocpp_board.refusals import Refusal, Refusals
 from ocpp_board.script_lines import ScriptLines
-from ocpp_board.session_pages import Known, SessionPages, href_of, path_of
+from ocpp_board.session_pages import Known, SessionPages, href_of, lines_of, path_of
 from ocpp_board.statuses import Status
 from ocpp_board.session_facts import SessionFacts
 from ocpp_board.troubles import FIRST, messages, sound
@@ -173,6 +173,35 @@ def test_lines_are_read_where_they_are(tmp_path: Path) -> None:
     for number, start in ((1, 0), (3, 0), (4, 4)):
         script.move(number, None, start)
     assert [*script.read([1, 3, 4])] == [b"two\n", b"two\n", b"four\n"]
+
+
+@pytest.mark.parametrize(
+    ("sent", "shown", "left"),
+    [
+        (b"abc\r\nde\n", "abc\nde", 0),
+        (b"<\n>\n", "&lt;\n&gt;", 0),
+        (b"0123456789\n" * 4, "0123456789\n0123456789", 2),
+        (b'""""\n""""\n\n', "&quot;&quot;&quot;&quot;", 2),
+        (b"01234567890123456789\n", "01234567890123456789", 0),
+        (b"012345678901234567890\n", "", 1),
+        (b'""""\n' * 2, "&quot;" * 4, 1),
+    ],
+)
+def test_lines_have_room_as_they_are_shown(
+    sent: bytes, shown: str, left: int, tmp_path: Path, monkeypatch: pytest.MonkeyPatch
+) -> None:
+    monkeypatch.setattr("ocpp_board.session_pages.MOST_CHARACTERS", 24 if b'"' in sent else 20)
+    script = ScriptLines()
+    script.path = tmp_path / "script"
+    script.path.write_bytes(sent)
+    script.passed_all(sent)
+    with script.opened() as lines:
+        text = "".join(lines_of(range(1, sent.count(b"\n") + 1), lines))
+    if not shown:
+        assert text == ""
+        return
+    assert f'<pre class="across">{shown}</pre>' in text
+    assert (f" The script has {left} more." in text) == bool(left)
 
 
 def test_lines_that_a_script_has_beside_what_was_sent_are_counted(
