@@ -3,6 +3,7 @@
 import stat
 import sys
 from pathlib import Path
+from typing import Any
 
 import pytest
 
@@ -54,3 +55,19 @@ def made_stub(tmp_path: Path) -> str:
     path.write_text(STUB)
     path.chmod(stat.S_IRWXU)
     return str(path)
+
+
+@pytest.fixture(name="begun")
+def replays_begun(monkeypatch: pytest.MonkeyPatch) -> list[Any]:
+    """The replays of the fleet that began."""
+    from ocpp_board.fleet.replays import Replay
+
+    found, start = list[Any](), Replay.start
+
+    async def starting(program: str) -> Replay:
+        replay = await start(program)
+        found.append(replay)
+        return replay
+
+    monkeypatch.setattr(Replay, "start", starting)
+    return found

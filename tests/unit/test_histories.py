@@ -13,6 +13,7 @@ for package in ("asyncpg", "starlette"):
 from ocpp_board.fleet import histories  # noqa: E402
 from ocpp_board.fleet.archives import packed  # noqa: E402
 from ocpp_board.fleet.histories import History, history_of  # noqa: E402
+from ocpp_board.fleet.replays import Replay  # noqa: E402
 from tests.fleet.trials import event  # noqa: E402
 
 AT = datetime(2026, 3, 2, 9, tzinfo=timezone.utc)
@@ -64,16 +65,23 @@ class Cells:
         return found.get(query, [])
 
 
-def shown(reference: str, cells: Any, name: str) -> History:
+def shown(reference: str, begun: list[Replay], cells: Any, name: str) -> History:
     """The history of a session."""
     operator: Any = None
-    return asyncio.run(history_of(cells, reference, frozenset(), operator, "A", name))
+
+    async def run() -> History:
+        history = await history_of(cells, reference, frozenset(), operator, "A", name)
+        while begun:
+            await begun.pop().process.communicate()
+        return history
+
+    return asyncio.run(run())
 
 
-def test_a_session_of_the_log_and_one_of_an_archive(reference: str) -> None:
+def test_a_session_of_the_log_and_one_of_an_archive(reference: str, begun: list[Replay]) -> None:
     live, gone = lines("TX-1"), lines("TX-2")
     cells = Cells([live[0], gone[1], *live[1:]], {"tx-2": gone})
-    history = shown(reference, cells, "TX-1")
+    history = shown(reference, begun, cells, "TX-1")
     assert [entry.line for entry in history.entries] == live
     assert [entry.place for entry in history.entries] == [0, 2, 3]
     assert all(entry.answer.startswith("[3,") for entry in history.entries)
@@ -81,16 +89,16 @@ def test_a_session_of_the_log_and_one_of_an_archive(reference: str) -> None:
     assert (history.state, found) == ("provisional", [1_000_000, 1])
     assert history.times.start == datetime(2026, 3, 1, 8, tzinfo=timezone.utc)
     # What came for the other one since makes it provisional, and is behind its archived lines.
-    history = shown(reference, cells, "TX-2")
+    history = shown(reference, begun, cells, "TX-2")
     assert [entry.line for entry in history.entries] == [*gone, gone[1]]
     assert [entry.is_from_archive for entry in history.entries] == [True, True, True, False]
     assert (history.state, history.numbers["events"]) == ("provisional", 3)
-    history = shown(reference, Cells([], {"tx-2": gone}), "TX-2")
+    history = shown(reference, begun, Cells([], {"tx-2": gone}), "TX-2")
     assert (history.state, history.closing["closing"]) == ("settled", 3)
 
 
 def test_lines_are_read_beside_the_event_loop(
-    reference: str, monkeypatch: pytest.MonkeyPatch
+    reference: str, begun: list[Replay], monkeypatch: pytest.MonkeyPatch
 ) -> None:
     # Lines of 64 MiB take seconds, in which the page answers others.
     seen = set[str]()
@@ -111,5 +119,5 @@ def test_lines_are_read_beside_the_event_loop(
     live, gone = lines("TX-1"), lines("TX-2")
     cells = Cells([*live, gone[1]], {"tx-2": gone})
     for name in ("TX-1", "TX-2"):
-        shown(reference, cells, name)
+        shown(reference, begun, cells, name)
     assert seen >= {*names, "times_of"}

@@ -43,19 +43,6 @@ class Database:
         return [{"lines": packed(self.lines[values[1], values[2]])}]
 
 
-@pytest.fixture(name="begun")
-def counted(monkeypatch: pytest.MonkeyPatch) -> list[Replay]:
-    """The replays that began."""
-    found, start = list[Replay](), Replay.start
-
-    async def starting(program: str) -> Replay:
-        found.append(await start(program))
-        return found[-1]
-
-    monkeypatch.setattr(Replay, "start", starting)
-    return found
-
-
 def ran(begun: list[Replay], job: Callable[[], Awaitable[None]]) -> None:
     """Does something within an event loop, and waits for the ends of replays."""
 
