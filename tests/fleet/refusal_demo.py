@@ -63,7 +63,7 @@ class Demo(ClosingTrial):
             "select * from own_refusal where cause = 'ConflictingEvent'"
         )
         self.check(
-            "with another kind" in row["what"] and "leave it out" in row["advice"]
+            "and another kind" in row["what"] and "leave it out" in row["advice"]
             and row["first"] < row["last"],
             f"why, and what to do: {row['what']}; {row['advice']}",
         )  # fmt: skip
