@@ -48,8 +48,8 @@ gives() {
     [ $ended = "$status" ] || { cat "$made/told"; differs "the status of $*: $ended, not $status,"; }
 }
 
-# tells STATUS LINE COMMAND..: the command ends with this status, and its standard error has LINE.
-tells() {
+# reports STATUS LINE COMMAND..: the command ends with this status, and its standard error has LINE.
+reports() {
     local status=$1 line=$2
     shift 2
     "$@" > "$made/given" 2> "$made/told"
@@ -58,7 +58,7 @@ tells() {
         echo "told: $line"
     else
         cat "$made/told"
-        differs "what $* tells (status $ended, not $status with '$line')"
+        differs "what $* reports (status $ended, not $status with '$line')"
     fi
 }
 
@@ -104,18 +104,18 @@ with_program() {
     gives 1 explain/orders.told "$board" explain --program "$program" explain/orders.script
     gzip -c "$days/day.script" > "$made/day.script.gz"
     gives 1 explain/gzip.told bash -c 'cd "$2" && "$board" explain --program "$1" day.script.gz' _ "$program" "$made"
-    tells 2 "No such file or directory" "$board" explain --program "$program" nowhere.script
-    tells 2 "No such file or directory" "$board" explain --program ./nowhere "$days/day.script"
-    tells 2 "No space left on device" bash -c '"$board" explain --program "$1" explain/mistakes.script > /dev/full' _ "$program"
+    reports 2 "No such file or directory" "$board" explain --program "$program" nowhere.script
+    reports 2 "No such file or directory" "$board" explain --program ./nowhere "$days/day.script"
+    reports 2 "No space left on device" bash -c '"$board" explain --program "$1" explain/mistakes.script > /dev/full' _ "$program"
 
     # The ledgers are open by the time that the operator's lines come.
     gives 0 live/answers bash -c '{ sleep 2; cat live/operator; } | "$board" live --program "$1" --out "$2" --every 0.2 \
         --tz Europe/Berlin <(cat forms/ocpp.script; sleep 4)' _ "$program" "$made/live"
     as_stored live/north.transactions.csv "$made/live/north.transactions.csv"
-    tells 1 "there is no board" "$board" live --program "$program" --out "$made/live" /dev/null < /dev/null
-    tells 2 "No such file or directory" "$board" live --program "$program" --out "$made/live" nowhere.script
-    tells 2 "the script is compressed by gzip" "$board" live --program "$program" --out "$made/live" "$made/day.script.gz" < /dev/null
-    tells 2 "No such file or directory" "$board" live --program ./nowhere --out "$made/live" forms/ocpp.script
+    reports 1 "there is no board" "$board" live --program "$program" --out "$made/live" /dev/null < /dev/null
+    reports 2 "No such file or directory" "$board" live --program "$program" --out "$made/live" nowhere.script
+    reports 2 "the script is compressed by gzip" "$board" live --program "$program" --out "$made/live" "$made/day.script.gz" < /dev/null
+    reports 2 "No such file or directory" "$board" live --program ./nowhere --out "$made/live" forms/ocpp.script
 
     # Two sessions of each kind of trouble: each is in the tables and on the pages, and counted there.
     "$board" traffic 2 troubles > "$made/troubles.script"
@@ -128,15 +128,15 @@ with_program() {
         as_stored "tables/$name.csv" "$made/$name.csv"
     done
     holds tables/troubles.said
-    tells 0 "sessions with findings: power that cannot be: 2, signed value differs: 2, register reset or exchanged: 2, " \
+    reports 0 "sessions with findings: power that cannot be: 2, signed value differs: 2, register reset or exchanged: 2, " \
         "$board" tables --script "$made/troubles.script" --program "$program" --out "$made/x" tables/troubles.text
-    tells 2 "the script is compressed by gzip" "$board" tables --script "$made/day.script.gz" --program "$program" \
+    reports 2 "the script is compressed by gzip" "$board" tables --script "$made/day.script.gz" --program "$program" \
         --out "$made/x" tables/troubles.text
-    tells 2 "the text is not of the script $days/day.script: session " "$board" tables --script "$days/day.script" \
+    reports 2 "the text is not of the script $days/day.script: session " "$board" tables --script "$days/day.script" \
         --program "$program" --out "$made/x" tables/troubles.text
-    tells 2 "No such file or directory" "$board" tables --script nowhere.script --program "$program" --out "$made/x" \
+    reports 2 "No such file or directory" "$board" tables --script nowhere.script --program "$program" --out "$made/x" \
         tables/troubles.text
-    tells 2 "No such file or directory" "$board" tables --script "$made/troubles.script" --program ./nowhere \
+    reports 2 "No such file or directory" "$board" tables --script "$made/troubles.script" --program ./nowhere \
         --out "$made/x" tables/troubles.text
 
     # What was refused of a script, with a page that links to it; the action Authorize is none of these.
@@ -228,26 +228,26 @@ gives 0 forms/nested.script "$board" log-to-script --time-field meta.at --site-f
 gzip -c "$days/day.jsonl" > "$made/day.jsonl.gz"
 gives 0 "$days/day.jsonl.script" "${day_of_log[@]}" "$made/day.jsonl.gz"
 head -c -100 "$made/day.jsonl.gz" > "$made/cut.gz"
-tells 1 "the gzip is cut short" "${day_of_log[@]}" "$made/cut.gz"
+reports 1 "the gzip is cut short" "${day_of_log[@]}" "$made/cut.gz"
 gives 1 forms/mistakes.script "$board" log-to-script forms/mistakes.jsonl
-tells 0 "a time has no offset from UTC (--utc takes such times as UTC); its message goes without a time" \
+reports 0 "a time has no offset from UTC (--utc takes such times as UTC); its message goes without a time" \
     "$board" log-to-script --form ocpp --site north forms/ocpp.log
-tells 1 "examples/day.jsonl line 58: neither this line nor one before it is of the form ocpp" "$board" log-to-script --form ocpp --site n "$days/day.jsonl"
-tells 1 "neither this line nor one before it is of the form maeve" \
+reports 1 "examples/day.jsonl line 58: neither this line nor one before it is of the form ocpp" "$board" log-to-script --form ocpp --site n "$days/day.jsonl"
+reports 1 "neither this line nor one before it is of the form maeve" \
     "$board" log-to-script --form maeve --site north forms/ocpp.log
-tells 2 "forms/ocpp.log line 1 names no column message, origin, stationId, timestamp" \
+reports 2 "forms/ocpp.log line 1 names no column message, origin, stationId, timestamp" \
     "$board" log-to-script --form citrineos-csv --site north forms/ocpp.log
-tells 2 "has no sites: --site, --site-map or --stations names them" "$board" log-to-script --form ocpp forms/ocpp.log
-tells 2 "forms/ocpp.log line 2: not two names" "$board" log-to-script --stations forms/ocpp.log "$days/day.jsonl"
-tells 2 "not 300, 900, 1800 or 3600 seconds: 'north=600'" "$board" log-to-script --period north=600 "$days/day.jsonl"
-tells 2 "no name of a site: 'no/name=300'" "$board" log-to-script --period no/name=300 "$days/day.jsonl"
-tells 2 "not sequence or moment: 'north=time'" "$board" log-to-script --order north=time "$days/day.jsonl"
-tells 2 "no name of a site: 'no/name=moment'" "$board" log-to-script --order no/name=moment "$days/day.jsonl"
-tells 2 "--order names the site 'nroth', which the log does not have; its sites: riverside" \
+reports 2 "has no sites: --site, --site-map or --stations names them" "$board" log-to-script --form ocpp forms/ocpp.log
+reports 2 "forms/ocpp.log line 2: not two names" "$board" log-to-script --stations forms/ocpp.log "$days/day.jsonl"
+reports 2 "not 300, 900, 1800 or 3600 seconds: 'north=600'" "$board" log-to-script --period north=600 "$days/day.jsonl"
+reports 2 "no name of a site: 'no/name=300'" "$board" log-to-script --period no/name=300 "$days/day.jsonl"
+reports 2 "not sequence or moment: 'north=time'" "$board" log-to-script --order north=time "$days/day.jsonl"
+reports 2 "no name of a site: 'no/name=moment'" "$board" log-to-script --order no/name=moment "$days/day.jsonl"
+reports 2 "--order names the site 'nroth', which the log does not have; its sites: riverside" \
     "$board" log-to-script --order nroth=moment "$days/site_day.jsonl"
-tells 2 "No such file or directory" "$board" log-to-script nowhere.jsonl
-tells 2 "No space left on device" bash -c '"$board" log-to-script "$days/site_day.jsonl" > /dev/full'
-tells 2 "No space left on device" bash -c '"$board" log-to-script --form maeve --stations forms/stations.txt forms/maeve.mqtt > /dev/full'
+reports 2 "No such file or directory" "$board" log-to-script nowhere.jsonl
+reports 2 "No space left on device" bash -c '"$board" log-to-script "$days/site_day.jsonl" > /dev/full'
+reports 2 "No space left on device" bash -c '"$board" log-to-script --form maeve --stations forms/stations.txt forms/maeve.mqtt > /dev/full'
 
 # With --stations a line goes out before the next is there.
 coproc "$board" log-to-script --form maeve --stations forms/stations.txt 2> /dev/null
@@ -328,22 +328,22 @@ fi
 "$one" page_width "$made"/*.html
 case $? in 0 | 77) ;; *) differs "pages on a phone" ;; esac
 gives 1 tables/broken "$board" tables --out "$made/broken" tables/broken.text
-tells 1 "examples/day.jsonl line 58: the text ends, and no board began in it" "$board" tables --out "$made/noise" "$days/day.jsonl"
-tells 2 "the text is compressed by gzip" "$board" tables --out "$made/noise" "$made/day.jsonl.gz"
-tells 2 "No such file or directory" "$board" tables --out "$made/nowhere/x" "$days/day.expected"
-tells 2 "no time zone of this system: 'Mars'" "$board" tables --tz Mars --out "$made/x" "$days/day.expected"
-tells 2 "no time such as 2026-03-01T10:00:00Z: '2026-03-01T10:00:00'" \
+reports 1 "examples/day.jsonl line 58: the text ends, and no board began in it" "$board" tables --out "$made/noise" "$days/day.jsonl"
+reports 2 "the text is compressed by gzip" "$board" tables --out "$made/noise" "$made/day.jsonl.gz"
+reports 2 "No such file or directory" "$board" tables --out "$made/nowhere/x" "$days/day.expected"
+reports 2 "no time zone of this system: 'Mars'" "$board" tables --tz Mars --out "$made/x" "$days/day.expected"
+reports 2 "no time such as 2026-03-01T10:00:00Z: '2026-03-01T10:00:00'" \
     "$board" tables --written 2026-03-01T10:00:00 --out "$made/x" "$days/day.expected"
-tells 2 "--from is after --to" "$board" tables --from 2026-03-02 --to 2026-03-01 --out "$made/x" "$days/day.expected"
-tells 2 "File too large" bash -c 'ulimit -f 8; "$board" tables --out "$1" "$days/day.expected"' _ "$made/full"
+reports 2 "--from is after --to" "$board" tables --from 2026-03-02 --to 2026-03-01 --out "$made/x" "$days/day.expected"
+reports 2 "File too large" bash -c 'ulimit -f 8; "$board" tables --out "$1" "$days/day.expected"' _ "$made/full"
 # Traffic for measuring, and the clients' words.
 gives 0 forms/traffic.script "$board" traffic 3
-tells 2 "N is from 0 to 1,048,576" "$board" traffic 1048577
-tells 2 "N is from 0 to 1000 with troubles" "$board" traffic 1001 troubles
-tells 2 "200,000 events need 4 to 64 stations" "$board" traffic 200000 --stations 3
-tells 2 "No space left on device" bash -c '"$board" traffic 10 > /dev/full'
+reports 2 "N is from 0 to 1,048,576" "$board" traffic 1048577
+reports 2 "N is from 0 to 1000 with troubles" "$board" traffic 1001 troubles
+reports 2 "200,000 events need 4 to 64 stations" "$board" traffic 200000 --stations 3
+reports 2 "No space left on device" bash -c '"$board" traffic 10 > /dev/full'
 gives 0 - "$days/clients/station.py" --help
-tells 1 "Debian: apt-get install python3-websockets" python3 -c 'import runpy, sys
+reports 1 "Debian: apt-get install python3-websockets" python3 -c 'import runpy, sys
 sys.modules["websockets"] = None
 sys.argv = ["station.py", "ws://127.0.0.1:1/ocpp", "CS-01"]
 runpy.run_path("../../examples/clients/station.py", run_name="__main__")'
@@ -351,8 +351,8 @@ if node=$(command -v node); then
     gives 0 - "$days/clients/station.js" --help
     mkdir "$made/alone"
     cp "$days/clients/station.js" "$made/alone"
-    tells 1 "Debian: apt-get install node-ws" env NODE_PATH= "$node" "$made/alone/station.js" ws://127.0.0.1:1/ocpp CS-01
-    tells 2 "a URL and a station are needed" "$days/clients/station.js"
+    reports 1 "Debian: apt-get install node-ws" env NODE_PATH= "$node" "$made/alone/station.js" ws://127.0.0.1:1/ocpp CS-01
+    reports 2 "a URL and a station are needed" "$days/clients/station.js"
 fi
 echo "different: $different"
 [ $different = 0 ]

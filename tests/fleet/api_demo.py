@@ -392,7 +392,7 @@ class Demo(Trial):
     # What is settled --------------------------------------------------------------------------------------------------
 
     def states(self) -> dict[str, str]:
-        """How the periods of CS-00 and CS-01 on the first of March are told, by their times."""
+        """The states of the periods of CS-00 and CS-01 on the first of March, by their times."""
         rows = self.client.all(
             "/sites/north/periods?from=2026-03-01&to=2026-03-31", "periods", self.token, 1000
         )

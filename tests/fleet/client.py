@@ -55,7 +55,7 @@ class Client(ClientLink):
         context: ssl.SSLContext | None = None,
     ) -> "Client":
         """Connects the station to a gateway, with a login USER:PASSWORD, from an address of this machine and by TLS
-        where these are told."""
+        where these are given."""
         if login:
             url = url.replace("://", f"://{login}@")
         loop, whole = asyncio.get_running_loop(), parse_uri(f"{url}/{station}")

@@ -378,7 +378,7 @@ class Demo(Trial):
             await asyncio.sleep(0.1)
         self.check(
             fault in log.read_text(),
-            f"plan: {what}, of which this program knows nothing, is told: {fault}",
+            f"plan: {what}, unknown to this program, is reported: {fault}",
         )
 
     async def period(self, shard: int) -> None:

@@ -599,7 +599,7 @@ class Demo(Trial):
 
         self.check(await self.until(is_compacted), "a log that is nearly full is compacted")
         told = (self.fleet.folder / "parts.log").read_text().count("shard 900: its log has")
-        self.check(told == 2, f"and that is told where it is half full and at nine tenths: {told}")
+        self.check(told == 2, f"reported at half full and at nine tenths: {told}")
         self.check(await self.owner.fetchval(board) == before, "its board is as before")
         await self.closed_in_parts(size // 2, lines)
         self.check(await self.owner.fetchval(board) == before, "and so it is then")

@@ -122,7 +122,7 @@ class Demo(Trial):
             for name, word in (("ann", "a wrong one"), ("nobody", PASSWORD))
         }
         self.check(
-            len(told) == 1, f"a wrong password and a name that is none are told alike: {told}"
+            len(told) == 1, f"a wrong password and an unknown name have the same answer: {told}"
         )
         answer = stranger.login("ann")
         heads = answer.headers["set-cookie"]
@@ -166,7 +166,7 @@ class Demo(Trial):
         self.check(elsewhere == [303, 303], f"and eve from another address: {elsewhere}")
         self.check(before.get("/").status == 200, "where she is signed in she stays")
         status, told = operator(self.fleet, "list")
-        self.check("locked from 127.0.0.1 until" in told, "the list tells who is locked")
+        self.check("locked from 127.0.0.1 until" in told, "the list shows who is locked")
         await self.owner.execute("update sign_in set locked_until = now() where name = 'eve'")
         self.check(one.login("eve").status == 303, "once the lock is over eve signs in")
         await self.owner.execute("delete from sign_in")

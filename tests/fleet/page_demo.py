@@ -272,7 +272,7 @@ class Demo(Trial):
             not [b for b in self.browser.find_elements(By.TAG_NAME, "b") if b.text == "\"x\"&'y'"],
             "and is no HTML",
         )
-        self.check("1 message was refused" in self.text(), "what was refused is told")
+        self.check("1 message was refused" in self.text(), "what was refused is shown")
         self.shot("site")
         days = ["2026-03-01", "2026-03-02", "2026-03-03"]
         self.check(
@@ -404,7 +404,7 @@ class Demo(Trial):
             told
             == "Energy is settled to 2026-03-03. Numbers of sessions are provisional. Events and voided events "
             "are those of the log, and provisional.",
-            f"a site's figures are told: {told}",
+            f"a site's figures are shown: {told}",
         )
         cells = {
             row.find_element(By.CSS_SELECTOR, "th a")

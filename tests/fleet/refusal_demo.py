@@ -90,12 +90,12 @@ class Demo(ClosingTrial):
         await self.owner.execute("update own_station set events = 10 where station = 'C'")
         await self.came(*session("C", "TX-1", local("2026-03-01 08:00"), 8))
         path = self.fleet.folder / "parts.log"
-        self.check(NEAR not in path.read_text(), "eight of ten events are not told")
+        self.check(NEAR not in path.read_text(), "eight of ten events are not reported")
         await self.came(*session("C", "TX-2", local("2026-03-01 18:00"), 3)[:1])
         await self.owner.execute("update own_station set readings = 100 where station = 'C'")
         await self.came("void A TX-9 1")
         told = path.read_text().count(NEAR)
-        self.check(told == 1, f"nine of ten are told once: {told} times")
+        self.check(told == 1, f"nine of ten are reported once: {told} times")
 
     async def doors(self) -> None:
         """Who may read the rows, and who may not."""

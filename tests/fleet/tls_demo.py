@@ -189,7 +189,7 @@ class Demo(Trial):
         process.send_signal(signal.SIGHUP)
         is_told = await self.until_told("the certificate stays as it was")
         heard = await self.heard(self.trusting("second"))
-        self.check(is_told and heard == "101", f"a key that does not fit is told: {heard}")
+        self.check(is_told and heard == "101", f"a key that does not fit is reported: {heard}")
 
     async def certificates(self) -> None:
         """Profile 3: certificates of stations."""

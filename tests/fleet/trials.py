@@ -114,7 +114,7 @@ def parser_of(about: str | None) -> argparse.ArgumentParser:
 
 
 def parsed(parser: argparse.ArgumentParser) -> argparse.Namespace:
-    """The words; from here on faults are told, and a signal ends all that was started."""
+    """The words; from here on faults are reported, and a signal ends all that was started."""
     words = parser.parse_args()
     telling.set_up(parser.prog, named_from=logging.DEBUG)
     signal.signal(signal.SIGTERM, lambda *_: sys.exit(143))

@@ -115,7 +115,7 @@ class Demo(WatchedTrial):
         for name in self.parts:
             _, text = await asyncio.to_thread(asked, self.ports[name], "/metrics")
             told |= set(re.findall(rf"^# HELP {FRONT}(\w+) ", text, re.MULTILINE))
-        self.check(told == HELP.keys(), f"all figures are told: {told ^ HELP.keys() or len(told)}")
+        self.check(told == HELP.keys(), f"all figures are there: {told ^ HELP.keys() or len(told)}")
 
     async def common(self) -> None:
         """One server, and the faults that take no other one."""

@@ -337,7 +337,7 @@ def limits_nearly_used(program: str) -> None:
             while server.has_told() != b"".join(told[:lines]) and time.monotonic() < deadline:
                 time.sleep(0.01)
             if (found := server.has_told()) != b"".join(told[:lines]):
-                raise Differs(f"this is told: {found!r}")
+                raise Differs(f"standard error has {found!r}")
 
         def sends(station: Station, number: int, reply: bytes = b"") -> None:
             text = event(number, "Updated", "2026-03-01T10:00:00Z", number)

@@ -75,7 +75,7 @@ class Server(Served):
         self.told.seek(0)
         told = self.told.read().decode()
         if self.process.returncode != 0 or not re.fullmatch(lines, told):
-            raise Differs(f"status {self.process.returncode}, and this is told:\n{told}")
+            raise Differs(f"status {self.process.returncode}, and standard error has:\n{told}")
         if written.decode() != boards:
             raise Differs(f"these boards are written:\n{written.decode()}and not:\n{boards}")
         return told
@@ -190,7 +190,7 @@ class Live(Served):
         self.told.seek(0)
         lines = self.told.read().decode()
         if self.process.returncode != status or not re.fullmatch(told, lines):
-            raise Differs(f"status {self.process.returncode}, and this is told:\n{lines}")
+            raise Differs(f"status {self.process.returncode}, and standard error has:\n{lines}")
         if rest != written:
             raise Differs(f"this is written:\n{rest}and not:\n{written}")
         if took > within:
