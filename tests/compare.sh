@@ -319,7 +319,10 @@ for day in 2026-03-29 2026-10-25; do
 done
 # Labels, contrast and links of all pages that were made, and how wide they are on a phone, names and numbers being long.
 made_by "$board" tables --tz America/Argentina/ComodRivadavia --out "$made/long" tables/long.text
-if "$one" page_check "$made"/*.html "$made"/*.sessions/*.html > "$made/checked"; then
+shopt -s nullglob
+pages=("$made"/*.html "$made"/*.sessions/*.html)
+shopt -u nullglob
+if "$one" page_check "${pages[@]}" > "$made/checked"; then
     tail -n 1 "$made/checked"
 else
     cat "$made/checked"
