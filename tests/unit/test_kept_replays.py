@@ -25,7 +25,7 @@ def line(name: str, seq: int, wh: int, kind: str = "Updated") -> str:
 
 
 def session(name: str) -> list[str]:
-    """Three events, of which the second is not there."""
+    """Three events; the second is not there."""
     return [line(name, 0, 1000, "Started"), line(name, 2, 2000, "Ended")]
 
 

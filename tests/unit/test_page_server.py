@@ -13,7 +13,7 @@ from ocpp_board.fleet import page_server  # noqa: E402
 from ocpp_board.fleet.page_server import PageServer, Patient, listener_at  # noqa: E402
 
 WHOLE = b"GET / HTTP/1.1\r\nHost: a\r\n\r\n"
-# Parts of requests, at which somebody stops.
+# Parts of requests: somebody stops behind each.
 HEAD = b"GET / HTTP/1.1\r\nHost: a\r\n"
 BODY = b"POST / HTTP/1.1\r\nHost: a\r\nContent-Length: 100\r\n\r\nname=ann&"
 # Connections at once here, of one address and of all, and seconds for a request.
