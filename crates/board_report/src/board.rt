@@ -87,7 +87,7 @@ impl SiteBoard {
 
 /// The board of a site of this name, these settlement periods and this order of readings, with these figures and these
 /// stations' boards: it adds up the stations' energies quarter by quarter, in milliwatt-hours. The boards have to
-/// be by those periods ([`StationBoard::period`] tells), and the sums of each quarter to stay below 2^64.
+/// be by those periods ([`StationBoard::period`] has them), and the sums of each quarter to stay below 2^64.
 pub fn site_board(
     alloc: Global,
     name: &Name,

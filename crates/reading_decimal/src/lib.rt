@@ -5,7 +5,7 @@
 //! milliwatt-hours, without a float and without rounding to nearest. An instant comes as a time with
 //! its offset (RFC 3339); [`moment_of`] reads it and [`moment_text`] writes it. [`quarter`] gives the
 //! settlement period that a moment falls into, by periods of one of four lengths, [`settled_quarter`] the one
-//! in which a difference counts that ends there, and [`quarter_start`] where a period begins. [`is_integer`] tells the numbers that are integers.
+//! in which a difference counts that ends there, and [`quarter_start`] where a period begins. [`is_integer`] finds the numbers that are integers.
 //!
 //! The crate's contract: each call gives exactly the value, or exactly the fault, that a short
 //! definition gives for its text. The laws say what the definitions mean: a decimal is what the

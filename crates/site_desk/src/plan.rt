@@ -154,7 +154,7 @@ impl Plan {
 
     /// Gives the site of this number another rule by which differences count in its settlement periods.
     ///
-    /// Condition: the plan has the site ([`Plan::site`] tells).
+    /// Condition: the plan has the site ([`Plan::site`] finds it).
     pub fn set_settle(&mut self, site: usize, settle: Settle)
         requires { site < length self.old.sites.items }
         ensures sites { self.new.sites.items ≡ sites_settling site settle self.old.sites.items }
