@@ -29,8 +29,6 @@ TOP = Path(__file__).resolve().parent.parent.parent
 # Seconds for what comes to be so, on a machine with much else to do.
 PATIENCE = 60
 SCHEMA = TOP / "python/ocpp_board/fleet/schema.sql"
-# As it was before stations could be retired, for trying that such a database is migrated.
-OLD_SCHEMA = TOP / "tests/fleet/old-schema.sql"
 # Lines that are not noted as answered.
 UNTOLD = """
 select (select count(*) from inbox) + (select count(*) from inbox_kept) + count(*)
@@ -108,10 +106,9 @@ def free_port() -> int:
 
 def own_functions() -> bytes:
     """The schema's own functions of holding, in place of those of HOLD_ALL."""
-    files = [SCHEMA, *sorted(SCHEMA.with_name("schema").iterdir())]
-    pattern = r"create or replace function (?:living_workers|hold_shard)\(.*?\$\$;\n"
+    pattern = r"(?<=create )function (?:living_workers|hold_shard)\(.*?\$\$;\n"
     return "".join(
-        text for file in files for text in re.findall(pattern, file.read_text(), re.DOTALL)
+        f"create or replace {text}" for text in re.findall(pattern, SCHEMA.read_text(), re.DOTALL)
     ).encode()
 
 

@@ -1,116 +1,94 @@
-"""Brings databases that earlier schemas made, with data in them, to the schema of today, and goes on with each.
+"""Brings a database with data in it to a made-up next version of the schema, and compares it with a new one.
 
-    tests/one fleet.migrate_demo ocpp_board [VERSION..]
+    tests/one fleet.migrate_demo ocpp_board
 
-For each older version (0 is tests/fleet/old-schema.sql, from before versions were counted) it starts PostgreSQL 15 in
-a temporary folder, makes one database of that version and one by schema.sql, and fills the first. A tool has to refuse
-it by name. Then it runs schema.sql there twice: the two have to be alike, no row may have changed, and a closing has to
-find what the older version archived. A database of a later version is refused by tools and by schema.sql. The status
-is 1 where something is not as it must be.
+It starts PostgreSQL 15 in a temporary folder, and makes a database by schema.sql. A copy of schema.sql has one step
+more, by the lines that schema.sql shows for the next version. Run twice, the copy has to apply the step once and to change
+no other row, and the schema has to be that of a new database. Tools refuse a database of another version; schema.sql
+refuses one of a later version, and one from before its first. The status is 1 where something is not as it must be.
 """
 
-import argparse
 import asyncio
 import difflib
 import os
 import re
 import subprocess
 import sys
-from datetime import date
+from pathlib import Path
 from typing import Any
 
 import asyncpg
 
-from ocpp_board.fleet.archives import packed
 from ocpp_board.fleet.database import VERSION
 from tests.fleet.closings import ClosingTrial, local, session
-from tests.fleet.fleet import BIN, FILL, OLD_SCHEMA, SCHEMA, ended, tool
+from tests.fleet.fleet import BIN, FILL, SCHEMA, ended, tool
 from tests.fleet.trials import parsed, parser_of, tried
 
-# What each table had before, and has still.
 TABLES = """
-select relname from pg_class where relkind = 'r' and relnamespace = 'public'::regnamespace order by 1
+select relname from pg_class where relkind in ('r', 'p') and relnamespace = 'public'::regnamespace
+    and not relispartition and relname <> 'schema_version' order by 1
 """
 COLUMNS = """
 select string_agg(attname, ', ' order by attnum) from pg_attribute
-where attrelid = $1::text::regclass and attnum > 0 and not attisdropped and attname not in ('xid', 'taken')
-    and (attname <> 'id' or attrelid = 'stray'::regclass)
-"""
-ALL_COLUMNS = """
-select string_agg(attname, ', ' order by attnum) from pg_attribute
 where attrelid = $1::text::regclass and attnum > 0 and not attisdropped
 """
-# What a database of a numbered version has besides.
+# What a database has before the step.
 MORE = """
-update numbering set told = 1;
 insert into station_password (station, hash, salt, set_at)
     values ('A', decode(repeat('ab', 32), 'hex'), decode(repeat('cd', 16), 'hex'), now());
 insert into fed values ('csms.log', 7, 'front');
 insert into stray (source, station, line) values ('csms.log', 'C', 'msg C []');
-insert into own_finding (shard, site, station, transaction, finding, times, detail, meaning)
-    values (0, 'north', 'A', 'tx-1', 'an id used again', 1, 'detail', 'meaning');
-insert into own_refusal values (1, 0, 'B', 'tx-9', '1', 'ConflictingEvent', 'what', 'advice', 1, now(), now(), 1);
-"""
-CLOSING = """
-insert into own_closing (shard, site, closing, day, period, archive) values (0, 'north', 1, '2026-03-02', 900, $1)
-"""
-KEPT = """
-insert into own_archived_lines (shard, site, closing, station, transaction, lines)
-values (0, 'north', 1, 'A', 'tx-1', $1)
-"""
-ARCHIVED_TOTAL = """
-insert into own_archived_total (shard, site, closing, station, transactions, complete, missing, up, down, export_up,
-    export_down, corrects_transactions, corrects_complete, corrects_missing)
-values (0, 'north', 1, 'A', 1, 1, 0, 750000, 0, 0, 0, false, false, false)
-"""
-ARCHIVE = "north.shard-0.1.script"
-# Answers were given up to the first line.
-MARK = "update own_shard set (xid, id) = (select xid, id from own_log order by xid, id limit 1)"
-CLOSED_PERIOD = """
+insert into own_closing (shard, site, closing, day, period) values (0, 'north', 1, '2026-03-02', 900);
 insert into own_closed_period (shard, site, closing, station, starts, day, up, down)
-values (0, 'north', 1, 'A', $1, $2, $3, 0)
+    values (0, 'north', 1, 'A', '2026-03-01 08:00Z', '2026-03-01', 750000, 0);
 """
-ARCHIVED_PERIOD = """
-insert into own_archived_period (shard, site, closing, station, starts, up, down)
-values (0, 'north', 1, 'A', $1, $2, 0)
+# A step that could not be applied twice.
+STEP = """
+create table own_made_up (
+    applied integer not null
+);
+insert into own_made_up select count(*) from own_log;
+alter table station add column made_up integer not null default 8;
 """
-# What is settled of stations, as the page reads it.
-SETTLED = "select station, up, rows, corrections from own_settled"
-# What is archived of them, and how many closings corrected each number.
-ARCHIVED_SUM = """
-select station, transactions, complete, missing, up, down, corrected_transactions, corrected_complete, corrected_missing
-from own_archived_sum order by 1
-"""
+VERSIONS = "select array_agg(version order by version) from schema_version"
 
 
 class Demo(ClosingTrial):
     STATIONS = ((0, "north", "A"), (0, "north", "B"))
 
-    def __init__(self, words: argparse.Namespace, version: int) -> None:
-        super().__init__(words)
-        self.version = version
-
     async def one_cell(self) -> None:
         database = self.fleet.database()
         database.make()
         database.start()
-        if self.version:
-            database.psql("postgres", "-c", "create database ledger")
-            database.run_schema("ledger", "-v", "cell=1", "-v", f"to={self.version}")
-        else:
-            database.fill(1, schema=OLD_SCHEMA)
-        database.fill(1, "fresh")
-        # Tools refuse this database, and so would their session.
+        database.fill(1)
         self.owner = await asyncpg.connect(self.fleet.dsn("owner"))
+
+    def next_schema(self) -> Path:
+        """A copy of schema.sql that applies one step more."""
+        text = SCHEMA.read_text()
+        shown = re.search(
+            r"(?:^--     .*\n)+", text[text.index("-- Later versions") :], re.MULTILINE
+        )
+        assert shown
+        step = re.sub(r"^--     ", "", shown.group(), flags=re.MULTILINE)
+        folder = self.fleet.folder / "next"
+        (folder / "schema").mkdir(parents=True)
+        (folder / "schema" / f"{VERSION + 1:04}_name.sql").write_text(STEP)
+        copy = folder / "schema.sql"
+        copy.write_text(
+            text.replace(f"\\set to {VERSION}\n", f"\\set to {VERSION + 1}\n").replace(
+                shown.group(), step
+            )
+        )
+        return copy
 
     async def refused(self, wanted: str) -> None:
         """Tools refuse the database as it is, by the version."""
-        role = "ledger_worker"
-        for name, more in (
-            ("worker", ("--program", self.fleet.program)),
-            ("compact", ("--program", self.fleet.program, "--shard", 0)),
+        for name, role, more in (
+            ("worker", "ledger_worker", ()),
+            ("compact", "owner", ("--shard", 0)),
         ):
-            command = [*tool(name), "--db", self.fleet.dsn(role if name == "worker" else "owner")]
+            command = [*tool(name), "--db", self.fleet.dsn(role), "--program", self.fleet.program]
             made = self.fleet.start(*command, *more, stdout=-1, stderr=subprocess.STDOUT)
             try:
                 await asyncio.to_thread(made.wait, 20)
@@ -118,41 +96,6 @@ class Demo(ClosingTrial):
                 made.kill()
             status, said = await ended(made)
             self.check(status == 2 and wanted in said, f"{name}: {status}, {said[:200]}")
-
-    async def fill(self) -> None:
-        """What the older version had: an archived session, one that goes on, and what is settled of both."""
-        first = session("A", "TX-1", local("2026-03-01 08:00"), 4)
-        second = session("B", "TX-1", local("2026-03-01 08:00"), 4)[:2]
-        self.lines[0] = first + second
-        declared = "limits 256 2048 2048 1000000000\nstation north A\nstation north B\n"
-        text = declared + "".join(line + "\n" for line in first)
-        (self.archives / ARCHIVE).write_text(text)
-        if self.version:
-            await self.owner.execute(FILL, 0, second)
-            await self.owner.execute(MORE)
-            await self.owner.execute(CLOSING, ARCHIVE)
-        else:
-            for text in second:
-                await self.owner.execute("insert into own_log (shard, line) values (0, $1)", text)
-            await self.owner.execute(MARK)
-            await self.owner.execute(
-                "insert into own_closing (shard, site, closing, day, period, xid, id, archive) "
-                "values (0, 'north', 1, '2026-03-02', 900, '0', 0, $1)",
-                ARCHIVE,
-            )
-        for number in (1, 2, 3):
-            starts = local(f"2026-03-01 08:{15 * number}")
-            await self.owner.execute(CLOSED_PERIOD, starts, date(2026, 3, 1), 250_000)
-            await self.owner.execute(ARCHIVED_PERIOD, starts, 250_000)
-        await self.owner.execute(
-            "insert into own_archived_transaction "
-            "(shard, site, closing, station, transaction, complete, missing, up, down) "
-            "values (0, 'north', 1, 'A', 'tx-1', true, 0, 750000, 0)"
-        )
-        if self.version:
-            await self.owner.execute(KEPT, packed(first))
-        if self.version >= 5:
-            await self.owner.execute(ARCHIVED_TOTAL)
 
     async def rows(self, columns: dict[str, str]) -> dict[str, list[Any]]:
         """All rows of all tables, by the columns that they had before."""
@@ -176,89 +119,65 @@ class Demo(ClosingTrial):
         # Each dump has a key of its own.
         return sorted(re.sub(r"\\(un)?restrict .*", "", made.stdout.decode()).splitlines())
 
-    async def run(self) -> None:
-        await self.open_plan()
-        await self.fill()
-        names = ALL_COLUMNS if self.version else COLUMNS
-        columns = {
-            row["relname"]: await self.owner.fetchval(names, row["relname"])
-            for row in await self.owner.fetch(TABLES)
-            if row["relname"] not in ("worker", "schema_version")
-        }
-        await self.refused(f"has version {self.version}, and these tools are for version {VERSION}")
-        before = await self.rows(columns)
-        for _ in range(2):
-            self.fleet.databases[0].run_schema("ledger")
-        self.check(
-            await self.rows(columns) == before,
-            f"schema.sql twice over version {self.version}: {sum(map(len, before.values()))} rows as before",
-        )
-        rows = await self.owner.fetch("select line, place from own_log order by place")
-        told = await self.owner.fetchval("select told from numbering where shard = 0")
-        self.check(
-            [tuple(row) for row in rows] == [(self.lines[0][4], 1), (self.lines[0][5], 2)]
-            and told == 1,
-            f"the lines of the log have their places, and answers were given up to {told}",
-        )
-        settled = [tuple(row) for row in await self.owner.fetch(SETTLED)]
-        self.check(
-            settled == [("A", 750_000, 3, 0)], f"what was settled before is summed up: {settled}"
-        )
-        archived = [tuple(row) for row in await self.owner.fetch(ARCHIVED_SUM)]
-        self.check(
-            archived == [("A", 1, 1, 0, 750_000, 0, 0, 0, 0)], f"and what was archived: {archived}"
-        )
-        differ = [
-            text
-            for text in difflib.ndiff(self.schema("fresh"), self.schema("ledger"))
-            if text[0] in "+-"
-        ]
-        self.check(not differ, f"its schema is that of a database which is new {differ or ''}")
-        self.worker = self.fleet.worker("--boards", 0.2)
-        await self.closed("what was archived before", "2026-03-02", "1 rows, 1 of them corrections")
-        answers = await self.came(
-            "void A TX-1 1", *session("A", "TX-1", local("2026-03-01 08:00"), 4)
-        )
-        self.check(
-            answers[0] == "accepted at the next closing"
-            and all(answer.startswith("[3,") for answer in answers[1:]),
-            f"what comes for it: {answers}",
-        )
-        await self.closed("which takes it", "2026-03-02", "5 late lines for tx-1 of A", "; 1 taken")
-        whole = await self.owner.fetchval("select sum(up)::bigint from own_closed_period")
-        settled = [tuple(row) for row in await self.owner.fetch(SETTLED)]
-        self.check(
-            sum(row[1] for row in settled) == whole and all(row[3] > 0 for row in settled),
-            f"and so is what closings correct: {settled}, {whole}",
-        )
-        archived = [tuple(row) for row in await self.owner.fetch(ARCHIVED_SUM)]
-        self.check(
-            archived == [("A", 1, 0, 1, 750_000, 0, 0, 1, 1)],
-            f"and numbers of its sessions: {archived}",
-        )
-        await self.owner.execute("insert into schema_version (version) values (999)")
-        await self.refused(f"has version 999, and these tools are for version {VERSION}")
+    def schema_refuses(self, schema: Path, wanted: str) -> None:
+        """A schema file ends with an error on the database as it is."""
         made = subprocess.run(
             ["psql", "-h", "127.0.0.1", "-p", str(self.fleet.databases[0].port), "-U", "owner"]
-            + ["-qX", "-d", "ledger", "-f", str(SCHEMA)],
+            + ["-qX", "-d", "ledger", "-f", str(schema)],
             env=os.environ | self.fleet.roles(),
             capture_output=True,
             text=True,
             check=False,
         )
         self.check(
-            made.returncode == 3 and "of a later version than this file" in made.stderr,
+            made.returncode == 3 and wanted in made.stderr,
             f"schema.sql refuses it: {made.stderr.strip().splitlines()[:1]}",
         )
+
+    async def run(self) -> None:
+        await self.open_plan()
+        await self.owner.execute(FILL, 0, session("A", "TX-1", local("2026-03-01 08:00"), 4))
+        await self.owner.execute(MORE)
+        columns = {
+            row["relname"]: await self.owner.fetchval(COLUMNS, row["relname"])
+            for row in await self.owner.fetch(TABLES)
+        }
+        before = await self.rows(columns)
+        database, schema = self.fleet.databases[0], self.next_schema()
+        first = self.schema("ledger")
+        database.run_schema("ledger")
+        self.check(
+            await self.rows(columns) == before and self.schema("ledger") == first,
+            f"schema.sql once more: {sum(map(len, before.values()))} rows and the schema as before",
+        )
+        for _ in range(2):
+            database.run_schema("ledger", schema=schema)
+        versions = await self.owner.fetchval(VERSIONS)
+        counted = await self.owner.fetch("select applied from own_made_up")
+        self.check(
+            versions == [VERSION, VERSION + 1] and [row["applied"] for row in counted] == [4],
+            f"a step, twice: versions {versions}, applied {len(counted)} time",
+        )
+        self.check(await self.rows(columns) == before, "all other rows are as before")
+        database.fill(1, "fresh", schema)
+        differ = [
+            text
+            for text in difflib.ndiff(self.schema("fresh"), self.schema("ledger"))
+            if text[0] in "+-"
+        ]
+        self.check(not differ, f"its schema is that of a database which is new {differ or ''}")
+        await self.refused(f"has version {VERSION + 1}, and these tools are for version {VERSION}")
+        self.schema_refuses(SCHEMA, "of a later version than this file")
+        await self.owner.execute("delete from schema_version")
+        await self.owner.execute("insert into schema_version (version) values ($1)", VERSION - 1)
+        await self.refused(f"has version {VERSION - 1}, and these tools are for version {VERSION}")
+        self.schema_refuses(SCHEMA, "from before version")
         await self.owner.close()
 
 
 def main() -> int:
-    """Tries each older version, or those of the words, and gives the worst exit status."""
-    parser = parser_of(__doc__)
-    parser.add_argument("versions", nargs="*", type=int, default=range(VERSION), metavar="VERSION")
-    words = parsed(parser)
-    return max(tried(f"migration of {n}", lambda: Demo(words, n)) for n in words.versions)
+    words = parsed(parser_of(__doc__))
+    return tried("migration", lambda: Demo(words))
 
 
 if __name__ == "__main__":

@@ -334,7 +334,7 @@ class Demo(Trial):
         for reason in ("", "   ", "\n\t", "x"):
             answer = ann.question("void", "CS-00", "T-1", 1, reason)
             self.check(
-                answer.status == 400 and "why is asked for" in answer.told,
+                answer.status == 400 and "a reason is needed" in answer.told,
                 f"a void with the reason {reason!r}: {answer.status} {answer.told}",
             )
         fields = ann.question("void", "CS-00", "T-1", 1, "a test").fields("/operate/do")
@@ -381,7 +381,7 @@ class Demo(Trial):
                 await self.owner.fetchval(f"select {query}")
                 self.check(False, f"the owner voids without a reason: {query}")
             except asyncpg.PostgresError as fault:
-                self.check("why is asked for" in str(fault), f"{query}: {fault}")
+                self.check("a reason is needed" in str(fault), f"{query}: {fault}")
         await self.owner.fetchval("select operate('void', 'CS-01', 'T-1', 1, 'by the owner')")
         row = await self.owner.fetchrow("select * from own_deed where station = 'CS-01'")
         self.check(

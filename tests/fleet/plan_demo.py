@@ -114,7 +114,7 @@ class Demo(Trial):
                     heard.add("it is done")
                 except asyncpg.PostgresError as fault:
                     heard.add(str(fault))
-            is_asked = all("is asked for: set ledger.reason = 'a text" in text for text in heard)
+            is_asked = all("needs a reason: set ledger.reason = 'a text" in text for text in heard)
             self.check(is_asked, f"without a reason: {query[:56]}: {min(heard)[:44]}")
         await session.close()
         after = [await self.owner.fetchval(STATE.format(name)) for name in TABLES]
@@ -150,7 +150,7 @@ class Demo(Trial):
         """The tools ask for a reason, and hand it on."""
         for words, wanted_part in (
             (("set", "eve", "--roles", "sees"), "the following arguments are required: --reason"),
-            (("set", "eve", "--roles", "sees", "--reason", " x "), "why is asked for"),
+            (("set", "eve", "--roles", "sees", "--reason", " x "), "a reason is needed"),
             (("disable", "eve"), "the following arguments are required: --reason"),
             (("revoke", "1"), "the following arguments are required: --reason"),
         ):

@@ -5,7 +5,6 @@ import os
 import secrets
 import struct
 from collections.abc import Callable, Container, Iterator, Mapping
-from pathlib import Path
 from typing import Any
 from urllib.parse import unquote, urlsplit
 
@@ -45,8 +44,8 @@ select pg_is_in_recovery() as is_standby, current_setting('fsync') = 'on' as has
 # The secrets that parts take, by their names in the environment.
 SECRETS = ("PGPASSWORD", "SOURCE_PASSWORD", "PROXY_SECRET")
 LAST_VERSION = "select max(version) from schema_version"
-# The version of the schema that the tools are for: that of the last file of schema/.
-VERSION = max(int(path.name[:4]) for path in (Path(__file__).parent / "schema").glob("0*.sql"))
+# The version of schema.sql, which these tools need.
+VERSION = 7
 # Addresses by which a session was had: what a host refuses from then on is no fault of the words.
 LET_IN = set[str]()
 # Seconds in which a host has to let a session in.
@@ -181,7 +180,7 @@ async def seen_at(session: Any) -> tuple[bool, str]:
 
 
 async def version_of(session: Any) -> int:
-    """The version of a database's schema; 0 where it is from before versions were counted, or there is none."""
+    """The version of a database's schema; 0 if it has none."""
     try:
         return int(await session.fetchval(LAST_VERSION, timeout=ADMISSION) or 0)
     except asyncpg.UndefinedTableError:

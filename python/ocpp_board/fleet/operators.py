@@ -1,6 +1,6 @@
 """Who may use the page and the API: operators by password or session, and programs by token.
 
-Names, roles, sites, sessions and tokens are rows of one cell's database (schema/0002_operators.sql), so that any number
+Names, roles, sites, sessions and tokens are rows of one cell's database (schema.sql), so that any number
 of pages agree on them. What browsers and programs have is a secret of 32 bytes chosen at random; the database has its
 hash. Failures are counted there for the name that was given from an address, and here for that address. So a stranger
 elsewhere locks nobody out, and whoever is signed in stays so.

@@ -37,7 +37,7 @@ def reason_of(text: str) -> str:
     if not SHORTEST <= len(reason) <= LONGEST or not reason.isprintable():
         raise Wrong(
             HTTPStatus.BAD_REQUEST,
-            f"why is asked for: a text of {SHORTEST} to {LONGEST} characters",
+            f"a reason is needed: a text of {SHORTEST} to {LONGEST} characters",
         )
     return reason
 

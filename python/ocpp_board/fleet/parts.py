@@ -52,7 +52,7 @@ def reason_of(text: str) -> str:
     """A reason of the command line, on one line. Raises ArgumentTypeError."""
     reason = " ".join(text.split())
     if not 3 <= len(reason) <= 500 or not reason.isprintable():
-        raise argparse.ArgumentTypeError("why is asked for: a text of 3 to 500 characters")
+        raise argparse.ArgumentTypeError("a reason is needed: a text of 3 to 500 characters")
     return reason
 
 
