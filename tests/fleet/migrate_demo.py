@@ -3,7 +3,7 @@
     tests/one fleet.migrate_demo ocpp_board
 
 It starts PostgreSQL 15 in a temporary folder, and makes a database by schema.sql. A copy of schema.sql has one step
-more, by the lines that schema.sql shows for the next version. Run twice, the copy has to apply the step once and to change
+more, by the lines that schema.sql shows for the next version. Run twice, the copy has to apply the step once and change
 no other row, and the schema has to be that of a new database. Tools refuse a database of another version; schema.sql
 refuses one of a later version, and one from before its first. The status is 1 where something is not as it must be.
 """
