@@ -27,7 +27,7 @@ differs() {
 
 # made_by COMMAND..: runs it; shows its standard error if it fails.
 made_by() {
-    "$@" 2> "$made/told" || { cat "$made/told" >&2; differs "$1"; }
+    "$@" 2> "$made/stderr" || { cat "$made/stderr" >&2; differs "$1"; }
 }
 
 # as_stored NAME FILE: FILE is the stored text NAME.
@@ -35,29 +35,29 @@ as_stored() {
     diff --label stored --label made -u "$1" "$2" && echo "$1: as stored" || differs "$1"
 }
 
-# gives STATUS NAME COMMAND..: the command ends with this status, writes the stored text NAME, and NAME.told to its standard
+# gives STATUS NAME COMMAND..: the command ends with this status, writes the stored text NAME, and NAME.stderr to its standard
 # error; one of the two may not be stored. If its status is another, that is shown. A NAME of - means neither.
 gives() {
     local status=$1 name=$2
     shift 2
-    "$@" > "$made/given" 2> "$made/told"
+    "$@" > "$made/given" 2> "$made/stderr"
     local ended=$?
-    [ "$name" = - ] || [ -e "$name" ] || [ -e "$name.told" ] || differs "$name, which is not stored,"
+    [ "$name" = - ] || [ -e "$name" ] || [ -e "$name.stderr" ] || differs "$name, which is not stored,"
     [ ! -e "$name" ] || as_stored "$name" "$made/given"
-    [ ! -e "$name.told" ] || as_stored "$name.told" "$made/told"
-    [ $ended = "$status" ] || { cat "$made/told"; differs "the status of $*: $ended, not $status,"; }
+    [ ! -e "$name.stderr" ] || as_stored "$name.stderr" "$made/stderr"
+    [ $ended = "$status" ] || { cat "$made/stderr"; differs "the status of $*: $ended, not $status,"; }
 }
 
 # reports STATUS LINE COMMAND..: the command ends with this status, and its standard error has LINE.
 reports() {
     local status=$1 line=$2
     shift 2
-    "$@" > "$made/given" 2> "$made/told"
+    "$@" > "$made/given" 2> "$made/stderr"
     local ended=$?
-    if [ $ended = "$status" ] && grep -qF -- "$line" "$made/told"; then
-        echo "told: $line"
+    if [ $ended = "$status" ] && grep -qF -- "$line" "$made/stderr"; then
+        echo "reported: $line"
     else
-        cat "$made/told"
+        cat "$made/stderr"
         differs "what $* reports (status $ended, not $status with '$line')"
     fi
 }
@@ -97,13 +97,13 @@ burst() {
 
 # What explain, live and traffic give, which run the program or write for it.
 with_program() {
-    gives 1 explain/mistakes.told "$board" explain --program "$program" explain/mistakes.script
-    gives 0 explain/nothing.told "$board" explain --program "$program" forms/ocpp.script
-    gives 1 explain/mark.told "$board" explain --program "$program" explain/mark.script
-    gives 0 explain/near.told "$board" explain --program "$program" explain/near.script
-    gives 1 explain/orders.told "$board" explain --program "$program" explain/orders.script
+    gives 1 explain/mistakes.stderr "$board" explain --program "$program" explain/mistakes.script
+    gives 0 explain/nothing.stderr "$board" explain --program "$program" forms/ocpp.script
+    gives 1 explain/mark.stderr "$board" explain --program "$program" explain/mark.script
+    gives 0 explain/near.stderr "$board" explain --program "$program" explain/near.script
+    gives 1 explain/orders.stderr "$board" explain --program "$program" explain/orders.script
     gzip -c "$days/day.script" > "$made/day.script.gz"
-    gives 1 explain/gzip.told bash -c 'cd "$2" && "$board" explain --program "$1" day.script.gz' _ "$program" "$made"
+    gives 1 explain/gzip.stderr bash -c 'cd "$2" && "$board" explain --program "$1" day.script.gz' _ "$program" "$made"
     reports 2 "No such file or directory" "$board" explain --program "$program" nowhere.script
     reports 2 "No such file or directory" "$board" explain --program ./nowhere "$days/day.script"
     reports 2 "No space left on device" bash -c '"$board" explain --program "$1" explain/mistakes.script > /dev/full' _ "$program"
@@ -195,10 +195,10 @@ written_as() {
         s|^python/ocpp-board live|timeout -s INT --preserve-status 20 python/ocpp-board live --program $program|
         s|^python/ocpp-board tables \(.*--script\)|python/ocpp-board tables --program $program \1|" > "$made/written.sh"
     echo wait >> "$made/written.sh"
-    if (cd "$top" && PATH=/usr/bin:$PATH bash -e "$made/written.sh" < /dev/null) > "$made/given" 2> "$made/told"; then
+    if (cd "$top" && PATH=/usr/bin:$PATH bash -e "$made/written.sh" < /dev/null) > "$made/given" 2> "$made/stderr"; then
         echo "$1: $(wc -l < "$made/written.sh") lines as written"
     else
-        cat "$made/told"
+        cat "$made/stderr"
         differs "$1"
     fi
 }
@@ -290,7 +290,7 @@ if [ -n "$replay" ]; then
     replays "$replay" replay
     burst "$replay"
     "$one" words.words "$replay" ../words/replay.txt || differs replay.txt
-    gives 1 explain/mistakes.told "$board" explain --program "$replay" explain/mistakes.script
+    gives 1 explain/mistakes.stderr "$board" explain --program "$replay" explain/mistakes.script
 fi
 
 # The boards become tables and pages, in UTC and in a zone that has days of 23 and 25 hours.

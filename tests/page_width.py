@@ -50,8 +50,8 @@ const cut = [...document.querySelectorAll('.scroll, .across')]
   .filter(e => e.tagName != 'PRE' && e.scrollWidth > e.clientWidth + 1)
   .map(e => `${e.getAttribute('aria-label')}, by ${e.scrollWidth - e.clientWidth}`);
 const root = document.documentElement;
-const told = JSON.stringify([innerWidth, root.scrollWidth, wide.slice(0, 5), broken.slice(0, 5), cut.slice(0, 5)]);
-parent.postMessage(told, '*');
+const reported = JSON.stringify([innerWidth, root.scrollWidth, wide.slice(0, 5), broken.slice(0, 5), cut.slice(0, 5)]);
+parent.postMessage(reported, '*');
 </script></body>"""
 
 
@@ -83,14 +83,16 @@ def found(chromium: str, page: Path, folder: Path) -> Iterator[str]:
     drawings = drawn(chromium, page, folder)
     if sorted(one.screen for one in drawings) != list(WIDTHS):
         yield f"drawn {[one.screen for one in drawings]} pixels wide, and not {WIDTHS}"
-    for told in drawings:
-        if told.width > told.screen:
-            yield f"{told.width} pixels wide on a screen of {told.screen}"
-        wide = f"wider than the screen of {told.screen}"
-        yield from (f"{wide}: {ascii(one)}" for one in told.wide)
-        yield from (f"broken: {one}" for one in told.broken)
-        if told.screen != PHONE or not DAY.search(page.name):
-            yield from (f"cut on a screen of {told.screen}: {ascii(one)}" for one in told.cut)
+    for reported in drawings:
+        if reported.width > reported.screen:
+            yield f"{reported.width} pixels wide on a screen of {reported.screen}"
+        wide = f"wider than the screen of {reported.screen}"
+        yield from (f"{wide}: {ascii(one)}" for one in reported.wide)
+        yield from (f"broken: {one}" for one in reported.broken)
+        if reported.screen != PHONE or not DAY.search(page.name):
+            yield from (
+                f"cut on a screen of {reported.screen}: {ascii(one)}" for one in reported.cut
+            )
 
 
 def main() -> int:

@@ -136,7 +136,7 @@ class Layout:
     # Messages that were mended, which a file of their own lists.
     mended: int = 0
     # Days that have their pages already, which are not written; None where every page is written.
-    standing: frozenset[date] | None = None
+    unchanged: frozenset[date] | None = None
     # The addresses of the pages of sessions, by station and transaction, where there are some.
     address: Callable[[str, str], str] | None = None
     # By day, what is on its page beside the board; a page with another mark is written again.
@@ -188,7 +188,7 @@ class Layout:
 
     def day_stamp(self, until: datetime | None) -> str:
         """As `stamp`, on the page of a day. One that stays until its day changes says nothing that others change."""
-        if self.standing is None:
+        if self.unchanged is None:
             return self.stamp(until)
         written = self.moment(self.written)
         return self.stamped(f"Page written {written}, and again when something on it changes.")
@@ -345,7 +345,7 @@ class DayPages:
         self.names = Names()
         self.until: datetime | None = None
         # The days with pages that are as they would be written.
-        self.standing: frozenset[date] | set[date] = frozenset()
+        self.unchanged: frozenset[date] | set[date] = frozenset()
         # Boards whose pages are written at the end, by days.
         self.boards = list[tuple[Board, dict[date, list[DayPart]]]]()
 
@@ -357,7 +357,7 @@ class DayPages:
         site = Scale(p.flow for p in shown(board.site.periods))
         station = Scale(p.flow for part in board.stations for p in shown(part.periods))
         days: dict[date, list[DayPart]] = {}
-        self.standing = (self.layout.standing or frozenset()) - self.marked(board)
+        self.unchanged = (self.layout.unchanged or frozenset()) - self.marked(board)
         for number, part in enumerate((board.site, *board.stations)):
             scale = site if part.is_site else station
             for day, periods in self.layout.by_day(part.periods):
@@ -366,8 +366,8 @@ class DayPages:
                 one = DayPart(part, f"b{board.number}-{number}", day, periods, scale, lanes)
                 days.setdefault(day, []).append(one)
         self.shown.update(days)
-        new = {day: days[day] for day in sorted(days.keys() - self.standing)}
-        if self.layout.standing is None:
+        new = {day: days[day] for day in sorted(days.keys() - self.unchanged)}
+        if self.layout.unchanged is None:
             # Further boards may follow.
             for day, parts in new.items():
                 self.add_day(board, day, parts)
@@ -376,7 +376,7 @@ class DayPages:
 
     def is_written(self, day: date) -> bool:
         """Whether the page of a day is not as it would be written."""
-        return day not in self.standing
+        return day not in self.unchanged
 
     def marked(self, board: Board) -> set[date]:
         """The days with other doubts or sessions than their pages have."""

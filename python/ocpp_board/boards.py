@@ -140,7 +140,7 @@ class Session:
 
 @dataclass
 class Part:
-    """What a board says of its site, or of one of its stations. `seconds`: the length of its periods; `is_by_time`:
+    """What a board says of its site, or of one of its stations. `seconds`: the length of its periods; `is_by_moment`:
     its readings are in the order of their moments, and else by the numbers of their events; `is_closing`: a difference
     counts in the period that its later reading closes, and else in the one that this reading lies in.
     """
@@ -153,7 +153,7 @@ class Part:
     evses: list[Evse] = field(default_factory=list)
     periods: list[Period] = field(default_factory=list)
     sessions: list[Session] = field(default_factory=list)
-    is_by_time: bool = False
+    is_by_moment: bool = False
     is_closing: bool = False
     # What is doubtful at a station and of no session, if the messages are known.
     findings: list[Finding] = field(default_factory=list)
@@ -316,7 +316,7 @@ class Reader:
         self.where = f"{name} line" if name else "line"
         self.part: Part | None = None
         self.before: str | None = None
-        self.site, self.seconds, self.is_by_time, self.is_closing = "", 0, False, False
+        self.site, self.seconds, self.is_by_moment, self.is_closing = "", 0, False, False
         self.sessions = Sessions()
         kinds = ("boards", "stations", "periods", "transactions", "outside", "faults", "unread")
         self.counts = dict.fromkeys(kinds, 0)
@@ -363,7 +363,7 @@ class Reader:
         self.break_off(number, "another board begins")
         self.counts["boards"] += 1
         self.site, self.seconds = site, int(seconds)
-        self.is_by_time, self.is_closing = bool(order), bool(settle)
+        self.is_by_moment, self.is_closing = bool(order), bool(settle)
         for sink in self.sinks:
             sink.board(self.counts["boards"], site, number)
         self.begin(site, True, "board")
@@ -371,7 +371,7 @@ class Reader:
     def begin(self, name: str, is_site: bool, kind: str) -> None:
         """A part begins."""
         self.part = Part(name, is_site, self.seconds)
-        self.part.is_by_time, self.part.is_closing = self.is_by_time, self.is_closing
+        self.part.is_by_moment, self.part.is_closing = self.is_by_moment, self.is_closing
         self.before = kind
 
     def leave_part(self, number: int, part: Part) -> None:

@@ -234,7 +234,7 @@ class Run:
         if status:
             print(f"{self.name}the replay ended with status {status}: {said}")
         print(f"{self.name}lines: {self.replay.lines:,}, reported: {sum(self.counts.values()):,}")
-        return Status.TOLD if self.counts or status else Status.DONE
+        return Status.REPORTED if self.counts or status else Status.DONE
 
 
 def arguments(argv: Sequence[str], prog: str) -> argparse.Namespace:
@@ -258,7 +258,7 @@ def explain(words: argparse.Namespace) -> int:
         if is_gzip(script):
             print(f"{name} line 1: the script is compressed by gzip".lstrip())
             print("  remedy: gunzip -c SCRIPT | ocpp-board explain")
-            return Status.TOLD
+            return Status.REPORTED
         return Run(words.program, script, name).run()
 
 

@@ -260,7 +260,7 @@ class Run:
             )
         if self.faults:
             return Status.MISTAKEN
-        return Status.TOLD if status or not has_board else Status.DONE
+        return Status.REPORTED if status or not has_board else Status.DONE
 
 
 def report_limit(_answered: Answered, said: str, remedy: str) -> None:

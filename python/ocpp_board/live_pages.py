@@ -110,7 +110,7 @@ class Pages:
             if before.get(day) == digest and (self.words.out / f"{site}.{day}.html").exists()
         )
 
-    def make(self, name: Path, board: bytes, refused: int, standing: frozenset[date]) -> Layout:
+    def make(self, name: Path, board: bytes, refused: int, unchanged: frozenset[date]) -> Layout:
         """Makes the files of a board, with names that begin so, except the pages of days that are there already."""
         more = ["--tz", str(self.words.tz)] if self.words.tz else []
         more += ["--tokens", getattr(self.words, "tokens", "none")]
@@ -123,7 +123,7 @@ class Pages:
             oldest=self.words.oldest,
             refused=refused,
             mended=self.known.mended.count(self.facts.sites(), name.name),
-            standing=standing,
+            unchanged=unchanged,
             marks=self.marks.setdefault(name.name, {}),
         )
         with tempfile.TemporaryFile() as text:

@@ -393,7 +393,7 @@ def convert(words: argparse.Namespace) -> int:
         conversion.plan.check_sites()
         conversion.script.write()
     conversion.report()
-    return Status.TOLD if conversion.counts["refused"] else Status.DONE
+    return Status.REPORTED if conversion.counts["refused"] else Status.DONE
 
 
 def main(argv: Sequence[str], prog: str) -> int:

@@ -132,11 +132,11 @@ def figures(total: Total | None, has_export: bool) -> Iterator[str]:
 
 
 def order_said(site: Part) -> str:
-    """That a site's readings are taken by time, and that they close periods, where it is so."""
+    """That a site's readings are taken by moment, and that they close periods, where it is so."""
     said = ""
-    if site.is_by_time:
+    if site.is_by_moment:
         said = (
-            '<p class="soft">Readings by time: those of a session are taken in the order of their own times, so that '
+            '<p class="soft">Readings by moment: those of a session are taken in the order of their own times, so that '
             "one which is listed again changes nothing.</p>\n"
         )
     if site.is_closing:

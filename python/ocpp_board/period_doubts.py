@@ -87,12 +87,12 @@ def period_of(at: float, seconds: int, is_closing: bool) -> int:
 
 
 def flows_of(
-    events: Sequence[Event], seconds: int, is_by_time: bool, is_closing: bool = False
+    events: Sequence[Event], seconds: int, is_by_moment: bool, is_closing: bool = False
 ) -> dict[int, Flow]:
     """The energy of a session by periods of so many seconds, as the ledger has it."""
     sums = dict[int, list[int]]()
     for is_export in (False, True):
-        for (_, had), (_, one) in pairwise(readings_in_order(events, is_export, is_by_time)):
+        for (_, had), (_, one) in pairwise(readings_in_order(events, is_export, is_by_moment)):
             if one.at is None:
                 continue
             flow = sums.setdefault(period_of(one.at, seconds, is_closing), [0, 0, 0, 0])

@@ -144,7 +144,7 @@ def findings_of(
     most_kw: int = MOST_KW,
 ) -> list[Finding]:
     """The findings of a session by its transaction and by its events that are live, in their order. `by_sequence`: what
-    would have its site's readings taken by time, where they are not. `most_kw`: the greatest power that can be.
+    would have its site's readings taken by moment, where they are not. `most_kw`: the greatest power that can be.
     """
     if not events:
         return []
@@ -203,17 +203,17 @@ def again(transaction: Transaction, events: Sequence[Event]) -> Iterator[Finding
 
 
 def order_option(site: str, where: str = "") -> str:
-    """The option of the tools that has a site's readings taken by time, and the line of a script that does, which has
+    """The option of the tools that has a site's readings taken by moment, and the line of a script that does, which has
     its place there."""
     line = f"`order {site} moment`{' ' if where else ''}{where}"
     return f"`--order {site}=moment` of log-to-script or live (in a script line {line})"
 
 
-def powers(events: Sequence[Event], is_by_time: bool, most_kw: int) -> Iterator[Finding]:
+def powers(events: Sequence[Event], is_by_moment: bool, most_kw: int) -> Iterator[Finding]:
     """Where a register rose faster than can be, from one reading to the next that has a later moment."""
     found, first = list[Event](), ""
     for is_export in (False, True):
-        for (_, had), (event, one) in pairwise(readings_in_order(events, is_export, is_by_time)):
+        for (_, had), (event, one) in pairwise(readings_in_order(events, is_export, is_by_moment)):
             if had.at is None or one.at is None or one.at < had.at:
                 continue
             seconds = one.at - had.at
@@ -316,7 +316,7 @@ def registers(events: Sequence[Event], remedy: str) -> Iterator[Finding]:
             before[one.is_export] = one
         seen.update(event.readings)
     yield from told_falls(falls, readings)
-    yield from finding(Kind.REPEATED, repeats, f"{remedy} takes them by time")
+    yield from finding(Kind.REPEATED, repeats, f"{remedy} takes them by moment")
 
 
 def clocks(events: Sequence[Event]) -> Iterator[Finding]:

@@ -56,5 +56,5 @@ class RepeatHints:
                 line,
                 f"in {sessions} of site {site}, such as {found.first}, readings are listed again, and by sequence that "
                 "is a fall and a second rise: their periods are wrong",
-                f"{order_option(site, 'behind the first `station` line of the site')} takes readings by time",
+                f"{order_option(site, 'behind the first `station` line of the site')} takes readings by moment",
             )

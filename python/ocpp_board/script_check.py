@@ -35,20 +35,20 @@ class Strangers:
         for session in part.sessions:
             whole = self.transactions.of(site, part.name, session.tx)
             events = whole.live(session.first, session.last, session.gaps)
-            if why := stranger(session, events, part.is_by_time):
+            if why := stranger(session, events, part.is_by_moment):
                 self.first = f"session {session.tx} of station {part.name}, site {site}: {why}"
                 return
 
 
-def stranger(session: Session, events: list[Event], is_by_time: bool) -> str:
+def stranger(session: Session, events: list[Event], is_by_moment: bool) -> str:
     """Why these events are not those of a session; empty where they are."""
     if len(events) != session.events:
         count = "none" if not events else f"{len(events):,}"
         return f"the board counts {session.events:,} of its events, and the script has {count}"
     # A moment that Python can't read has no place in time.
-    if is_by_time and any(one.at is None for event in events for one in event.readings):
+    if is_by_moment and any(one.at is None for event in events for one in event.readings):
         return ""
-    nets = [rise(registers_of(events, is_export, is_by_time)) for is_export in (False, True)]
+    nets = [rise(registers_of(events, is_export, is_by_moment)) for is_export in (False, True)]
     flow = session.flow
     if nets != [flow.up - flow.down, flow.export_up - flow.export_down]:
         return "its energy on the board is not that of the script's readings"

@@ -50,8 +50,8 @@ class SessionFacts:
         for session in part.sessions:
             transaction = self.transactions.of(site, part.name, session.tx)
             events = transaction.live(session.first, session.last, session.gaps)
-            session.times = times_of(events, part.is_by_time)
-            by_sequence = None if part.is_by_time else order_option(site)
+            session.times = times_of(events, part.is_by_moment)
+            by_sequence = None if part.is_by_moment else order_option(site)
             session.findings = findings_of(
                 transaction, events, session.complete, by_sequence, self.most_kw
             )
@@ -61,7 +61,7 @@ class SessionFacts:
             session.details = [event.details for event in events]
             session.span, session.holes = span_of(events), list(holes_of(events, session.lost()))
             if part.known:
-                flows = flows_of(events, part.seconds, part.is_by_time, part.is_closing)
+                flows = flows_of(events, part.seconds, part.is_by_moment, part.is_closing)
                 doubts = doubts_of(events, part.seconds, session.lost())
                 part.known.add(session.evse, flows, doubts)
             numbers = session.missing, session.gaps

@@ -14,7 +14,7 @@ class Status(IntEnum):
 
     DONE = 0
     # Something was reported: a line that was not taken, a board that is not whole, a mistake of a script.
-    TOLD = 1
+    REPORTED = 1
     # Words are wrong, or a file, a program or a database can't be used.
     MISTAKEN = 2
     INTERRUPTED = 130

@@ -20,7 +20,7 @@ add up rows of one level only. The first line of a board says how long its perio
 What `up` and `down` mean for a settlement: a difference of two readings counts in the period of the
 later one, so a rise up to a reading of 10:15:00 belongs to the period that begins at 10:15. Readings
 that an Ended event lists again show as `down`, back to the first of them, and again as `up`, unless the
-site's readings are taken by time (`order <site> moment` in the script): the column `readings` and the
+site's readings are taken by moment (`order <site> moment` in the script): the column `readings` and the
 pages say so. `export up` and `export down` are the same of the export register, which vehicles that
 feed back have. The net energy, which the pages show, is what was imported less what was exported: `up`
 less `down`, less `export up` and more `export down`.
@@ -190,7 +190,7 @@ class Tables(CsvSink):
     def part(self, part: Part) -> None:
         """The rows of a station's sessions."""
         self.parts.append(part)
-        station, order = self.cell(part.name), "by time" if part.is_by_time else "by sequence"
+        station, order = self.cell(part.name), "by moment" if part.is_by_moment else "by sequence"
         for t in part.sessions:
             if self.signed:
                 write_signed(self.signed, part.name, t.sent, t.details)
@@ -460,7 +460,7 @@ def write_files(
     reader.report()
     if findings:
         findings.report()
-    return Status.TOLD if reader.counts["unread"] else Status.DONE
+    return Status.REPORTED if reader.counts["unread"] else Status.DONE
 
 
 def read_script(words: argparse.Namespace, text: IO[bytes]) -> Known:

@@ -68,22 +68,22 @@ class LiveEvents(list[Event]):
 
 
 def readings_in_order(
-    events: Iterable[Event], is_export: bool, is_by_time: bool
+    events: Iterable[Event], is_export: bool, is_by_moment: bool
 ) -> list[tuple[Event, Reading]]:
     """The counted readings of a register, each with its event, in the order in which the ledger takes them: that of the
-    events, or by time that of their own moments. One whose moment Python can't read is left out then.
+    events, or by moment that of their own moments. One whose moment Python can't read is left out then.
     """
     orders = events.orders if isinstance(events, LiveEvents) else {}
-    order = is_export, is_by_time
+    order = is_export, is_by_moment
     if order not in orders:
         found = [
             (event, one)
             for event in events
             for one in event.readings
-            if one.is_export == is_export and not (is_by_time and one.at is None)
+            if one.is_export == is_export and not (is_by_moment and one.at is None)
         ]
         # Readings of one moment keep their order.
-        orders[order] = sorted(found, key=lambda both: both[1].at or 0) if is_by_time else found
+        orders[order] = sorted(found, key=lambda both: both[1].at or 0) if is_by_moment else found
     return orders[order]
 
 

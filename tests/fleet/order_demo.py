@@ -150,7 +150,7 @@ class Demo(ClosingTrial):
         )
         for day in ("2026-03-01", "2026-03-03"):
             status, said = await self.close_day(day, site="south")
-            told = ("readings repeated at the end", 4, f"{REMEDY} takes them by time")
+            told = ("readings repeated at the end", 4, f"{REMEDY} takes them by moment")
             wanted = [("C", tx, *told) for tx in ("tx-1", "tx-2")]
             found = [tuple(row) for row in await self.owner.fetch(query)]
             self.check(
@@ -173,7 +173,7 @@ class Demo(ClosingTrial):
         begin = "update own_site set reading_order = $1 where site = 'north'"
         try:
             await self.owner.execute(begin, "time")
-            self.check(False, "readings by time are taken")
+            self.check(False, "readings by moment are taken")
         except asyncpg.PostgresError as fault:
             self.check("an order of readings is sequence or moment" in str(fault), str(fault))
         await self.owner.execute(begin, "sequence")

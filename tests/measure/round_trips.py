@@ -66,9 +66,9 @@ def measured(folder: str, kind: str, asked: argparse.Namespace) -> Trips:
         kept = ["--journal"] if kind == JOURNALLED else []
         words = [asked.program, "serve", "--live", *kept, *stations]
         server = started(words, folder, asked.environment)
-    told = server.stdout or server.stderr
-    assert told is not None
-    port = told.readline().strip().rpartition(":")[2]
+    reported = server.stdout or server.stderr
+    assert reported is not None
+    port = reported.readline().strip().rpartition(":")[2]
     sent = asked.kinds[0] if kind == ECHO else kind
     sent = "new" if sent == JOURNALLED else sent
     load = [client, "load", port, str(asked.connections), str(asked.messages), sent]

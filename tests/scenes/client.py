@@ -136,7 +136,7 @@ class Station(Client):
         if not lets_in(head) or not takes_up_subprotocol(head):
             raise Differs(f"{name} is answered by {bytes(head)!r}")
 
-    def tells(self, *numbers: int) -> None:
+    def reports(self, *numbers: int) -> None:
         """Sends the first (0) or the second event (1), each once the one before is answered."""
         for number in numbers:
             self.sends(Frame(TEXT, (FIRST, SECOND)[number]).bytes())

@@ -108,8 +108,8 @@ class Beside:
         """Ends the tool, and gives its status and what it wrote."""
         assert self.tool
         self.tool.send_signal(number)
-        _, told = self.tool.communicate(timeout=LONGEST_WAIT)
-        return self.tool.returncode, told
+        _, reported = self.tool.communicate(timeout=LONGEST_WAIT)
+        return self.tool.returncode, reported
 
 
 @contextmanager
@@ -142,8 +142,8 @@ def a_log_is_followed_over_rotations(program: str) -> None:
             late.write(row(message(2)))
         run.log.write_text(row(message(3, "Ended")))
         run.wait("four events", run.has_events(4))
-        status, told = run.end()
-        expect(f"status {status}: {told}", status == 0)
+        status, reported = run.end()
+        expect(f"status {status}: {reported}", status == 0)
         (session,) = run.rows("transactions")
         names = ("complete", "up (mWh)", "start (UTC)", "end (UTC)", "findings")
         found = [session[name] for name in names]
@@ -225,8 +225,8 @@ def a_clock_far_from_the_log(program: str) -> None:
             run.wait("three events", run.has_events(3))
             page = (run.folder / "out/north.html").read_text()
             expect("the page's finding", "clock far from receipt" in page)
-            status, told = run.end()
-            expect(f"status {status}: {told}", status == 0)
+            status, reported = run.end()
+            expect(f"status {status}: {reported}", status == 0)
             shutil.rmtree(run.folder / "out")
 
 
@@ -277,8 +277,8 @@ def closed_sessions_are_shown(program: str) -> None:
         run.wait("three events again", run.has_events(3))
         (session,) = run.rows("transactions")
         expect(session["state"], session["state"] == "voided by jo: no end")
-        status, told = run.end()
-        expect(f"status {status}: {told}", status == 0)
+        status, reported = run.end()
+        expect(f"status {status}: {reported}", status == 0)
 
 
 def what_is_refused_is_shown(program: str) -> None:
@@ -306,14 +306,16 @@ def what_is_refused_is_shown(program: str) -> None:
             page = (run.folder / "out/north.html").read_text()
             expect("the page's count", "4 messages were refused" in page)
             expect("the page's link", 'href="north.refused.csv"' in page)
-            status, told = run.end()
+            status, reported = run.end()
             expect(f"status {status}", status == 0)
             shutil.rmtree(run.folder / "out")
             expect(
-                told, "refused: A T1 0 at 2026-03-01T10:00:00Z: Moment: timestamp is not" in told
+                reported,
+                "refused: A T1 0 at 2026-03-01T10:00:00Z: Moment: timestamp is not" in reported,
             )
             expect(
-                told, "refused: 4 messages in all: ConflictingEvent 1, Moment 1, Untaken 2" in told
+                reported,
+                "refused: 4 messages in all: ConflictingEvent 1, Moment 1, Untaken 2" in reported,
             )
 
 
@@ -332,9 +334,9 @@ def a_first_start_has_room_for_all(program: str) -> None:
         for count in (1_100, 1_102):
             run.start("--once")
             assert run.tool
-            _, told = run.tool.communicate(timeout=LONGEST_WAIT)
-            expect(f"status {run.tool.returncode}: {told}", run.tool.returncode == 0)
-            expect(told, "each station has room for 1,024 to 4,096 transactions, " in told)
+            _, reported = run.tool.communicate(timeout=LONGEST_WAIT)
+            expect(f"status {run.tool.returncode}: {reported}", run.tool.returncode == 0)
+            expect(reported, "each station has room for 1,024 to 4,096 transactions, " in reported)
             found = len(run.rows("transactions")), len(run.rows("refused"))
             expect(f"transactions and refused messages: {found}", found == (count, 0))
             pages = len(list((run.folder / "out/north.sessions").glob("*.html")))

@@ -62,9 +62,9 @@ class Journalled(Live):
     """A server with a journal, or one that is restored, and its operator; it reports on standard error."""
 
     def __init__(
-        self, program: str, journal: int, *words: str, restored: bytes = b"", told: str = ""
+        self, program: str, journal: int, *words: str, restored: bytes = b"", reported: str = ""
     ) -> None:
-        self.told = tempfile.TemporaryFile()
+        self.reported = tempfile.TemporaryFile()
         options = ["--journal", *(["--restore"] if restored else STATIONS), *words]
         # A limit of file size is an error of its writes then, and no signal that ends it.
         self.starts(
@@ -74,12 +74,12 @@ class Journalled(Live):
         self.out = self.process.stderr
         if restored:
             self.input.write(restored + LISTEN)
-        self.hears(told)
+        self.hears(reported)
         self.listens(*words)
 
-    def hears(self, told: str) -> None:
+    def hears(self, reported: str) -> None:
         """It has to report this."""
-        for wanted in told.splitlines(keepends=True):
+        for wanted in reported.splitlines(keepends=True):
             if (read := self.line().decode()) != wanted:
                 raise Differs(f"it reports {read!r}, and not {wanted!r}")
 
@@ -106,17 +106,19 @@ def begun(program: str, journal: Path, *words: str) -> Journalled:
         return Journalled(program, file.fileno(), *words)
 
 
-def restored(program: str, journal: Path, told: str, *words: str) -> Journalled:
+def restored(program: str, journal: Path, reported: str, *words: str) -> Journalled:
     """A server that goes on behind a journal, and reports this of it."""
     with open(journal, "ab") as file:
-        return Journalled(program, file.fileno(), *words, restored=journal.read_bytes(), told=told)
+        return Journalled(
+            program, file.fileno(), *words, restored=journal.read_bytes(), reported=reported
+        )
 
 
 def one_event(program: str, journal: Path) -> None:
     """A run that takes the first event of one station."""
     with begun(program, journal) as server:
         station = Station(server, "A")
-        station.tells(0)
+        station.reports(0)
         station.leaves()
         server.ends(boards(1, 0, 0))
 
@@ -226,7 +228,7 @@ def small_journal(program: str, journal: Path, *words: str) -> bytes:
 
 def each_front_is_restored(program: str, written: bytes) -> None:
     """Each front of a small journal, as a kill may leave it, gives the board of its complete lines."""
-    none, one = (board("north", {"A": told}) for told in range(2))
+    none, one = (board("north", {"A": reported}) for reported in range(2))
     voided = none.replace("voided=0", "voided=1")
     # The report when so many lines that are no comments are complete, and how many changes they are.
     behind = ["", "", none, one, voided, one, voided, none]
@@ -299,7 +301,7 @@ def receipt_times(program: str) -> None:
         with begun(program, journal, "--receipt-times") as server:
             for name in "AB":
                 station = Station(server, name)
-                station.tells(0, 1)
+                station.reports(0, 1)
                 station.leaves()
             server.answers("void B T1 1", "accepted 3\n")
             server.answers("restore B T1 1", "accepted 4\n")
@@ -307,7 +309,7 @@ def receipt_times(program: str) -> None:
         is_the_boards(program, journal, boards(2, 2, 0))
         with restored(program, journal, "restored 6\n", "--receipt-times") as server:
             station = Station(server, "C")
-            station.tells(0)
+            station.reports(0)
             station.leaves()
             server.ends(boards(2, 2, 1))
         is_the_boards(program, journal, boards(2, 2, 1))
@@ -315,7 +317,7 @@ def receipt_times(program: str) -> None:
         with restored(program, journal, "restored 7\n") as server:
             before = journal.read_bytes()
             station = Station(server, "C")
-            station.tells(0, 1)
+            station.reports(0, 1)
             station.leaves()
             server.ends(boards(2, 2, 2))
         holds(journal, before + b"msg C " + SECOND + b"\n")
@@ -329,7 +331,7 @@ def restored_twice(program: str) -> None:
         with restored(program, journal, "restored 1\n") as server:
             for name in "AB":
                 station = Station(server, name)
-                station.tells(0, 1)
+                station.reports(0, 1)
                 station.leaves()
             server.ends(boards(2, 2, 0))
         with restored(program, journal, "restored 4\n") as server:
@@ -337,7 +339,7 @@ def restored_twice(program: str) -> None:
             server.answers("void A T1 1", "accepted 3\n")
             server.answers("restore A T1 1", "accepted 4\n")
             station = Station(server, "C")
-            station.tells(0)
+            station.reports(0)
             station.leaves()
             server.ends(boards(2, 2, 1))
         is_the_boards(program, journal, boards(2, 2, 1))
@@ -511,7 +513,7 @@ def full_disk(program: str) -> None:
     for room in (0, 1, 100):
         with folder() as journal, begun(program, journal) as server:
             station, other = Station(server, "A"), Station(server, "B")
-            station.tells(0)
+            station.reports(0)
             written = journal.read_bytes()
             most = len(written) + room
             server.limit_file(most)
@@ -525,14 +527,14 @@ def full_disk(program: str) -> None:
             server.has_ended(boards(1, 0, 0) + "fault WriteFault\n", status=1)
             holds(journal, written + LINES[1][:room])
             line = written.count(b"\n") + 1
-            told = {
+            reported = {
                 0: "",
                 1: f"left out {line} fault BadLine\n",
                 100: f"left out {line} {NOT_JSON.decode()}\n",
             }[room]
-            with restored(program, journal, told + "restored 1\n") as again:
+            with restored(program, journal, reported + "restored 1\n") as again:
                 station = Station(again, "A")
-                station.tells(1)
+                station.reports(1)
                 station.leaves()
                 again.ends(boards(2, 0, 0))
 
@@ -552,10 +554,10 @@ def quiet_messages(program: str) -> None:
     """Repeats, refusals, other messages and an operator's questions are not written."""
     with folder() as journal, begun(program, journal) as server:
         station = Station(server, "A")
-        station.tells(0, 1)
+        station.reports(0, 1)
         wanted = RUN + DECLARED + b"".join(LINES)
         holds(journal, wanted)
-        station.tells(0, 1)
+        station.reports(0, 1)
         sends(
             station,
             event(1, "Updated", "2026-03-01T10:14:00Z", 1300),
@@ -596,7 +598,7 @@ def restored_lines_are_not_written_again(program: str) -> None:
         with restored(program, journal, "restored 1\n") as server:
             holds(journal, RUN + DECLARED + LINES[0] + RUN)
             station = Station(server, "A")
-            station.tells(0, 1)
+            station.reports(0, 1)
             station.leaves()
             server.ends(boards(2, 0, 0))
         holds(journal, RUN + DECLARED + LINES[0] + RUN + LINES[1])
@@ -628,7 +630,7 @@ def left_out_lines(program: str) -> None:
             b"",
         )
     )
-    told = (
+    reported = (
         "left out 2 fault StationTwice\nleft out 3 fault BadLine\n"
         'left out 9 [4,"2","GenericError","ConflictingEvent",{}]\nleft out 10 refused NoSuchEvent\n'
         "left out 11 fault UnknownStation\nleft out 12 fault DeclaredLate\n"
@@ -636,7 +638,7 @@ def left_out_lines(program: str) -> None:
     )
     with folder() as journal:
         journal.write_bytes(script)
-        with restored(program, journal, told, "--allow-left-out") as server:
+        with restored(program, journal, reported, "--allow-left-out") as server:
             server.answers("total A", TWO + "\n")
             server.ends(board("north", {"A": 2}))
         holds(journal, script + RUN)
@@ -645,19 +647,19 @@ def left_out_lines(program: str) -> None:
 def lost_lines_end_the_server(program: str) -> None:
     """A script with a line that left nothing, and that no kill cut, is served only where that is allowed."""
     script = b"station north A\nmsg A " + FIRST + b"\nmsg B " + FIRST + b"\n"
-    told = b"left out 3 fault UnknownStation\n"
+    reported = b"left out 3 fault UnknownStation\n"
     ended = subprocess.run(
         [program, "serve", "--live", "--journal", "--restore"],
         input=script + LISTEN,
         capture_output=True,
         timeout=LONGEST_WAIT,
     )
-    if (ended.returncode, ended.stdout, ended.stderr) != (1, b"", told + b"fault LeftOut\n"):
+    if (ended.returncode, ended.stdout, ended.stderr) != (1, b"", reported + b"fault LeftOut\n"):
         raise Differs(f"status {ended.returncode}, {ended.stdout!r}, {ended.stderr!r}")
     with folder() as journal:
         journal.write_bytes(script)
         with restored(
-            program, journal, f"{told.decode()}restored 1\n", "--allow-left-out"
+            program, journal, f"{reported.decode()}restored 1\n", "--allow-left-out"
         ) as server:
             server.ends(board("north", {"A": 1}))
         # A station is added by its declaration in front of the journal.
@@ -683,9 +685,9 @@ def orders_written_once(program: str) -> None:
     rise = "up=200000 down=0 export_up=0 export_down=0\n"
     total = f"total events=3 voided=0 transactions=1 complete=1 missing=0 {rise}"
     period = f"period 2026-03-01T10:00:00Z {rise}"
-    told = f"{total}evse 0 {rise}{period}tx t1 evse=0 events=3 first=0 last=2 complete=yes missing=0 {rise}"
+    reported = f"{total}evse 0 {rise}{period}tx t1 evse=0 events=3 first=0 last=2 complete=yes missing=0 {rise}"
     written = (
-        f"board north period=900 order=moment\n{total}{period}station A\n{told}station B\n{NONE}\nend\n"
+        f"board north period=900 order=moment\n{total}{period}station A\n{reported}station B\n{NONE}\nend\n"
         f"board south period=900 order=moment\n{NONE}\nstation C\n{NONE}\nend\n"
     )
     with folder() as journal:
@@ -714,7 +716,7 @@ def comment_after_a_cut_line(program: str) -> None:
     with folder() as journal:
         with begun(program, journal) as server:
             station = Station(server, "A")
-            station.tells(0, 1)
+            station.reports(0, 1)
             station.leaves()
             server.ends(boards(2, 0, 0))
         # What was cut from `void A T1 12`.

@@ -52,7 +52,7 @@ def sessions_in_turn(program: str) -> None:
     with Live(program) as server:
         for turn in range(300):
             station = Station(server, "A")
-            station.tells(0, 1)
+            station.reports(0, 1)
             station.leaves() if turn % 2 else station.fails()
         server.answers("total A", TWO + "\n")
         server.ends(boards(2, 0, 0))
@@ -62,18 +62,18 @@ def third_session_ends_the_first(program: str) -> None:
     """Two sessions of a station are open; a third ends the oldest, and after one of them left no other ends."""
     with Live(program) as server:
         first, second = Station(server, "A"), Station(server, "A")
-        first.tells(0)
-        second.tells(0)
+        first.reports(0)
+        second.reports(0)
         third = Station(server, "A")
         first.receives(dismissed("Replaced"))
         first.ends()
-        second.tells(0, 1)
-        third.tells(1)
+        second.reports(0, 1)
+        third.reports(1)
         second.leaves()
         fourth = Station(server, "A")
         time.sleep(1.5)
-        third.tells(0)
-        fourth.tells(0)
+        third.reports(0)
+        fourth.reports(0)
         server.says("close")
         for station in (third, fourth):
             station.receives(dismissed("ServerCloses"))
@@ -87,10 +87,10 @@ def silent_station_comes_again(program: str) -> None:
     with Live(program, stations=stations) as server:
         found = [Station(server, f"S{number}") for number in range(64) for _ in range(2)]
         for station in found[::2]:
-            station.tells(0)
+            station.reports(0)
         began = time.monotonic()
         again = Station(server, "S7")
-        again.tells(0, 1)
+        again.reports(0, 1)
         if (took := time.monotonic() - began) > 2:
             raise Differs(f"it is answered after {took:.1f} seconds")
         server.answers("total S7", TWO + "\n")
@@ -113,7 +113,7 @@ def end_while_clients_are_silent(program: str) -> None:
             client.sends(b"GET /ocpp/S0 HTTP/1.1\r\n")
         stations = [Station(server, name) for name in names * 2]
         stations[0].sends(Frame(TEXT, FIRST).bytes()[:50])
-        stations[2].tells(0, 1)
+        stations[2].reports(0, 1)
         glance = "live north\ntotal .*\n"
         server.ends(board("north", {name: 2 * (name == "S2") for name in names}), f"(?:{glance})+")
         for station in stations:
@@ -128,7 +128,7 @@ def half_open_connections_hold_no_station(program: str) -> None:
             client.sends(b"GET /ocpp/A HTTP/1.1\r\n")
         began = time.monotonic()
         station = Station(server, "A")
-        station.tells(0, 1)
+        station.reports(0, 1)
         if (took := time.monotonic() - began) > 2:
             raise Differs(f"it is answered after {took:.1f} seconds")
         station.leaves()
@@ -148,14 +148,14 @@ def client_takes_no_bytes(program: str) -> None:
             pass
         began = time.monotonic()
         other = Station(server, "A")
-        other.tells(0, 1)
+        other.reports(0, 1)
         while b"session A ended WriteFault" not in server.has_told():
             if time.monotonic() - began > WRITE + 3:
                 raise Differs("its session does not end")
             time.sleep(0.1)
         if time.monotonic() - began < WRITE - 5:
             raise Differs("its session ends early")
-        other.tells(0)
+        other.reports(0)
         other.leaves()
         server.ends(boards(2, 0, 0), "(?:session A .*\n)+")
 
@@ -164,7 +164,7 @@ def operator_voids_between_events(program: str) -> None:
     """What the operator voids a station's next reply and board know: the event is sent again, and is a repeat."""
     with Live(program) as server:
         station = Station(server, "A")
-        station.tells(0, 1)
+        station.reports(0, 1)
         server.answers("energy A", "energy up=200000 down=0\n")
         server.answers("void A T1 1", "accepted 3\n")
         server.answers("energy A", "energy up=0 down=0\n")
@@ -178,7 +178,7 @@ def operator_voids_between_events(program: str) -> None:
         server.answers("total B", NONE + "\n")
         server.answers("void A T1 0", "accepted 5\n")
         server.answers("erase A T1 0", "accepted 6\n")
-        station.tells(0)
+        station.reports(0)
         station.leaves()
         server.ends(boards(2, 0, 0))
 
@@ -228,11 +228,11 @@ def input_ends_within_a_line(program: str) -> None:
 def an_interrupt_writes_no_board(program: str) -> None:
     """Control-C ends a server by the signal, and it writes no board; the end of its input has it write them."""
     with Live(program) as server:
-        Station(server, "A").tells(0, 1)
+        Station(server, "A").reports(0, 1)
         server.process.send_signal(signal.SIGINT)
         server.has_ended("", status=-signal.SIGINT)
     with Live(program) as server:
-        Station(server, "A").tells(0, 1)
+        Station(server, "A").reports(0, 1)
         server.ends(boards(2, 0, 0))
 
 
@@ -286,7 +286,7 @@ def sessions_are_told(program: str) -> None:
     """The lines of `--log`, and the reasons of close frames."""
     with Live(program, "--log") as server:
         station = Station(server, "A")
-        station.tells(0, 1, 0)
+        station.reports(0, 1, 0)
         station.leaves()
         for path, offer, code, reason in (
             ("/ocpp/CS-09", OFFER, 1008, "UnknownStation"),
@@ -322,7 +322,7 @@ def sessions_are_told(program: str) -> None:
 
 def limits_nearly_used(program: str) -> None:
     """A limit that is nine tenths used is reported once, by whatever session of its station."""
-    told = (
+    reported = (
         b"near A transactions 1 of 1\n",
         b"near A readings 17 of 18\n",
         b"near A events 18 of 20\n",
@@ -334,9 +334,9 @@ def limits_nearly_used(program: str) -> None:
 
         def has_told(lines: int) -> None:
             deadline = time.monotonic() + LONGEST_WAIT
-            while server.has_told() != b"".join(told[:lines]) and time.monotonic() < deadline:
+            while server.has_told() != b"".join(reported[:lines]) and time.monotonic() < deadline:
                 time.sleep(0.01)
-            if (found := server.has_told()) != b"".join(told[:lines]):
+            if (found := server.has_told()) != b"".join(reported[:lines]):
                 raise Differs(f"standard error has {found!r}")
 
         def sends(station: Station, number: int, reply: bytes = b"") -> None:
@@ -364,7 +364,7 @@ def limits_nearly_used(program: str) -> None:
         has_told(4)
         station.leaves()
         shown = "".join(server.board("north") + server.board("south"))
-        server.ends(shown, b"".join(told).decode())
+        server.ends(shown, b"".join(reported).decode())
 
 
 def unfinished_handshake_ends(program: str) -> None:
@@ -399,7 +399,7 @@ def boards_in_a_browser(program: str) -> None:
     """200, 400, 404 and 405, a head that never ends, and a request while stations are served."""
     with Live(program, "--board-port", "0") as server:
         station = Station(server, "A")
-        station.tells(0, 1)
+        station.reports(0, 1)
         text = "text/plain; charset=utf-8"
         north = boards(2, 0, 0).partition("board south")[0].encode()
         for sent, status, kind, wanted in (
@@ -431,7 +431,7 @@ def boards_in_a_browser(program: str) -> None:
             took = time.monotonic() - began
         if not HEAD - 1 < took < HEAD + 2:
             raise Differs(f"a head that never ends is waited for {took:.1f} seconds")
-        station.tells(1)
+        station.reports(1)
         server.ends(boards(2, 0, 0))
 
 

@@ -17,7 +17,7 @@ EARLY = 0.05
 # How long the server may take to end sessions that are silent, in seconds.
 END = 2
 # A station's part of a board, behind its name, if it sent none, the first or both events of transaction T1.
-TOLD = (
+PARTS = (
     "total events=0 voided=0 transactions=0 complete=0 missing=0 up=0 down=0 export_up=0 export_down=0\n",
     "total events=1 voided=0 transactions=1 complete=0 missing=0 up=0 down=0 export_up=0 export_down=0\n"
     "evse 0 up=0 down=0 export_up=0 export_down=0\n"
@@ -27,14 +27,14 @@ TOLD = (
     "period 2026-03-01T10:00:00Z up=200000 down=0 export_up=0 export_down=0\n"
     "tx t1 evse=0 events=2 first=0 last=1 complete=no missing=0 up=200000 down=0 export_up=0 export_down=0\n",
 )
-NONE, ONE, TWO = (told.partition("\n")[0] for told in TOLD)
+NONE, ONE, TWO = (part.partition("\n")[0] for part in PARTS)
 
 
 class Served:
     """A program that serves and is ended with its scene, and its reports on standard error."""
 
     process: subprocess.Popen[bytes]
-    told: IO[bytes]
+    reported: IO[bytes]
 
     def __enter__(self) -> Self:
         return self
@@ -42,7 +42,7 @@ class Served:
     def __exit__(self, *_: object) -> None:
         self.process.kill()
         self.process.communicate()
-        self.told.close()
+        self.reported.close()
 
 
 class Server(Served):
@@ -52,9 +52,9 @@ class Server(Served):
         self, program: str, connections: int, *options: str, stations: tuple[str, ...] = STATIONS
     ) -> None:
         words = [program, "serve", "--connections", str(connections), *options, *stations]
-        self.told = tempfile.TemporaryFile()
+        self.reported = tempfile.TemporaryFile()
         self.process = subprocess.Popen(
-            words, bufsize=0, stdin=subprocess.DEVNULL, stdout=subprocess.PIPE, stderr=self.told
+            words, bufsize=0, stdin=subprocess.DEVNULL, stdout=subprocess.PIPE, stderr=self.reported
         )
         assert self.process.stdout
         self.out = self.process.stdout
@@ -72,21 +72,23 @@ class Server(Served):
             written, _ = self.process.communicate(timeout=LONGEST_WAIT)
         except subprocess.TimeoutExpired:
             raise Differs("the server does not end") from None
-        self.told.seek(0)
-        told = self.told.read().decode()
-        if self.process.returncode != 0 or not re.fullmatch(lines, told):
-            raise Differs(f"status {self.process.returncode}, and standard error has:\n{told}")
+        self.reported.seek(0)
+        reported = self.reported.read().decode()
+        if self.process.returncode != 0 or not re.fullmatch(lines, reported):
+            raise Differs(f"status {self.process.returncode}, and standard error has:\n{reported}")
         if written.decode() != boards:
             raise Differs(f"these boards are written:\n{written.decode()}and not:\n{boards}")
-        return told
+        return reported
 
 
 class Live(Served):
     """A server that lives, and its operator."""
 
     def __init__(self, program: str, *options: str, stations: tuple[str, ...] = STATIONS) -> None:
-        self.told = tempfile.TemporaryFile()
-        self.starts([program, "serve", "--live", *options, *stations], subprocess.PIPE, self.told)
+        self.reported = tempfile.TemporaryFile()
+        self.starts(
+            [program, "serve", "--live", *options, *stations], subprocess.PIPE, self.reported
+        )
         assert self.process.stdout
         self.out = self.process.stdout
         self.listens(*options)
@@ -161,7 +163,7 @@ class Live(Served):
 
     def has_told(self) -> bytes:
         """What it has reported so far."""
-        return os.pread(self.told.fileno(), 1_000_000, 0)
+        return os.pread(self.reported.fileno(), 1_000_000, 0)
 
     def limit_data(self, limit: int | None = None) -> None:
         """Sets how many bytes of memory it may have: without a limit as many as it likes."""
@@ -173,12 +175,14 @@ class Live(Served):
         self.input.close()
         self.process.stdin = None
 
-    def ends(self, written: str, told: str = "", status: int = 0, within: float = END) -> str:
+    def ends(self, written: str, reported: str = "", status: int = 0, within: float = END) -> str:
         """Its input ends, and then it has to end."""
         self.close()
-        return self.has_ended(written, told, status, within)
+        return self.has_ended(written, reported, status, within)
 
-    def has_ended(self, written: str, told: str = "", status: int = 0, within: float = END) -> str:
+    def has_ended(
+        self, written: str, reported: str = "", status: int = 0, within: float = END
+    ) -> str:
         """It has to write this, to report lines that this expression fits, and to end, in this time."""
         began = time.monotonic()
         rest = self.rest().decode()
@@ -187,9 +191,9 @@ class Live(Served):
         except subprocess.TimeoutExpired:
             raise Differs("the server does not end") from None
         took = time.monotonic() - began
-        self.told.seek(0)
-        lines = self.told.read().decode()
-        if self.process.returncode != status or not re.fullmatch(told, lines):
+        self.reported.seek(0)
+        lines = self.reported.read().decode()
+        if self.process.returncode != status or not re.fullmatch(reported, lines):
             raise Differs(f"status {self.process.returncode}, and standard error has:\n{lines}")
         if rest != written:
             raise Differs(f"this is written:\n{rest}and not:\n{written}")
@@ -208,13 +212,13 @@ def boards(a: int, b: int, c: int) -> str:
     return board("north", {"A": a, "B": b}) + board("south", {"C": c})
 
 
-def board(site: str, told: dict[str, int]) -> str:
-    up = 200_000 * sum(events == 2 for events in told.values())
+def board(site: str, reported: dict[str, int]) -> str:
+    up = 200_000 * sum(events == 2 for events in reported.values())
     return (
         f"board {site} period=900\n"
-        f"total events={sum(told.values())} voided=0 transactions={sum(events > 0 for events in told.values())} "
+        f"total events={sum(reported.values())} voided=0 transactions={sum(events > 0 for events in reported.values())} "
         f"complete=0 missing=0 up={up} down=0 export_up=0 export_down=0\n"
         + (f"period 2026-03-01T10:00:00Z up={up} down=0 export_up=0 export_down=0\n" if up else "")
-        + "".join(f"station {name}\n{TOLD[events]}" for name, events in told.items())
+        + "".join(f"station {name}\n{PARTS[events]}" for name, events in reported.items())
         + "end\n"
     )

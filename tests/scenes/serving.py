@@ -1,4 +1,4 @@
-"""Plays whole servers with clients of their own, and compares what is answered, written and told, byte for byte.
+"""Plays whole servers with clients of their own, and compares what is answered, written and reported, byte for byte.
 
     tests/one scenes.serving PROGRAM
 
@@ -36,7 +36,7 @@ from tests.scenes.client import (
 )
 from tests.scenes.drawn import drawn_messages
 from tests.scenes.playing import play
-from tests.scenes.servers import TOLD, Server, boards
+from tests.scenes.servers import PARTS, Server, boards
 
 # How many connections a server serves at most.
 MOST_CONNECTIONS = 64
@@ -63,11 +63,11 @@ def whole_session() -> Whole:
 def boards_come_when_all_have_ended(program: str) -> None:
     with Server(program, 2) as server:
         a, c = Station(server, "A"), Station(server, "C")
-        a.tells(0)
+        a.reports(0)
         a.leaves()
         if server.has_written():
             raise Differs("a board is written while C is connected")
-        c.tells(0)
+        c.reports(0)
         c.leaves()
         server.ends(boards(1, 0, 1))
 
@@ -77,13 +77,13 @@ def event_is_sent_again_after_a_cut(program: str) -> None:
     with Server(program, 4) as server:
         for cut in (Station.ends, Station.fails):
             station = Station(server, "A")
-            station.tells(0)
+            station.reports(0)
             cut(station)
         station = Station(server, "A")
         station.sends(Frame(TEXT, FIRST).bytes())
         station.fails()
         station = Station(server, "A")
-        station.tells(0)
+        station.reports(0)
         station.leaves()
         server.ends(boards(1, 0, 0))
 
@@ -96,7 +96,7 @@ def silent_connections_hold_no_other(program: str) -> None:
         a.sends(first[:100])
         for name in ("B", "C"):
             station = Station(server, name)
-            station.tells(0, 1)
+            station.reports(0, 1)
             station.leaves()
         a.sends(first[100:])
         a.receives(Frame(TEXT, REPLIES[0], False).bytes())
@@ -113,7 +113,7 @@ def stations_at_once(program: str) -> None:
     def play(server: Server, name: str) -> None:
         station = Station(server, name)
         together.wait(LONGEST_WAIT)
-        station.tells(0, 1, 0)
+        station.reports(0, 1, 0)
         station.leaves()
 
     with Server(program, len(names)) as server, ThreadPoolExecutor(len(names)) as threads:
@@ -134,7 +134,7 @@ def connections_that_fail_count_as_ended(program: str) -> None:
         station.sends(Frame(TEXT_BEGINS, FIRST).bytes())
         station.ends()
         station = Station(server, "B")
-        station.tells(0)
+        station.reports(0)
         station.leaves()
         server.ends(boards(0, 1, 0))
 
@@ -144,9 +144,9 @@ def one_live_line_a_site(program: str) -> None:
     for glances in (1, 3):
         with Server(program, 1, "--watch", str(glances)) as server:
             station = Station(server, "C")
-            station.tells(0)
+            station.reports(0)
             station.leaves()
-            none, one = (re.escape(TOLD[events].partition("\n")[0]) for events in (0, 1))
+            none, one = (re.escape(PARTS[events].partition("\n")[0]) for events in (0, 1))
             any_glance = f"live north\n{none}\nlive south\n(?:{none}|{one})\n"
             last = f"live north\n{none}\nlive south\n{one}\n"
             server.ends(
@@ -239,9 +239,9 @@ def eight_stations_on_two_sites(program: str) -> None:
     ):
         raise Differs("the drawn events have too few conflicts")
 
-    def play(server: Server, told: Played) -> None:
-        station = Station(server, told.station)
-        for message, reply in zip(told.messages, told.replies):
+    def play(server: Server, reported: Played) -> None:
+        station = Station(server, reported.station)
+        for message, reply in zip(reported.messages, reported.replies):
             station.sends(Frame(TEXT, message).bytes())
             station.receives(Frame(TEXT, reply, False).bytes())
         station.leaves()
@@ -254,7 +254,7 @@ def eight_stations_on_two_sites(program: str) -> None:
         Server(program, len(stations), "--watch", "2", stations=stations) as server,
         ThreadPoolExecutor(len(stations)) as threads,
     ):
-        for ended in [threads.submit(play, server, told) for told in played]:
+        for ended in [threads.submit(play, server, reported) for reported in played]:
             ended.result()
         lines = server.ends(wanted, f"(?:live a\n{totals}live b\n{totals}){{2}}")
     for site in "ab":

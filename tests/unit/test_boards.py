@@ -160,9 +160,9 @@ def test_numbers_of_words() -> None:
         numbers_of(["events=x"])
 
 
-def test_each_part_of_a_board_by_moment_is_by_time(tmp_path: Path) -> None:
+def test_each_part_of_a_board_by_moment_has_that_order(tmp_path: Path) -> None:
     kept, counts = reading(BOARD.replace("=900", "=900 order=moment", 1) + BOARD, tmp_path)
-    assert [part.is_by_time for part in kept.parts] == [True, True, False, False]
+    assert [part.is_by_moment for part in kept.parts] == [True, True, False, False]
     assert counts["unread"] == 0 and kept.parts[0].seconds == 900
 
 

@@ -149,11 +149,11 @@ def numbered(first: int, count: int) -> bytes:
 def test_a_log_that_is_cut_and_outgrows_its_place_loses_nothing(
     is_copied: bool, tmp_path: Path
 ) -> None:
-    log, told = tmp_path / "log", list[str]()
+    log, reported = tmp_path / "log", list[str]()
     log.write_bytes(numbered(0, 100))
-    followed = Followed(log, None, told.append)
+    followed = Followed(log, None, reported.append)
     lines = taken(followed)
-    assert len(lines) == 100 and not told
+    assert len(lines) == 100 and not reported
     if is_copied:
         with open(log, "ab") as file:
             file.write(numbered(100, 50) + b"line")
@@ -169,7 +169,7 @@ def test_a_log_that_is_cut_and_outgrows_its_place_loses_nothing(
     lines += taken(followed)
     old = numbered(0, 151 if is_copied else 100)
     assert b"".join(filter(None, lines)) == old + numbered(1_000, 400)
-    (text,) = told
+    (text,) = reported
     assert text.startswith(f"{log} was cut") and ("from the copy" in text) == is_copied
     assert followed.place.place == log.stat().st_size and followed.is_current()
 
@@ -177,9 +177,9 @@ def test_a_log_that_is_cut_and_outgrows_its_place_loses_nothing(
 def test_what_was_read_before_a_cut_is_given(
     tmp_path: Path, monkeypatch: pytest.MonkeyPatch
 ) -> None:
-    log, told = tmp_path / "log", list[str]()
+    log, reported = tmp_path / "log", list[str]()
     log.write_bytes(numbered(0, 20) + b"half")
-    followed = Followed(log, None, told.append)
+    followed = Followed(log, None, reported.append)
     read = followed.part
 
     def part() -> bytes:
@@ -191,7 +191,7 @@ def test_what_was_read_before_a_cut_is_given(
 
     monkeypatch.setattr(followed, "part", part)
     lines = followed.lines()
-    assert b"".join(filter(None, lines)) == numbered(0, 20) + b"half" and len(told) == 1
+    assert b"".join(filter(None, lines)) == numbered(0, 20) + b"half" and len(reported) == 1
     assert taken(followed) == [b"x\n"]
 
 

@@ -124,9 +124,9 @@ def test_a_log_becomes_a_script(
     ]
     assert len(lines) == 8 and len(untaken) == 1
     assert untaken[0].station == "B" and "a station is not in" in untaken[0].what
-    told = [one.getMessage() for one in caplog.records if one.levelno >= logging.WARNING]
+    reported = [one.getMessage() for one in caplog.records if one.levelno >= logging.WARNING]
     said = "a time is none; its message goes without a time: 'never'"
-    assert told == [f"{tmp_path / 'log'}: {said}"]
+    assert reported == [f"{tmp_path / 'log'}: {said}"]
     ledger.close()
     feed.kept.lock.close()
     again, ledger, untaken = feed_of(stub, tmp_path)
@@ -181,8 +181,11 @@ def test_a_site_that_the_file_of_stations_lacks_is_warned_of(
     feed, ledger, _ = feed_of(stub, tmp_path, "--order", "nroth=moment", "--period", "north=300")
     feed.feed()
     ledger.close()
-    (told,) = (text for text in capsys.readouterr().err.splitlines() if "nroth" in text)
-    assert told.startswith("--order names the site 'nroth', which ") and "its sites: north" in told
+    (reported,) = (text for text in capsys.readouterr().err.splitlines() if "nroth" in text)
+    assert (
+        reported.startswith("--order names the site 'nroth', which ")
+        and "its sites: north" in reported
+    )
     assert ledger.counts["accepted"] == 1
 
 

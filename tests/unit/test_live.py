@@ -162,16 +162,16 @@ def test_pages_have_times_and_findings(tmp_path: Path) -> None:
     words = argparse.Namespace(
         out=tmp_path, tz=None, every=10, oldest=None, log_json=False, prog="live"
     )
-    told, refusals = SessionFacts(), Refusals()
+    reported, refusals = SessionFacts(), Refusals()
     refusals.add(Refusal("", "A", "T", "0", "Moment", "", "north", "is none"))
     session = KINDS["clock-far"]("T1", FIRST)
     for sent in session:
         message = json.dumps([2, "1", "TransactionEvent", sent.payload])
-        told.take(Answered(1, "north", "A", sent.received, message, '[3,"1",{}]'))
+        reported.take(Answered(1, "north", "A", sent.received, message, '[3,"1",{}]'))
     last = len(session) - 1
     tx = f"tx t1 evse=1 events={last + 1} first=0 last={last} complete=yes missing=0 {flow(3)}\nend\n"
     text = board(3).replace(b"end\n", tx.encode())
-    pages = Pages(words, refusals, told)
+    pages = Pages(words, refusals, reported)
     pages.write("north", text)
     page, day = ((tmp_path / f"north{name}.html").read_text() for name in ("", ".2026-03-01"))
     assert "clock far from receipt" in page and "Data up to" in page and "were refused" not in page

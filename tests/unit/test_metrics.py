@@ -83,9 +83,9 @@ def test_what_counts_up_is_a_counter() -> None:
 
 def test_a_worker_without_sessions_tells_that() -> None:
     seen = WorkerSeen(10)
-    told = {one.name: one.values for one in seen.figures()}
-    assert told["worker_connected"] == [({}, 0.0)] and not seen.health().is_well
-    assert told.keys() <= HELP.keys()
+    reported = {one.name: one.values for one in seen.figures()}
+    assert reported["worker_connected"] == [({}, 0.0)] and not seen.health().is_well
+    assert reported.keys() <= HELP.keys()
 
 
 def test_stations_within_a_tenth_of_a_limit() -> None:

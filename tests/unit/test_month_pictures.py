@@ -80,19 +80,19 @@ def test_weeks_begin_on_monday_and_months_on_the_first() -> None:
 
 def marked(*left_out: int) -> Part:
     """A station with a session that lacks these events."""
-    told = SessionFacts()
+    reported = SessionFacts()
     numbers = [number for number in range(4) if number not in left_out]
     for number in numbers:
         one = sound("T1", FIRST)[number]
         message = json.dumps([2, "1", "TransactionEvent", one.payload])
-        told.take(Answered(1, "north", "A", one.received, message, '[3,"1",{}]'))
+        reported.take(Answered(1, "north", "A", one.received, message, '[3,"1",{}]'))
     gaps = [(number, number) for number in left_out]
     flow, count = Flow(750_000), len(numbers)
     session = Session("t1", 1, count, 0, 3, not gaps, len(gaps), flow, gaps, "as it is")
     total = Total(4, 0, 1, 1, 0, session.flow)
     periods = [Period(FIRST, 900, session.flow)]
     part = Part("A", False, 900, total=total, sessions=[session], periods=periods)
-    told.mark("north", part)
+    reported.mark("north", part)
     return part
 
 
@@ -135,8 +135,8 @@ def test_a_day_whose_sessions_changed_is_written_again(tmp_path: Path) -> None:
     day, part = date(2026, 3, 1), marked()
 
     def written(part: Part) -> bool:
-        standing = frozenset([day])
-        days = DayPages(layout(tmp_path, standing=standing, marks=marks))
+        unchanged = frozenset([day])
+        days = DayPages(layout(tmp_path, unchanged=unchanged, marks=marks))
         days.add(board("north", part))
         days.close()
         path = tmp_path / f"x.{day}.html"
@@ -147,9 +147,9 @@ def test_a_day_whose_sessions_changed_is_written_again(tmp_path: Path) -> None:
     assert written(part) and not written(part) and written(marked(2))
 
 
-@pytest.mark.parametrize("standing", [None, frozenset([date(2026, 3, 2)])])
+@pytest.mark.parametrize("unchanged", [None, frozenset([date(2026, 3, 2)])])
 def test_days_are_the_same_in_copies(
-    standing: frozenset[date] | None, tmp_path: Path, monkeypatch: pytest.MonkeyPatch
+    unchanged: frozenset[date] | None, tmp_path: Path, monkeypatch: pytest.MonkeyPatch
 ) -> None:
     periods = [Period(DAY + timedelta(days=n), 900, Flow(100_000 * n)) for n in range(7)]
     part = Part("A", False, 900, total=marked().total, periods=periods)
@@ -157,14 +157,14 @@ def test_days_are_the_same_in_copies(
     found = []
     for count in (1, 3):
         monkeypatch.setattr("os.sched_getaffinity", lambda _process, n=count: set(range(n)))
-        days = DayPages(layout(tmp_path / str(count), standing=standing))
+        days = DayPages(layout(tmp_path / str(count), unchanged=unchanged))
         (tmp_path / str(count)).mkdir()
         days.add(board("north", part))
         days.close()
         folder = tmp_path / str(count)
         found.append({path.name: path.read_text() for path in folder.iterdir()})
     alone, together = found
-    assert alone == together and len(alone) == (7 if standing is None else 6)
+    assert alone == together and len(alone) == (7 if unchanged is None else 6)
     text = alone["x.2026-03-03.html"]
     assert 'href="x.2026-03-02.html"' in text and 'href="x.2026-03-04.html"' in text
     assert text.endswith("</html>\n")

@@ -97,11 +97,11 @@ def test_who_and_why_are_kept_and_a_refused_line_does_not_count(
 
 def marked(*deeds: Deed) -> Session:
     """A session of numbers 0 to 5 without 2 and 3, and with such lines of operators."""
-    told = SessionFacts()
+    reported = SessionFacts()
     for deed in deeds:
-        told.operators.add(deed)
+        reported.operators.add(deed)
     session = Session("t1", 1, 4, 0, 5, False, 2, Flow(), [(2, 3)], "numbers missing")
-    told.mark("north", Part("A", False, 900, sessions=[session]))
+    reported.mark("north", Part("A", False, 900, sessions=[session]))
     return session
 
 
@@ -127,14 +127,14 @@ def test_what_is_voided_is_not_missing() -> None:
     ("number", "wanted"), [(3, "voided by jo: no end"), (0, "voided by jo: no start")]
 )
 def test_an_end_that_is_voided_is_not_yet_to_come(number: int, wanted: str) -> None:
-    told = SessionFacts()
+    reported = SessionFacts()
     for one in sound("T1", FIRST):
         message = json.dumps([2, "1", "TransactionEvent", one.payload])
-        told.take(Answered(1, "north", "A", one.received, message, '[3,"1",{}]'))
-    told.operators.add(Deed(f"void A T1 {number}", "jo", "wrong car", "", "accepted 5"))
+        reported.take(Answered(1, "north", "A", one.received, message, '[3,"1",{}]'))
+    reported.operators.add(Deed(f"void A T1 {number}", "jo", "wrong car", "", "accepted 5"))
     first, last = (0, 2) if number else (1, 3)
     session = Session("t1", 1, 3, first, last, False, 0, Flow(), state="no end yet")
-    told.mark("north", Part("A", False, 900, sessions=[session]))
+    reported.mark("north", Part("A", False, 900, sessions=[session]))
     assert session.state == wanted
     found = {
         one.name: one.times for one in problems_of([Part("A", False, 900, sessions=[session])])
@@ -144,15 +144,15 @@ def test_an_end_that_is_voided_is_not_yet_to_come(number: int, wanted: str) -> N
 
 def test_a_period_with_a_voided_event_lacks_no_number() -> None:
     def gaps_of(*deeds: Deed) -> list[int]:
-        told = SessionFacts()
+        reported = SessionFacts()
         for one in sound("T1", FIRST):
             message = json.dumps([2, "1", "TransactionEvent", one.payload])
-            told.take(Answered(1, "north", "A", one.received, message, '[3,"1",{}]'))
+            reported.take(Answered(1, "north", "A", one.received, message, '[3,"1",{}]'))
         for deed in deeds:
-            told.operators.add(deed)
+            reported.operators.add(deed)
         part = Part("A", False, 900)
         part.sessions = [Session("t1", 1, 3, 0, 3, False, 1, Flow(), [(2, 2)], "numbers missing")]
-        told.mark("north", part)
+        reported.mark("north", part)
         assert part.known
         return [start for start, doubt in part.known.doubts.items() if doubt.has_gap]
 

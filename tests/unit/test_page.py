@@ -123,21 +123,21 @@ def begun(database: Database, *tries: tuple[str, str]) -> list[str]:
 
 def test_wrong_ones_are_told_alike() -> None:
     database = Database(b"a right password")
-    told = begun(
+    reported = begun(
         database,
         ("ann", "a wrong one"),
         ("bob", "a right password"),
         ("Ann!", "x"),
         ("ann", "y" * 300),
     )
-    assert len(set(told)) == 1 and told[0] != "in"
+    assert len(set(reported)) == 1 and reported[0] != "in"
     assert begun(database, ("ann", "a right password")) == ["in"]
 
 
 def test_a_locked_account_is_told_as_a_wrong_password() -> None:
     database = Database(b"a right password")
-    told = begun(database, *[("ann", "a wrong one")] * 5, ("ann", "a right password"))
-    assert len(set(told)) == 1 and told[0] != "in"
+    reported = begun(database, *[("ann", "a wrong one")] * 5, ("ann", "a right password"))
+    assert len(set(reported)) == 1 and reported[0] != "in"
 
 
 def test_a_name_is_locked_where_it_failed_and_nowhere_else() -> None:
@@ -155,8 +155,8 @@ def test_an_address_that_failed_often_waits(monkeypatch: pytest.MonkeyPatch) -> 
     # A clock that is stopped, since hashes take their time on a busy machine.
     monkeypatch.setattr(operators, "time", SimpleNamespace(monotonic=lambda: 1_000.0))
     database = Database(b"a right password")
-    told = begun(database, *[("bob", "a wrong one")] * (FREE + 1))
-    assert told[-1] == "busy" and "busy" not in told[:-1]
+    reported = begun(database, *[("bob", "a wrong one")] * (FREE + 1))
+    assert reported[-1] == "busy" and "busy" not in reported[:-1]
 
 
 def test_hashes_at_once_are_bounded() -> None:
@@ -212,10 +212,10 @@ def test_words_of_the_command() -> None:
 
 
 def test_the_address_is_what_our_proxy_tells_last() -> None:
-    told = ["198.51.100.7, 192.0.2.9"]
-    assert address_by("127.0.0.1", told, ["127.0.0.1"]) == "192.0.2.9"
-    assert address_by("127.0.0.1", told, []) == "127.0.0.1"
-    assert address_by("203.0.113.5", told, ["127.0.0.1"]) == "203.0.113.5"
+    reported = ["198.51.100.7, 192.0.2.9"]
+    assert address_by("127.0.0.1", reported, ["127.0.0.1"]) == "192.0.2.9"
+    assert address_by("127.0.0.1", reported, []) == "127.0.0.1"
+    assert address_by("203.0.113.5", reported, ["127.0.0.1"]) == "203.0.113.5"
 
 
 # Forms ----------------------------------------------------------------------------------------------------------------
@@ -350,9 +350,9 @@ def test_a_fragment_is_read_as_it_was_written() -> None:
 
 def test_energies_are_exact_in_both_units() -> None:
     for mwh in (0, 1, 999_999, 123_456_789_012_345, 10**15 - 1):
-        told = json.dumps(flow_json({"up": mwh, "down": 0, "export_up": 0, "export_down": 0}))
+        reported = json.dumps(flow_json({"up": mwh, "down": 0, "export_up": 0, "export_down": 0}))
         whole, part = divmod(mwh, 10**6)
-        digits = told.partition('"up_kwh": ')[2].partition(",")[0]
+        digits = reported.partition('"up_kwh": ')[2].partition(",")[0]
         wanted = f"{whole}.{part:06}".rstrip("0")
         assert float(digits) == float(wanted) and (
             mwh < 100 or digits == f"{wanted}0"[: len(digits)]
@@ -422,10 +422,10 @@ def test_moments_of_a_query() -> None:
 
 
 def test_the_description_has_each_endpoint() -> None:
-    told = SCHEMAS.get_schema(ROUTES)
-    assert len(told["paths"]) == 7 and all("get" in one for one in told["paths"].values())
-    text = json.dumps(told)
-    for name in told["components"]["schemas"]:
+    reported = SCHEMAS.get_schema(ROUTES)
+    assert len(reported["paths"]) == 7 and all("get" in one for one in reported["paths"].values())
+    text = json.dumps(reported)
+    for name in reported["components"]["schemas"]:
         assert text.count(f"#/components/schemas/{name}") or name in ("Fault",)
 
 

@@ -67,7 +67,7 @@ def test_all_that_pages_are_made_of_is_fine(tmp_path: Path) -> None:
 
 
 @pytest.mark.parametrize(
-    ("old", "new", "told"),
+    ("old", "new", "reported"),
     [
         (' lang="en"', "", "names no language"),
         ("<title>Title</title>", "<title></title>", "no title"),
@@ -97,13 +97,13 @@ def test_all_that_pages_are_made_of_is_fine(tmp_path: Path) -> None:
         ("up</a>", "</a>", "has no text"),
     ],
 )
-def test_what_a_page_lacks_is_found(old: str, new: str, told: str, tmp_path: Path) -> None:
+def test_what_a_page_lacks_is_found(old: str, new: str, reported: str, tmp_path: Path) -> None:
     assert old in page()
-    assert any(told in what for what in found(page().replace(old, new), tmp_path))
+    assert any(reported in what for what in found(page().replace(old, new), tmp_path))
 
 
 @pytest.mark.parametrize(
-    ("style", "told"),
+    ("style", "reported"),
     [
         ("p{color:#777777}", "<p.warning> in light"),
         ("p{color:#999}", "<p.warning> in light has a contrast of 2.6 to 1, and not 4.5"),
@@ -116,8 +116,10 @@ def test_what_a_page_lacks_is_found(old: str, new: str, told: str, tmp_path: Pat
         (":root{--bad:#f99}.warning::before{content:'x';color:var(--bad)}", "::before in light"),
     ],
 )
-def test_poor_contrast_is_found(style: str, told: str, tmp_path: Path) -> None:
-    assert any(what.startswith(told) or told in what for what in found(page(style=style), tmp_path))
+def test_poor_contrast_is_found(style: str, reported: str, tmp_path: Path) -> None:
+    assert any(
+        what.startswith(reported) or reported in what for what in found(page(style=style), tmp_path)
+    )
 
 
 @pytest.mark.parametrize(

@@ -320,16 +320,16 @@ def test_data_that_is_too_old_is_told(tmp_path: Path) -> None:
     until = DAY + timedelta(days=1, hours=23)
     assert "older" not in layout(tmp_path, until=until).stamp(None)
     assert "older" not in layout(tmp_path, until=until, oldest=3_600).stamp(None)
-    told = layout(tmp_path, until=until, oldest=3_599).stamp(None)
-    assert "The data is older than it should be: nothing came since" in told
-    assert ">2026-03-02 23:00</time>" in told and ">2026-03-03 00:00</time>" in told
+    reported = layout(tmp_path, until=until, oldest=3_599).stamp(None)
+    assert "The data is older than it should be: nothing came since" in reported
+    assert ">2026-03-02 23:00</time>" in reported and ">2026-03-03 00:00</time>" in reported
 
 
 def test_pages_tell_what_was_refused_and_how_often_they_are_drawn(tmp_path: Path) -> None:
-    told = layout(tmp_path, refused=3, refresh=10).stamp(DAY)
-    assert 'href="x.refused.csv">3 messages were refused' in told
-    assert "every 10 seconds" in told and "Periods up to" in told
-    assert ">2026-03-03 00:00:00</time>" in told
+    reported = layout(tmp_path, refused=3, refresh=10).stamp(DAY)
+    assert 'href="x.refused.csv">3 messages were refused' in reported
+    assert "every 10 seconds" in reported and "Periods up to" in reported
+    assert ">2026-03-03 00:00:00</time>" in reported
     assert "every second." in layout(tmp_path, refresh=1).stamp(None)
 
 

@@ -142,9 +142,9 @@ def test_failures_of_many_names_are_bounded(monkeypatch: pytest.MonkeyPatch) -> 
 
 
 def test_an_address_is_taken_from_a_proxy_of_ours_alone() -> None:
-    told = Headers([("X-Forwarded-For", "1.1.1.1"), ("X-Forwarded-For", "2.2.2.2, 3.3.3.3")])
-    assert address_of("10.0.0.1", told, ["10.0.0.1"]) == "3.3.3.3"
-    assert address_of("10.0.0.2", told, ["10.0.0.1"]) == "10.0.0.2"
+    reported = Headers([("X-Forwarded-For", "1.1.1.1"), ("X-Forwarded-For", "2.2.2.2, 3.3.3.3")])
+    assert address_of("10.0.0.1", reported, ["10.0.0.1"]) == "3.3.3.3"
+    assert address_of("10.0.0.2", reported, ["10.0.0.1"]) == "10.0.0.2"
     assert address_of("10.0.0.1", Headers(), ["10.0.0.1"]) == "10.0.0.1"
 
 

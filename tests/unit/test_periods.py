@@ -185,7 +185,7 @@ def test_a_page_is_written_anew_where_its_doubts_are_others(tmp_path: Path) -> N
             str(tmp_path / "x"),
             Calendar(timezone.utc),
             at,
-            standing=frozenset([at.date()]),
+            unchanged=frozenset([at.date()]),
             marks=marks,
         )
         pages = DayPages(layout)

@@ -80,14 +80,14 @@ def test_each_trouble_is_found_and_no_other(name: str, wanted: list[tuple[Kind, 
 
 def marked(name: str, count: int = 2) -> Part:
     """A station of the generator with so many sessions, as a board with their messages has it."""
-    told = SessionFacts()
+    reported = SessionFacts()
     for number in range(count):
         for place, sent in enumerate(KINDS[name](f"T{number + 1}", FIRST + 3 * number * HOUR)):
             is_conflict = name == "id-again" and place == 4
-            told.take(answered(sent, CONFLICT if is_conflict else '[3,"1",{}]'))
+            reported.take(answered(sent, CONFLICT if is_conflict else '[3,"1",{}]'))
     part = Part(name, False, 900)
     for number in range(count):
-        numbers = sorted(told.transactions.of("north", "CS-01", f"t{number + 1}").events)
+        numbers = sorted(reported.transactions.of("north", "CS-01", f"t{number + 1}").events)
         lacking = sorted({*range(numbers[0], numbers[-1])} - {*numbers})
         gaps = [(one, one) for one in lacking]
         is_whole = name not in ("id-again", "no-end", "no-start") and not gaps
@@ -95,7 +95,7 @@ def marked(name: str, count: int = 2) -> Part:
         count_of = (len(numbers), numbers[0], numbers[-1], is_whole, len(gaps))
         part.sessions.append(Session(f"t{number + 1}", evse, *count_of, Flow(), gaps))
     part.name = "CS-01"
-    told.mark("north", part)
+    reported.mark("north", part)
     return part
 
 
@@ -136,9 +136,9 @@ def test_a_register_that_rises_outside_sessions_is_of_the_station() -> None:
     assert (found.kind, found.times) == (Kind.OUTSIDE, 1)
     assert found.detail == "0.250 kWh at EVSE 1" and found.first == FIRST + 5 * HOUR / 6
     # While a session goes on, and where nothing rises, MeterValues are no finding.
-    told = SessionFacts()
+    reported = SessionFacts()
     for minutes, wh in ((0, 1), (10, 900), (40, 900), (50, 900)):
-        told.take(
+        reported.take(
             answered(
                 Sent(
                     FIRST,
@@ -148,21 +148,21 @@ def test_a_register_that_rises_outside_sessions_is_of_the_station() -> None:
             )
         )
     for sent in sound("T1", FIRST):
-        told.take(answered(sent))
+        reported.take(answered(sent))
     part = Part("CS-01", False, 900, sessions=[session(0, 3, 4, True)])
-    told.mark("north", part)
+    reported.mark("north", part)
     assert part.findings == []
 
 
 def test_between_sessions_a_meter_that_reads_less_was_exchanged() -> None:
-    told = SessionFacts()
+    reported = SessionFacts()
     for tx, more in (("T1", 5_000), ("T2", 0)):
         for sent in sound(tx, FIRST + (3 * HOUR if tx == "T2" else 0 * HOUR)):
             sent.payload["meterValue"][0]["sampledValue"][0]["value"] += more
-            told.take(answered(sent))
+            reported.take(answered(sent))
     one, two = session(0, 3, 4, True), session(0, 3, 4, True)
     two.tx = "t2"
-    told.mark("north", Part("CS-01", False, 900, sessions=[one, two]))
+    reported.mark("north", Part("CS-01", False, 900, sessions=[one, two]))
     (found,) = two.findings
     assert one.findings == [] and found.kind is Kind.RESET
     assert found.detail == "6.750 kWh at the end of t1, 1.000 kWh here: 5.750 kWh less"
@@ -235,7 +235,7 @@ def test_of_many_measurands_the_first_are_told() -> None:
 
 
 @pytest.mark.parametrize(
-    ("reason", "told"),
+    ("reason", "reported"),
     [
         (None, ""),
         ("", ""),
@@ -245,11 +245,11 @@ def test_of_many_measurands_the_first_are_told() -> None:
         ("x" * 81, "x" * 80 + ".."),
     ],
 )
-def test_a_reason_may_be_anything(reason: Any, told: str) -> None:
+def test_a_reason_may_be_anything(reason: Any, reported: str) -> None:
     messages = sound("T1", FIRST)
     messages[3].payload["transactionInfo"]["stoppedReason"] = reason
     times = times_of(taken(messages).live(0, 3, []))
-    assert times.reason == told and told.isprintable()
+    assert times.reason == reported and reported.isprintable()
 
 
 def test_energy_that_does_not_count_beside_a_counted_reading_is_no_finding() -> None:
@@ -270,7 +270,7 @@ def test_the_last_reading_once_more_is_no_repetition() -> None:
 
 def test_readings_that_are_listed_again_name_the_line_that_mends_it() -> None:
     (found,) = findings(KINDS["readings-repeated"]("T1", FIRST))
-    assert found.detail == "a line `order north moment` takes them by time"
+    assert found.detail == "a line `order north moment` takes them by moment"
 
 
 @pytest.mark.parametrize("name", ["readings-repeated", "sound", "feeds-back"])
@@ -306,15 +306,15 @@ def test_by_time_the_first_and_the_last_reading_are_those_of_moments() -> None:
 
 
 def test_a_board_by_time_tells_its_sessions_so() -> None:
-    told = SessionFacts()
+    reported = SessionFacts()
     for sent in KINDS["readings-repeated"]("T1", FIRST):
-        told.take(answered(sent))
+        reported.take(answered(sent))
     one = session(0, 3, 4, True)
-    told.mark("north", Part("CS-01", False, 900, sessions=[one], is_by_time=True))
+    reported.mark("north", Part("CS-01", False, 900, sessions=[one], is_by_moment=True))
     assert one.findings == []
-    told.mark("north", Part("CS-01", False, 900, sessions=[one]))
+    reported.mark("north", Part("CS-01", False, 900, sessions=[one]))
     assert [found.detail for found in one.findings] == [
-        "`--order north=moment` of log-to-script or live (in a script line `order north moment`) takes them by time"
+        "`--order north=moment` of log-to-script or live (in a script line `order north moment`) takes them by moment"
     ]
 
 
@@ -503,13 +503,13 @@ def session(first: int, last: int, events: int, complete: bool) -> Session:
 def test_messages_tell_why_a_session_is_not_complete(
     name: str, last: int, events: int, state: str
 ) -> None:
-    told = SessionFacts()
+    reported = SessionFacts()
     for number, sent in enumerate(KINDS[name]("T1", FIRST)):
         is_conflict = name == "id-again" and number == 4
-        told.take(answered(sent, CONFLICT if is_conflict else '[3,"1",{}]'))
+        reported.take(answered(sent, CONFLICT if is_conflict else '[3,"1",{}]'))
     one = session(0, last, events, name == "sound")
-    told.mark("north", Part("CS-01", False, 900, sessions=[one]))
+    reported.mark("north", Part("CS-01", False, 900, sessions=[one]))
     assert one.state == state and one.times
     assert one.times.begun == FIRST.astimezone(timezone.utc)
-    told.mark("south", Part("CS-01", False, 900, sessions=[one]))
+    reported.mark("south", Part("CS-01", False, 900, sessions=[one]))
     assert one.times.begun is None and one.findings == []

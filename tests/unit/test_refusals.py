@@ -189,10 +189,10 @@ def test_the_same_again_is_one_row(
         ["", "", "1", "", "", "", "", "Untaken", "not JSON", "see"],
     ]
     refusals.end()
-    told = [record.getMessage() for record in caplog.records]
-    assert len(told) == 10 + 1 + 1
-    assert told[0] == "refused: A =T 0 at 2026-03-01T10:00:00Z: Moment: is none; set it"
-    assert told[-1] == "refused: 14 messages in all: Moment 13, Untaken 1"
+    reported = [record.getMessage() for record in caplog.records]
+    assert len(reported) == 10 + 1 + 1
+    assert reported[0] == "refused: A =T 0 at 2026-03-01T10:00:00Z: Moment: is none; set it"
+    assert reported[-1] == "refused: 14 messages in all: Moment 13, Untaken 1"
 
 
 def test_rows_have_an_end() -> None:
@@ -263,15 +263,15 @@ def test_no_other_action_is_proposed_for_a_valid_one(action: str, cause: str, re
 
 
 def test_a_station_near_its_limits_is_told_once() -> None:
-    told: list[str] = []
-    near = NearLimits({"A": (2, 10, 1_000, 2**63)}, lambda _, said, remedy: told.append(said))
+    reported: list[str] = []
+    near = NearLimits({"A": (2, 10, 1_000, 2**63)}, lambda _, said, remedy: reported.append(said))
     event = EVENT.replace("T1", "T{}").replace("{", "{{").replace("}", "}}").replace("{{}}", "{}")
     for number in range(12):
         message = event.format(number % 2)
         near.take(Answered(number, "north", "A", None, message, '[3,"1",{}]'))
     near.take(Answered(13, "north", "A", None, EVENT, MOMENT))
     near.take(Answered(14, "north", "B", None, EVENT, '[3,"1",{}]'))
-    assert told == [
+    assert reported == [
         "station A sent 2 transactions, repeats included, and keeps 2 at most",
         "station A sent 9 events, repeats included, and keeps 10 at most",
     ]
@@ -294,7 +294,7 @@ def test_what_is_declared_has_its_limits() -> None:
 
 
 def test_what_was_taken_since_is_no_longer_listed(tmp_path: Path) -> None:
-    told, refusals = SessionFacts(), Refusals()
+    reported, refusals = SessionFacts(), Refusals()
     refusal = Refusal("", "A", "T1", "0", UNTAKEN, "", "", "a station is not in stations.txt: 'A'")
     beat, other = (refusal._replace(transaction="", number=number) for number in ("", "x"))
     stay = [
@@ -304,11 +304,11 @@ def test_what_was_taken_since_is_no_longer_listed(tmp_path: Path) -> None:
     ]
     for one in (refusal, refusal, beat, *stay):
         refusals.add(one)
-    refusals.settle(told.has_taken)
+    refusals.settle(reported.has_taken)
     assert refusals.count() == 6
     message = EVENT.replace("1970", "2026")
-    told.take(Answered(1, "north", "A", AT, message, '[3,"1",{}]'))
-    refusals.settle(told.has_taken)
+    reported.take(Answered(1, "north", "A", AT, message, '[3,"1",{}]'))
+    refusals.settle(reported.has_taken)
     assert [*refusals.rows] == stay and refusals.count("north") == refusals.count() == 3
     refusals.write(tmp_path / "refused.csv", "north")
     assert (tmp_path / "refused.csv").read_text().count("\n") == 4

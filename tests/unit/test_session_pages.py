@@ -85,7 +85,7 @@ def session_of() -> Session:
 
 def test_a_page_is_written_again_where_it_changes(tmp_path: Path) -> None:
     known, session = known_of(tmp_path), session_of()
-    told, refusals, script = known.facts, known.refusals, known.script
+    reported, refusals, script = known.facts, known.refusals, known.script
     path = path_of(str(tmp_path / "x"), "A", "t1")
 
     def write() -> int:
@@ -95,13 +95,13 @@ def test_a_page_is_written_again_where_it_changes(tmp_path: Path) -> None:
     assert path.read_text().count("msg A [2,") == 4
     refusals.add(Refusal("2026-03-01T09:00:00Z", "A", "T1", "9", "Moment", "do", "north", "is <b>"))
     assert write() == 1 and "refused: Moment: is &lt;b&gt;; do" in path.read_text()
-    told.operators.add(Deed("void A T1 3", "jo", "why", "", "accepted 5"))
+    reported.operators.add(Deed("void A T1 3", "jo", "why", "", "accepted 5"))
     session.complete, session.last, session.events = False, 2, 3
     assert write() == 1 and "Voided by jo: no end." in path.read_text()
     # Where the script is no file that can be read again, the page has no lines.
     assert script.path
     os.unlink(script.path)
-    told.operators.add(Deed("restore A T1 3", "jo", "why", "", "accepted 6"))
+    reported.operators.add(Deed("restore A T1 3", "jo", "why", "", "accepted 6"))
     assert write() == 1 and "Its lines" not in path.read_text()
 
 

@@ -30,7 +30,7 @@ SESSION = {"kind": "clock-back"}
 
 
 @pytest.fixture(autouse=True)
-def told(monkeypatch: pytest.MonkeyPatch) -> list[str]:
+def reported(monkeypatch: pytest.MonkeyPatch) -> list[str]:
     """The messages of a script, with what the program was and how it begins."""
     seen = list[str]()
 
@@ -67,8 +67,8 @@ def test_tables_and_pages_say_how_readings_are_taken(tmp_path: Path) -> None:
     other = BOARD.replace("=900", "=900 order=moment", 1).replace("north", "south")
     for name, text, orders, times in (
         ("one", BOARD, {"by sequence"}, 0),
-        ("other", other, {"by time"}, 1),
-        ("both", BOARD + other, {"by sequence", "by time"}, 1),
+        ("other", other, {"by moment"}, 1),
+        ("both", BOARD + other, {"by sequence", "by moment"}, 1),
     ):
         folder = tmp_path / name
         folder.mkdir()
@@ -76,14 +76,16 @@ def test_tables_and_pages_say_how_readings_are_taken(tmp_path: Path) -> None:
         for table in ("periods.csv", "transactions.csv"):
             rows = list(csv.DictReader(files[table].splitlines()))
             assert {row["readings"] for row in rows} == orders
-            assert all((row["site"] == "south") == (row["readings"] == "by time") for row in rows)
+            assert all((row["site"] == "south") == (row["readings"] == "by moment") for row in rows)
         for page in ("html", "2026-03-01.html"):
-            assert files[page].count("Readings by time:") == times
+            assert files[page].count("Readings by moment:") == times
 
 
-def test_with_a_script_sessions_have_times_and_findings(tmp_path: Path, told: list[str]) -> None:
+def test_with_a_script_sessions_have_times_and_findings(
+    tmp_path: Path, reported: list[str]
+) -> None:
     files = run(tmp_path, "--script", str(tmp_path / "script"), "--program", "p")
-    assert told == ["p", "a script\n"]
+    assert reported == ["p", "a script\n"]
     (row,) = csv.DictReader(files["transactions.csv"].splitlines())
     assert row["start (UTC)"] == "2026-03-01T08:00:00Z"
     assert row["end (UTC)"] == "2026-03-01T08:30:00Z"

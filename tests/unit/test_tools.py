@@ -56,7 +56,7 @@ def test_json_lines_have_time_level_and_line() -> None:
 @pytest.mark.parametrize(
     ("fault", "status"),
     [
-        (None, Status.TOLD),
+        (None, Status.REPORTED),
         (KeyboardInterrupt(), Status.INTERRUPTED),
         (OSError("no file"), Status.MISTAKEN),
         (Mistaken("no names"), Status.MISTAKEN),
@@ -71,7 +71,7 @@ def test_faults_become_statuses(
     def work() -> int:
         if fault:
             raise fault
-        return Status.TOLD
+        return Status.REPORTED
 
     assert statuses.ended(work) == status
 
@@ -118,10 +118,10 @@ def test_replays_have_texts_at_hand_unless_the_user_says_otherwise(
         replay = await replays.Replay.start(str(program))
         return (await replay.process.communicate())[0]
 
-    told = (said or TUNABLES).encode()
-    assert answered.Replay(str(program)).output.read() == told
-    assert asyncio.run(of_the_fleet()) == told
-    assert forget.replayed(str(program), []) == told
+    reported = (said or TUNABLES).encode()
+    assert answered.Replay(str(program)).output.read() == reported
+    assert asyncio.run(of_the_fleet()) == reported
+    assert forget.replayed(str(program), []) == reported
 
 
 def test_replays_get_no_secrets(tmp_path: Path, monkeypatch: pytest.MonkeyPatch) -> None:
@@ -237,7 +237,7 @@ def test_why_a_time_is_none() -> None:
 
 
 @pytest.mark.parametrize(
-    ("text", "told", "cause"),
+    ("text", "reported", "cause"),
     [
         ("", "NotJson", "the message is empty"),
         ("{", "NotJson", "the message is no JSON: Expecting property name"),
@@ -251,8 +251,8 @@ def test_why_a_time_is_none() -> None:
         ('[2,"1","TransactionEvent",{"evse":{"id":65}}]', "Range", "evse.id is '65'"),
     ],
 )
-def test_why_a_message_is_refused(text: str, told: str, cause: str) -> None:
-    assert message_fault(text, told)[0].startswith(cause)
+def test_why_a_message_is_refused(text: str, reported: str, cause: str) -> None:
+    assert message_fault(text, reported)[0].startswith(cause)
 
 
 def test_an_order_needs_no_ledgers() -> None:
@@ -279,7 +279,7 @@ def test_a_fall_that_a_repeat_made_is_hinted_at_once(
         f"line {len(lines)}: in 6 sessions of site north, such as t1 of all, readings are listed again, and by "
         "sequence that is a fall and a second rise: their periods are wrong\n"
         "  remedy: `--order north=moment` of log-to-script or live (in a script line `order north moment` behind the "
-        "first `station` line of the site) takes readings by time\n"
+        "first `station` line of the site) takes readings by moment\n"
         f"lines: {len(lines) + 1}, reported: 0\n"
     )
 
@@ -312,13 +312,13 @@ def test_what_is_explained_names_the_script(
 ) -> None:
     script = tmp_path / "day.script"
     script.write_text("station north A\norder north moments\nenergy A\n")
-    assert cli.run("explain", ["--program", reference, str(script)], "explain") == Status.TOLD
+    assert cli.run("explain", ["--program", reference, str(script)], "explain") == Status.REPORTED
     assert capsys.readouterr().out == (
         f"{script} line 2: order north moments\n  fault BadLine: 'moments' is no order of readings\n"
         f"  remedy: sequence or moment\n{script}: lines: 3, reported: 1\n"
     )
     script.write_bytes(gzip.compress(b"station north A\n"))
-    assert cli.run("explain", ["--program", reference, str(script)], "explain") == Status.TOLD
+    assert cli.run("explain", ["--program", reference, str(script)], "explain") == Status.REPORTED
     assert capsys.readouterr().out.startswith(f"{script} line 1: the script is compressed by gzip")
 
 
@@ -326,7 +326,7 @@ def test_faults_of_an_order_are_explained(
     reference: str, tmp_path: Path, capsys: pytest.CaptureFixture[str]
 ) -> None:
     lines = ["station north A", "order north moments", "order south moment", "energy A"]
-    assert explained(reference, tmp_path, [*lines, "order north moment"]) == Status.TOLD
+    assert explained(reference, tmp_path, [*lines, "order north moment"]) == Status.REPORTED
     assert capsys.readouterr().out == (
         "line 2: order north moments\n  fault BadLine: 'moments' is no order of readings\n"
         "  remedy: sequence or moment\n"
@@ -380,8 +380,8 @@ def test_mistakes_name_their_file(tmp_path: Path, capfd: pytest.CaptureFixture[s
     log.write_text("{}\n{}\n")
     text.write_text("tx x\n")
     out = str(tmp_path / "x")
-    assert cli.run("log-to-script", [str(log)], "log-to-script") == Status.TOLD
-    assert cli.run("tables", ["--out", out, str(text)], "tables") == Status.TOLD
+    assert cli.run("log-to-script", [str(log)], "log-to-script") == Status.REPORTED
+    assert cli.run("tables", ["--out", out, str(text)], "tables") == Status.REPORTED
     said = capfd.readouterr().err
     assert f"{log} line 1: 'site' is missing (--site-field names another field)\n" in said
     assert f"{log}: the same of 1 more line 2: 'site' is missing" in said

@@ -128,12 +128,12 @@ class Run:
     def ended(self, given: dict[str, str]) -> tuple[int, str, str]:
         """Runs the command: its status, and what it wrote to its two outputs."""
         with (
-            tempfile.TemporaryFile() as told,
+            tempfile.TemporaryFile() as reported,
             subprocess.Popen(
                 ["bash", "-c", BASH + self.command],
                 stdin=subprocess.DEVNULL,
                 stdout=subprocess.PIPE,
-                stderr=told,
+                stderr=reported,
                 env=os.environ | given,
                 start_new_session=True,
             ) as process,
@@ -145,11 +145,11 @@ class Run:
             except (Differs, OSError, subprocess.TimeoutExpired) as fault:
                 os.killpg(process.pid, signal.SIGKILL)
                 raise Differs(str(fault)) from None
-            told.seek(0)
+            reported.seek(0)
             return (
                 process.returncode,
                 (front + rest).decode("utf-8", "replace"),
-                told.read().decode("utf-8", "replace"),
+                reported.read().decode("utf-8", "replace"),
             )
 
     def compare(self, given: dict[str, str]) -> None:

@@ -51,7 +51,7 @@ async def closed(words: argparse.Namespace, row: Any) -> tuple[int, str]:
     try:
         made = await parts.completed(command, PATIENCE, errors=subprocess.STDOUT)
     except TimeoutError:
-        return Status.TOLD, f"it took more than {PATIENCE} seconds, and was ended"
+        return Status.REPORTED, f"it took more than {PATIENCE} seconds, and was ended"
     return made.returncode, made.stdout.decode("utf-8", "replace").strip()[-KEPT:]
 
 
@@ -78,7 +78,7 @@ async def run(words: argparse.Namespace) -> int:
             failed += 1
         else:
             print(f"{what}: done", flush=True)
-    return Status.TOLD if failed else Status.DONE
+    return Status.REPORTED if failed else Status.DONE
 
 
 def main(argv: Sequence[str], prog: str) -> int:

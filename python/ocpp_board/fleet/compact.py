@@ -265,7 +265,7 @@ async def run(words: argparse.Namespace) -> int:
         except (Fault, ReplayEnded, asyncpg.PostgresError) as fault:
             log.error("%s", said(fault))
             wrong += 1
-    return Status.TOLD if wrong else Status.DONE
+    return Status.REPORTED if wrong else Status.DONE
 
 
 def main(argv: Sequence[str], prog: str) -> int:

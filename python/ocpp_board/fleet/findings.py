@@ -27,7 +27,7 @@ insert into own_finding as f (shard, site, station, transaction, finding, times,
 values ($1, $2, $3, $4, $5, $6, $7, $8, $9)
 on conflict (shard, station, transaction, finding) do update set times = f.times + excluded.times
 """
-# What has a site's readings taken by time.
+# What has a site's readings taken by moment.
 REMEDY = "reading_order = 'moment' of own_site"
 TAKEN = '[3,"",{}]'
 FAR = Kind.CLOCK_FAR.label

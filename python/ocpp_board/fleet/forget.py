@@ -283,7 +283,7 @@ async def run(words: argparse.Namespace) -> int:
     print(
         f"{len(numbers)} shards: tokens left {lines} lines and {files} archives; answers and boards as before"
     )
-    return Status.TOLD if wrong else Status.DONE
+    return Status.REPORTED if wrong else Status.DONE
 
 
 async def aged(words: argparse.Namespace) -> int:

@@ -112,7 +112,7 @@ def site_line(site: Site, is_exporting: bool) -> Line:
     numbers, (net, others) = site.numbers, energy_cells(site.numbers, is_exporting)
     name: str = link(site_path(site.name), site.name)
     if site.order != DEFAULT_ORDER:
-        name = lines_of(name, "readings by time")
+        name = lines_of(name, "readings by moment")
     cells = [
         name,
         net,
