@@ -78,7 +78,7 @@ def moments(kind: str, charge: Charge, draws: random.Random) -> list[float]:
 def messages(
     kind: str, number: int, charge: Charge, register: int, draws: random.Random
 ) -> Iterator[str]:
-    """The messages of a session of the station of this kind, whose register showed so much at the begin."""
+    """The messages of a session of the station of this kind, whose register showed so much at the beginning."""
     times = moments(kind, charge, draws)
     for seq, at in enumerate(times):
         what = "Started" if seq == 0 else "Ended" if seq == len(times) - 1 else "Updated"

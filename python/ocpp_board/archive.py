@@ -92,7 +92,7 @@ def grouped(lines: Iterable[bytes]) -> Iterator[tuple[list[bytes], bytes]]:
 
 
 class Correction(NamedTuple):
-    """What came for a session that was closed before: when, from which station, what it is, its answer, and the net
+    """A late message of a closed session: when it came, its station, what it is, its answer, and the net
     energy of the session before and after."""
 
     received: str
@@ -150,7 +150,7 @@ class Archive:
         self.read_corrections()
 
     def replay(self, closed: Closed, is_first: bool = False) -> dict[int, Answered | bytes]:
-        """Replays a script, whose boards are known then, and gives the messages that are new with their answers, and
+        """Replays a script, so that its boards are known, and gives the messages that are new with their answers, and
         the answers to other lines that are, by their places in the file. Raises OSError, and Mistaken where the replay
         ends with a fault."""
         sites = [

@@ -131,7 +131,7 @@ class Layout:
     # Up to when the data is, where that is known, and how many seconds before the writing that may be.
     until: datetime | None = None
     oldest: int | None = None
-    # Messages that were refused, which lie in a file of their own.
+    # Messages that were refused, which a file of their own lists.
     refused: int = 0
     # Messages that were mended, which a file of their own lists.
     mended: int = 0
@@ -346,7 +346,7 @@ class DayPages:
         self.until: datetime | None = None
         # The days with pages that are as they would be written.
         self.unchanged: frozenset[date] | set[date] = frozenset()
-        # Boards whose pages are written at the end, by days.
+        # Boards that get their pages at the end, by days.
         self.boards = list[tuple[Board, dict[date, list[DayPart]]]]()
 
     def add(self, board: Board) -> None:

@@ -195,7 +195,7 @@ class Part:
         return True
 
     def add_gap(self, start: int, end: int) -> bool:
-        """Takes a gap of the last session; False where it does not lie between that one's ends."""
+        """Takes a gap of the last session; False where it is not between the session's ends."""
         session = self.sessions[-1]
         if not session.first < start <= end < session.last:
             return False

@@ -10,11 +10,11 @@ decides: the tool looks for the causes in the line afterwards.
       fault UnknownStation: no station CS_01 is declared
       remedy: the nearest declared name is CS-01
 
-If a board's periods are wrong since stations list readings again, it names the line that mends it, a line
-`order <site> moment`; this is a hint and no mistake, and so is what it reports of a station near its limits.
+If a board's periods are wrong because stations list readings again, it names the line that mends it, a line
+`order <site> moment`. That is a hint and no mistake; so is a report of a station near its limits.
 
-Behind lines that may write nothing it puts lines of its own into the script, which are faults and change nothing,
-to distinguish the answers. It reports the first mistakes of a kind, and counts the others.
+To distinguish the answers, it adds lines of its own after lines that may write nothing; these are faults and change
+nothing. It reports the first mistakes of a kind, and counts the others.
 """
 
 import argparse
@@ -42,7 +42,7 @@ from ocpp_board.statuses import Status, ended
 from ocpp_board.words import add_program, parsed, parser_of
 
 ENDING = """\
-Half a kilobyte of memory is kept of each event. Exit status: 0 if there is nothing to report; 1 if something was
+It takes half a kilobyte of memory for each event. Exit status: 0 if there is nothing to report; 1 if something was
 reported; 2 if the words are wrong, the program is not there, or a file can't be read or written."""
 # Mistakes of a kind that are reported one by one, and characters of a line that are shown.
 MOST_REPORTED = 10

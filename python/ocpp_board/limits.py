@@ -27,7 +27,7 @@ PERIODS = (300, 900, 1800, 3600)
 ORDERS = ("sequence", "moment")
 # The rules by which a difference counts in a settlement period.
 RULES = ("later", "closing")
-# Moments of messages lie from the first on and before the second.
+# Moments of messages are not before the first, and before the second.
 FIRST_MOMENT = datetime(2000, 1, 1, tzinfo=timezone.utc)
 PAST_MOMENTS = datetime(2100, 1, 1, tzinfo=timezone.utc)
 # How a moment is written in scripts and on boards.

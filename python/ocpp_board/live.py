@@ -13,12 +13,12 @@ log-to-script` reads them, and the options for their form are the same. Or
 
 takes the lines of a script as they come, from a file, a named pipe or what `<(..)` of bash gives, and keeps nothing.
 
-What is refused, or can't be taken, is reported at once on standard error and listed in SITE.refused.csv: when, of
-which station, the cause by name and what to do.
+It reports a message that is refused, or can't be taken, at once on standard error, and lists it in SITE.refused.csv:
+when, the station, the cause by name and what to do.
 
-Standard input is the operator's: each of its lines goes between the script's lines, and its answer comes on
-standard output. What it voids, restores and erases is kept in the script of --state with who and why, which a line may
-have behind ` # `, and in SITE.operator.csv:
+Standard input takes an operator's lines: each goes between the script's lines, and its answer comes on standard
+output. Voids, restorations and erasures are kept in the script of --state and in SITE.operator.csv, with who and why,
+which a line may have behind ` # `:
 
     void CS-01 T1 3 # jo: meter exchanged
     accepted 17
@@ -61,14 +61,14 @@ from ocpp_board.words import add_power, add_program, add_tokens, parsed, parser_
 log = logging.getLogger(__name__)
 
 ENDING = """\
-Exit status: 0; 1 when the replay ended with a fault or there is no board; 2 when the words are wrong, another one keeps
-its script in the folder of --state, or a file can't be read or written."""
+Exit status: 0; 1 when the replay ended with a fault or there is no board; 2 when the words are wrong, another run
+uses the folder of --state, or a file can't be read or written."""
 # Bytes of a line that a script may have, and more than that.
 LONGEST_LINE = 262_500
 # Seconds: from one look at what runs to the next, between showings of the progress, for the ledgers to be opened
 # where the script is at its end, and for what is under way to end.
 LOOK, SHOWN, OPENED, LAST = 0.1, 0.5, 30, 5
-# Seconds behind a signal in which another one is the same.
+# A further signal within so many seconds counts as the same one.
 SAME = 1
 # Seconds from one writing to the next while what a log had at the start is read, which each writing slows down.
 READING = 60

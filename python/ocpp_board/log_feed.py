@@ -30,7 +30,7 @@ from ocpp_board.session_facts import SessionFacts
 
 log = logging.getLogger(__name__)
 
-# Seconds until the log is looked at again, and lines of a look from which on it has more.
+# Seconds until the next look at the log; a look with so many lines or more is followed by another at once.
 AGAIN, FEW = 0.5, 100
 # The receipt of a message in the lines of a script.
 RECEIPT = re.compile(rb"^# received (\S+)$", re.MULTILINE)
@@ -145,7 +145,7 @@ class LogFeed:
         return is_new and not has_most and not is_asked and bool(self.words.log.exists())
 
     def gather(self) -> None:
-        """Takes what the log has into the script, whose declarations fit that then."""
+        """Takes what the log has into the script, with declarations that fit it."""
         self.is_gathering, self.followed = True, self.opened()
         while self.followed and not self.is_ending.is_set():
             count = self.take_next(self.followed)

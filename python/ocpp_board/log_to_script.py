@@ -9,9 +9,9 @@ OCPP-J text in a JSON string:
 the log names them. Each message becomes a `msg` line with the same bytes; a line feed in it becomes a blank.
 Replies to a BootNotification or a Heartbeat have the moment, so a `now` line before these gives the line's time
 if that has changed; if the time can't be read, the message goes without it. Answers ([3,..] and [4,..]),
-messages of the CSMS and of OCPP 1.6, lines of others and blanks are left out and counted. What can't be taken is
-reported on standard error with its line number and becomes a comment of the script; the rest goes on. A mistake of
-many lines is reported at the first, and counted at the end.
+messages of the CSMS and of OCPP 1.6, other lines and blanks are left out and counted. The tool reports a line that
+it can't take on standard error with its number, and writes it into the script as a comment; the rest goes on. It
+reports a mistake of many lines at the first, and counts it at the end.
 
 With --stations each line goes out as soon as it is read, so that a log that still grows is a live ledger:
 
@@ -20,7 +20,7 @@ With --stations each line goes out as soon as it is read, so that a log that sti
 A line is taken whole or not at all. It needs two names of 1 to 48 of A-Z a-z 0-9 * - _ = : + | @ .
 (at most 16 sites and 64 stations, a station on one site only), and a message that fits a script line of 262,400
 bytes; the whole script has at most 1,073,741,824 bytes. A log of more stations becomes several scripts by --split.
-A log that was compressed by gzip is read as it is.
+The tool reads a log that is compressed by gzip, too.
 """
 
 import argparse

@@ -60,7 +60,7 @@ class ScriptLines:
 
 
 class OpenedLines:
-    """Lines of a script, whose files are opened when they are needed."""
+    """Lines of a script; it opens their files when they are needed."""
 
     def __init__(self, lines: ScriptLines) -> None:
         self.starts, self.files = lines.starts, lines.files

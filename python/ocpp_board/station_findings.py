@@ -69,7 +69,7 @@ def between(sessions: Sequence[Lived]) -> Found:
 
 
 def not_ended(sessions: Sequence[Lived]) -> Found:
-    """Sessions without an end behind which a later one of the EVSE began."""
+    """Sessions without an end, though a later one of the EVSE began."""
     for before, after in pairwise(sessions):
         is_ended = any(event.kind == "Ended" for event in before.events)
         if not is_ended and after.begun >= before.last:

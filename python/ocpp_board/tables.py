@@ -2,14 +2,14 @@
 
     ocpp_board replay < SCRIPT | ocpp-board tables --out NAME
 
-reads a text with any number of boards; what is between them (replies, energies, refusals) is
-skipped and counted. It writes
+reads a text with any number of boards; it skips and counts what is between them (replies,
+energies, refusals). It writes
 
     NAME.periods.csv        the energy of each settlement period, of each site and of each station
     NAME.transactions.csv   the transactions of each station, with their gaps (missing seqNo)
     NAME.html               the figures of each board, its problems, days, stations and transactions
     NAME.<day>.html         a page for each day: bars and a table for each site and each station
-    NAME.<n>.html, NAME.<day>.<n>.html     what these have no room for
+    NAME.<n>.html, NAME.<day>.<n>.html     the rest of a page that would be too long
 
 In the CSV files energies are whole mWh (milliwatt-hours), and the same in kWh. Times are UTC; with --tz
 the days and hours are those of that zone, and UTC is beside them. `board` counts the boards of the text,
@@ -30,8 +30,8 @@ from its messages when each transaction began and ended, what its registers read
 these are on the pages and in NAME.transactions.csv, to compare with bills. It looks at the quality of the data
 and at what was refused, too, and writes
 
-    NAME.findings.csv       what is doubtful in which transaction: its name, how often, when first, what it means
-    NAME.refused.csv        what was refused: when, of which station, the cause by name and what to do; pages link to it
+    NAME.findings.csv       doubtful data by transaction: its name, how often, when first, what it means
+    NAME.refused.csv        refused messages: when, the station, the cause by name and what to do; pages link to it
 
     ocpp-board tables --script SCRIPT --program ocpp_board --out NAME TEXT
 

@@ -219,7 +219,7 @@ def rose_between(tx: str, begin: datetime) -> Session:
 
 
 def outside(tx: str, begin: datetime) -> Session:
-    """A session behind which the register rises without a session."""
+    """A session, after which the register rises without a session."""
     session = sound(tx, begin)
     for number in (4, 5):
         at = begin + number * STEP

@@ -95,7 +95,7 @@ class Journalled(Live):
 
 @contextmanager
 def folder() -> Iterator[Path]:
-    """Where a journal may lie."""
+    """Where a journal may be."""
     with tempfile.TemporaryDirectory() as name:
         yield Path(name) / "journal"
 

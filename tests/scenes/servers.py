@@ -214,9 +214,10 @@ def boards(a: int, b: int, c: int) -> str:
 
 def board(site: str, reported: dict[str, int]) -> str:
     up = 200_000 * sum(events == 2 for events in reported.values())
+    transactions = sum(events > 0 for events in reported.values())
     return (
         f"board {site} period=900\n"
-        f"total events={sum(reported.values())} voided=0 transactions={sum(events > 0 for events in reported.values())} "
+        f"total events={sum(reported.values())} voided=0 transactions={transactions} "
         f"complete=0 missing=0 up={up} down=0 export_up=0 export_down=0\n"
         + (f"period 2026-03-01T10:00:00Z up={up} down=0 export_up=0 export_down=0\n" if up else "")
         + "".join(f"station {name}\n{PARTS[events]}" for name, events in reported.items())

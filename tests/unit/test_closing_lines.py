@@ -1,4 +1,4 @@
-"""The lines of a closing, which lie in a file, and what becomes of them, without a database."""
+"""The lines of a closing, which are in a file, and what becomes of them, without a database."""
 
 import zlib
 from datetime import datetime, timezone

@@ -100,7 +100,7 @@ def test_a_session_of_the_log_and_one_of_an_archive(reference: str, begun: list[
 def test_lines_are_read_beside_the_event_loop(
     reference: str, begun: list[Replay], monkeypatch: pytest.MonkeyPatch
 ) -> None:
-    # Lines of 64 MiB take seconds, in which the page answers others.
+    # Lines of 64 MiB take seconds; the page answers others meanwhile.
     seen = set[str]()
 
     def elsewhere(name: str) -> Any:

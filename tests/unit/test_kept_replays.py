@@ -1,4 +1,4 @@
-"""What comes for archived transactions: answered by a replay that stays, whose cost does not grow."""
+"""Late messages of archived transactions: a replay that stays answers them, at a cost that does not grow."""
 
 import asyncio
 from collections.abc import Awaitable, Callable

@@ -298,7 +298,7 @@ def span_of(asked: Asked, zone: str) -> tuple[datetime, datetime]:
 
 
 def moment_word(text: str, name: str, zone: str, default: datetime, days: int) -> datetime:
-    """The moment of a word of the query: a time with its offset, or a day of a zone, of which `days` later counts.
+    """The moment of a word of the query: a time with its offset, or a day of a zone (the day `days` later counts).
     Raises Wrong."""
     if not text:
         return default

@@ -181,7 +181,7 @@ class Cell:
         # Sessions that are free, with the host that takes writes and with a standby.
         self.free: dict[bool, list[Any]] = {False: [], True: []}
         self.room = Room(CONNECTIONS, MOST_WAITING)
-        # The session that hears answers, by whose tokens they are known; whoever no longer waits is gone from here.
+        # The session that hears answers, and who waits for them, by their tokens.
         self.listening: Any = None
         self.operating = asyncio.Lock()
         self.waiting: WeakValueDictionary[int, asyncio.Future[str]] = WeakValueDictionary()
@@ -383,8 +383,8 @@ async def merged(
 async def board_text(
     name: str, rows: Iterable[tuple[Cell, Any]], begin: datetime, end: datetime
 ) -> tuple[str, int]:
-    """A site's board for each way in which it is reckoned, with what archives have, and how many sessions these are. Of
-    archives it has the periods between these moments; its totals are of all."""
+    """A site's boards, one for each period, zone and order of its shards, with what archives have, and the number of
+    sessions. Of archives they have the periods between these moments; their totals are of all."""
     rows, boards, count = list(rows), list[str](), 0
     for reckoning in dict.fromkeys(Reckoning.of(row) for _, row in rows):
         same = [(cell, row) for cell, row in rows if Reckoning.of(row) == reckoning]

@@ -544,8 +544,8 @@ class Closing:
     async def unsettled(
         self, day: date, flows: Flows, opened: set[Period]
     ) -> dict[str, list[tuple[Any, ...]]]:
-        """The rows by which what is settled comes to be what log and archives say, up to this day, by the site where
-        they are booked: that where the period was settled. `flows`: what is in the log and what this closing archives.
+        """The rows that correct the settled energy up to this day to that of log and archives, by the site where they
+        are booked, which is the one that settled the period. `flows`: what is in the log and what this closing archives.
         Only these periods may differ, and those that did before.
         """
         touched = flows.keys() | opened
@@ -623,7 +623,7 @@ def columns(keys: Iterable[Period]) -> tuple[list[str], list[datetime]]:
 
 
 def differences(new: Flows, old: Flows) -> Flows:
-    """By which periods differ; one that is only in the one is there even where it has no energy."""
+    """The difference of each period that differs; a period that only one of them has counts, even without energy."""
     found = {}
     for key in new.keys() | old.keys():
         flow, had = new.get(key, Flow()), old.get(key, Flow())

@@ -46,7 +46,7 @@ SECRETS = ("PGPASSWORD", "SOURCE_PASSWORD", "PROXY_SECRET")
 LAST_VERSION = "select max(version) from schema_version"
 # The version of schema.sql, which these tools need.
 VERSION = 7
-# Addresses by which a session was had: what a host refuses from then on is no fault of the words.
+# Addresses that once let a session in: if a host refuses one later, the words are not at fault.
 LET_IN = set[str]()
 # Seconds in which a host has to let a session in.
 ADMISSION = 5.0
@@ -275,7 +275,7 @@ def seen(job: "asyncio.Future[Any]") -> None:
 async def within(seconds: float, session: Any, call: str, *values: Any) -> Any:
     """A statement with an end to waiting, after which the session is ended. Raises what LOST has, or PostgresError.
 
-    It is never cancelled: a commit whose wait for the standby is cancelled shows rows that the standby does not have.
+    It is never cancelled: if the wait for the standby is cancelled, the commit shows rows that the standby lacks.
     """
     job = asyncio.ensure_future(getattr(session, call)(*values))
     job.add_done_callback(seen)

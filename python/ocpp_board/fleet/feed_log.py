@@ -237,7 +237,9 @@ class Log:
 
             await self.append(Batch(events, None, "", done))
             self.counts.taken -= len(events)
-            log.info("%d events were appended whose stations the plan has by now", len(events))
+            log.info(
+                "%d events were appended, since the plan has their stations by now", len(events)
+            )
 
 
 async def nothing() -> None:

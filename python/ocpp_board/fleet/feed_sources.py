@@ -83,8 +83,8 @@ class FileSource(Source):
         return event_of(entry.station, entry.message)
 
     async def opened(self) -> tuple[Any, int]:
-        """The file that was taken so far, with the first place that a cell does not have: the one of this name, or one
-        beside it whose name begins so, where it was rotated meanwhile."""
+        """The file that was read so far, with the first place that a cell lacks: the one of this name, or, if it was
+        rotated meanwhile, one beside it with a name that begins so."""
         found = list[Any]()
         for cell in self.log.cells:
             found += await cell.until_done(lambda: cell.within("fetch", FED, self.log.source)) or [
@@ -95,7 +95,7 @@ class FileSource(Source):
         if file:
             return file, min(row["place"] for row in found)
         raise Fault(
-            f"{path} is another file than the one of which {taken[0]['place']:,} bytes were taken as "
+            f"{path} is not the file that had {taken[0]['place']:,} bytes taken as "
             f"{self.log.source}, and none beside it is that: give it a --name of its own"
         )
 

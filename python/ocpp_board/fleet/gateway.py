@@ -788,8 +788,8 @@ class Gateway:
         return link is not None and link.number == number
 
     def is_served_by(self, station: str, gateway: str, number: int) -> None:
-        """A gateway's connection is the last one by which a station was let in. What was written here before that is
-        older; what is written later is newer."""
+        """A station's last connection is this one of that gateway. Whatever was written here before is older, whatever
+        is written later is newer."""
         link = self.served.get(station)
         if link and link.is_told and (gateway, number) != (self.name, link.number):
             link.replace()

@@ -71,7 +71,7 @@ def moments_of(text: str) -> list[datetime]:
 
 
 def is_before(text: str, moment: datetime) -> bool:
-    """Whether all moments of a line lie before this one. Raises Unreadable."""
+    """Whether all moments of a line are before this one. Raises Unreadable."""
     return all(one < moment for one in moments_of(text))
 
 

@@ -80,7 +80,7 @@ CONTESTED = (
     asyncpg.UniqueViolationError,
     asyncpg.DeadlockDetectedError,
 )
-# The first lines that lie in inboxes. A wake of `inbox` comes with its lines, so there no line is older than the one
+# The first lines in inboxes. A wake of `inbox` comes with its lines, so there no line is older than the one
 # that was next at the look before the last.
 LOOK = """
 select w.shard, (select min(id) from inbox where shard = w.shard and id >= w.oldest) as wake,

@@ -1,7 +1,7 @@
 """The server of the page: uvicorn. Each of its connections has an end, so a slow client holds up nobody.
 
-A connection has one request, which has so many seconds to come whole, and so many for all. Where too many connections
-are open, of one address or of all, the oldest whose request is not whole ends.
+A connection has one request, with a time limit until it is whole, and one for all. If too many connections are open, of
+one address or of all, the oldest without a whole request ends.
 """
 
 import asyncio
@@ -48,8 +48,8 @@ class Patient(H11Protocol):  # type: ignore[misc]
         return str(self.client[0]) if self.client else "unknown"
 
     def count(self, address: str) -> None:
-        """Counts it among those of its address, of which the oldest whose request is not whole ends where they are too
-        many, or this one."""
+        """Counts it among those of its address. If these are too many, the oldest without a whole request ends, or this
+        one."""
         self.address = network_of(address)
         own = Patient.by_address.setdefault(self.address, {})
         own[self] = None

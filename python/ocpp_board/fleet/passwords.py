@@ -25,13 +25,13 @@ log = logging.getLogger(__name__)
 SHORTEST, LONGEST = 16, 40
 # Bytes of a salt and a hash, and of memory that a hash may take.
 SALT, HASH, MEMORY = 16, 32, 1 << 26
-# Passwords that a station may have, for the time in which it changes to another one.
+# How many passwords a station may have while it changes to another one.
 KEPT = 2
 # Hashes at once.
 THREADS = 4
 # So many failures are free within some time, and each one more costs so many seconds, up to so many at once.
 FREE, PAUSE, SLOWEST = 10, 2.0, 10.0
-# Whose failures are known, and how many tries of one address may wait.
+# For how many names and addresses failures are kept, and how many tries of one address may wait.
 FAILED, SLOWED = 20_000, 100
 # While someone is slowed down one failure of so many is logged.
 LOGGED = 100
@@ -225,12 +225,12 @@ class Passwords:
         # Tries of each address, and of each name from an address those that wait for one another.
         self.waiting = Counter[str]()
         self.turns: dict[str, tuple[asyncio.Lock, int]] = {}
-        # Whose answers are kept back now, and how many failed, for who watches.
+        # How many answers are delayed now, and how many tries failed, for the metrics.
         self.slowed = self.wrong = 0
         # What was right last, by a key of this process, so that a station that comes again costs no hash.
         self.key = secrets.token_bytes(32)
         self.right: dict[str, bytes] = {}
-        # The hash of the plan by which a station was let in last.
+        # The plan's hash that let a station in last.
         self.hashes: dict[str, bytes] = {}
         # How often something of this was forgotten.
         self.changes = 0

@@ -19,8 +19,7 @@ class ReplayEnded(Exception):
 class Replay:
     """An `ocpp_board replay` that runs: lines go in, and their answers come out.
 
-    One whose answers were not waited for to their end, or that was killed, gives nothing any more: what it wrote since
-    would be taken for the answers to other lines.
+    After a kill, or a wait that was given up, it gives no more answers: they would be taken for those to other lines.
     """
 
     def __init__(self, process: asyncio.subprocess.Process) -> None:

@@ -20,8 +20,8 @@ from ocpp_board.fleet.states import figures_said, station_states
 KEPT, MAKERS, WAITING, PATIENCE = 16, 2, 16, 60
 # A site's pages have the archived periods of so many days. One before them is made by itself.
 DAYS = 92
-# Letters of boards up to which pages are made beside the event loop, in less time than a process takes to begin: a day
-# of a site mostly has fewer. Of more a process makes them, which may take seconds.
+# Boards of at most so many letters become pages in this process, which takes less time than to start another: most days
+# of a site have fewer. Pages of longer ones are made by a process of their own, which may take seconds.
 SMALL = 65_536
 # A shard has no more stations.
 MOST_STATIONS = 64

@@ -1,4 +1,4 @@
-"""Lines that lie in a file while a tool works with them, so that long ones take no memory.
+"""Lines that are in a file while a tool works with them, so that long ones take no memory.
 
     spool = Spool()
     lines = [spool.keep(row["line"], transaction_of(row["line"]), row) for row in rows]

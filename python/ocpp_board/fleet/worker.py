@@ -97,24 +97,24 @@ SHUT = "revoke connect on database .. from public"
 HOLD = "select shard from unnest($1::int[]) as s (shard) where hold_shard(shard) limit $2"
 # Shards that are read at once, and those among them that still read their log from the start.
 AT_ONCE, OPENING = 64, 2
-# Seconds after which the other shards no longer wait for a slow one, and for which what comes is handled together: each
-# round costs the same, whether it has one line or many.
+# Seconds after which the other shards no longer wait for a slow one, and seconds to gather lines for one round: a round
+# costs the same, whether it has one line or many.
 SLOW, GATHERED = 0.02, 0.02
-# Seconds after a round for which others are expected.
+# Seconds after a round in which another one is expected.
 ANSWERING = 0.3
-# Beats after which a worker looks at all shards again, whether something changed or not; for which it does so at each
-# beat where something changed, since others have to give back first; and after which it looks for those that hang.
+# Beats between looks at all shards without a change; beats with a look at each after a change, since others have to give
+# shards back first; and beats between looks for workers that hang.
 SWEEP, SETTLING, FENCING = 20, 5, 5
 # Seconds between notes of progress, and the longest pause before a shard that another worker took is taken again.
 NOTING, CONTEST = 0.5, 0.05
 # How many shards' boards are made at once.
 SHOWN = 8
-# From which part of the queue of notifications on answers take the other way, by a table.
+# When so much of the queue of notifications is full, answers go by a table.
 SLOW_QUEUE = 0.005
 # Shards taken at once, and seconds in which the program has to open a plan.
 TAKEN, OPENING_TIME = 16, 60
-# Seconds in which the database has to answer at least, however soon workers that hang are ended, and after which a
-# commit is asked whether it waits for a standby.
+# Seconds that the database has for an answer at least, however soon workers that hang are ended; and seconds until a
+# worker looks whether a commit waits for a standby.
 ANSWER, WAITING = 10.0, 1.0
 
 
