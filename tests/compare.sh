@@ -264,6 +264,8 @@ wait "$COPROC_PID"
 # The rows, and the scripts of days, those by hand and those of the logs, become replies and boards.
 mkdir "$made/cases"
 made_by "$one" rows.rows "$made/cases" ../rows/*.rows
+# Drawn times, with the answers of Python's reader.
+made_by "$one" drawn_times "$made/cases"
 for script in "$days"/*.script; do
     name=$(basename "$script" .script)
     cp "$script" "$made/cases/$name"

@@ -2,19 +2,17 @@
 
 import difflib
 import re
-from datetime import datetime
 
 from ocpp_board.escapes import shown
 from ocpp_board.limits import (
-    FIRST_MOMENT,
     GREATEST_LIMITS,
     GREATEST_SEQ_NO,
     ORDERS,
     RULES,
-    PAST_MOMENTS,
     TRANSACTION,
     is_name,
 )
+from ocpp_board.times import NO_TIME, fault_of
 
 # The lines of scripts by their first words, and how many words each has.
 FORMS = {
@@ -39,10 +37,6 @@ BYTE_ORDER_MARK = b"\xef\xbb\xbf"
 UTF_16 = (b"\xff\xfe", b"\xfe\xff")
 GREATEST = 2**64 - 1
 NAMES = "names have 1 to 48 of A-Z a-z 0-9 * - _ = : + | @ ."
-# What is said of a time of a year that no message may have.
-OUT_OF_RANGE = "is not from 2000 to 2099"
-# What is said of a time without an offset.
-NO_OFFSET = "has no offset from UTC, such as Z"
 
 Said = tuple[str, str]  # A cause and its remedy.
 
@@ -86,17 +80,6 @@ def rule_fault(word: str) -> Said | None:
     return f"{shown(word)} is no rule of settling", " or ".join(RULES)
 
 
-def time_fault(text: str) -> str | None:
-    """What is wrong with a time; the program takes some that Python doesn't, and decides."""
-    try:
-        moment = datetime.fromisoformat(re.sub(r"\[.*\]$", "", text).replace(":60", ":59").upper())
-    except ValueError:
-        return "is no time"
-    if moment.tzinfo is None:
-        return NO_OFFSET
-    return None if FIRST_MOMENT <= moment < PAST_MOMENTS else OUT_OF_RANGE
-
-
 def words_fault(words: list[str]) -> Said | None:
     """What is wrong with the words of a line of a known kind."""
     kind, *rest = words
@@ -121,7 +104,7 @@ def words_fault(words: list[str]) -> Said | None:
     if kind == "now":
         # Nothing else can be wrong with such a line, whatever Python takes for a time.
         return (
-            f"the time {shown(rest[0])} {time_fault(rest[0]) or 'is no time'}",
+            f"the time {shown(rest[0])} {fault_of(rest[0]) or NO_TIME}",
             "a time such as 2026-03-01T10:00:00Z",
         )
     if fault := name_fault("station's name", rest[0]):

@@ -18,6 +18,7 @@ from ocpp_board.escapes import csv_cell, shown
 from ocpp_board.limits import LONGEST_LINE, is_name
 from ocpp_board.messages import CALL, JSON, blanks, expected
 from ocpp_board.refusals import named_in
+from ocpp_board.times import local_of
 from ocpp_board.words import zone
 
 # The faults that can be mended: a value that is sent as a text, and a time without an offset from UTC.
@@ -101,11 +102,8 @@ def leaves(text: str, at: int, path: tuple[str, ...] = ()) -> Iterator[Leaf]:
 def offset_of(text: str, of_zone: ZoneInfo, received: datetime | None) -> str | None:
     """The offset of a time that has none, in this zone; None where the text is none such. In an hour that comes twice
     it is the one that is nearer to the receipt, or else the first."""
-    try:
-        local = datetime.fromisoformat(text)
-    except ValueError:
-        return None
-    if local.tzinfo is not None or len(text) < len("2026-03-01T10"):
+    local = local_of(text)
+    if local is None:
         return None
     both = [local.replace(tzinfo=of_zone, fold=fold) for fold in (0, 1)]
     heard = received.timestamp() if received else both[0].timestamp()

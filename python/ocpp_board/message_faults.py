@@ -8,7 +8,8 @@ from typing import Any
 
 from ocpp_board.escapes import shown
 from ocpp_board.limits import GREATEST_SEQ_NO, TRANSACTION
-from ocpp_board.line_faults import NO_OFFSET, OUT_OF_RANGE, Said, time_fault
+from ocpp_board.line_faults import Said
+from ocpp_board.times import NO_OFFSET, OUT_OF_RANGE, fault_of
 
 ACTIONS = ["BootNotification", "Heartbeat", "StatusNotification", "MeterValues", "TransactionEvent"]
 # Actions of OCPP 2.0.1 that a station may call too; the ledger keeps nothing of them.
@@ -137,7 +138,7 @@ class Checks:
     def time(self, of: dict[str, Any], path: str) -> None:
         """Checks a timestamp."""
         text = self.member(of, path, "timestamp", str)
-        if text is not None and (fault := time_fault(text)):
+        if text is not None and (fault := fault_of(text)):
             self.note("Moment", path + "timestamp", f"{fault}: {shown(text)}")
 
     def event(self, payload: dict[str, Any]) -> None:

@@ -1,32 +1,18 @@
 """Readings of messages: their values, measurands and moments, and those that stations send outside transactions."""
 
 import json
-import re
-from datetime import datetime
 from decimal import Context, Decimal
-from functools import lru_cache
 from typing import Any, NamedTuple
 
+from ocpp_board.times import seconds_of
+
 IMPORT, EXPORT = "Energy.Active.Import.Register", "Energy.Active.Export.Register"
-# How many moments have their texts kept, since an event and its readings often have the same.
-KEPT_MOMENTS = 1_024
-ANNOTATION = re.compile(r"\[.*\]$")
 # Digits for a reading's value, however its exponent is written.
 EXACT = Context(prec=250)
 JSON = json.JSONDecoder(parse_int=str, parse_float=str)
 # Readings outside transactions that are kept of an EVSE. Of readings in a row with one level the first and the last
 # are kept.
 MOST_OUTSIDE = 100_000
-
-
-@lru_cache(KEPT_MOMENTS)
-def seconds_of(text: str) -> float | None:
-    """A time of a message in seconds since 1970; None where Python can't read what the program took."""
-    try:
-        bare = ANNOTATION.sub("", text).upper().replace(":60", ":59")
-        return datetime.fromisoformat(bare).timestamp()
-    except (ValueError, OverflowError):
-        return None
 
 
 def mwh_of(value: str, unit: dict[str, Any]) -> int:

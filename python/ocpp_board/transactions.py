@@ -13,8 +13,9 @@ from ocpp_board.answered import Answered
 from ocpp_board.bills import NOTHING, Details, details_of
 from ocpp_board.messages import HEAD
 from ocpp_board.meter_values import EXPORT, IMPORT, JSON, MeterValues, measurand_of
-from ocpp_board.meter_values import mwh_of as mwh_of, seconds_of as seconds_of
+from ocpp_board.meter_values import mwh_of as mwh_of
 from ocpp_board.signed_values import unlike_plain
+from ocpp_board.times import seconds_of as seconds_of
 
 # What a measurand of active energy begins with, whether its readings count or not.
 ENERGY = "Energy.Active."
@@ -71,7 +72,7 @@ def readings_in_order(
     events: Iterable[Event], is_export: bool, is_by_moment: bool
 ) -> list[tuple[Event, Reading]]:
     """The counted readings of a register, each with its event, in the order in which the ledger takes them: that of the
-    events, or by moment that of their own moments. One whose moment Python can't read is left out then.
+    events, or by moment that of their own moments. One without a moment is left out then.
     """
     orders = events.orders if isinstance(events, LiveEvents) else {}
     order = is_export, is_by_moment

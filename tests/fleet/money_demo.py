@@ -4,7 +4,7 @@
 
 It starts PostgreSQL 15 in a temporary folder and a worker, and closes days of a site of which each station has a
 trouble of its own: one that leaves, one that changes its site, one whose archived transaction comes again, in conflict
-and voided, one at its limit of transactions, and one with numbers of 5,000 digits and a time that Python can't read. A
+and voided, one at its limit of transactions, and one with numbers of 5,000 digits, and one with times in rare forms. A
 month for billing has the tokens, remote starts and signed values of a session of the log and of an archived one.
 The status is 1 where something is not as it must be.
 """
@@ -401,26 +401,28 @@ class Demo(ClosingTrial):
         self.check(await self.until(query, wanted.lower()), f"{text}: {wanted}")
 
     async def long_numbers(self) -> None:
-        """Numbers that Python does not read, and a time that the ledger reads and Python does not."""
+        """Numbers and times that Python's own readers do not take."""
         lines = session("N1", "Digits", local("2026-03-01 08:00"), 4)
         lines[1] = lines[1].replace(
             '"eventType"', f'"customData":{{"x":{5_000 * "7"}}},"eventType"'
         )
         odd = session("N1", "Odd", local("2026-03-01 10:00"), 4)
+        odd[1] = odd[1].replace("T09:15:00Z", "t09:15:00z")
         odd[2] = odd[2].replace(":30:00Z", ":29:60Z")
+        odd[3] = odd[3].replace(":45:00Z", ":45:00Z[UTC]")
         answers = await self.came(
             *lines, *odd, *session("N2", "TX-1", local("2026-03-01 09:00"), 4)
         )
         self.check(
             all(answer.startswith("[3,") for answer in answers),
-            "numbers of 5,000 digits and a second 60 are taken",
+            "numbers of 5,000 digits and times in rare forms are taken",
         )
         await self.close_site(
-            "numbers of 5,000 digits, and a second 60", "2026-03-02",
-            "2 transactions archived", "can't be read", "odd of N1 stays in it", site="long",
+            "numbers of 5,000 digits, and times in rare forms", "2026-03-02",
+            "3 transactions archived", site="long",
         )  # fmt: skip
         left = [await self.owner.fetchval(IN_LOG, "N1", name) for name in ("Digits", "Odd")]
-        self.check(left == [0, 4], f"the lines of these that stay in the log: {left}")
+        self.check(left == [0, 0], f"the lines of these that stay in the log: {left}")
 
     async def billed(self) -> None:
         """What a bill needs beside the energy, of a session that is archived and of one in the log."""

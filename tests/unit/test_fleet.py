@@ -525,6 +525,9 @@ def test_transactions_of_lines() -> None:
 def test_a_line_lies_before_a_day_with_all_its_moments() -> None:
     day = datetime(2026, 3, 2, tzinfo=timezone.utc)
     assert is_before("msg A " + EVENT % "2026-03-01T23:59:59Z", day)
+    assert is_before("msg A " + EVENT % "2026-03-01T23:59:60Z", day)
+    assert is_before("msg A " + EVENT % "2026-03-01t23:59:59z", day)
+    assert is_before("msg A " + EVENT % "2026-03-02T00:59:59+01:00[Europe/Berlin]", day)
     assert not is_before("msg A " + EVENT % "2026-03-02T00:00:00Z", day)
     assert is_before("void A T1 3", day)
 
@@ -533,7 +536,7 @@ def test_a_line_lies_before_a_day_with_all_its_moments() -> None:
     "text",
     [
         EVENT % "2026-03-01T23:59:59",
-        EVENT % "2026-03-01T23:59:60Z",
+        EVENT % "2026-03-01T23:59:61Z",
         EVENT % "yesterday",
         "[]",
         '[2,"1","TransactionEvent",{"timestamp":7}]',

@@ -13,7 +13,7 @@ from ocpp_board.energies import Flow
 from ocpp_board.quality import Finding, Kind, findings_of
 from ocpp_board.session_times import Registers, duration, times_of
 from ocpp_board.session_facts import SessionFacts
-from ocpp_board.transactions import Transaction, Transactions, mwh_of, seconds_of
+from ocpp_board.transactions import Transaction, Transactions, mwh_of
 from ocpp_board.troubles import FIRST, KINDS, Sent, Session as Messages, event, reading, sound
 
 HOUR = timedelta(hours=1)
@@ -458,23 +458,6 @@ def test_data_is_up_to_the_latest_receipt_or_to_the_latest_event_without_one() -
 )
 def test_readings_are_whole_mwh_rounded_down(value: str, unit: dict[str, Any], mwh: int) -> None:
     assert mwh_of(value, unit) == mwh
-
-
-@pytest.mark.parametrize(
-    ("text", "wanted"),
-    [
-        ("2026-03-01T10:00:00Z", "2026-03-01T10:00:00+00:00"),
-        ("2026-03-01t10:00:60z", "2026-03-01T10:00:59+00:00"),
-        ("2026-03-01 11:00:00+01:00[Europe/Berlin]", "2026-03-01T10:00:00+00:00"),
-        ("20260301T100000Z", "2026-03-01T10:00:00+00:00"),
-    ],
-)
-def test_times_of_messages(text: str, wanted: str) -> None:
-    assert seconds_of(text) == datetime.fromisoformat(wanted).timestamp()
-
-
-def test_a_time_that_python_can_not_read_is_none() -> None:
-    assert seconds_of("10 o'clock") is None
 
 
 @pytest.mark.parametrize(

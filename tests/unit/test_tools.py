@@ -17,7 +17,7 @@ from ocpp_board.explain import Plan, Run
 from ocpp_board.fleet import forget, replays
 from ocpp_board.fleet.database import SECRETS
 from ocpp_board.fleet.plans import known_lines
-from ocpp_board.line_faults import bad_line, time_fault
+from ocpp_board.line_faults import bad_line
 from ocpp_board.message_faults import message_fault
 from ocpp_board.processes import TUNABLES
 from ocpp_board.statuses import Mistaken, Status
@@ -230,10 +230,12 @@ def test_why_a_line_is_none(line: bytes, cause: str, remedy: str) -> None:
 
 
 def test_why_a_time_is_none() -> None:
-    assert time_fault("2026-03-01T10:00:00Z") is None
-    assert time_fault("2026-03-01") == "has no offset from UTC, such as Z"
-    assert time_fault("1999-12-31T23:59:59Z") == "is not from 2000 to 2099"
-    assert time_fault("x") == "is no time"
+    for time, cause in (
+        (b"2026-03-01T10:00:00", "has no offset from UTC, such as Z"),
+        (b"1999-12-31T23:59:59Z", "is not from 2000 to 2099"),
+        (b"x", "is no time"),
+    ):
+        assert bad_line(b"now " + time, 2)[0].endswith(cause)
 
 
 @pytest.mark.parametrize(

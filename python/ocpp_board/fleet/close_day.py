@@ -18,7 +18,7 @@ it replays the file and the lines that are left: together they have to have the 
 
 It may end at any time: call it again. If it loses its session with the database it begins anew, up to five times, and
 tries for two minutes to get one. It waits as long for another program that has the shard. It reports a line that the
-ledger took and Python can't read, such as one with second 60, and leaves its transaction in the log.
+ledger took and Python can't read, and leaves its transaction in the log.
 """
 
 import argparse
@@ -545,8 +545,8 @@ class Closing:
         self, day: date, flows: Flows, opened: set[Period]
     ) -> dict[str, list[tuple[Any, ...]]]:
         """The rows that correct the settled energy up to this day to that of log and archives, by the site where they
-        are booked, which is the one that settled the period. `flows`: what is in the log and what this closing archives.
-        Only these periods may differ, and those that did before.
+        are booked, which is the one that settled the period. `flows`: what is in the log and what this closing
+        archives. Only these periods may differ, and those that did before.
         """
         touched = flows.keys() | opened
         kept = await self.sums(closing_queries.KEPT, touched)

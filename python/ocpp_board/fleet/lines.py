@@ -2,9 +2,9 @@
 
 import re
 from datetime import datetime
-from typing import Any
 
 from ocpp_board.messages import parsed
+from ocpp_board.times import moment_of
 
 COMMANDS = ("msg ", "void ", "restore ", "erase ")
 # A station and the id of a transaction, in small letters as boards have it.
@@ -48,14 +48,6 @@ def may_name(text: str) -> set[Transaction] | None:
         return {found} if found else set()
     station = station_of(text)
     return {(station, name.lower()) for name in NAMED.findall(text)}
-
-
-def moment_of(text: Any) -> datetime:
-    """A moment of a message. Raises ValueError and TypeError."""
-    moment = datetime.fromisoformat(text)
-    if moment.tzinfo is None:
-        raise ValueError(f"a time without an offset: {text!r}")
-    return moment
 
 
 def moments_of(text: str) -> list[datetime]:

@@ -32,7 +32,8 @@ from ocpp_board.limits import TRANSACTION, is_name
 from ocpp_board.page_sections import UNKNOWN
 from ocpp_board.pages import flow_heads
 from ocpp_board.session_times import duration
-from ocpp_board.transactions import moment as moment_of, seconds_of
+from ocpp_board.times import seconds_of
+from ocpp_board.transactions import moment as moment_of
 
 FILE = re.compile(
     r"board(\.\d{4}-\d\d-\d\d(\.\d{1,4})?|\.\d{1,4})?\.html|board\.(periods|transactions)\.csv"

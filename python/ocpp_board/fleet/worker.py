@@ -102,8 +102,8 @@ AT_ONCE, OPENING = 64, 2
 SLOW, GATHERED = 0.02, 0.02
 # Seconds after a round in which another one is expected.
 ANSWERING = 0.3
-# Beats between looks at all shards without a change; beats with a look at each after a change, since others have to give
-# shards back first; and beats between looks for workers that hang.
+# Beats between looks at all shards without a change; beats with a look at each after a change, since others have to
+# give shards back first; and beats between looks for workers that hang.
 SWEEP, SETTLING, FENCING = 20, 5, 5
 # Seconds between notes of progress, and the longest pause before a shard that another worker took is taken again.
 NOTING, CONTEST = 0.5, 0.05
