@@ -3,8 +3,9 @@
     tests/one drawn_times FOLDER
 
 It writes FOLDER/drawn_times and FOLDER/drawn_times.stdout, which tests/compare.sh compares with the program. Each time
-is that of an event. If Python reads it, the program has to accept the event, to take the same event with that moment in
-its plain form for a repeat, and to refuse it with the next nanosecond. If Python does not, the program has to refuse it.
+is that of an event. If Python reads it, the program has to accept the event, to take the same event with that moment
+in its plain form for a repeat, and to refuse it with the next nanosecond. If Python does not, the program has to refuse
+it.
 """
 
 import argparse
