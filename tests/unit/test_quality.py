@@ -2,7 +2,7 @@
 
 import base64
 import json
-from typing import Any
+from datetime import timedelta, timezone
 
 import pytest
 
