@@ -3,6 +3,7 @@
 import base64
 import json
 from datetime import timedelta, timezone
+from typing import Any
 
 import pytest
 
