@@ -1,4 +1,4 @@
-"""Writes a script of drawn times and of those in the stored rows, with the answers that ocpp_board.times asks for.
+"""Writes a script of drawn times and of those in the stored rows, with the answers that Python's reader asks for.
 
     tests/one drawn_times FOLDER
 
