@@ -16,7 +16,7 @@ import time
 from collections.abc import Iterator
 from pathlib import Path
 
-from ocpp_board.times import PAST, SECOND, TimeFault, nanoseconds_of
+from ocpp_board.messages.times import PAST, SECOND, TimeFault, nanoseconds_of
 
 ROWS = Path(__file__).parent / "rows"
 STORED = re.compile(r'"timestamp":"([^"\\]*)"')

@@ -27,11 +27,13 @@ class Tool(NamedTuple):
 
 
 TOOLS = {
-    "log-to-script": Tool("log_to_script", "turns the message log of a CSMS into a script"),
-    "tables": Tool("tables", "turns boards into CSV tables and pages"),
-    "live": Tool("live", "keeps the pages and tables of a ledger that still grows"),
-    "explain": Tool("explain", "says what is wrong with a script"),
-    "traffic": Tool("traffic", "writes scripts of many events, for measuring"),
+    "log-to-script": Tool(
+        "commands.log_to_script", "turns the message log of a CSMS into a script"
+    ),
+    "tables": Tool("reports.tables", "turns boards into CSV tables and pages"),
+    "live": Tool("commands.live", "keeps the pages and tables of a ledger that still grows"),
+    "explain": Tool("commands.explain", "says what is wrong with a script"),
+    "traffic": Tool("commands.traffic", "writes scripts of many events, for measuring"),
     "gateway": Tool("fleet.gateway", "fleet: takes charging stations' connections"),
     "worker": Tool("fleet.worker", "fleet: replays the log and answers"),
     "page": Tool("fleet.page", "fleet: shows all boards in a browser"),

@@ -7,9 +7,9 @@ from typing import NoReturn
 from zoneinfo import ZoneInfo
 
 from ocpp_board import telling
-from ocpp_board.bills import TOKENS
+from ocpp_board.messages.bills import TOKENS
 from ocpp_board.processes import found_program
-from ocpp_board.quality import MOST_KW
+from ocpp_board.reports.quality import MOST_KW
 
 
 class Parser(argparse.ArgumentParser):

@@ -18,12 +18,12 @@ from pathlib import Path
 from typing import Any
 from zoneinfo import ZoneInfo
 
-from ocpp_board.boards import TOTAL
 from ocpp_board.energies import FLOW, Flow, flow_of
-from ocpp_board.fleet.figures import Figures, added, figures, periods
 from ocpp_board.fleet.database import Fault, connect
+from ocpp_board.fleet.figures import Figures, added, figures, periods
 from ocpp_board.fleet.lines import COMMANDS, transaction_of
 from ocpp_board.fleet.plans import Plan, known_lines
+from ocpp_board.replay.boards import TOTAL
 
 TOP = Path(__file__).resolve().parent.parent.parent
 # Seconds for what comes to be so, on a machine with much else to do.

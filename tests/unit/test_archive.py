@@ -8,11 +8,11 @@ from random import Random
 
 import pytest
 
-from ocpp_board.archive import grouped, is_quiet, next_begin, session_of
-from ocpp_board.board_sums import BoardSum
-from ocpp_board.calendars import Calendar
-from ocpp_board.live import Run, arguments
-from ocpp_board.operators import Deed
+from ocpp_board.commands.live import Run, arguments
+from ocpp_board.replay.archive import grouped, is_quiet, next_begin, session_of
+from ocpp_board.replay.board_sums import BoardSum
+from ocpp_board.replay.operators import Deed
+from ocpp_board.reports.calendars import Calendar
 from ocpp_board.statuses import Status
 from tests.reference import answers
 

@@ -10,8 +10,7 @@ from xml.etree import ElementTree
 
 import pytest
 
-from ocpp_board import tables
-from ocpp_board.bills import (
+from ocpp_board.messages.bills import (
     HEADS,
     NOTHING,
     Details,
@@ -21,9 +20,10 @@ from ocpp_board.bills import (
     file_of,
     write_signed,
 )
-from ocpp_board.ledger import Ledger
+from ocpp_board.replay.ledger import Ledger
+from ocpp_board.reports import tables
 from ocpp_board.statuses import Status
-from ocpp_board.troubles import FIRST, KINDS, Session, messages, sound
+from ocpp_board.traffic.troubles import FIRST, KINDS, Session, messages, sound
 
 OCMF = 'OCMF|{"RD":[{"RV":1.0,"RU":"kWh"}]}|{"SD":"00"}'
 KEY = base64.b64encode(b"oca:base16:asn1:3059aa").decode()

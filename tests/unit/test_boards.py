@@ -9,7 +9,9 @@ from typing import IO
 
 import pytest
 
-from ocpp_board.boards import (
+from ocpp_board.energies import Flow
+from ocpp_board.progress import Progress
+from ocpp_board.replay.boards import (
     Part,
     Reader,
     Session,
@@ -19,8 +21,6 @@ from ocpp_board.boards import (
     numbers_of,
     understood,
 )
-from ocpp_board.energies import Flow
-from ocpp_board.progress import Progress
 
 FLOW = "up=1 down=2 export_up=3 export_down=4"
 TOTAL = f"total events=2 voided=0 transactions=1 complete=0 missing=1 {FLOW}"

@@ -6,9 +6,9 @@ from zoneinfo import ZoneInfo
 
 import pytest
 
-from ocpp_board.boards import Period
-from ocpp_board.calendars import Calendar
 from ocpp_board.energies import Flow
+from ocpp_board.replay.boards import Period
+from ocpp_board.reports.calendars import Calendar
 from ocpp_board.words import zone
 
 BERLIN = ZoneInfo("Europe/Berlin")

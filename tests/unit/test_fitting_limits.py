@@ -6,10 +6,10 @@ from pathlib import Path
 
 import pytest
 
-from ocpp_board.fitting_limits import fitting, readings_of, said, sent_in
-from ocpp_board.followed import Followed
 from ocpp_board.limits import MOST_READINGS
-from ocpp_board.near_limits import Counts
+from ocpp_board.logs.fitting_limits import fitting, readings_of, said, sent_in
+from ocpp_board.logs.followed import Followed
+from ocpp_board.replay.near_limits import Counts
 from tests.unit.test_ledger import feed_of
 
 CHANGES = 2**63

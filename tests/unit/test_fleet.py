@@ -15,11 +15,12 @@ pytest.importorskip("websockets")
 import asyncpg  # noqa: E402
 
 from ocpp_board.energies import Flow  # noqa: E402
-from ocpp_board.fleet.archives import Late, packed, unpacked, widened  # noqa: E402
-from ocpp_board.fleet.close_day import differences  # noqa: E402
 from ocpp_board.fleet import begun_anew, database, metrics, parts, worker  # noqa: E402
 from ocpp_board.fleet import watched as watching  # noqa: E402
+from ocpp_board.fleet.archives import Late, packed, unpacked, widened  # noqa: E402
 from ocpp_board.fleet.board_writer import Board, BoardWriter, chunks  # noqa: E402
+from ocpp_board.fleet.close_day import differences  # noqa: E402
+from ocpp_board.fleet.compact import pieces  # noqa: E402
 from ocpp_board.fleet.database import (  # noqa: E402
     Fault,
     SessionLost,
@@ -38,7 +39,6 @@ from ocpp_board.fleet.figures import (  # noqa: E402
     new_rows,
     periods,
 )
-from ocpp_board.fleet.compact import pieces  # noqa: E402
 from ocpp_board.fleet.gateway import (  # noqa: E402
     BURST,
     BYTES,
@@ -60,7 +60,7 @@ from ocpp_board.fleet.orders import WAITS  # noqa: E402
 from ocpp_board.fleet.plans import Plan, Reckoning, known_lines  # noqa: E402
 from ocpp_board.fleet.replays import Replay, ReplayEnded  # noqa: E402
 from ocpp_board.fleet.worker import Session, payloads_of  # noqa: E402
-from ocpp_board.messages import Refused  # noqa: E402
+from ocpp_board.messages.texts import Refused  # noqa: E402
 
 FLOW = "up=1 down=0 export_up=0 export_down=0"
 TOTAL = f"total events=2 voided=0 transactions=1 complete=1 missing=0 {FLOW}"

@@ -9,9 +9,9 @@ from pathlib import Path
 
 import pytest
 
-from ocpp_board.followed import GONE, Followed, Place, front_of, is_replaced, known
-from ocpp_board.kept_script import BEGIN, KeptScript
 from ocpp_board.limits import LONGEST_LOG_LINE
+from ocpp_board.logs.followed import GONE, Followed, Place, front_of, is_replaced, known
+from ocpp_board.logs.kept_script import BEGIN, KeptScript
 from ocpp_board.statuses import Mistaken
 from ocpp_board.telling import set_up
 
@@ -282,7 +282,7 @@ def test_a_script_of_another_is_left_alone(text: bytes, tmp_path: Path) -> None:
 def test_a_script_has_an_end(
     tmp_path: Path, monkeypatch: pytest.MonkeyPatch, caplog: pytest.LogCaptureFixture
 ) -> None:
-    monkeypatch.setattr("ocpp_board.kept_script.LONGEST_SCRIPT", 200)
+    monkeypatch.setattr("ocpp_board.logs.kept_script.LONGEST_SCRIPT", 200)
     monkeypatch.setattr(logging.getLogger("ocpp_board"), "propagate", True)
     kept = KeptScript(tmp_path, STATIONS)
     kept.append(b"#" * (180 - kept.size))

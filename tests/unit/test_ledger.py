@@ -9,12 +9,12 @@ from pathlib import Path
 
 import pytest
 
-from ocpp_board.answered import Answered
-from ocpp_board.kept_script import BEGIN
-from ocpp_board.ledger import Ended, Ledger
-from ocpp_board.live import arguments
-from ocpp_board.log_feed import LogFeed
-from ocpp_board.refusals import Refusal
+from ocpp_board.commands.live import arguments
+from ocpp_board.logs.kept_script import BEGIN
+from ocpp_board.logs.log_feed import LogFeed
+from ocpp_board.replay.answered import Answered
+from ocpp_board.replay.ledger import Ended, Ledger
+from ocpp_board.replay.refusals import Refusal
 
 HEARTBEAT = '[2,\\"h\\",\\"Heartbeat\\",{}]'
 
@@ -149,7 +149,7 @@ def test_once_reads_rotated_files_and_the_log(stub: str, tmp_path: Path) -> None
 def test_what_comes_very_often_is_counted_and_not_kept(
     stub: str, tmp_path: Path, monkeypatch: pytest.MonkeyPatch
 ) -> None:
-    monkeypatch.setattr("ocpp_board.log_feed.MOST_UNTAKEN", 2)
+    monkeypatch.setattr("ocpp_board.logs.log_feed.MOST_UNTAKEN", 2)
     (tmp_path / "log").write_text("no JSON\n" * 5)
     feed, ledger, untaken = feed_of(stub, tmp_path)
     feed.feed()

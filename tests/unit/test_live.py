@@ -12,14 +12,14 @@ from zoneinfo import ZoneInfo
 
 import pytest
 
-from ocpp_board.answered import Answered
-from ocpp_board.calendars import Calendar
-from ocpp_board.changed_days import digests
-from ocpp_board.live import READING, Run, arguments, interrupts, keep_pages
-from ocpp_board.live_pages import Pages
-from ocpp_board.refusals import Refusal, Refusals
-from ocpp_board.session_facts import SessionFacts
-from ocpp_board.troubles import FIRST, KINDS
+from ocpp_board.commands.live import READING, Run, arguments, interrupts, keep_pages
+from ocpp_board.replay.answered import Answered
+from ocpp_board.replay.refusals import Refusal, Refusals
+from ocpp_board.reports.calendars import Calendar
+from ocpp_board.reports.changed_days import digests
+from ocpp_board.reports.live_pages import Pages
+from ocpp_board.reports.session_facts import SessionFacts
+from ocpp_board.traffic.troubles import FIRST, KINDS
 
 TOTAL = (
     "total events=4 voided=0 transactions=1 complete=0 missing=0 up=3 down=0 export_up=0 "
@@ -62,7 +62,7 @@ def test_pages_wait_for_what_a_log_had_at_the_start() -> None:
 
 def test_a_signal_right_behind_another_is_the_same(monkeypatch: pytest.MonkeyPatch) -> None:
     now = [100.0]
-    monkeypatch.setattr("ocpp_board.live.time", SimpleNamespace(monotonic=lambda: now[0]))
+    monkeypatch.setattr("ocpp_board.commands.live.time", SimpleNamespace(monotonic=lambda: now[0]))
     handler = interrupts()
     with pytest.raises(KeyboardInterrupt):
         handler(2, None)
@@ -139,7 +139,7 @@ def test_pages_are_written_for_the_days_that_changed(tmp_path: Path) -> None:
 def test_days_of_several_pages_stand_until_they_change(
     tmp_path: Path, monkeypatch: pytest.MonkeyPatch
 ) -> None:
-    monkeypatch.setattr("ocpp_board.board_pages.PAGE_BYTES", 100)
+    monkeypatch.setattr("ocpp_board.reports.board_pages.PAGE_BYTES", 100)
     words = argparse.Namespace(
         out=tmp_path, tz=None, every=10, oldest=None, log_json=False, prog="live"
     )

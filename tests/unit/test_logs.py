@@ -10,9 +10,9 @@ from typing import Any
 
 import pytest
 
-from ocpp_board.log_reader import moment_of
-from ocpp_board.log_to_script import Conversion, arguments, convert, lines, shares_of
-from ocpp_board.logforms import (
+from ocpp_board.commands.log_to_script import Conversion, arguments, convert, lines, shares_of
+from ocpp_board.logs.log_reader import moment_of
+from ocpp_board.logs.logforms import (
     ArrowForm,
     CitrineCsvForm,
     CitrineForm,
@@ -24,9 +24,9 @@ from ocpp_board.logforms import (
     RegexForm,
     expression,
 )
-from ocpp_board.messages import Refused
+from ocpp_board.logs.script_plan import pairs_of
+from ocpp_board.messages.texts import Refused
 from ocpp_board.progress import Progress
-from ocpp_board.script_plan import pairs_of
 from ocpp_board.statuses import Mistaken, Status
 
 HEARTBEAT = '[2,"1","Heartbeat",{}]'

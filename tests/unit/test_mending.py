@@ -10,10 +10,8 @@ from zoneinfo import ZoneInfo
 
 import pytest
 
-from ocpp_board import log_to_script, tables
-from ocpp_board.ledger import Ledger
-from ocpp_board.message_faults import message_fault
-from ocpp_board.mending import (
+from ocpp_board.commands import log_to_script
+from ocpp_board.logs.mending import (
     COMMENT,
     MendedMessages,
     Mender,
@@ -22,8 +20,11 @@ from ocpp_board.mending import (
     mends_of,
     offset_of,
 )
+from ocpp_board.messages.message_faults import message_fault
+from ocpp_board.replay.ledger import Ledger
+from ocpp_board.reports import tables
 from ocpp_board.statuses import Mistaken, Status
-from ocpp_board.troubles import FIRST, sound
+from ocpp_board.traffic.troubles import FIRST, sound
 from tests.unit.test_ledger import feed_of
 
 BERLIN = ZoneInfo("Europe/Berlin")

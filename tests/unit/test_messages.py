@@ -2,7 +2,7 @@
 
 import pytest
 
-from ocpp_board.messages import (
+from ocpp_board.messages.texts import (
     CALL,
     HEAD,
     Refused,

@@ -24,9 +24,9 @@ from ocpp_board.fleet.metrics import (  # noqa: E402
     near_limits,
     place_of,
 )
-from ocpp_board.limits import DEFAULT_LIMITS  # noqa: E402
 from ocpp_board.fleet.watched import Watched  # noqa: E402
-from ocpp_board.near_limits import Counts  # noqa: E402
+from ocpp_board.limits import DEFAULT_LIMITS  # noqa: E402
+from ocpp_board.replay.near_limits import Counts  # noqa: E402
 
 
 def watch_of(is_well: bool = True) -> Watch:

@@ -9,21 +9,29 @@ from zoneinfo import ZoneInfo
 
 import pytest
 
-from ocpp_board import log_to_script, tables
-from ocpp_board.answered import Answered
-from ocpp_board.board_pages import Board, DayPages, Index, Layout, SiteRows, write_sites
-from ocpp_board.boards import Part, Period, Session, Total
-from ocpp_board.calendars import Calendar
+from ocpp_board.commands import log_to_script
 from ocpp_board.energies import Flow
-from ocpp_board.lanes import lane_picture, lanes_of
-from ocpp_board.log_reader import LogReader
-from ocpp_board.month_pictures import by_month, by_week, heat_map, hourly, week_picture, week_scale
-from ocpp_board.month_traffic import log
-from ocpp_board.powers import kw, peak_cell, peak_said
-from ocpp_board.quality import Effect, Finding, Kind
+from ocpp_board.logs.log_reader import LogReader
+from ocpp_board.replay.answered import Answered
+from ocpp_board.replay.boards import Part, Period, Session, Total
+from ocpp_board.reports import tables
+from ocpp_board.reports.board_pages import Board, DayPages, Index, Layout, SiteRows, write_sites
+from ocpp_board.reports.calendars import Calendar
+from ocpp_board.reports.lanes import lane_picture, lanes_of
+from ocpp_board.reports.month_pictures import (
+    by_month,
+    by_week,
+    heat_map,
+    hourly,
+    week_picture,
+    week_scale,
+)
+from ocpp_board.reports.powers import kw, peak_cell, peak_said
+from ocpp_board.reports.quality import Effect, Finding, Kind
+from ocpp_board.reports.session_facts import SessionFacts
 from ocpp_board.statuses import Status
-from ocpp_board.session_facts import SessionFacts
-from ocpp_board.troubles import FIRST, sound
+from ocpp_board.traffic.month_traffic import log
+from ocpp_board.traffic.troubles import FIRST, sound
 from tests.reference import answers
 
 DAY = datetime(2026, 3, 1, tzinfo=timezone.utc)
@@ -153,7 +161,7 @@ def test_days_are_the_same_in_copies(
 ) -> None:
     periods = [Period(DAY + timedelta(days=n), 900, Flow(100_000 * n)) for n in range(7)]
     part = Part("A", False, 900, total=marked().total, periods=periods)
-    monkeypatch.setattr("ocpp_board.board_pages.FEWEST", 0)
+    monkeypatch.setattr("ocpp_board.reports.board_pages.FEWEST", 0)
     found = []
     for count in (1, 3):
         monkeypatch.setattr("os.sched_getaffinity", lambda _process, n=count: set(range(n)))

@@ -6,16 +6,16 @@ from pathlib import Path
 
 import pytest
 
-from ocpp_board import tables
-from ocpp_board.answered import Answered
-from ocpp_board.boards import Part, Session
 from ocpp_board.energies import Flow
-from ocpp_board.ledger import Ledger
-from ocpp_board.operators import HEADS, Deed, Operators, commented, deed_of
-from ocpp_board.page_sections import problems_of, state_text
+from ocpp_board.replay.answered import Answered
+from ocpp_board.replay.boards import Part, Session
+from ocpp_board.replay.ledger import Ledger
+from ocpp_board.replay.operators import HEADS, Deed, Operators, commented, deed_of
+from ocpp_board.reports import tables
+from ocpp_board.reports.page_sections import problems_of, state_text
+from ocpp_board.reports.session_facts import SessionFacts
 from ocpp_board.statuses import Status
-from ocpp_board.session_facts import SessionFacts
-from ocpp_board.troubles import FIRST, messages, sound
+from ocpp_board.traffic.troubles import FIRST, messages, sound
 from tests.unit.test_ledger import feed_of
 
 

@@ -5,11 +5,11 @@ from pathlib import Path
 
 import pytest
 
-from ocpp_board.boards import Part, Period, Session, Total
-from ocpp_board.calendars import Calendar
 from ocpp_board.energies import Flow
-from ocpp_board.page_sections import DayPart, bar_cell, day_of_part, sections_of
-from ocpp_board.pages import (
+from ocpp_board.replay.boards import Part, Period, Session, Total
+from ocpp_board.reports.calendars import Calendar
+from ocpp_board.reports.page_sections import DayPart, bar_cell, day_of_part, sections_of
+from ocpp_board.reports.pages import (
     FOOT,
     Column,
     Heads,
@@ -19,8 +19,8 @@ from ocpp_board.pages import (
     refused_banner,
     table,
 )
-from ocpp_board.pictures import Scale
-from ocpp_board.quality import Finding, Kind
+from ocpp_board.reports.pictures import Scale
+from ocpp_board.reports.quality import Finding, Kind
 from tests.page_check import Check, color_of, contrast
 from tests.page_tree import Tree, fits, rules_of
 

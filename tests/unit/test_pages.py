@@ -6,11 +6,11 @@ from pathlib import Path
 
 import pytest
 
-from ocpp_board.board_pages import Board, DayPages, Index, Layout, Series, write_sites
-from ocpp_board.boards import Part, Period, Session, Total
-from ocpp_board.calendars import Calendar
 from ocpp_board.energies import Flow
-from ocpp_board.page_sections import (
+from ocpp_board.replay.boards import Part, Period, Session, Total
+from ocpp_board.reports.board_pages import Board, DayPages, Index, Layout, Series, write_sites
+from ocpp_board.reports.calendars import Calendar
+from ocpp_board.reports.page_sections import (
     bar_cell,
     figures,
     problems_of,
@@ -20,7 +20,7 @@ from ocpp_board.page_sections import (
     session_order,
     trouble_of,
 )
-from ocpp_board.pages import (
+from ocpp_board.reports.pages import (
     MARK,
     Column,
     Heads,
@@ -32,9 +32,9 @@ from ocpp_board.pages import (
     refused_banner,
     table,
 )
-from ocpp_board.pictures import MOST_LINES, Scale, bar, hours, short, strip
-from ocpp_board.quality import Finding, Kind
-from ocpp_board.session_times import Registers, SessionTimes
+from ocpp_board.reports.pictures import MOST_LINES, Scale, bar, hours, short, strip
+from ocpp_board.reports.quality import Finding, Kind
+from ocpp_board.reports.session_times import Registers, SessionTimes
 
 DAY = datetime(2026, 3, 1, tzinfo=timezone.utc)
 
@@ -336,7 +336,7 @@ def test_pages_tell_what_was_refused_and_how_often_they_are_drawn(tmp_path: Path
 def test_texts_that_do_not_fit_go_on_the_next_page(
     tmp_path: Path, monkeypatch: pytest.MonkeyPatch
 ) -> None:
-    monkeypatch.setattr("ocpp_board.board_pages.PAGE_BYTES", 100)
+    monkeypatch.setattr("ocpp_board.reports.board_pages.PAGE_BYTES", 100)
     series = Series(lambda number: str(tmp_path / f"{number}.html"))
     assert series.places([60, 40, 1, 99, 100, 500]) == [1, 1, 2, 2, 3, 4]
     series.put(1, "\N{MINUS SIGN}" * 20)
@@ -358,7 +358,7 @@ def board(stations: int) -> Board:
 def test_links_lead_to_the_pages_on_which_stations_stand(
     tmp_path: Path, monkeypatch: pytest.MonkeyPatch
 ) -> None:
-    monkeypatch.setattr("ocpp_board.board_pages.PAGE_BYTES", 8_000)
+    monkeypatch.setattr("ocpp_board.reports.board_pages.PAGE_BYTES", 8_000)
     days, index = DayPages(layout(tmp_path)), Index(layout(tmp_path))
     for add, close in ((days.add, days.close), (index.add, index.close)):
         add(board(12))
@@ -459,7 +459,7 @@ def test_a_page_leads_to_those_of_several_sites(tmp_path: Path) -> None:
 def test_a_day_that_is_full_tells_on_which_page_it_is(
     tmp_path: Path, monkeypatch: pytest.MonkeyPatch
 ) -> None:
-    monkeypatch.setattr("ocpp_board.board_pages.PAGE_BYTES", 8_000)
+    monkeypatch.setattr("ocpp_board.reports.board_pages.PAGE_BYTES", 8_000)
     days = DayPages(layout(tmp_path))
     days.add(board(12))
     days.close()

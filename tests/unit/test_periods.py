@@ -8,11 +8,12 @@ from zoneinfo import ZoneInfo
 
 import pytest
 
-from ocpp_board.board_pages import Board, DayPages, Layout
-from ocpp_board.boards import Part, Period
-from ocpp_board.calendars import LONGEST_PAUSE, Calendar
 from ocpp_board.energies import Flow
-from ocpp_board.period_doubts import (
+from ocpp_board.messages.transactions import Event, Reading
+from ocpp_board.replay.boards import Part, Period
+from ocpp_board.reports.board_pages import Board, DayPages, Layout
+from ocpp_board.reports.calendars import LONGEST_PAUSE, Calendar
+from ocpp_board.reports.period_doubts import (
     FIRST_SECOND,
     Doubt,
     KnownPeriods,
@@ -20,8 +21,7 @@ from ocpp_board.period_doubts import (
     flows_of,
     period_of,
 )
-from ocpp_board.period_table import PeriodTable
-from ocpp_board.transactions import Event, Reading
+from ocpp_board.reports.period_table import PeriodTable
 
 TEN = int(datetime(2026, 3, 1, 10, tzinfo=timezone.utc).timestamp())
 QUARTER = 900

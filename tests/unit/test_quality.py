@@ -7,14 +7,22 @@ from typing import Any
 
 import pytest
 
-from ocpp_board.answered import Answered
-from ocpp_board.boards import Part, Session
 from ocpp_board.energies import Flow
-from ocpp_board.quality import Finding, Kind, findings_of
-from ocpp_board.session_times import Registers, duration, times_of
-from ocpp_board.session_facts import SessionFacts
-from ocpp_board.transactions import Transaction, Transactions, mwh_of
-from ocpp_board.troubles import FIRST, KINDS, Sent, Session as Messages, event, reading, sound
+from ocpp_board.messages.transactions import Transaction, Transactions, mwh_of
+from ocpp_board.replay.answered import Answered
+from ocpp_board.replay.boards import Part, Session
+from ocpp_board.reports.quality import Finding, Kind, findings_of
+from ocpp_board.reports.session_facts import SessionFacts
+from ocpp_board.reports.session_times import Registers, duration, times_of
+from ocpp_board.traffic.troubles import (
+    FIRST,
+    KINDS,
+    Sent,
+    Session as Messages,
+    event,
+    reading,
+    sound,
+)
 
 HOUR = timedelta(hours=1)
 CONFLICT = '[4,"1","GenericError","ConflictingEvent",{}]'
@@ -414,7 +422,7 @@ def test_a_value_that_does_not_count_needs_no_number() -> None:
 
 
 def test_of_conflicts_some_are_kept(monkeypatch: pytest.MonkeyPatch) -> None:
-    monkeypatch.setattr("ocpp_board.transactions.MOST_CONFLICTS", 2)
+    monkeypatch.setattr("ocpp_board.messages.transactions.MOST_CONFLICTS", 2)
     start, *_ = sound("T1", FIRST)
     assert len(taken([start] * 4, {1: CONFLICT, 2: CONFLICT, 3: CONFLICT}).conflicts) == 2
 

@@ -7,10 +7,10 @@ from pathlib import Path
 
 import pytest
 
-from ocpp_board.answered import Answered, Line, Messages, ScriptReplay, answered
-from ocpp_board.message_faults import is_reading, message_fault
-from ocpp_board.near_limits import NearLimits
-from ocpp_board.refusals import (
+from ocpp_board.messages.message_faults import is_reading, message_fault
+from ocpp_board.replay.answered import Answered, Line, Messages, ScriptReplay, answered
+from ocpp_board.replay.near_limits import NearLimits
+from ocpp_board.replay.refusals import (
     HEADS,
     MOST_ROWS,
     UNTAKEN,
@@ -22,8 +22,8 @@ from ocpp_board.refusals import (
     refusal_of,
     sentence,
 )
+from ocpp_board.reports.session_facts import SessionFacts
 from ocpp_board.statuses import Mistaken
-from ocpp_board.session_facts import SessionFacts
 
 AT = datetime(2026, 3, 1, 10, 0, 5, tzinfo=timezone.utc)
 EVENT = (

@@ -6,19 +6,19 @@ from pathlib import Path
 
 import pytest
 
-from ocpp_board import tables
-from ocpp_board.answered import Answered
-from ocpp_board.boards import Part, Session
-from ocpp_board.calendars import Calendar
 from ocpp_board.energies import Flow
-from ocpp_board.ledger import Ledger
-from ocpp_board.operators import Deed
-from ocpp_board.refusals import Refusal, Refusals
-from ocpp_board.script_lines import ScriptLines
-from ocpp_board.session_pages import Known, SessionPages, href_of, lines_of, path_of
+from ocpp_board.replay.answered import Answered
+from ocpp_board.replay.boards import Part, Session
+from ocpp_board.replay.ledger import Ledger
+from ocpp_board.replay.operators import Deed
+from ocpp_board.replay.refusals import Refusal, Refusals
+from ocpp_board.replay.script_lines import ScriptLines
+from ocpp_board.reports import tables
+from ocpp_board.reports.calendars import Calendar
+from ocpp_board.reports.session_facts import SessionFacts
+from ocpp_board.reports.session_pages import Known, SessionPages, href_of, lines_of, path_of
 from ocpp_board.statuses import Status
-from ocpp_board.session_facts import SessionFacts
-from ocpp_board.troubles import FIRST, messages, sound
+from ocpp_board.traffic.troubles import FIRST, messages, sound
 
 
 def test_addresses_are_those_of_the_files() -> None:
@@ -133,7 +133,7 @@ def test_pages_are_the_same_in_copies(tmp_path: Path, monkeypatch: pytest.Monkey
     transaction = known.facts.transactions.known["north", "A", "t1"]
     for count in (1, 3):
         monkeypatch.setattr("os.sched_getaffinity", lambda _process, n=count: set(range(n)))
-        monkeypatch.setattr("ocpp_board.session_pages.FEWEST", 1)
+        monkeypatch.setattr("ocpp_board.reports.session_pages.FEWEST", 1)
         pages = SessionPages(str(tmp_path / str(count)), Calendar(), known, later=True)
         pages.board(1, "north", 1)
         for number in range(7):
@@ -190,7 +190,9 @@ def test_lines_are_read_where_they_are(tmp_path: Path) -> None:
 def test_lines_have_room_as_they_are_shown(
     sent: bytes, shown: str, left: int, tmp_path: Path, monkeypatch: pytest.MonkeyPatch
 ) -> None:
-    monkeypatch.setattr("ocpp_board.session_pages.MOST_CHARACTERS", 24 if b'"' in sent else 20)
+    monkeypatch.setattr(
+        "ocpp_board.reports.session_pages.MOST_CHARACTERS", 24 if b'"' in sent else 20
+    )
     script = ScriptLines()
     script.path = tmp_path / "script"
     script.path.write_bytes(sent)

@@ -8,10 +8,10 @@ from typing import IO
 
 import pytest
 
-from ocpp_board import tables
-from ocpp_board.answered import Answered
+from ocpp_board.replay.answered import Answered
+from ocpp_board.reports import tables
 from ocpp_board.statuses import Status
-from ocpp_board.troubles import FIRST, KINDS, messages
+from ocpp_board.traffic.troubles import FIRST, KINDS, messages
 
 FLOW = "up=750000 down=0 export_up=0 export_down=0"
 TOTAL = f"total events=4 voided=0 transactions=1 complete=1 missing=0 {FLOW}"
@@ -220,7 +220,7 @@ def followed(folder: Path, monkeypatch: pytest.MonkeyPatch, writings: int) -> st
         if len(pauses) == writings:
             raise KeyboardInterrupt
 
-    monkeypatch.setattr("ocpp_board.tables.datetime", Clock)
+    monkeypatch.setattr("ocpp_board.reports.tables.datetime", Clock)
     monkeypatch.setattr("time.sleep", pause)
     words = ["--follow", board.as_uri(), "10", "--out", str(folder / "x")]
     assert tables.main(words, "tables") == Status.INTERRUPTED

@@ -4,7 +4,7 @@ from datetime import datetime, timezone
 
 import pytest
 
-from ocpp_board.times import (
+from ocpp_board.messages.times import (
     NO_OFFSET,
     NO_TIME,
     OUT_OF_RANGE,

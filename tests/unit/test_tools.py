@@ -9,26 +9,29 @@ from pathlib import Path
 
 import pytest
 
-from ocpp_board import answered, cli, log_to_script, processes, statuses, tables
-from ocpp_board.answered import Replay
+from ocpp_board import cli, processes, statuses
+from ocpp_board.commands import log_to_script
+from ocpp_board.commands.explain import Plan, Run
+from ocpp_board.commands.traffic import arguments, event, script, unchanging
 from ocpp_board.escapes import csv_cell, from_copy, shown
-from ocpp_board import repeats
-from ocpp_board.explain import Plan, Run
 from ocpp_board.fleet import forget, replays
 from ocpp_board.fleet.database import SECRETS
 from ocpp_board.fleet.plans import known_lines
-from ocpp_board.line_faults import bad_line
-from ocpp_board.message_faults import message_fault
+from ocpp_board.messages.message_faults import message_fault
 from ocpp_board.processes import TUNABLES
+from ocpp_board.replay import answered
+from ocpp_board.replay.answered import Replay
+from ocpp_board.replay.line_faults import bad_line
+from ocpp_board.reports import tables
 from ocpp_board.statuses import Mistaken, Status
 from ocpp_board.telling import JsonFormatter, PlainFormatter
-from ocpp_board.traffic import arguments, event, script, unchanging
-from ocpp_board.troubles import KINDS, MOST_SESSIONS, script as troubled
+from ocpp_board.traffic import repeats
+from ocpp_board.traffic.troubles import KINDS, MOST_SESSIONS, script as troubled
 from ocpp_board.version import version
 
 
 def record(level: int, text: str, **more: object) -> logging.LogRecord:
-    made = logging.LogRecord("ocpp_board.tables", level, "", 0, text, None, None)
+    made = logging.LogRecord("ocpp_board.reports.tables", level, "", 0, text, None, None)
     vars(made).update(more)
     return made
 
@@ -47,7 +50,7 @@ def test_json_lines_have_time_level_and_line() -> None:
         "time": "2026-03-01T00:00:00.250Z",
         "level": "warning",
         "program": "worker",
-        "module": "ocpp_board.tables",
+        "module": "ocpp_board.reports.tables",
         "message": 'a "text"',
         "line": 7,
     }

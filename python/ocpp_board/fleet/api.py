@@ -19,7 +19,6 @@ from starlette.requests import Request
 from starlette.responses import JSONResponse, Response
 from starlette.routing import BaseRoute, Route
 
-from ocpp_board.bills import TOKENS
 from ocpp_board.energies import FLOW, MWH_OF_A_KWH, flow_of
 from ocpp_board.fleet import api_queries, billing
 from ocpp_board.fleet.api_schema import OPENAPI, SCHEMAS
@@ -30,7 +29,8 @@ from ocpp_board.fleet.page_app import Asked, desk_of, text_or_wrong
 from ocpp_board.fleet.page_render import zone_of
 from ocpp_board.fleet.states import energy_state, settled_of, state_of, station_states
 from ocpp_board.limits import TRANSACTION
-from ocpp_board.session_times import Registers
+from ocpp_board.messages.bills import TOKENS
+from ocpp_board.reports.session_times import Registers
 
 # Rows of a page, unless asked for and at most; stations that one id is looked for at.
 ROWS, MOST_ROWS, MOST_STATIONS = 200, 1000, 10

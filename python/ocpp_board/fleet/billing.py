@@ -32,8 +32,6 @@ from http import HTTPStatus
 from pathlib import Path
 from typing import Any, NamedTuple
 
-from ocpp_board.bills import TOKENS, Details, cells_of, with_key, write_signed
-from ocpp_board.boards import Numbers
 from ocpp_board.energies import Flow, flow_of, kwh_of
 from ocpp_board.escapes import csv_cell
 from ocpp_board.fleet import parts
@@ -49,9 +47,11 @@ from ocpp_board.fleet.plans import Plan, Reckoning, known_lines
 from ocpp_board.fleet.replays import Replay
 from ocpp_board.fleet.states import CORRECTED, PROVISIONAL, SETTLED
 from ocpp_board.limits import MOMENT, is_name
-from ocpp_board.session_times import times_of
+from ocpp_board.messages.bills import TOKENS, Details, cells_of, with_key, write_signed
+from ocpp_board.messages.transactions import Event
+from ocpp_board.replay.boards import Numbers
+from ocpp_board.reports.session_times import times_of
 from ocpp_board.statuses import Status
-from ocpp_board.transactions import Event
 from ocpp_board.words import add_program, add_tokens, parser_of
 
 NAME = "ocpp-board billing"

@@ -16,7 +16,6 @@ from weakref import WeakValueDictionary
 
 import asyncpg
 
-from ocpp_board.boards import Numbers
 from ocpp_board.energies import FLOW
 from ocpp_board.fleet.database import (
     LOST,
@@ -34,6 +33,7 @@ from ocpp_board.fleet.operators import Operator
 from ocpp_board.fleet.plans import Reckoning
 from ocpp_board.fleet.states import EVENTS, SESSIONS, energy_state, states_of
 from ocpp_board.limits import MOMENT
+from ocpp_board.replay.boards import Numbers
 
 # Sessions with a cell's database, and requests that may wait for one.
 CONNECTIONS, MOST_WAITING = 4, 64

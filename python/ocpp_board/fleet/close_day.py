@@ -52,7 +52,7 @@ from ocpp_board.fleet.replays import Replay
 from ocpp_board.fleet.spooled import Spool, Stored, Texts
 from ocpp_board.fleet.states import SESSIONS
 from ocpp_board.limits import LONGEST_SCRIPT
-from ocpp_board.session_times import SessionTimes
+from ocpp_board.reports.session_times import SessionTimes
 from ocpp_board.words import add_program, parser_of
 
 log = logging.getLogger(__name__)

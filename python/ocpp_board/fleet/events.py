@@ -4,8 +4,8 @@ from typing import NamedTuple
 
 from ocpp_board.escapes import shown
 from ocpp_board.limits import LONGEST_MESSAGE, is_name
-from ocpp_board.logforms import PROTOCOL, MaeveForm
-from ocpp_board.messages import Refused, members_of, parsed
+from ocpp_board.logs.logforms import PROTOCOL, MaeveForm
+from ocpp_board.messages.texts import Refused, members_of, parsed
 
 
 class Event(NamedTuple):

@@ -29,11 +29,11 @@ import signal
 import time
 from collections.abc import Sequence
 
-from ocpp_board import logforms
 from ocpp_board.fleet import metrics, parts
 from ocpp_board.fleet.database import Fault
 from ocpp_board.fleet.feed_log import Counts, Log
 from ocpp_board.fleet.feed_sources import FileSource, MqttSource, RabbitSource, Source
+from ocpp_board.logs import logforms
 from ocpp_board.words import parser_of
 
 # Seconds between reports, and to end in.

@@ -10,7 +10,7 @@ import asyncpg
 
 from ocpp_board.fleet.database import LOST, WAKE, Unreachable, connect, listen, said, wakes, within
 from ocpp_board.fleet.events import Event
-from ocpp_board.messages import Refused
+from ocpp_board.messages.texts import Refused
 
 log = logging.getLogger(__name__)
 

@@ -15,10 +15,10 @@ from ocpp_board.escapes import from_copy
 from ocpp_board.fleet.database import Fault, said
 from ocpp_board.fleet.events import Event, citrine_event, event_of, is_object, maeve_event, text_of
 from ocpp_board.fleet.feed_log import AGAIN, Batch, Counts, Log, nothing
-from ocpp_board.followed import front_of, is_replaced, known
 from ocpp_board.limits import LONGEST_LOG_LINE
-from ocpp_board.logforms import form_of
-from ocpp_board.messages import Refused
+from ocpp_board.logs.followed import front_of, is_replaced, known
+from ocpp_board.logs.logforms import form_of
+from ocpp_board.messages.texts import Refused
 
 log = logging.getLogger(__name__)
 

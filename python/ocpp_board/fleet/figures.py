@@ -5,10 +5,10 @@ from collections.abc import Iterable, Mapping, Sequence
 from datetime import datetime
 from typing import Any
 
-from ocpp_board.boards import TOTAL, Numbers, numbers_of
 from ocpp_board.energies import FLOW, Flow, flow_of
 from ocpp_board.fleet.lines import Transaction
 from ocpp_board.fleet.plans import Reckoning
+from ocpp_board.replay.boards import TOTAL, Numbers, numbers_of
 
 # A station's line: its station, its kind (total, evse, period, tx or gap), and which one of that kind.
 Key = tuple[str, str, str]

@@ -5,14 +5,14 @@ from contextlib import suppress
 from datetime import datetime
 from typing import Any
 
-from ocpp_board.answered import Answered
-from ocpp_board.boards import Numbers
 from ocpp_board.fleet.figures import Figures
 from ocpp_board.fleet.lines import ODD, Transaction
 from ocpp_board.fleet.plans import DEFAULT_ORDER, Reckoning
-from ocpp_board.quality import Kind, findings_of
-from ocpp_board.session_times import SessionTimes, times_of
-from ocpp_board.transactions import Event, Transactions
+from ocpp_board.messages.transactions import Event, Transactions
+from ocpp_board.replay.answered import Answered
+from ocpp_board.replay.boards import Numbers
+from ocpp_board.reports.quality import Kind, findings_of
+from ocpp_board.reports.session_times import SessionTimes, times_of
 
 # Of sessions in the log, and of those that this closing archives again. Rows of other archived sessions stay, and so do
 # those of a clock that is far: when archived lines were heard is not known any more, and what came since is added.

@@ -49,7 +49,7 @@ from ocpp_board.fleet.passwords import Given, Passwords, Stored, Verdict
 from ocpp_board.fleet.plans import known_lines
 from ocpp_board.fleet.websocket import MOST, SUBPROTOCOL, Link
 from ocpp_board.limits import LONGEST_MESSAGE, is_name
-from ocpp_board.messages import HEAD, one_line, parsed
+from ocpp_board.messages.texts import HEAD, one_line, parsed
 from ocpp_board.words import add_program, parser_of
 
 log = logging.getLogger(__name__)

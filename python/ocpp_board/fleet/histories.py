@@ -13,8 +13,6 @@ from datetime import datetime
 from http import HTTPStatus
 from typing import Any, NamedTuple
 
-from ocpp_board.answered import Answered
-from ocpp_board.boards import Numbers
 from ocpp_board.fleet.archives import LATER, unpacked, widened
 from ocpp_board.fleet.cells import Cell, Cells, Room, Wrong
 from ocpp_board.fleet.figures import figures
@@ -23,9 +21,11 @@ from ocpp_board.fleet.operators import Operator
 from ocpp_board.fleet.plans import Plan, Reckoning
 from ocpp_board.fleet.replays import Replay, ReplayEnded
 from ocpp_board.fleet.states import CORRECTED, PROVISIONAL, SETTLED
-from ocpp_board.messages import parsed
-from ocpp_board.session_times import SessionTimes, times_of
-from ocpp_board.transactions import Transactions
+from ocpp_board.messages.texts import parsed
+from ocpp_board.messages.transactions import Transactions
+from ocpp_board.replay.answered import Answered
+from ocpp_board.replay.boards import Numbers
+from ocpp_board.reports.session_times import SessionTimes, times_of
 
 # Bytes of a station's lines that are read, replays at once with those that wait, and seconds that one may take.
 MOST_BYTES, REPLAYS, WAITING, PATIENCE = 1 << 26, 2, 16, 20

@@ -3,8 +3,8 @@
 import re
 from datetime import datetime
 
-from ocpp_board.messages import parsed
-from ocpp_board.times import moment_of
+from ocpp_board.messages.texts import parsed
+from ocpp_board.messages.times import moment_of
 
 COMMANDS = ("msg ", "void ", "restore ", "erase ")
 # A station and the id of a transaction, in small letters as boards have it.

@@ -18,7 +18,7 @@ import asyncpg
 
 from ocpp_board.fleet.database import LOST, Fault, said
 from ocpp_board.limits import LONGEST_SCRIPT
-from ocpp_board.near_limits import NAMES as LIMITS
+from ocpp_board.replay.near_limits import NAMES as LIMITS
 from ocpp_board.version import version
 
 if TYPE_CHECKING:

@@ -17,11 +17,11 @@ import time
 from collections.abc import Iterable, Sequence
 from typing import Any
 
-from ocpp_board.boards import TOTAL
 from ocpp_board.energies import FLOW
 from ocpp_board.fleet import parts
 from ocpp_board.fleet.begun_anew import reserve
 from ocpp_board.fleet.database import Fault, connect
+from ocpp_board.replay.boards import TOTAL
 from ocpp_board.words import parser_of
 
 NAME = "ocpp-board move"

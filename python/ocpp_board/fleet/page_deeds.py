@@ -20,7 +20,7 @@ from ocpp_board.fleet.page_render import Line, heads_of, lines_of, moment, zone_
 from ocpp_board.fleet.page_views import site_path
 from ocpp_board.fleet.page_words import COMMANDS, ClosingWords, Words, meaning_of
 from ocpp_board.fleet.site_pages import session_path
-from ocpp_board.page_sections import UNKNOWN
+from ocpp_board.reports.page_sections import UNKNOWN
 
 log = logging.getLogger(__name__)
 

@@ -10,7 +10,7 @@ from zoneinfo import ZoneInfo
 from jinja2 import Environment, FileSystemLoader, StrictUndefined
 from markupsafe import Markup
 
-from ocpp_board.pages import FALLS, STYLE
+from ocpp_board.reports.pages import FALLS, STYLE
 
 TEMPLATES = Path(__file__).resolve().parent / "templates"
 

@@ -14,7 +14,6 @@ from urllib.parse import quote, urlencode
 from markupsafe import Markup
 from starlette.responses import RedirectResponse, Response
 
-from ocpp_board.boards import Numbers
 from ocpp_board.energies import flow_of, kwh, share
 from ocpp_board.fleet import billing
 from ocpp_board.fleet.api_queries import DAY
@@ -29,11 +28,12 @@ from ocpp_board.fleet.site_pages import fragment_of, session_path
 from ocpp_board.fleet.site_store import DAYS, SiteStore
 from ocpp_board.fleet.states import CORRECTED, PROVISIONAL, SETTLED, sessions_said, state_of
 from ocpp_board.limits import TRANSACTION, is_name
-from ocpp_board.page_sections import UNKNOWN
-from ocpp_board.pages import flow_heads
-from ocpp_board.session_times import duration
-from ocpp_board.times import seconds_of
-from ocpp_board.transactions import moment as moment_of
+from ocpp_board.messages.times import seconds_of
+from ocpp_board.messages.transactions import moment as moment_of
+from ocpp_board.replay.boards import Numbers
+from ocpp_board.reports.page_sections import UNKNOWN
+from ocpp_board.reports.pages import flow_heads
+from ocpp_board.reports.session_times import duration
 
 FILE = re.compile(
     r"board(\.\d{4}-\d\d-\d\d(\.\d{1,4})?|\.\d{1,4})?\.html|board\.(periods|transactions)\.csv"

@@ -20,14 +20,14 @@ from typing import Any, NamedTuple
 from urllib.parse import quote
 from zoneinfo import ZoneInfo
 
-from ocpp_board.board_pages import Boards, DayPages, Index, Layout
-from ocpp_board.boards import Part, Reader, Sink
-from ocpp_board.calendars import Calendar
-from ocpp_board.page_sections import UNKNOWN
-from ocpp_board.pages import Heads
 from ocpp_board.progress import Progress
-from ocpp_board.quality import Finding, Kind
-from ocpp_board.tables import Tables
+from ocpp_board.replay.boards import Part, Reader, Sink
+from ocpp_board.reports.board_pages import Boards, DayPages, Index, Layout
+from ocpp_board.reports.calendars import Calendar
+from ocpp_board.reports.page_sections import UNKNOWN
+from ocpp_board.reports.pages import Heads
+from ocpp_board.reports.quality import Finding, Kind
+from ocpp_board.reports.tables import Tables
 
 # How the files begin.
 NAME = "board"

@@ -3,8 +3,8 @@
 from collections.abc import Mapping
 from typing import Any
 
-from ocpp_board.boards import Numbers
 from ocpp_board.energies import FLOW
+from ocpp_board.replay.boards import Numbers
 
 PROVISIONAL, SETTLED, CORRECTED = "provisional", "settled", "corrected"
 # The numbers of a total line that count sessions, which closings settle by archiving these; and those of events,

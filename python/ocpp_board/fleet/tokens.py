@@ -8,7 +8,7 @@ import json
 from collections.abc import Iterator
 from typing import Any
 
-from ocpp_board.messages import JSON, Refused
+from ocpp_board.messages.texts import JSON, Refused
 
 MEMBER = "idToken"
 # In a text that is no JSON there is no member to take out; all of it goes. It is as little JSON as what it was.

@@ -4,10 +4,10 @@ import logging
 from collections.abc import Awaitable, Callable, Iterable, Mapping
 from typing import Any
 
-from ocpp_board.answered import Answered
 from ocpp_board.limits import DEFAULT_LIMITS
-from ocpp_board.near_limits import SentByStations
-from ocpp_board.refusals import refusal_of
+from ocpp_board.replay.answered import Answered
+from ocpp_board.replay.near_limits import SentByStations
+from ocpp_board.replay.refusals import refusal_of
 
 log = logging.getLogger(__name__)
 

@@ -16,7 +16,7 @@ from websockets.http11 import Request, Response
 from websockets.typing import Subprotocol
 from websockets.uri import parse_uri
 
-from ocpp_board.logforms import PROTOCOL
+from ocpp_board.logs.logforms import PROTOCOL
 
 SUBPROTOCOL = Subprotocol(PROTOCOL)
 # A text of more bytes ends its connection with close code 1009.

@@ -1,0 +1,280 @@
+"""The stations that a script of a log declares, with their sites, limits, settlement periods and orders of readings."""
+
+import argparse
+import difflib
+from collections.abc import Iterable, Iterator
+
+from ocpp_board.escapes import shown
+from ocpp_board.limits import (
+    DEFAULT_READINGS,
+    GREATEST_LIMITS,
+    MOST_READINGS,
+    MOST_SITES,
+    MOST_STATIONS,
+    ORDERS,
+    RULES,
+    PERIODS,
+    is_name,
+)
+from ocpp_board.logs.logforms import Entry
+from ocpp_board.logs.mending import add_mending, mends_of
+from ocpp_board.messages.texts import Refused
+from ocpp_board.replay.line_faults import NAMES, name_fault
+from ocpp_board.replay.refusals import NOT_IN
+from ocpp_board.statuses import Mistaken
+
+
+def named(field: str, name: str | None) -> str:
+    """A name of a site or a station. Raises Refused where it is none."""
+    said = name_fault("name", name or "")
+    if name and said is None:
+        return name
+    raise Refused(f"a {field} is no name", said[0] if said else "")
+
+
+def pairs_of(path: str) -> list[tuple[str, str]]:
+    """The two names of each line of a file. Empty lines and lines that begin with # are left out.
+
+    Raises OSError, or Mistaken where a line has not two names.
+    """
+    pairs = []
+    with open(path, encoding="utf-8") as file:
+        for number, line in enumerate(file, 1):
+            names = line.split()
+            if not names or line.startswith("#"):
+                continue
+            if len(names) != 2 or not all(map(is_name, names)):
+                raise Mistaken(f"{path} line {number}: not two names: {why_no_names(line, names)}")
+            pairs.append((names[0], names[1]))
+    return pairs
+
+
+def why_no_names(line: str, names: list[str]) -> str:
+    """Why a line has not two names."""
+    if len(names) == 1:
+        return shown(names[0])
+    faults = (name_fault("name", name) for name in names)
+    fault = next(filter(None, faults), ("a name has no blank", NAMES))
+    return f"{shown(line.strip())}: {fault[0]}; {fault[1]}"
+
+
+def known(name: str, sites: Iterable[str]) -> str:
+    """The sites, for a reader; those with names near to this one come first."""
+    names = list(sites)
+    near = difflib.get_close_matches(name, names, 1, 0.5)
+    names = near + [one for one in names if one not in near]
+    more = f" and {len(names) - MOST_SITES:,} more" if len(names) > MOST_SITES else ""
+    return f"its sites: {', '.join(names[:MOST_SITES])}{more}" if names else "it has no site"
+
+
+class ScriptPlan:
+    """The stations so far. With `--stations` they are those of its file, and no others."""
+
+    def __init__(self, words: argparse.Namespace, most_stations: int = MOST_STATIONS) -> None:
+        """Raises OSError, and Mistaken where a file of the words has not two names a line or too many stations."""
+        self.words, self.most_stations = words, most_stations
+        self.most_sites = MOST_SITES if most_stations == MOST_STATIONS else most_stations
+        self.readings = words.limits[2] if words.limits else DEFAULT_READINGS
+        self.site_of: dict[str, str] = {}
+        # The limits of stations where none are asked for; without them they are the program's.
+        self.limits_of: dict[str, tuple[int, ...]] = {}
+        self.map = {station: site for station, site in pairs_of(words.site_map or "/dev/null")}
+        self.is_fixed = words.stations is not None
+        try:
+            for site, station in pairs_of(words.stations or "/dev/null"):
+                self.admit(site, station)
+        except Refused as why:
+            raise Mistaken(f"{words.stations}: {why}") from None
+
+    def sites(self) -> list[str]:
+        """The sites, in the order in which they came."""
+        return list(dict.fromkeys(self.site_of.values()))
+
+    def strangers(self) -> list[str]:
+        """What is wrong with options that name sites which no station has, a sentence for each."""
+        known_sites = [*self.sites(), *filter(None, [self.words.one_site]), *self.map.values()]
+        sites = list(dict.fromkeys(known_sites))
+        return [
+            f"{option} names the site {shown(name)}, which {self.source()} does not have; {known(name, sites)}"
+            for option, of_sites in self.options()
+            for name in of_sites
+            if name and name not in sites
+        ]
+
+    def options(self) -> Iterator[tuple[str, Iterable[str]]]:
+        """The options that name sites, with these."""
+        yield from (("--order", self.words.order), ("--settle", self.words.settle))
+        yield "--period", self.words.period
+        yield "--mend", self.words.mend
+
+    def source(self) -> str:
+        """Where the sites come from, for a reader."""
+        return str(self.words.stations) if self.is_fixed else "the log"
+
+    def check_sites(self) -> None:
+        """Raises Mistaken where an option names a site that no station has."""
+        if strangers := self.strangers():
+            raise Mistaken("; ".join(strangers))
+
+    def place(self, entry: Entry) -> tuple[str, str]:
+        """The site and the station of a line. Raises Refused where they are not known."""
+        station, words = entry.station, self.words
+        if self.is_fixed:
+            if station not in self.site_of:
+                raise Refused(f"{NOT_IN} {words.stations}", shown(station))
+            return self.site_of[station], station
+        if station in self.map:
+            return self.map[station], station
+        if words.one_site:
+            return words.one_site, named("station", station)
+        if words.site_map:
+            raise Refused(f"{NOT_IN} {words.site_map}", shown(station))
+        return named("site", entry.site), named("station", station)
+
+    def admit(self, site: str, station: str) -> bool:
+        """Declares the station, and gives whether it is new. Raises Refused where the plan's limits are reached."""
+        known = self.site_of.get(station)
+        if known == site:
+            return False
+        if known is not None:
+            raise Refused(
+                f"station {station} is declared at site {known} already, and not at {site}"
+            )
+        if len(self.site_of) == self.most_stations:
+            raise Refused(f"one station more than {self.most_stations}", station)
+        if site not in self.site_of.values() and len(self.sites()) == self.most_sites:
+            raise Refused(f"one site more than {self.most_sites}", site)
+        if (
+            self.most_stations == MOST_STATIONS
+            and (len(self.site_of) + 1) * self.readings > MOST_READINGS
+        ):
+            raise Refused(
+                f"the stations' limits of readings would add up to more than {MOST_READINGS:,}",
+                station,
+            )
+        self.site_of[station] = site
+        return True
+
+    def limits_line(self) -> bytes:
+        """The line with the limits of all stations, where some are asked for."""
+        return limits_line_of(self.words.limits) if self.words.limits else b""
+
+    def period_line(self, site: str) -> bytes:
+        """The settlement period of a site, where one is asked for."""
+        seconds = self.words.period.get(site, self.words.period.get(""))
+        return f"period {site} {seconds}\n".encode() if seconds else b""
+
+    def order_line(self, site: str) -> bytes:
+        """The order of a site's readings, where one is asked for."""
+        word = self.words.order.get(site, self.words.order.get(""))
+        return f"order {site} {word}\n".encode() if word else b""
+
+    def settle_line(self, site: str) -> bytes:
+        """The rule by which a site's differences count in its periods, where one is asked for."""
+        word = self.words.settle.get(site, self.words.settle.get(""))
+        return f"settle {site} {word}\n".encode() if word else b""
+
+    def declarations(self, site_of: dict[str, str] | None = None) -> bytes:
+        """The lines in front of the first message, of these stations or of all."""
+        stations = self.site_of if site_of is None else site_of
+        lines, before = list[bytes](), tuple[int, ...]()
+        for station, site in stations.items():
+            limits = self.limits_of.get(station, before)
+            lines += [limits_line_of(limits)] if limits != before else []
+            lines.append(f"station {site} {station}\n".encode())
+            before = limits
+        sites = dict.fromkeys(stations.values())
+        kinds = (self.period_line, self.order_line, self.settle_line)
+        of_sites = [line(site) for site in sites for line in kinds]
+        return b"".join([self.limits_line(), *lines, *of_sites])
+
+    def boards(self, site_of: dict[str, str] | None = None) -> bytes:
+        """The lines that ask for the board of each site, where they are asked for."""
+        sites = dict.fromkeys((self.site_of if site_of is None else site_of).values())
+        return b"".join(f"board {site}\n".encode() for site in sites if self.words.boards)
+
+
+def limits_line_of(limits: Iterable[int]) -> bytes:
+    """A line of a script with limits."""
+    return f"limits {' '.join(map(str, limits))}\n".encode()
+
+
+def of_site(text: str) -> tuple[str, str]:
+    """A site and what the option says of it; without a site of all others."""
+    site, _, said = text.rpartition("=")
+    if "=" in text and not is_name(site):
+        raise argparse.ArgumentTypeError(f"no name of a site: {shown(text)}")
+    return site, said
+
+
+def period(text: str) -> tuple[str, int]:
+    """A site and its settlement period in seconds."""
+    if text.rpartition("=")[2] not in map(str, PERIODS):
+        raise argparse.ArgumentTypeError(f"not 300, 900, 1800 or 3600 seconds: {shown(text)}")
+    site, seconds = of_site(text)
+    return site, int(seconds)
+
+
+def order(text: str) -> tuple[str, str]:
+    """A site and the order of its readings."""
+    if text.rpartition("=")[2] not in ORDERS:
+        raise argparse.ArgumentTypeError(f"not {' or '.join(ORDERS)}: {shown(text)}")
+    return of_site(text)
+
+
+def settle(text: str) -> tuple[str, str]:
+    """A site and the rule by which its differences count in its periods."""
+    if text.rpartition("=")[2] not in RULES:
+        raise argparse.ArgumentTypeError(f"not {' or '.join(RULES)}: {shown(text)}")
+    return of_site(text)
+
+
+def add_plan(parser: argparse.ArgumentParser) -> None:
+    """The options that say what the script declares."""
+    parser.add_argument(
+        "--limits",
+        nargs=4,
+        type=int,
+        metavar=("TRANSACTIONS", "EVENTS", "READINGS", "CHANGES"),
+        help="a `limits` line for all stations, up to 4096 65536 65536 9223372036854775808, and "
+        "the readings of all stations up to 1,048,576",
+    )
+    parser.add_argument(
+        "--period",
+        type=period,
+        action="append",
+        default=[],
+        metavar="[SITE=]SECONDS",
+        help="the settlement period of a site's boards, or of all sites that are not named so: "
+        "300, 900, 1800 or 3600 seconds (default: 900)",
+    )
+    parser.add_argument(
+        "--order",
+        type=order,
+        action="append",
+        default=[],
+        metavar="[SITE=]WORD",
+        help="the order of a site's readings, or of all sites that are not named so: sequence, the numbers of their "
+        "events, or moment, their own times, for stations that list readings again (default: sequence)",
+    )
+    parser.add_argument(
+        "--settle",
+        type=settle,
+        action="append",
+        default=[],
+        metavar="[SITE=]WORD",
+        help="the period in which a difference of a site counts, or of all sites that are not named so: later, that of "
+        "its later reading, or closing, the one that this reading closes, for stations that report on the quarter "
+        "hour (default: later)",
+    )
+    add_mending(parser)
+
+
+def check_plan(parser: argparse.ArgumentParser, words: argparse.Namespace) -> None:
+    """Brings these options into their form. Wrong ones end the program with status 2."""
+    words.period, words.order = dict(words.period), dict(words.order)
+    words.settle = dict(words.settle)
+    words.mend = mends_of(words.mend)
+    greatest = GREATEST_LIMITS.values()
+    if words.limits and not all(1 <= n <= most for n, most in zip(words.limits, greatest)):
+        parser.error("--limits are from 1 to 4096, 65536, 65536 and 9223372036854775808")

@@ -1,0 +1,13 @@
+"""What only a message has, read by one reader: its JSON, times and readings, and why the program refuses it.
+
+    texts            OCPP-J as text: JSON as it is written, members, what is surely no event
+    times            the one reader of times, which takes what the program takes
+    meter_values     readings: values in whole milliwatt-hours, measurands, readings outside transactions
+    signed_values    signed values (OCMF), compared with the plain values beside them
+    bills            what a bill needs of a session beside its energy: ids as sent, tokens, signed values
+    transactions     the accepted events of transactions: times, counted readings, reasons
+    message_faults   which member of a refused message broke which check, and the remedy
+
+The program's answers decide what was accepted; nothing here computes a board. logs/ and replay/ find stations and faults
+with it, reports/ times, registers and findings, fleet/ transactions and moments of lines.
+"""

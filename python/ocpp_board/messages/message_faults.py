@@ -1,0 +1,340 @@
+"""Why a message is refused: which member broke which check, and the remedy."""
+
+import decimal
+import difflib
+import json
+import re
+from typing import Any
+
+from ocpp_board.escapes import shown
+from ocpp_board.limits import GREATEST_SEQ_NO, TRANSACTION
+from ocpp_board.messages.times import NO_OFFSET, OUT_OF_RANGE, fault_of
+from ocpp_board.replay.line_faults import Said
+
+ACTIONS = ["BootNotification", "Heartbeat", "StatusNotification", "MeterValues", "TransactionEvent"]
+# Actions of OCPP 2.0.1 that a station may call too; the ledger keeps nothing of them.
+OTHER_ACTIONS = frozenset(
+    """Authorize ClearedChargingLimit DataTransfer FirmwareStatusNotification Get15118EVCertificate GetCertificateStatus
+    LogStatusNotification NotifyChargingLimit NotifyCustomerInformation NotifyDisplayMessages NotifyEVChargingNeeds
+    NotifyEVChargingSchedule NotifyEvent NotifyMonitoringReport NotifyReport PublishFirmwareStatusNotification
+    ReportChargingProfiles ReservationStatusUpdate SecurityEventNotification SignCertificate""".split()
+)
+# Actions of OCPP 1.6 that 2.0.1 has not.
+OLD_ACTIONS = frozenset(("StartTransaction", "StopTransaction", "DiagnosticsStatusNotification"))
+COUNTED = (None, "Energy.Active.Import.Register", "Energy.Active.Export.Register")
+KINDS = ("Started", "Updated", "Ended")
+# EVSEs of a station, exponents of a unit's multiplier, and readings of a message.
+MOST_EVSES, GREATEST_MULTIPLIER, MOST_READINGS = 64, 12, 1_024
+LONGEST_ID = 36
+UNSET_CLOCK = (
+    "set the station's clock; what it sent meanwhile is lost unless it sends it again with a time"
+)
+# What takes messages of a log as they are meant.
+MEND_VALUE = "take the log again with `--mend SITE=text-value` of log-to-script or live, which takes it as a number"
+MEND_TIME = "take the log again with `--mend SITE=no-offset:ZONE` of log-to-script or live, which names its zone"
+
+
+class Token(str):
+    """A JSON number as it is written."""
+
+
+def no_constant(token: str) -> Any:
+    """NaN and the infinities, which Python's reader would take."""
+    raise json.JSONDecodeError(f"{token} is no number of JSON", token, 0)
+
+
+JSON = json.JSONDecoder(parse_int=Token, parse_float=Token, parse_constant=no_constant)
+
+# A reading: how long it may be written, its exponent, and the most milliwatt-hours.
+LONGEST_READING, GREATEST_EXPONENT, MOST_MWH = 36, 99, 10**13
+EXPONENT = re.compile(r"[eE]([+-]?)0*([0-9]+)$")
+EXACT = decimal.Context(prec=400)
+
+Failed = tuple[str, str, str]  # The fault, the member, and what is wrong with it.
+
+
+def kind_of(value: Any) -> str:
+    """The kind of a JSON value, for a reader."""
+    if isinstance(value, Token):
+        return "a number"
+    return {dict: "an object", list: "an array", str: "a text", bool: "true or false"}.get(
+        type(value), "null"
+    )
+
+
+WANTED: dict[type, str] = {
+    str: "a text",
+    dict: "an object",
+    list: "an array",
+    Token: "a number",
+}
+
+
+def is_reading(token: str, unit: dict[str, Any]) -> bool:
+    """Whether a number is a reading in this unit. A unit that is wrong itself is another fault, and counts as Wh."""
+    exponent = EXPONENT.search(token)
+    if len(token) > LONGEST_READING or exponent and int(exponent[2]) > GREATEST_EXPONENT:
+        return False
+    multiplier = unit.get("multiplier")
+    power = 6 if unit.get("unit") == "kWh" else 3
+    if isinstance(multiplier, Token) and re.fullmatch(r"-?[0-9]{1,3}", multiplier):
+        power += int(multiplier)
+    mwh = decimal.Decimal(token).scaleb(power, EXACT)
+    return 0 <= mwh < MOST_MWH + 1
+
+
+class Checks:
+    """The checks of a TransactionEvent's payload, in their order. Each that fails is noted; those of what is in a
+    member of the wrong kind are passed over."""
+
+    def __init__(self, payload: Any) -> None:
+        self.failed: list[Failed] = []
+        # Values that are texts.
+        self.texts = set[str]()
+        self.readings = 0
+        if isinstance(payload, dict):
+            self.event(payload)
+        else:
+            self.note("Format", "the payload", f"is {kind_of(payload)} and not an object")
+
+    def note(self, fault: str, member: str, what: str, value: Any = None) -> None:
+        """A check of a member fails, which has this value."""
+        self.failed.append((fault, member, what))
+        is_text = member.endswith(".value") and isinstance(value, str)
+        if is_text and not isinstance(value, Token):
+            self.texts.add(member)
+
+    def member(
+        self, of: dict[str, Any], path: str, name: str, kind: type, required: bool = True
+    ) -> Any:
+        """A member of this kind; None where it is not there, or is of another."""
+        value, member = of.get(name), f"{path}{name}"
+        if value is None:
+            if required:
+                self.note(
+                    "Missing",
+                    member,
+                    "is missing" if name not in of else "is null, which counts as missing",
+                )
+            return None
+        is_kind = isinstance(value, kind) and (isinstance(value, Token) == (kind is Token))
+        if not is_kind:
+            self.note("WrongType", member, f"is {kind_of(value)} and not {WANTED[kind]}", value)
+            return None
+        return value
+
+    def integer(
+        self, of: dict[str, Any], path: str, name: str, least: int, most: int, required: bool = True
+    ) -> None:
+        """Checks an integer from the least to the most one."""
+        token = self.member(of, path, name, Token, required)
+        if token is None:
+            return
+        if not re.fullmatch(r"-?[0-9]+", token):
+            self.note("WrongType", path + name, f"is {shown(token)}, which is no integer")
+        elif not len(token) < 25 or not least <= int(token) <= most:
+            self.note("Range", path + name, f"is {shown(token)}, and not from {least} to {most}")
+
+    def time(self, of: dict[str, Any], path: str) -> None:
+        """Checks a timestamp."""
+        text = self.member(of, path, "timestamp", str)
+        if text is not None and (fault := fault_of(text)):
+            self.note("Moment", path + "timestamp", f"{fault}: {shown(text)}")
+
+    def event(self, payload: dict[str, Any]) -> None:
+        """Checks the members of a TransactionEvent."""
+        kind = self.member(payload, "", "eventType", str)
+        if kind not in (None, *KINDS):
+            self.note("Range", "eventType", f"is {shown(kind)}, and not Started, Updated or Ended")
+        self.time(payload, "")
+        self.member(payload, "", "triggerReason", str)
+        self.integer(payload, "", "seqNo", 0, GREATEST_SEQ_NO)
+        info = self.member(payload, "", "transactionInfo", dict)
+        if info is not None:
+            tx = self.member(info, "transactionInfo.", "transactionId", str)
+            if tx is not None and not TRANSACTION.fullmatch(tx):
+                self.note(
+                    "Range",
+                    "transactionInfo.transactionId",
+                    f"is {shown(tx)}, and not 1 to 36 characters from ! to ~",
+                )
+        evse = self.member(payload, "", "evse", dict, False)
+        if evse is not None:
+            self.integer(evse, "evse.", "id", 1, MOST_EVSES)
+        self.member(payload, "", "idToken", dict, False)
+        for n, value in enumerate(self.member(payload, "", "meterValue", list, False) or []):
+            self.meter_value(value, f"meterValue[{n}]")
+
+    def meter_value(self, value: Any, path: str) -> None:
+        """Checks a meter value and its readings."""
+        if not isinstance(value, dict):
+            self.note("WrongType", path, f"is {kind_of(value)} and not an object")
+            return
+        self.time(value, path + ".")
+        for n, sampled in enumerate(self.member(value, path + ".", "sampledValue", list) or []):
+            self.sampled_value(sampled, f"{path}.sampledValue[{n}]")
+
+    def sampled_value(self, sampled: Any, path: str) -> None:
+        """Checks a reading that counts."""
+        if not isinstance(sampled, dict):
+            self.note("WrongType", path, f"is {kind_of(sampled)} and not an object")
+            return
+        path += "."
+        texts = [
+            self.member(sampled, path, name, str, False)
+            for name in ("measurand", "phase", "location")
+        ]
+        if texts[0] not in COUNTED or texts[1] is not None or texts[2] not in (None, "Outlet"):
+            return
+        unit = self.member(sampled, path, "unitOfMeasure", dict, False)
+        if unit is not None:
+            name = self.member(unit, path + "unitOfMeasure.", "unit", str, False)
+            if name not in (None, "Wh", "kWh"):
+                self.note(
+                    "Range", path + "unitOfMeasure.unit", f"is {shown(name)}, and not Wh or kWh"
+                )
+            self.integer(
+                unit,
+                path + "unitOfMeasure.",
+                "multiplier",
+                -GREATEST_MULTIPLIER,
+                GREATEST_MULTIPLIER,
+                False,
+            )
+        token = self.member(sampled, path, "value", Token)
+        if token is not None and not is_reading(token, unit or {}):
+            self.note(
+                "Decimal",
+                path + "value",
+                f"is {shown(token)}: a reading is no longer than 36 characters, not "
+                "negative, with an exponent from -99 to 99, and at most 10000000000 Wh",
+            )
+        self.readings += 1
+        if self.readings == MOST_READINGS + 1:
+            self.note(
+                "TooManyReadings", path[:-1], "is the 1,025th reading that counts, and 1,024 may"
+            )
+
+
+REMEDIES = {
+    "TextTooLong": ("the message has more than 262,144 bytes", "a shorter message"),
+    "OutOfMemory": ("there was no memory", "run it where there is more, or with less in `limits`"),
+    "Format": ("the payload is no object", "an object as the fourth element"),
+    "ConflictingEvent": (
+        "this transaction already has an event with this seqNo and another kind, time, EVSE or other readings",
+        "leave it out; or, if the stored one is wrong, void and erase it and send this one again",
+    ),
+    "TooManyTransactions": (
+        "the station has as many transactions as its limits allow",
+        "more room by --limits of log-to-script or live, in a script by a line `limits <transactions> <events> "
+        "<readings> <changes>` before its `station` line",
+    ),
+    "EventsFull": (
+        "the station has as many events as its limits allow; voided ones count until they are erased",
+        "more room by --limits of log-to-script or live, in a script by a line `limits <transactions> <events> "
+        "<readings> <changes>` before its `station` line",
+    ),
+    "ReadingsFull": (
+        "the station has as many readings as its limits allow",
+        "more room by --limits of log-to-script or live, in a script by a line `limits <transactions> <events> "
+        "<readings> <changes>` before its `station` line",
+    ),
+    "ChangesExhausted": (
+        "the station has accepted as many changes as its limits allow",
+        "more room by --limits of log-to-script or live, in a script by a line `limits <transactions> <events> "
+        "<readings> <changes>` before its `station` line",
+    ),
+    "NoSuchEvent": (
+        "the station has no event with this transaction id and this number",
+        "compare the id and the number with the board; an event that was refused is not there",
+    ),
+    "AlreadyVoided": ("the event is voided already", "nothing is to be done"),
+    "NotVoided": (
+        "the event is not voided; only a voided one is restored or erased",
+        "void it first",
+    ),
+}
+
+
+def is_kept_nothing_of(action: str) -> bool:
+    """Whether this is an action of OCPP 2.0.1, but the ledger keeps nothing of it."""
+    return action in OTHER_ACTIONS
+
+
+def unknown_action(action: str) -> Said:
+    """Why an action is none that is answered."""
+    if is_kept_nothing_of(action):
+        return (
+            f"the action {shown(action)} is one of OCPP 2.0.1; the ledger keeps nothing of it",
+            "nothing is to be done; whoever answers the station answers it",
+        )
+    if action in OLD_ACTIONS:
+        return (
+            f"the action {shown(action)} is one of OCPP 1.6, which the ledger does not read",
+            "leave out the messages of this station, which speaks OCPP 1.6",
+        )
+    near = difflib.get_close_matches(action, [*ACTIONS, *sorted(OTHER_ACTIONS)], 1, 0.6)
+    return (
+        f"the action {shown(action)} is none that is answered",
+        f"the nearest is {near[0]}" if near else "leave it out: it keeps nothing of a transaction",
+    )
+
+
+def message_fault(text: str, name: str) -> Said:
+    """Why a message was refused with this description."""
+    if name in REMEDIES and name != "Format":
+        return REMEDIES[name]
+    try:
+        frame = JSON.decode(text)
+    except (json.JSONDecodeError, RecursionError) as fault:
+        return unread(text, fault)
+    if name == "NotJson":
+        return (
+            "the message is no JSON, as a number with zeros in front, or is nested deeper than 127",
+            "JSON of RFC 8259",
+        )
+    if name == "NotACall":
+        return not_a_call(frame), 'a CALL: [2,"<id>","<action>",{<payload>}]'
+    if name == "MessageType":
+        return (
+            f"the message's type is {shown(str(frame[0]))}, and not 2, 3 or 4",
+            "the type 2 for a CALL",
+        )
+    if name == "UnknownAction":
+        return unknown_action(frame[2])
+    is_moment, checks = name == "Moment", Checks(frame[3])
+    other = ("a timestamp", "is no time") if is_moment else ("a member", "broke the check")
+    failed = ((member, what) for fault, member, what in checks.failed if fault == name)
+    member, what = next(failed, other)
+    remedy = "correct the station's message, or leave it out"
+    if is_moment and OUT_OF_RANGE in what:
+        remedy = UNSET_CLOCK
+    elif is_moment and NO_OFFSET in what:
+        remedy = MEND_TIME
+    elif member in checks.texts:
+        remedy = MEND_VALUE
+    return f"{member} {what}", remedy
+
+
+def unread(text: str, fault: json.JSONDecodeError | RecursionError) -> Said:
+    """Why Python's reader takes a message for no JSON."""
+    if not text.strip():
+        what = "the message is empty"
+    elif isinstance(fault, RecursionError):
+        what = "the message is no JSON: nested too deep"
+    else:
+        what = f"the message is no JSON: {fault.msg} at character {fault.pos + 1}"
+    return what, "the message as the station sent it, on one line"
+
+
+def not_a_call(frame: Any) -> str:
+    """Why a frame is no CALL."""
+    if not isinstance(frame, list):
+        return f"the message is {kind_of(frame)} and no array"
+    if not frame or not isinstance(frame[0], Token):
+        return "the first element is no number"
+    if len(frame) != 4:
+        return f"there are {len(frame)} elements, and not 4"
+    if isinstance(frame[1], Token) or not isinstance(frame[1], str) or len(frame[1]) > LONGEST_ID:
+        return "the id is no text of at most 36 characters"
+    return f"the action is {kind_of(frame[2])} and no text"

@@ -1,0 +1,857 @@
+"""The pages of boards: one of all of them, one for each day, and further ones where these are full."""
+
+from collections.abc import Callable, Iterable, Iterator, Sequence
+from dataclasses import dataclass, field
+from datetime import date, datetime, timedelta, timezone
+from html import escape
+from itertools import groupby
+
+from ocpp_board.energies import kwh, share, sum_of
+from ocpp_board.replay.boards import COUNTS, Part, Period, Session, Total, know_site
+from ocpp_board.reports.calendars import Calendar
+from ocpp_board.reports.lanes import lanes_of
+from ocpp_board.reports.month_pictures import by_month, by_week, heat_map, week_picture, week_scale
+from ocpp_board.reports.page_sections import (
+    UNKNOWN,
+    DayPart,
+    Problem,
+    bar_cell,
+    day_of_part,
+    figures,
+    order_said,
+    problems_of,
+    sections_of,
+    trouble_of,
+)
+from ocpp_board.reports.pages import (
+    BARS,
+    FOOT,
+    LEGEND,
+    MARK,
+    SESSIONS,
+    Column,
+    Heads,
+    Row,
+    across,
+    cells_of,
+    explained,
+    flow_heads,
+    head,
+    kept,
+    link,
+    mended_note,
+    moment,
+    refused_banner,
+    table,
+)
+from ocpp_board.reports.pictures import Scale
+from ocpp_board.reports.powers import peak_cell, peak_said
+from ocpp_board.shared_work import shared
+
+# A page's body with more bytes than this goes on on the next page.
+PAGE_BYTES = 250_000
+# Stations that a row of the table of problems links to, and boards in that of the sites.
+MOST_LINKS, MOST_BOARDS = 5, 100
+SITES: Heads = [
+    "Site",
+    Column("Board", "wide"),
+    "Net, kWh",
+    "Complete",
+    "Sessions",
+    "Missing numbers",
+    "Peak, kW",
+    "Doubtful sessions",
+    "Refused messages",
+    " Data up to",
+    " Days",
+]
+# Days of a session that are looked at.
+MOST_DAYS = 62
+# Days of stations that are written by a process of their own.
+FEWEST = 60
+
+
+@dataclass
+class Board:
+    """A whole board: which of the text it is, in which line it begins, and what it says."""
+
+    number: int
+    site: Part
+    line: int
+    stations: list[Part] = field(default_factory=list)
+
+    @property
+    def is_whole(self) -> bool:
+        """Whether all its lines were read."""
+        return self.site.whole and all(part.whole for part in self.stations)
+
+    @property
+    def has_export(self) -> bool:
+        """Whether something was fed back, or an export register fell."""
+        parts = [self.site, *self.stations]
+        flows = (part.total.flow for part in parts if part.total)
+        return any(flow.export_up or flow.export_down for flow in flows)
+
+
+class Boards:
+    """A sink that hands on whole boards."""
+
+    def __init__(self, takers: list[Callable[[Board], None]]) -> None:
+        self.takers = takers
+        self.number, self.line = 0, 0
+        self.parts: list[Part] = []
+
+    def board(self, number: int, site: str, line: int) -> None:
+        """A board begins."""
+        self.number, self.line, self.parts = number, line, []
+
+    def part(self, part: Part) -> None:
+        """Keeps what the board says of its site or of a station."""
+        self.parts.append(part)
+
+    def end(self) -> None:
+        """Hands the board on."""
+        know_site(self.parts)
+        board = Board(self.number, self.parts[0], self.line, self.parts[1:])
+        for take in self.takers:
+            take(board)
+
+
+@dataclass(frozen=True)
+class Layout:
+    """Where the files of a text are written, and what all pages say."""
+
+    # How the files begin, a folder included.
+    out: str
+    calendar: Calendar
+    # When the pages are written.
+    written: datetime
+    # Seconds after which a browser loads the pages again, where these follow a server.
+    refresh: int | None = None
+    # Up to when the data is, where that is known, and how many seconds before the writing that may be.
+    until: datetime | None = None
+    oldest: int | None = None
+    # Messages that were refused, which a file of their own lists.
+    refused: int = 0
+    # Messages that were mended, which a file of their own lists.
+    mended: int = 0
+    # Days that have their pages already, which are not written; None where every page is written.
+    unchanged: frozenset[date] | None = None
+    # The addresses of the pages of sessions, by station and transaction, where there are some.
+    address: Callable[[str, str], str] | None = None
+    # By day, what is on its page beside the board; a page with another mark is written again.
+    marks: dict[date, int] = field(default_factory=dict)
+
+    def index(self, number: int = 1) -> str:
+        """The path of the page of all boards, and of the pages after it."""
+        return f"{self.out}{'' if number == 1 else f'.{number}'}.html"
+
+    def day(self, day: date, number: int = 1) -> str:
+        """The path of the page of a day, and of the pages after it."""
+        return f"{self.out}.{day}{'' if number == 1 else f'.{number}'}.html"
+
+    def head(self, title: str, said: str, links: str, is_one: bool, whole: str = "") -> str:
+        """A page up to its main part."""
+        return head(title, said, links, self.refresh, is_one, whole)
+
+    def foot(self) -> str:
+        """The end of a page."""
+        return FOOT
+
+    def session(self, station: str, tx: str) -> str:
+        """The name of a session in a table, which leads to its page where it has one."""
+        if self.address is None:
+            return escape(tx)
+        return f'<a href="{escape(self.address(station, tx))}">{escape(tx)}</a>'
+
+    def station_heads(self) -> Heads:
+        """Further columns of the table of a site's stations."""
+        return []
+
+    def station_cells(self, _station: str) -> list[str]:
+        """A station's cells of these."""
+        return []
+
+    def stamp(self, until: datetime | None) -> str:
+        """Up to when the data is and when the page was written, and a warning where that is too long before. `until`:
+        the end of the last period, which says it if nothing else does."""
+        said = ""
+        if self.until:
+            said = f"Data up to {self.moment(self.until)}. "
+        elif until:
+            said = f"Periods up to {self.moment(until)}. "
+        return (
+            f"{self.stamped(f'{said}Page written {self.moment(self.written)}.')}{self.old()}"
+            f"{refused_banner(self.refused, f'{self.out}.refused.csv'.rpartition('/')[2])}"
+            f"{mended_note(self.mended, f'{self.out}.mended.csv'.rpartition('/')[2])}"
+        )
+
+    def day_stamp(self, until: datetime | None) -> str:
+        """As `stamp`, on the page of a day. One that stays until its day changes says nothing that others change."""
+        if self.unchanged is None:
+            return self.stamp(until)
+        written = self.moment(self.written)
+        return self.stamped(f"Page written {written}, and again when something on it changes.")
+
+    def stamped(self, said: str) -> str:
+        """What the page says of times, with the zone, and how often a browser loads the page again."""
+        if self.refresh:
+            pause = "second" if self.refresh == 1 else f"{self.refresh:,} seconds"
+            said += f" A browser loads it again every {pause}."
+        return f'<p class="stamp">{said} {self.calendar.said()}.</p>\n'
+
+    def moment(self, at: datetime) -> str:
+        """A moment in the zone, to the second where pages are loaded again."""
+        return moment(self.calendar.local(at), self.refresh is not None)
+
+    def old(self) -> str:
+        """A warning where the data is older than it should be."""
+        if self.oldest is None or self.until is None:
+            return ""
+        if self.written - self.until <= timedelta(seconds=self.oldest):
+            return ""
+        return (
+            '<p class="warning" role="status">The data is older than it should be: nothing came since '
+            f"{self.moment(self.until)}.</p>\n"
+        )
+
+    def by_day(self, periods: list[Period]) -> Iterator[tuple[date, list[Period]]]:
+        """The periods that are shown, day by day."""
+        calendar = self.calendar
+        for day, group in groupby(calendar.shown(periods), key=lambda p: calendar.day(p.start)):
+            yield day, list(group)
+
+
+class Page:
+    """A page that grows in its file, and gets its frame at the end."""
+
+    def __init__(self, path: str) -> None:
+        self.path, self.size = path, 0
+        with open(path, "w", encoding="utf-8"):
+            pass
+
+    def put(self, text: str) -> None:
+        """Adds a text to its end. Raises OSError."""
+        with open(self.path, "a", encoding="utf-8", newline="") as file:
+            file.write(text)
+        self.size += len(text.encode())
+
+    def frame(self, begin: str, end: str) -> None:
+        """Puts texts around the body. Raises OSError."""
+        with open(self.path, encoding="utf-8", newline="") as file:
+            body = file.read()
+        with open(self.path, "w", encoding="utf-8", newline="") as file:
+            file.write(f"{begin}{body}{end}")
+
+
+class Series:
+    """A page and the pages after it. `path_of`: the path of the page of a number, from 1 on."""
+
+    def __init__(self, path_of: Callable[[int], str]) -> None:
+        self.path_of = path_of
+        self.pages = [Page(path_of(1))]
+
+    def places(self, sizes: Iterable[int]) -> list[int]:
+        """On which pages texts of so many bytes are, one behind the other."""
+        number, size, found = len(self.pages), self.pages[-1].size, list[int]()
+        for more in sizes:
+            if size and size + more > PAGE_BYTES:
+                number, size = number + 1, 0
+            size += more
+            found.append(number)
+        return found
+
+    def put(self, number: int, text: str) -> None:
+        """Adds a text to the page of this number, which may be the next one. Raises OSError."""
+        if number > len(self.pages):
+            self.pages.append(Page(self.path_of(number)))
+        self.pages[number - 1].put(text)
+
+    def put_board(
+        self, board: Board, front: Callable[[list[str]], str], sections: list[str]
+    ) -> str:
+        """Adds a board's sections behind a front that is made of their paths, and gives the front's path."""
+        longest = self.path_of(9_999)
+        sizes = [len(text.encode()) for text in (front([longest for _ in sections]), *sections)]
+        first, *numbers = self.places(sizes)
+        texts = [front([self.path_of(number) for number in numbers]), *sections]
+        for before, number, text in zip((0, first, *numbers), (first, *numbers), texts):
+            self.put(number, ("" if number == before else site_head(board, number == first)) + text)
+        return self.path_of(first)
+
+    def links(self, here: int, where: str) -> str:
+        """Links from the page of this number to the others, where there are several. `where` they are on it."""
+        if len(self.pages) == 1:
+            return ""
+        names = [
+            f'<b aria-current="page">{number}</b>'
+            if number == here
+            else link(page.path, str(number))
+            for number, page in enumerate(self.pages, 1)
+        ]
+        return f'<nav aria-label="Pages, {where}"><span>Page</span> {" ".join(names)}</nav>\n'
+
+
+def site_head(board: Board, is_first: bool) -> str:
+    """The heading of a board's site on a page, which goes on there where it is not the first of the board."""
+    label = f' id="b{board.number}"' if is_first else ""
+    on = "" if is_first else ", continued"
+    return (
+        f'<h2 class="site"{label}>Site {escape(board.site.name)}{on}</h2>\n'
+        f'<p class="site soft">Board {board.number:,} of the text, from its line {board.line:,} on.</p>\n'
+    )
+
+
+def page_of(number: int) -> str:
+    """The end of the title of a page, where it is not the first one."""
+    return "" if number == 1 else f", page {number:,}"
+
+
+def weekday(day: date) -> str:
+    """A day's name of the week."""
+    return ("Mon", "Tue", "Wed", "Thu", "Fri", "Sat", "Sun")[day.weekday()]
+
+
+class Names:
+    """The names of the sites with boards on a page, for its title."""
+
+    def __init__(self) -> None:
+        self.boards = 0
+        self.site = ""
+
+    def add(self, board: Board) -> None:
+        """Another board is shown."""
+        self.boards += 1
+        self.site = board.site.name
+
+    @property
+    def is_one(self) -> bool:
+        """Whether there is only one board."""
+        return self.boards == 1
+
+    def title(self) -> str:
+        """The title of a page."""
+        return f"Site {escape(self.site)}" if self.is_one else "Site boards"
+
+
+class DayPages:
+    """A page for each day, with the bars of each board's site and stations."""
+
+    def __init__(self, layout: Layout) -> None:
+        self.layout, self.calendar = layout, layout.calendar
+        # The days that boards have, and the pages of those that are written.
+        self.shown: set[date] = set()
+        self.days: dict[date, Series] = {}
+        self.names = Names()
+        self.until: datetime | None = None
+        # The days with pages that are as they would be written.
+        self.unchanged: frozenset[date] | set[date] = frozenset()
+        # Boards that get their pages at the end, by days.
+        self.boards = list[tuple[Board, dict[date, list[DayPart]]]]()
+
+    def add(self, board: Board) -> None:
+        """Adds a board to the page of each of its days. All its stations have one scale."""
+        self.names.add(board)
+        self.until = last_end([board.site], self.until)
+        shown = self.calendar.shown
+        site = Scale(p.flow for p in shown(board.site.periods))
+        station = Scale(p.flow for part in board.stations for p in shown(part.periods))
+        days: dict[date, list[DayPart]] = {}
+        self.unchanged = (self.layout.unchanged or frozenset()) - self.marked(board)
+        for number, part in enumerate((board.site, *board.stations)):
+            scale = site if part.is_site else station
+            for day, periods in self.layout.by_day(part.periods):
+                of = board.stations if part.is_site else [part]
+                lanes = lanes_of(of, day, self.calendar) if self.is_written(day) else []
+                one = DayPart(part, f"b{board.number}-{number}", day, periods, scale, lanes)
+                days.setdefault(day, []).append(one)
+        self.shown.update(days)
+        new = {day: days[day] for day in sorted(days.keys() - self.unchanged)}
+        if self.layout.unchanged is None:
+            # Further boards may follow.
+            for day, parts in new.items():
+                self.add_day(board, day, parts)
+        else:
+            self.boards.append((board, new))
+
+    def is_written(self, day: date) -> bool:
+        """Whether the page of a day is not as it would be written."""
+        return day not in self.unchanged
+
+    def marked(self, board: Board) -> set[date]:
+        """The days with other doubts or sessions than their pages have."""
+        found: dict[date, list[object]] = {}
+        for number, part in enumerate((board.site, *board.stations)):
+            for start, doubt in part.known.doubts.items() if part.known else ():
+                found.setdefault(self.day_of(start), []).append((number, start, doubt))
+            for session in part.sessions:
+                for day in self.days_of(session):
+                    found.setdefault(day, []).append((number, repr(session_mark(session))))
+        marks, before = {
+            day: hash(tuple(sorted(some, key=repr))) for day, some in found.items()
+        }, self.layout.marks
+        changed = {day for day in {*marks, *before} if marks.get(day) != before.get(day)}
+        before.clear()
+        before.update(marks)
+        return changed
+
+    def day_of(self, at: float) -> date:
+        """The day of a moment in seconds since 1970."""
+        return self.calendar.day(datetime.fromtimestamp(at, timezone.utc))
+
+    def days_of(self, session: Session) -> Iterator[date]:
+        """The days on which a session ran, so many at most."""
+        if session.span is None:
+            return
+        first, last = map(self.day_of, session.span)
+        for number in range(min((last - first).days, MOST_DAYS) + 1):
+            yield first + timedelta(days=number)
+
+    def add_day(self, board: Board, day: date, parts: list[DayPart]) -> None:
+        """Adds a day of a board: its site, the table of its stations, and each of these."""
+        series = self.days.get(day)
+        if series is None:
+            series = self.days[day] = Series(lambda number: self.layout.day(day, number))
+        has_export = board.has_export
+        stations = [one for one in parts if not one.part.is_site]
+
+        def text_of(one: DayPart) -> str:
+            return "".join(day_of_part(one, self.calendar, has_export))
+
+        site = "".join(text_of(one) for one in parts if one.part.is_site)
+
+        def front(paths: list[str]) -> str:
+            above = order_said(board.site) + site
+            return above + stations_of_day(day, stations, paths, has_export)
+
+        series.put_board(board, front, [text_of(one) for one in stations])
+
+    def close(self) -> None:
+        """Gives each page its title, and links to the days beside it."""
+        stations = max((len(board.stations) for board, _ in self.boards), default=1)
+        days = sorted(self.days.keys() | {day for _, days in self.boards for day in days})
+        shared(self.write_days, days, 1 + FEWEST // (1 + stations))
+
+    def write_days(self, some: Sequence[date]) -> None:
+        """Gives the pages of these days what they lack."""
+        days = sorted(self.shown)
+        beside = dict(zip(days, zip([None, *days], [*days[1:], None])))
+        for day in some:
+            for board, new in self.boards:
+                if day in new:
+                    self.add_day(board, day, new[day])
+            before, after = beside[day]
+            links = [
+                day_link(self.layout, before, "\N{LEFTWARDS ARROW} "),
+                link(self.layout.index(), "All days, stations and sessions"),
+                day_link(self.layout, after, "\N{RIGHTWARDS ARROW} "),
+            ]
+            self.frame(day, " ".join(filter(None, links)))
+
+    def frame(self, day: date, links: str) -> None:
+        """Gives the pages of a day their title and links."""
+        length = self.calendar.seconds(day) / 3600
+        said = "" if length == 24 else f"<p>This day has {length:g} hours.</p>\n"
+        series = self.days[day]
+        above, below = (
+            f'<nav aria-label="Days, {where}">{links}</nav>\n' for where in ("above", "below")
+        )
+        stamp = self.layout.day_stamp(self.until) + said
+        for number, page in enumerate(series.pages, 1):
+            begin = self.layout.head(
+                f"{self.names.title()},",
+                stamp,
+                above + series.links(number, "above"),
+                self.names.is_one,
+                f"{weekday(day)} {day}{page_of(number)}",
+            )
+            end = series.links(number, "below") + below + explained(BARS)
+            page.frame(begin + LEGEND, end + self.layout.foot())
+
+
+NET_BAR = Column("Net as a bar", "bar wide", True)
+
+
+def session_mark(session: Session) -> tuple[object, ...]:
+    """What the page of a day shows of a session."""
+    return session.tx, session.evse, session.span, session.holes, session.flow.net, session.state
+
+
+def day_link(layout: Layout, day: date | None, arrow: str) -> str:
+    """A link to another day, where there is one."""
+    return link(layout.day(day), f"{arrow}{day} {weekday(day)}") if day else ""
+
+
+def last_end(parts: Iterable[Part], before: datetime | None) -> datetime | None:
+    """The end of the last period of these, or the one before where that is later."""
+    ends = [p.start + timedelta(seconds=p.seconds) for part in parts for p in part.periods[-1:]]
+    return max(filter(None, [*ends, before]), default=None)
+
+
+def stations_of_day(day: date, stations: list[DayPart], paths: list[str], has_export: bool) -> str:
+    """The table of a day's stations, which are on the pages of these paths."""
+    flows = [sum_of(p.flow for p in one.periods) for one in stations]
+    most = max((abs(flow.net) for flow in flows), default=0)
+    rows = (
+        (
+            "",
+            [
+                link(path, escape(one.part.name), one.label),
+                *cells_of(flow, has_export),
+                f"{len(one.periods):,}",
+                peak_cell(one.periods),
+                bar_cell(flow.net, most),
+            ],
+        )
+        for one, path, flow in zip(stations, paths, flows)
+    )
+    net, *flows_of = flow_heads(has_export)
+    others = [Column(head, "wide") for head in (*flows_of, "Periods", "Peak, kW")]
+    heads: Heads = ["Station", net, *others, NET_BAR]
+    text = "".join(table(f"Stations on {kept(str(day))}, kWh", heads, rows))
+    scale = " and ".join({one.scale.said() for one in stations})
+    scales = f"The pictures of all stations have one scale on all days, to {scale}; the site's has its own."
+    return f'<p class="soft">{scales}</p>\n{across(f"Stations on {day}", text)}' if stations else ""
+
+
+@dataclass
+class SiteRows:
+    """The rows of the table of sites, and the figures of these."""
+
+    rows: list[Row] = field(default_factory=list)
+    totals: list[Total] = field(default_factory=list)
+
+    def add(self, other: "SiteRows") -> None:
+        """Takes further rows."""
+        self.rows += other.rows
+        self.totals += other.totals
+
+    def whole(self) -> Total:
+        """The sum of the figures."""
+        events, voided, transactions, complete, missing = (
+            sum(getattr(one, name) for one in self.totals) for name in COUNTS
+        )
+        flow = sum_of(one.flow for one in self.totals)
+        return Total(events, voided, transactions, complete, missing, flow)
+
+
+class Index:
+    """The page of all boards: their figures, problems, days and stations, and the sessions of these, which go on on
+    further pages where there are many."""
+
+    STATIONS: Heads = [
+        "Station",
+        "Net, kWh",
+        "Complete",
+        Column("Sessions", "wide"),
+        "Missing numbers",
+        *(Column(f"{head}, kWh", "wide") for head in ("Up", "Down")),
+        Column("Events", "wide"),
+        Column("Voided events", "wide"),
+    ]
+
+    def __init__(self, layout: Layout) -> None:
+        self.layout = layout
+        self.series = Series(layout.index)
+        self.names = Names()
+        self.sites = SiteRows()
+        self.until: datetime | None = None
+
+    def add(self, board: Board) -> None:
+        """Adds a board: what it comes to in front, and then each station, those with troubles first."""
+        self.names.add(board)
+        self.until = last_end([board.site], self.until)
+        stations = sorted(board.stations, key=trouble_of)
+        labels = [f"b{board.number}-{number}" for number in range(1, len(stations) + 1)]
+        parts = [
+            list(
+                sections_of(
+                    part, label, self.layout.calendar, board.has_export, self.layout.session
+                )
+            )
+            for part, label in zip(stations, labels)
+        ]
+        first, *more = self.months(board) or [""]
+        more += self.weeks(board)
+        firsts = [len(more) + sum(map(len, parts[:number])) for number in range(len(parts))]
+
+        def front(paths: list[str]) -> str:
+            links = {
+                part.name: link(paths[first], escape(part.name), label)
+                for part, first, label in zip(stations, firsts, labels)
+            }
+            return self.front(board, stations, links, first)
+
+        sections = [*more, *(text for some in parts for text in some)]
+        path = self.series.put_board(board, front, sections)
+        self.sites.rows.append(
+            self.site_row(board, link(path, escape(board.site.name), f"b{board.number}"))
+        )
+
+    def site_row(self, board: Board, name: str) -> Row:
+        """A board's row in the table of sites."""
+        days = [str(day) for day, _ in self.layout.by_day(board.site.periods)]
+        span = f"{days[0]} to {days[-1]}" if len(days) > 1 else "".join(days)
+        total = board.site.total
+        layout = self.layout
+        fresh = layout.moment(layout.until) if layout.until else UNKNOWN
+        fresh += '<br><span class="flag">too old</span>' if layout.old() else ""
+        ends = [f"{layout.refused:,}", fresh, span]
+        if total is None:
+            return MARK, [name, f"{board.number:,}", *["not read"] * 6, *ends]
+        self.sites.totals.append(total)
+        marked = not board.is_whole or any(True for _ in problems_of(board.stations))
+        doubtful = sum(bool(one.findings) for part in board.stations for one in part.sessions)
+        return MARK if marked or layout.refused or layout.old() else "", [
+            name,
+            f"{board.number:,}",
+            *total_cells(total),
+            peak_cell(board.site.periods),
+            f"{doubtful:,}",
+            *ends,
+        ]
+
+    def front(self, board: Board, stations: list[Part], links: dict[str, str], days: str) -> str:
+        """A board's figures, problems, days and stations."""
+        warning = (
+            ""
+            if board.is_whole
+            else (
+                '<p class="warning">This board is not whole: lines of it could not be read, '
+                "or its end is missing.</p>\n"
+            )
+        )
+        has_export = board.has_export
+        return (
+            f'<section aria-labelledby="b{board.number}">\n{warning}{order_said(board.site)}'
+            + "".join(figures(board.site.total, has_export))
+            + self.peak(board.site)
+            + self.problems(list(problems_of(board.stations)), links)
+            + days
+            + self.stations(stations, links, has_export)
+            + "</section>\n"
+        )
+
+    def stations(self, stations: list[Part], links: dict[str, str], has_export: bool) -> str:
+        """The table of a site's stations."""
+        found = [
+            (part.name, self.station_row(part, links[part.name], has_export)) for part in stations
+        ]
+        rows = ((mark, cells + self.layout.station_cells(name)) for name, (mark, cells) in found)
+        caption = "Stations of the site, those with troubles first"
+        heads = self.station_heads(has_export) + self.layout.station_heads()
+        text = "".join(table(caption, heads, rows, cards=True))
+        return "<h3>Stations</h3>\n" + across("Stations", text)
+
+    @staticmethod
+    def problems(problems: list[Problem], links: dict[str, str]) -> str:
+        """The table of what is wrong, the gravest first."""
+        if not problems:
+            return "<h3>Problems</h3>\n<p>None was found.</p>\n"
+
+        def where(problem: Problem) -> str:
+            some = [links[name] for name in problem.stations[:MOST_LINKS]]
+            more = len(problem.stations) - len(some)
+            return ", ".join(some) + (f" and {more:,} more" if more else "")
+
+        rows = (
+            (
+                MARK,
+                [
+                    one.name,
+                    f"{one.sessions:,}" if one.sessions else "",
+                    f"{one.times:,}",
+                    where(one),
+                    one.meaning,
+                ],
+            )
+            for one in problems
+        )
+        heads = ["Problem", "Sessions", "Times", " Stations", " What it means"]
+        text = "".join(table("What is to be looked at, the gravest first", heads, rows, cards=True))
+        return f"<h3>Problems</h3>\n{text}"
+
+    def peak(self, site: Part) -> str:
+        """The greatest average power of a site's periods, as a sentence."""
+        said = peak_said(self.layout.calendar.shown(site.periods), self.layout.calendar, True)
+        return f"<p>Peak of the site, as the average of a period: {said}.</p>\n" if said else ""
+
+    def months(self, board: Board) -> list[str]:
+        """The months of a site, the last one first: days by hours, and the table of the days, the last one first."""
+        days = dict(self.layout.by_day(board.site.periods))
+        most = max((abs(sum_of(p.flow for p in some).net) for some in days.values()), default=0)
+        texts = [
+            self.month(board, month, {day: days[day] for day in some}, most)
+            for month, some in by_month(days)
+        ]
+        return texts[::-1]
+
+    def month(self, board: Board, month: date, days: dict[date, list[Period]], most: int) -> str:
+        """A month of a site. `most`: the energy of the longest bar."""
+        label, has_export = f"b{board.number}-m{month:%Y-%m}", board.has_export
+        rows: list[Row] = [
+            ("", [self.day_name(day), *self.day_cells(days[day], has_export, most)])
+            for day in sorted(days, reverse=True)
+        ]
+        first, last = min(days), max(days)
+        shown = [first + timedelta(days=n) for n in range((last - first).days + 1)]
+        periods = [p for some in days.values() for p in some]
+        said = (
+            f"Days of {month:%B %Y} by hours, the stronger the more energy. The table has the days."
+        )
+        heat = "".join(heat_map(said, shown, periods, self.layout.calendar))
+        caption = "Energy by day, kWh, the last day first. The bars of all months have one scale."
+        text = "".join(table(caption, self.day_heads(has_export), rows, kind="plain days"))
+        return (
+            f'<section aria-labelledby="{label}">\n<h3 id="{label}">{month:%B %Y}</h3>\n'
+            f'<figure class="heat">\n{heat}<figcaption>Days by hours of the day, net; at the right each day. '
+            "Each cell and bar shows its value where the pointer is.</figcaption>\n</figure>\n"
+            f"{across(f'Days of {month:%B %Y}', text)}</section>\n"
+        )
+
+    def day_name(self, day: date) -> str:
+        """A day in a table, which leads to its page."""
+        return f"{link(self.layout.day(day), str(day))} {weekday(day)}"
+
+    def day_cells(self, periods: list[Period], has_export: bool, most: int) -> list[str]:
+        """A day's cells in a table. `most`: the energy of the longest bar."""
+        flow = sum_of(p.flow for p in periods)
+        cells = [*cells_of(flow, has_export), f"{len(periods):,}", peak_cell(periods)]
+        return [*cells, bar_cell(flow.net, most)]
+
+    @staticmethod
+    def day_heads(has_export: bool) -> Heads:
+        """The heads of a table of days."""
+        net, *others = flow_heads(has_export)
+        exports = (Column(head, "wide") for head in (*others[2:], "Periods", "Peak, kW"))
+        return ["Day", net, *others[:2], *exports, NET_BAR]
+
+    def weeks(self, board: Board) -> list[str]:
+        """The weeks of a site, the last one first; none where all is of one day."""
+        days = dict(self.layout.by_day(board.site.periods))
+        if len(days) < 2:
+            return []
+        scale = week_scale(self.layout.calendar.shown(board.site.periods))
+        most = max((abs(sum_of(p.flow for p in some).net) for some in days.values()), default=0)
+        texts = [
+            self.week(board, monday, {day: days[day] for day in some}, scale, most)
+            for monday, some in by_week(days)
+        ]
+        return texts[::-1]
+
+    def week(
+        self,
+        board: Board,
+        monday: date,
+        days: dict[date, list[Period]],
+        scale: Scale,
+        most: int,
+    ) -> str:
+        """A week of a site. `most`: the energy of the longest bar."""
+        label, has_export = f"b{board.number}-w{monday}", board.has_export
+        periods = [p for some in days.values() for p in some]
+        flow, calendar = sum_of(p.flow for p in periods), self.layout.calendar
+        year, number, _ = monday.isocalendar()
+        name = f"Week {number} of {year}"
+        said = f"Bars of the hours of week {number}, from {monday} on. The table has the days."
+        bars = "".join(week_picture(said, monday, periods, scale, calendar))
+        rows: list[Row] = [
+            ("", [self.day_name(day), *self.day_cells(some, has_export, most)])
+            for day, some in days.items()
+        ]
+        text = "".join(
+            table("Energy by day, kWh", self.day_heads(has_export), rows, kind="plain days")
+        )
+        peak = peak_said(periods, calendar, True)
+        return (
+            f'<section aria-labelledby="{label}">\n<h3 id="{label}">{name}, from {kept(str(monday))}</h3>\n'
+            f"<figure>\n{bars}<figcaption>Hours of the week: net {kwh(flow.net)} kWh"
+            f"{f', peak {peak}' if peak else ''}</figcaption>\n</figure>\n"
+            f"{across(name, text)}</section>\n"
+        )
+
+    @classmethod
+    def station_heads(cls, has_export: bool) -> Heads:
+        """The heads of the table of stations."""
+        exports = [Column(f"{head}, kWh", "wide") for head in flow_heads(has_export)[3:]]
+        return [*cls.STATIONS[:7], *exports, *cls.STATIONS[7:]]
+
+    @classmethod
+    def station_row(cls, part: Part, name: str, has_export: bool) -> Row:
+        """A station's row in the table of a site's stations."""
+        total = part.total
+        if total is None:
+            return MARK, [name] + ["not read"] * (len(cls.station_heads(has_export)) - 1)
+        net, *flow = cells_of(total.flow, has_export)
+        return (
+            MARK if trouble_of(part) < NO_TROUBLE else "",
+            [
+                name,
+                net,
+                share(total.complete, total.transactions),
+                f"{total.transactions:,}",
+                f"{total.missing:,}",
+                *flow,
+                f"{total.events:,}",
+                f"{total.voided:,}",
+            ],
+        )
+
+    def close(self) -> None:
+        """Gives each page its title, and the table of sites where there are several boards."""
+        calendar, layout = self.layout.calendar, self.layout
+        said = layout.stamp(self.until)
+        if not calendar.is_all():
+            said += (
+                f"<p>Days from {calendar.first} to {calendar.last} are shown. The figures and the sessions are "
+                "those of all days.</p>\n"
+            )
+        if not self.names.boards:
+            self.series.put(1, "<p>The text has no board.</p>\n")
+        sites = ""
+        if self.names.boards > 1:
+            rows = self.sites.rows
+            some = SiteRows(rows[-MOST_BOARDS:], self.sites.totals)
+            left = f", the last {len(some.rows):,} of {len(rows):,}"
+            caption = (
+                f"Boards of the text, in their order{left if len(some.rows) < len(rows) else ''}"
+            )
+            sites = sites_table(caption, some)
+        for number, page in enumerate(self.series.pages, 1):
+            title = f"{self.names.title()}{page_of(number)}"
+            above, below = (self.series.links(number, where) for where in ("above", "below"))
+            begin = layout.head(title, said, above, self.names.is_one)
+            end = below + explained(BARS, SESSIONS) + layout.foot()
+            page.frame(begin + LEGEND + (sites if number == 1 else ""), end)
+
+
+def total_cells(total: Total) -> list[str]:
+    """The cells of a site's figures in the table of sites."""
+    return [
+        kwh(total.flow.net),
+        share(total.complete, total.transactions),
+        f"{total.transactions:,}",
+        f"{total.missing:,}",
+    ]
+
+
+def sites_table(caption: str, sites: SiteRows) -> str:
+    """The table of sites, by the rows that indexes have of their boards, with the sum of their figures."""
+    whole: list[Row] = []
+    if len(sites.totals) > 1:
+        cells = ["All of these", "", *total_cells(sites.whole())]
+        whole.append((' class="sum"', cells + [""] * (len(SITES) - len(cells))))
+    text = "".join(table(caption, SITES, [*sites.rows, *whole], cards=True))
+    return f"<h2>Sites</h2>\n{across('Sites', text)}"
+
+
+def write_sites(layout: Layout, sites: SiteRows) -> None:
+    """Writes a page that leads to those of several sites, by the rows that the indexes of their pages have. Raises
+    OSError."""
+    page = Page(layout.index())
+    page.put(sites_table("All sites", sites))
+    page.frame(layout.head("All sites", layout.stamp(None), "", False), FOOT)
+
+
+# The least of what `trouble_of` gives for a station without any.
+NO_TROUBLE = (0, 0, 0, 0, 0)

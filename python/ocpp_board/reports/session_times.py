@@ -1,0 +1,61 @@
+"""When sessions began and ended, what their registers read then, and why they stopped: for comparing with bills."""
+
+from collections.abc import Sequence
+from datetime import datetime
+from typing import NamedTuple
+
+from ocpp_board.messages.transactions import Event, moment, readings_in_order
+
+
+class Registers(NamedTuple):
+    """The first and the last counted reading of a register, in mWh."""
+
+    first: int
+    last: int
+
+
+class SessionTimes(NamedTuple):
+    """What the live events of a session say. `begun` is its earliest time, whether of a start or not."""
+
+    start: datetime | None
+    end: datetime | None
+    begun: datetime | None
+    imported: Registers | None
+    exported: Registers | None
+    reason: str
+
+    @property
+    def seconds(self) -> int | None:
+        """How long it was, where its start and its end are known."""
+        if self.start is None or self.end is None:
+            return None
+        return round((self.end - self.start).total_seconds())
+
+
+def registers_of(events: Sequence[Event], is_export: bool, is_by_moment: bool) -> Registers | None:
+    """The first and the last counted reading of a register, in the order in which the ledger takes them."""
+    found = [one.mwh for _, one in readings_in_order(events, is_export, is_by_moment)]
+    return Registers(found[0], found[-1]) if found else None
+
+
+def times_of(events: Sequence[Event], is_by_moment: bool = False) -> SessionTimes:
+    """What a session's live events say, by their numbers: its first start, its last end, and the registers."""
+    started = next((event for event in events if event.kind == "Started"), None)
+    ended = next((event for event in reversed(events) if event.kind == "Ended"), None)
+    return SessionTimes(
+        moment(started.at) if started else None,
+        moment(ended.at) if ended else None,
+        moment(min((event.at for event in events if event.at is not None), default=None)),
+        registers_of(events, False, is_by_moment),
+        registers_of(events, True, is_by_moment),
+        ended.reason if ended else "",
+    )
+
+
+def duration(seconds: int | None) -> str:
+    """A length of time for a reader: hours, minutes and seconds. It is empty where it is not known."""
+    if seconds is None:
+        return ""
+    minutes, rest = divmod(abs(seconds), 60)
+    sign = "\N{MINUS SIGN}" if seconds < 0 else ""
+    return f"{sign}{minutes // 60}:{minutes % 60:02}:{rest:02}"
