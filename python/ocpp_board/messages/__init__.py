@@ -8,6 +8,6 @@
     transactions     the accepted events of transactions: times, counted readings, reasons
     message_faults   which member of a refused message broke which check, and the remedy
 
-The program's answers decide what was accepted; nothing here computes a board. logs/ and replay/ find stations and faults
-with it, reports/ times, registers and findings, fleet/ transactions and moments of lines.
+The program's answers decide what was accepted; nothing here computes a board. logs/ and replay/ find stations and
+faults with it, reports/ times, registers and findings, fleet/ transactions and moments of lines.
 """
