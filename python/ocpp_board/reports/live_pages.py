@@ -54,7 +54,7 @@ class Pages:
         self.calendar = Calendar(words.tz or timezone.utc)
         self.count = 0
         # The page of a board says what it has.
-        for name in ("boards", "tables"):
+        for name in ("replay.boards", "reports.tables"):
             logging.getLogger(f"ocpp_board.{name}").setLevel(logging.WARNING)
 
     def write(self, site: str, board: bytes) -> None:
