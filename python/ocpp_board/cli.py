@@ -30,7 +30,7 @@ TOOLS = {
     "log-to-script": Tool(
         "commands.log_to_script", "turns the message log of a CSMS into a script"
     ),
-    "tables": Tool("reports.tables", "turns boards into CSV tables and pages"),
+    "tables": Tool("commands.tables", "turns boards into CSV tables and pages"),
     "live": Tool("commands.live", "keeps the pages and tables of a ledger that still grows"),
     "explain": Tool("commands.explain", "says what is wrong with a script"),
     "traffic": Tool("commands.traffic", "writes scripts of many events, for measuring"),

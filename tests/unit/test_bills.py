@@ -21,7 +21,7 @@ from ocpp_board.messages.bills import (
     write_signed,
 )
 from ocpp_board.replay.ledger import Ledger
-from ocpp_board.reports import tables
+from ocpp_board.commands import tables
 from ocpp_board.statuses import Status
 from ocpp_board.traffic.troubles import FIRST, KINDS, Session, messages, sound
 

@@ -1,9 +1,9 @@
 """What `ocpp-board live` keeps and writes."""
 
-import argparse
 import json
 import os
 import threading
+from dataclasses import replace
 from datetime import date, timezone
 from pathlib import Path
 from types import SimpleNamespace
@@ -17,7 +17,7 @@ from ocpp_board.replay.answered import Answered
 from ocpp_board.replay.refusals import Refusal, Refusals
 from ocpp_board.reports.calendars import Calendar
 from ocpp_board.reports.changed_days import digests
-from ocpp_board.reports.live_pages import Pages
+from ocpp_board.reports.live_pages import Pages, Shown
 from ocpp_board.reports.session_facts import SessionFacts
 from ocpp_board.traffic.troubles import FIRST, KINDS
 
@@ -105,11 +105,9 @@ def made(folder: Path) -> dict[str, int]:
 
 
 def test_pages_are_written_for_the_days_that_changed(tmp_path: Path) -> None:
-    words = argparse.Namespace(
-        out=tmp_path, tz=None, every=10, oldest=None, log_json=False, prog="live"
-    )
+    options = Shown(tmp_path, 10)
     refusals = Refusals()
-    pages = Pages(words, refusals, SessionFacts())
+    pages = Pages(options, refusals, SessionFacts())
     pages.write("north", board(9, 1, 1))
     first = made(tmp_path)
     days = [f"north.2026-03-0{day}.html" for day in (1, 2, 3)]
@@ -140,10 +138,8 @@ def test_days_of_several_pages_stand_until_they_change(
     tmp_path: Path, monkeypatch: pytest.MonkeyPatch
 ) -> None:
     monkeypatch.setattr("ocpp_board.reports.board_pages.PAGE_BYTES", 100)
-    words = argparse.Namespace(
-        out=tmp_path, tz=None, every=10, oldest=None, log_json=False, prog="live"
-    )
-    pages = Pages(words, Refusals(), SessionFacts())
+    options = Shown(tmp_path, 10)
+    pages = Pages(options, Refusals(), SessionFacts())
     pages.write("north", board(9, 1))
     first = made(tmp_path)
     held = [os.open(tmp_path / name, os.O_RDONLY) for name in first]
@@ -159,9 +155,7 @@ def test_days_of_several_pages_stand_until_they_change(
 
 
 def test_pages_have_times_and_findings(tmp_path: Path) -> None:
-    words = argparse.Namespace(
-        out=tmp_path, tz=None, every=10, oldest=None, log_json=False, prog="live"
-    )
+    options = Shown(tmp_path, 10)
     reported, refusals = SessionFacts(), Refusals()
     refusals.add(Refusal("", "A", "T", "0", "Moment", "", "north", "is none"))
     session = KINDS["clock-far"]("T1", FIRST)
@@ -171,7 +165,7 @@ def test_pages_have_times_and_findings(tmp_path: Path) -> None:
     last = len(session) - 1
     tx = f"tx t1 evse=1 events={last + 1} first=0 last={last} complete=yes missing=0 {flow(3)}\nend\n"
     text = board(3).replace(b"end\n", tx.encode())
-    pages = Pages(words, refusals, reported)
+    pages = Pages(options, refusals, reported)
     pages.write("north", text)
     page, day = ((tmp_path / f"north{name}.html").read_text() for name in ("", ".2026-03-01"))
     assert "clock far from receipt" in page and "Data up to" in page and "were refused" not in page
@@ -183,7 +177,7 @@ def test_pages_have_times_and_findings(tmp_path: Path) -> None:
     assert "Data up to" not in day and "refused" not in day.split("</style>")[1]
     # Nothing came for long: the first page says so, without another change.
     assert "older than it should be" not in page
-    words.oldest = 3_600
+    pages.options = replace(options, oldest=3_600)
     pages.write("north", text)
     page, day = ((tmp_path / f"north{name}.html").read_text() for name in ("", ".2026-03-01"))
     assert "older than it should be" in page and "older than it should be" not in day
@@ -192,10 +186,8 @@ def test_pages_have_times_and_findings(tmp_path: Path) -> None:
 
 
 def test_one_page_leads_to_those_of_several_sites(tmp_path: Path) -> None:
-    words = argparse.Namespace(
-        out=tmp_path, tz=None, every=10, oldest=None, log_json=False, prog="live"
-    )
-    pages = Pages(words, Refusals(), SessionFacts())
+    options = Shown(tmp_path, 10)
+    pages = Pages(options, Refusals(), SessionFacts())
     pages.write("south", board(9).replace(b"board north", b"board south"))
     assert not (tmp_path / "index.html").exists()
     pages.write("north", board(9, 1))
@@ -212,10 +204,8 @@ def test_one_page_leads_to_those_of_several_sites(tmp_path: Path) -> None:
 
 
 def test_what_is_no_board_writes_nothing(tmp_path: Path) -> None:
-    words = argparse.Namespace(
-        out=tmp_path, tz=None, every=10, oldest=None, log_json=False, prog="live"
-    )
-    Pages(words, Refusals(), SessionFacts()).write("north", b"fault UnknownSite\n")
+    options = Shown(tmp_path, 10)
+    Pages(options, Refusals(), SessionFacts()).write("north", b"fault UnknownSite\n")
     assert made(tmp_path) == {}
 
 

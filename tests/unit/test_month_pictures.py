@@ -14,7 +14,7 @@ from ocpp_board.energies import Flow
 from ocpp_board.logs.log_reader import LogReader
 from ocpp_board.replay.answered import Answered
 from ocpp_board.replay.boards import Part, Period, Session, Total
-from ocpp_board.reports import tables
+from ocpp_board.commands import tables
 from ocpp_board.reports.board_pages import Board, DayPages, Index, Layout, SiteRows, write_sites
 from ocpp_board.reports.calendars import Calendar
 from ocpp_board.reports.lanes import lane_picture, lanes_of

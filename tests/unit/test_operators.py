@@ -11,7 +11,7 @@ from ocpp_board.replay.answered import Answered
 from ocpp_board.replay.boards import Part, Session
 from ocpp_board.replay.ledger import Ledger
 from ocpp_board.replay.operators import HEADS, Deed, Operators, commented, deed_of
-from ocpp_board.reports import tables
+from ocpp_board.commands import tables
 from ocpp_board.reports.page_sections import problems_of, state_text
 from ocpp_board.reports.session_facts import SessionFacts
 from ocpp_board.statuses import Status

@@ -13,7 +13,7 @@ from ocpp_board.replay.ledger import Ledger
 from ocpp_board.replay.operators import Deed
 from ocpp_board.replay.refusals import Refusal, Refusals
 from ocpp_board.replay.script_lines import ScriptLines
-from ocpp_board.reports import tables
+from ocpp_board.commands import tables
 from ocpp_board.reports.calendars import Calendar
 from ocpp_board.reports.session_facts import SessionFacts
 from ocpp_board.reports.session_pages import Known, SessionPages, href_of, lines_of, path_of

@@ -9,7 +9,7 @@ from typing import IO
 import pytest
 
 from ocpp_board.replay.answered import Answered
-from ocpp_board.reports import tables
+from ocpp_board.commands import tables
 from ocpp_board.statuses import Status
 from ocpp_board.traffic.troubles import FIRST, KINDS, messages
 
@@ -220,7 +220,7 @@ def followed(folder: Path, monkeypatch: pytest.MonkeyPatch, writings: int) -> st
         if len(pauses) == writings:
             raise KeyboardInterrupt
 
-    monkeypatch.setattr("ocpp_board.reports.tables.datetime", Clock)
+    monkeypatch.setattr("ocpp_board.commands.tables.datetime", Clock)
     monkeypatch.setattr("time.sleep", pause)
     words = ["--follow", board.as_uri(), "10", "--out", str(folder / "x")]
     assert tables.main(words, "tables") == Status.INTERRUPTED

@@ -22,7 +22,7 @@ from ocpp_board.processes import TUNABLES
 from ocpp_board.replay import answered
 from ocpp_board.replay.answered import Replay
 from ocpp_board.replay.line_faults import bad_line
-from ocpp_board.reports import tables
+from ocpp_board.commands import tables
 from ocpp_board.statuses import Mistaken, Status
 from ocpp_board.telling import JsonFormatter, PlainFormatter
 from ocpp_board.traffic import repeats

@@ -2,8 +2,9 @@
 
     log_to_script   turns the log of a CSMS into a script
     live            follows a log or a script, and keeps pages and tables
+    tables          turns the text of boards into tables and pages
     explain         says what is wrong with a script
     traffic         writes scripts of many events, for measuring
 
-Each has `main`, which cli.py calls by the tool's name. `tables` is in reports/.
+Each has `main`, which cli.py calls by the tool's name.
 """

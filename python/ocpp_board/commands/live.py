@@ -39,6 +39,7 @@ import sys
 import threading
 import time
 from collections.abc import Callable, Sequence
+from datetime import timezone
 from functools import partial
 from pathlib import Path
 from types import FrameType
@@ -53,7 +54,7 @@ from ocpp_board.replay.answered import Answered
 from ocpp_board.replay.ledger import Ended, Ledger
 from ocpp_board.replay.near_limits import NearLimits
 from ocpp_board.replay.refusals import Refusals
-from ocpp_board.reports.live_pages import Pages
+from ocpp_board.reports.live_pages import Pages, Shown
 from ocpp_board.reports.session_facts import SessionFacts
 from ocpp_board.sources import is_gzip
 from ocpp_board.statuses import Mistaken, Status, ended
@@ -127,7 +128,9 @@ class Run:
         self.ledger = Ledger(words.program, takers, self.refusals.add)
         facts.operators = self.ledger.operators
         of_script = self.ledger.script, self.ledger.mended
-        self.pages = Pages(words, self.refusals, facts, *of_script)
+        in_zone = words.tz or timezone.utc
+        shown = Shown(words.out, words.every, in_zone, words.oldest, words.tokens)
+        self.pages = Pages(shown, self.refusals, facts, *of_script)
         self.source: ScriptFeed | LogFeed = (
             LogFeed(words, self.ledger) if words.log else ScriptFeed(words.script, self.ledger)
         )
@@ -345,7 +348,6 @@ def arguments(argv: Sequence[str], prog: str) -> argparse.Namespace:
     add_tokens(parser)
     add_program(parser)
     words = parsed(parser, argv)
-    words.prog = prog
     check_plan(parser, words)
     if (words.script is None) == (words.log is None):
         parser.error("either a SCRIPT is named or a --log")

@@ -130,7 +130,7 @@ class Layout:
     refresh: int | None = None
     # Up to when the data is, where that is known, and how many seconds before the writing that may be.
     until: datetime | None = None
-    oldest: int | None = None
+    oldest: float | None = None
     # Messages that were refused, which a file of their own lists.
     refused: int = 0
     # Messages that were mended, which a file of their own lists.

@@ -1,15 +1,15 @@
 """The pages and tables of the sites of a ledger that grows, written again if a site's board is another one."""
 
-import argparse
 import logging
 import os
 import shutil
 import tempfile
-from dataclasses import replace
-from datetime import date, datetime, timedelta, timezone
+from dataclasses import dataclass, replace
+from datetime import date, datetime, timedelta, timezone, tzinfo
 from pathlib import Path
 
 from ocpp_board.logs.mending import MendedMessages
+from ocpp_board.messages.bills import TOKENS
 from ocpp_board.replay.archive import Archive
 from ocpp_board.replay.refusals import Refusals
 from ocpp_board.replay.script_lines import ScriptLines
@@ -24,19 +24,31 @@ from ocpp_board.reports.session_pages import Known, SessionPages
 SITES = "index"
 
 
+@dataclass(frozen=True)
+class Shown:
+    """Where the pages of a ledger are, and what they show. `every`: seconds from one writing to the next; `oldest`: how
+    many seconds old the data may be; `tokens`: how drivers' tokens are written."""
+
+    out: Path
+    every: float
+    zone: tzinfo = timezone.utc
+    oldest: float | None = None
+    tokens: str = TOKENS[0]
+
+
 class Pages:
     """The files of each site, as `ocpp-board tables` makes them."""
 
     def __init__(
         self,
-        words: argparse.Namespace,
+        options: Shown,
         refusals: Refusals,
         facts: SessionFacts,
         script: ScriptLines | None = None,
         mended: MendedMessages | None = None,
     ) -> None:
         """`script`: where the lines of the script begin; `mended`: what it has that was mended."""
-        self.words, self.refusals, self.facts = words, refusals, facts
+        self.options, self.refusals, self.facts = options, refusals, facts
         self.known = Known(facts, refusals, script or ScriptLines(), mended or MendedMessages())
         # The archive, where sessions are closed.
         self.archive: Archive | None = None
@@ -51,7 +63,7 @@ class Pages:
         self.marks: dict[str, dict[date, int]] = {}
         # By site, its row on the page of all sites.
         self.sites: dict[str, SiteRows] = {}
-        self.calendar = Calendar(words.tz or timezone.utc)
+        self.calendar = Calendar(options.zone)
         self.count = 0
         # The page of a board says what it has.
         for name in ("replay.boards", "reports.tables"):
@@ -67,7 +79,7 @@ class Pages:
         shown = board, refused, self.is_old(), len(operators.deeds) + corrections
         if not board.startswith(b"board ") or self.shown.get(site) == shown:
             return
-        folder = Path(tempfile.mkdtemp(prefix=".live_board.", dir=self.words.out))
+        folder = Path(tempfile.mkdtemp(prefix=".live_board.", dir=self.options.out))
         try:
             self.refusals.write(folder / f"{site}.refused.csv", site)
             operators.write(folder / f"{site}.operator.csv", self.facts.sites(), site)
@@ -95,8 +107,8 @@ class Pages:
             del self.sessions[site]
 
     def is_old(self) -> bool:
-        """Whether nothing came for longer than the words allow."""
-        until, oldest = self.facts.until(), self.words.oldest
+        """Whether nothing came for longer than the options allow."""
+        until, oldest = self.facts.until(), self.options.oldest
         if until is None or oldest is None:
             return False
         return datetime.now(timezone.utc) - until > timedelta(seconds=oldest)
@@ -107,20 +119,19 @@ class Pages:
         return frozenset(
             day
             for day, digest in days.items()
-            if before.get(day) == digest and (self.words.out / f"{site}.{day}.html").exists()
+            if before.get(day) == digest and (self.options.out / f"{site}.{day}.html").exists()
         )
 
     def make(self, name: Path, board: bytes, refused: int, unchanged: frozenset[date]) -> Layout:
         """Makes the files of a board, with names that begin so, except the pages of days that are there already."""
-        more = ["--tz", str(self.words.tz)] if self.words.tz else []
-        more += ["--tokens", getattr(self.words, "tokens", "none")]
-        more += ["--log-json"] if self.words.log_json else []
-        more += ["--refresh", str(max(1, round(self.words.every)))]
-        words = tables.arguments(["--out", str(name), *more], self.words.prog)
-        layout = replace(
-            tables.layout_of(words),
+        files = tables.Files(str(name), tokens=self.options.tokens)
+        layout = Layout(
+            files.out,
+            self.calendar,
+            datetime.now(timezone.utc),
+            refresh=max(1, round(self.options.every)),
             until=self.facts.until(),
-            oldest=self.words.oldest,
+            oldest=self.options.oldest,
             refused=refused,
             mended=self.known.mended.count(self.facts.sites(), name.name),
             unchanged=unchanged,
@@ -130,9 +141,9 @@ class Pages:
             text.write(board)
             text.seek(0)
             rows = SiteRows()
-            out = str(self.words.out / name.name)
+            out = str(self.options.out / name.name)
             sessions = SessionPages(out, self.calendar, self.known, later=True)
-            tables.write_files(words, text, layout, self.known, rows, sessions)
+            tables.write_files(files, text, layout, self.known, rows, sessions)
             self.sessions[name.name] = sessions
         self.sites[name.name] = rows
         return layout
@@ -141,9 +152,9 @@ class Pages:
         """Moves files to where they belong; the pages that link to others come last."""
         order = last, f"{SITES}.html"
         for path in [path for path in folder.iterdir() if path.is_dir()]:
-            (self.words.out / path.name).mkdir(exist_ok=True)
+            (self.options.out / path.name).mkdir(exist_ok=True)
             for file in path.iterdir():
-                os.replace(file, self.words.out / path.name / file.name)
+                os.replace(file, self.options.out / path.name / file.name)
             path.rmdir()
         for path in sorted(folder.iterdir(), key=lambda path: [path.name == one for one in order]):
-            os.replace(path, self.words.out / path.name)
+            os.replace(path, self.options.out / path.name)
