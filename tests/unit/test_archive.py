@@ -85,20 +85,20 @@ def run(folder: Path, program: str, *words: str) -> dict[str, bytes]:
     paths = {"--log": "log", "--stations": "stations", "--state": "state", "--out": "out"}
     named = [word for name, path in paths.items() for word in (name, str(folder / path))]
     asked = arguments([*named, "--once", "--program", program, *words], "live")
-    asked.out.mkdir(parents=True, exist_ok=True)
+    asked.shown.out.mkdir(parents=True, exist_ok=True)
     one = Run(asked)
     one.wait()
     one.ledger.is_open.wait()
     boards = {site: one.source.board(site) for site in one.ledger.sites()}
     assert one.end() == Status.DONE
     one.source.kept.lock.close()  # type: ignore[union-attr]
-    found = {path.name: path.read_bytes() for path in asked.out.iterdir() if path.is_file()}
+    found = {path.name: path.read_bytes() for path in asked.shown.out.iterdir() if path.is_file()}
     return (
         found
         | boards
         | {
             f"{path.parent.name}/{path.name}": path.read_bytes()
-            for path in asked.out.glob("*/*.html")
+            for path in asked.shown.out.glob("*/*.html")
         }
     )
 

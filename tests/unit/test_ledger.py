@@ -1,6 +1,5 @@
 """A replay that lives, and the log that feeds it."""
 
-import argparse
 import logging
 import os
 import threading
@@ -87,9 +86,10 @@ def feed_of(
     paths = [
         word for name in ("log", "stations", "state") for word in (f"--{name}", str(folder / name))
     ]
-    asked: argparse.Namespace = arguments(["--out", "x", "--once", *paths, *words], "live")
+    options = arguments(["--out", "x", "--once", *paths, *words], "live").log
     ledger, _, untaken = ledger_of(stub)
-    return LogFeed(asked, ledger), ledger, untaken
+    assert options
+    return LogFeed(options, ledger), ledger, untaken
 
 
 def row(station: str = "A", time: str = "2026-03-01T10:00:00Z") -> str:

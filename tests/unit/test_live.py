@@ -48,15 +48,17 @@ def changed(before: bytes, after: bytes) -> list[int]:
 
 def test_pages_wait_for_what_a_log_had_at_the_start() -> None:
     caught_up = threading.Event()
-    words = SimpleNamespace(every=10.0, log=Path("csms.log"))
-    run = cast(Run, SimpleNamespace(words=words, source=SimpleNamespace(is_caught_up=caught_up)))
+    options = SimpleNamespace(shown=SimpleNamespace(every=10.0), log=Path("csms.log"))
+    run = cast(
+        Run, SimpleNamespace(options=options, source=SimpleNamespace(is_caught_up=caught_up))
+    )
     assert Run.pause(run) == READING
     caught_up.set()
     assert Run.pause(run) == 10.0
     caught_up.clear()
-    words.every = 300.0
+    options.shown.every = 300.0
     assert Run.pause(run) == 300.0
-    words.every, words.log = 10.0, None
+    options.shown.every, options.log = 10.0, None
     assert Run.pause(run) == 10.0
 
 

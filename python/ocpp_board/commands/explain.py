@@ -17,10 +17,10 @@ To distinguish the answers, it adds lines of its own after lines that may write 
 nothing. It reports the first mistakes of a kind, and counts the others.
 """
 
-import argparse
 import difflib
 import re
 from collections.abc import Iterable, Sequence
+from dataclasses import dataclass
 from typing import IO
 
 from ocpp_board.escapes import shown
@@ -237,8 +237,16 @@ class Run:
         return Status.REPORTED if self.counts or status else Status.DONE
 
 
-def arguments(argv: Sequence[str], prog: str) -> argparse.Namespace:
-    """The words. Wrong ones end the program with status 2."""
+@dataclass(frozen=True)
+class Options:
+    """What the words ask for: a script, or - for standard input, and the program."""
+
+    script: str
+    program: str
+
+
+def arguments(argv: Sequence[str], prog: str) -> Options:
+    """What the words ask for. Wrong ones end the program with status 2."""
     parser = parser_of(prog, __doc__, ENDING)
     parser.add_argument(
         "script",
@@ -248,21 +256,22 @@ def arguments(argv: Sequence[str], prog: str) -> argparse.Namespace:
         help="the script, standard input if absent or -",
     )
     add_program(parser)
-    return parsed(parser, argv)
+    words = parsed(parser, argv)
+    return Options(words.script, words.program)
 
 
-def explain(words: argparse.Namespace) -> int:
-    """Reports what is wrong with the script that the words name, and gives the exit status."""
-    name = "" if words.script == "-" else words.script
-    with opened(words.script) as script:
+def explain(options: Options) -> int:
+    """Reports what is wrong with a script, and gives the exit status."""
+    name = "" if options.script == "-" else options.script
+    with opened(options.script) as script:
         if is_gzip(script):
             print(f"{name} line 1: the script is compressed by gzip".lstrip())
             print("  remedy: gunzip -c SCRIPT | ocpp-board explain")
             return Status.REPORTED
-        return Run(words.program, script, name).run()
+        return Run(options.program, script, name).run()
 
 
 def main(argv: Sequence[str], prog: str) -> int:
     """Runs the tool with these words; gives its exit status."""
-    words = arguments(argv, prog)
-    return ended(lambda: explain(words))
+    options = arguments(argv, prog)
+    return ended(lambda: explain(options))

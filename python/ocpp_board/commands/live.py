@@ -39,6 +39,7 @@ import sys
 import threading
 import time
 from collections.abc import Callable, Sequence
+from dataclasses import dataclass
 from datetime import timezone
 from functools import partial
 from pathlib import Path
@@ -47,8 +48,8 @@ from typing import NoReturn
 
 from ocpp_board import progress
 from ocpp_board.logs import logforms
-from ocpp_board.logs.log_feed import LogFeed
-from ocpp_board.logs.script_plan import add_plan, check_plan
+from ocpp_board.logs.log_feed import LogFeed, LogOptions
+from ocpp_board.logs.script_plan import add_plan, plan_options
 from ocpp_board.processes import keep_many
 from ocpp_board.replay.answered import Answered
 from ocpp_board.replay.ledger import Ended, Ledger
@@ -117,22 +118,39 @@ class ScriptFeed:
         """The ledger reports what came of the lines."""
 
 
+@dataclass(frozen=True)
+class Options:
+    """What the words ask for: a log or the path of a script, what the pages show, the program, and the greatest power
+    that can be."""
+
+    log: LogOptions | None
+    script: str
+    shown: Shown
+    program: str
+    most_kw: int
+
+    @property
+    def name(self) -> str:
+        """What is read, for a reader."""
+        return str(self.log.log) if self.log else self.script
+
+
 class Run:
     """The threads that feed the ledger, and the pages that are written meanwhile."""
 
-    def __init__(self, words: argparse.Namespace) -> None:
+    def __init__(self, options: Options) -> None:
         """Raises OSError, and Mistaken where a file of the words is wrong or another run keeps its script there."""
-        self.words, facts = words, SessionFacts(words.most_kw)
-        self.refusals = Refusals(str(words.log or words.script))
+        self.options, facts = options, SessionFacts(options.most_kw)
+        self.refusals = Refusals(options.name)
         takers: list[Callable[[Answered], None]] = [self.refusals.take, facts.take]
-        self.ledger = Ledger(words.program, takers, self.refusals.add)
+        self.ledger = Ledger(options.program, takers, self.refusals.add)
         facts.operators = self.ledger.operators
         of_script = self.ledger.script, self.ledger.mended
-        in_zone = words.tz or timezone.utc
-        shown = Shown(words.out, words.every, in_zone, words.oldest, words.tokens)
-        self.pages = Pages(shown, self.refusals, facts, *of_script)
+        self.pages = Pages(options.shown, self.refusals, facts, *of_script)
         self.source: ScriptFeed | LogFeed = (
-            LogFeed(words, self.ledger) if words.log else ScriptFeed(words.script, self.ledger)
+            LogFeed(options.log, self.ledger)
+            if options.log
+            else ScriptFeed(options.script, self.ledger)
         )
         near = NearLimits(self.ledger.messages.limits, report_limit)
         takers.append(near.take)
@@ -168,7 +186,7 @@ class Run:
         """Whether the script and the operator's lines are at their ends; of a log whether that is."""
         if not self.ends[0].is_set():
             return False
-        if self.words.log:
+        if self.options.log:
             return True
         # Where the script opened no ledgers an operator's line would wait for ever.
         if self.ledger.is_needed:
@@ -185,7 +203,7 @@ class Run:
             if time.monotonic() >= due or is_first and self.source.is_caught_up.is_set():
                 is_first &= not self.source.is_caught_up.is_set()
                 if fault := self.write():
-                    log.error("%s; tried again in %g s", fault, self.words.every)
+                    log.error("%s; tried again in %g s", fault, self.options.shown.every)
                 due = time.monotonic() + self.pause()
             if time.monotonic() >= shown:
                 self.progress()
@@ -193,8 +211,8 @@ class Run:
 
     def pause(self) -> float:
         """Seconds to the next writing of the pages, which come at once when what a log had at the start is read."""
-        every: float = self.words.every
-        is_reading = self.words.log and not self.source.is_caught_up.is_set()
+        every = self.options.shown.every
+        is_reading = self.options.log and not self.source.is_caught_up.is_set()
         return max(every, READING) if is_reading else every
 
     def write(self, is_last: bool = False) -> str | None:
@@ -207,7 +225,7 @@ class Run:
                     board = self.source.board(site)
                     with self.ledger.taking:
                         self.pages.write(site, board)
-                if is_last or not self.words.log or self.source.is_caught_up.is_set():
+                if is_last or not self.options.log or self.source.is_caught_up.is_set():
                     with self.ledger.taking:
                         self.pages.write_sessions()
         except OSError as fault:
@@ -228,7 +246,7 @@ class Run:
     def end(self) -> int:
         """The pages once more, and how it all ended."""
         self.source.end()
-        if self.words.log:
+        if self.options.log:
             self.ends[0].wait(LAST)
         try:
             self.ledger.flush()
@@ -260,7 +278,9 @@ class Run:
         elif not has_board and not self.faults:
             log.error(
                 "%s declared no station, or had no line that needs the ledgers: there is no board",
-                self.words.script or f"the script of {self.words.state}",
+                f"the script of {self.options.log.state}"
+                if self.options.log
+                else self.options.script,
             )
         if self.faults:
             return Status.MISTAKEN
@@ -311,8 +331,8 @@ def add_log(parser: argparse.ArgumentParser) -> None:
     parser.set_defaults(one_site=None, site_map=None, received=True, boards=False)
 
 
-def arguments(argv: Sequence[str], prog: str) -> argparse.Namespace:
-    """The words. Wrong ones end the program with status 2."""
+def arguments(argv: Sequence[str], prog: str) -> Options:
+    """What the words ask for. Wrong ones end the program with status 2."""
     parser = parser_of(prog, f"{__doc__}\n{logforms.FORMS}", ENDING)
     parser.add_argument(
         "script",
@@ -348,19 +368,30 @@ def arguments(argv: Sequence[str], prog: str) -> argparse.Namespace:
     add_tokens(parser)
     add_program(parser)
     words = parsed(parser, argv)
-    check_plan(parser, words)
+    plan, in_zone = plan_options(parser, words), words.tz or timezone.utc
     if (words.script is None) == (words.log is None):
         parser.error("either a SCRIPT is named or a --log")
     if words.log and not (words.stations and words.state):
         parser.error("--log takes --stations and --state")
     if words.script and (words.stations or words.state or words.once or words.close):
         parser.error("--stations, --state, --once and --close-month go with --log")
-    asked = words.order or words.settle or words.period or words.limits or words.mend
-    if words.script and asked:
+    if words.script and plan.has_settings:
         parser.error(
             "--order, --settle, --period, --limits and --mend go with --log; a SCRIPT has its lines"
         )
-    return words
+    followed = words.log and LogOptions(
+        words.log,
+        words.state,
+        logforms.shape_of(words),
+        plan,
+        words.program,
+        words.close,
+        in_zone,
+        words.utc,
+        words.once,
+    )
+    shown = Shown(words.out, words.every, in_zone, words.oldest, words.tokens)
+    return Options(followed, words.script or "", shown, words.program, words.most_kw)
 
 
 def interrupts() -> Callable[[int, FrameType | None], None]:
@@ -377,15 +408,15 @@ def interrupts() -> Callable[[int, FrameType | None], None]:
     return interrupted
 
 
-def keep_pages(words: argparse.Namespace) -> int:
+def keep_pages(options: Options) -> int:
     """Keeps the pages until all is at its end or a signal comes, and gives the exit status."""
-    words.out.mkdir(parents=True, exist_ok=True)
-    run = Run(words)
+    options.shown.out.mkdir(parents=True, exist_ok=True)
+    run = Run(options)
     log.info(
         "reads %s; pages are in %s, written every %g s; Ctrl-C or SIGTERM writes them once more and ends it",
-        words.log or words.script,
-        words.out,
-        words.every,
+        options.name,
+        options.shown.out,
+        options.shown.every,
     )
     try:
         run.wait()
@@ -396,12 +427,12 @@ def keep_pages(words: argparse.Namespace) -> int:
 
 def main(argv: Sequence[str], prog: str) -> NoReturn:
     """Runs the tool with these words, and ends the process: threads may still wait for input that never comes."""
-    words = arguments(argv, prog)
+    options = arguments(argv, prog)
     keep_many()
     handler = interrupts()
     for number in (signal.SIGINT, signal.SIGTERM):
         if signal.getsignal(number) is not signal.SIG_IGN:
             signal.signal(number, handler)
-    status = ended(partial(keep_pages, words))
+    status = ended(partial(keep_pages, options))
     sys.stdout.flush()
     os._exit(status)

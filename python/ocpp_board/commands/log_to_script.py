@@ -31,6 +31,7 @@ import shutil
 import tempfile
 import zlib
 from collections.abc import Iterator, Sequence
+from dataclasses import dataclass
 from io import BufferedWriter
 from pathlib import Path
 from typing import IO
@@ -46,8 +47,9 @@ from ocpp_board.limits import (
 )
 from ocpp_board.logs import logforms
 from ocpp_board.logs.log_reader import LogReader, Taken
+from ocpp_board.logs.logforms import Shape, shape_of
 from ocpp_board.logs.mending import COMMENT as MENDED
-from ocpp_board.logs.script_plan import ScriptPlan, add_plan, check_plan
+from ocpp_board.logs.script_plan import PlanOptions, ScriptPlan, add_plan, plan_options
 from ocpp_board.messages.texts import Refused
 from ocpp_board.processes import end_without_reader
 from ocpp_board.progress import Progress
@@ -123,9 +125,9 @@ def lines(file: IO[bytes]) -> Iterator[tuple[int, bytes | None]]:
 class Script:
     """The script so far. Behind its declarations, its lines go out at once or wait in a file."""
 
-    def __init__(self, words: argparse.Namespace, plan: ScriptPlan, out: IO[bytes]) -> None:
+    def __init__(self, plan: ScriptPlan, out: IO[bytes]) -> None:
         self.plan, self.out = plan, out
-        self.is_live = words.stations is not None
+        self.is_live = plan.is_fixed
         self.body: IO[bytes] = (
             out if self.is_live else tempfile.SpooledTemporaryFile(max_size=KEPT_IN_MEMORY)
         )
@@ -173,10 +175,10 @@ class Script:
 class Scripts(Script):
     """Scripts of a folder, for as many stations as the log has."""
 
-    def __init__(self, words: argparse.Namespace, plan: ScriptPlan) -> None:
+    def __init__(self, folder: Path, plan: ScriptPlan) -> None:
         """Raises OSError, and Mistaken where the folder has files."""
-        super().__init__(words, plan, tempfile.TemporaryFile())
-        self.folder: Path = words.split
+        super().__init__(plan, tempfile.TemporaryFile())
+        self.folder = folder
         self.folder.mkdir(parents=True, exist_ok=True)
         if any(self.folder.iterdir()):
             raise Mistaken(f"{self.folder} is not empty")
@@ -251,21 +253,35 @@ def is_fit(share: dict[str, str], part: dict[str, str], most: int) -> bool:
     return len(share) + len(part) <= most and len(sites) <= MOST_SITES
 
 
+@dataclass(frozen=True)
+class Options:
+    """What the words ask for. `log`: its path, or - for standard input; `is_received`: messages have the times of their
+    receipt in front; `is_utc`: times without an offset are UTC; `split`: the folder of several scripts.
+    """
+
+    log: str
+    shape: Shape
+    plan: PlanOptions
+    is_received: bool
+    is_utc: bool
+    split: Path | None
+
+
 class Conversion:
     """A run over a log: the script, and what became of each line."""
 
-    def __init__(self, words: argparse.Namespace, out: IO[bytes]) -> None:
-        self.words = words
-        self.plan = ScriptPlan(words, MOST_SPLIT if words.split else MOST_STATIONS)
+    def __init__(self, options: Options, out: IO[bytes]) -> None:
+        self.log, split = options.log, options.split
+        self.plan = ScriptPlan(options.plan, MOST_SPLIT if split else MOST_STATIONS)
         if self.plan.is_fixed:
             self.plan.check_sites()
-        self.reader = LogReader(words, self.plan)
+        self.reader = LogReader(options.shape, self.plan, options.is_received, options.is_utc)
         self.counts = self.reader.counts
-        self.script = Scripts(words, self.plan) if words.split else Script(words, self.plan, out)
+        self.script = Scripts(split, self.plan) if split else Script(self.plan, out)
 
     def run(self, file: IO[bytes], progress: Progress) -> None:
         """Takes all lines of a log; reports what can't be taken."""
-        mistakes = Mistakes(progress, "" if self.words.log == "-" else self.words.log)
+        mistakes = Mistakes(progress, "" if self.log == "-" else self.log)
         number = self.take_all(file, progress, mistakes)
         if not self.reader.has_form():
             form = self.reader.form_name()
@@ -282,7 +298,7 @@ class Conversion:
                 progress.report(number, len(line or b""))
                 self.take(number, line, mistakes)
         except Mistaken as fault:
-            raise Mistaken(f"{self.words.log} {fault}") from None
+            raise Mistaken(f"{self.log} {fault}") from None
         except Full:
             kind = f"no room in a script of {LONGEST_SCRIPT:,} bytes"
             left_out = Refused(f"{kind}; this line and all after it are left out")
@@ -359,8 +375,8 @@ def add_script(parser: argparse.ArgumentParser) -> None:
     )
 
 
-def arguments(argv: Sequence[str], prog: str) -> argparse.Namespace:
-    """The words. Wrong ones end the program with status 2."""
+def arguments(argv: Sequence[str], prog: str) -> Options:
+    """What the words ask for. Wrong ones end the program with status 2."""
     parser = parser_of(prog, f"{__doc__}\n{logforms.FORMS}", ENDING)
     parser.add_argument(
         "log", nargs="?", default="-", help="the log, standard input if absent or -"
@@ -372,23 +388,23 @@ def arguments(argv: Sequence[str], prog: str) -> argparse.Namespace:
     add_plan(parser)
     add_script(parser)
     words = parsed(parser, argv)
-    check_plan(parser, words)
+    shape, plan = shape_of(words), plan_options(parser, words)
     if words.one_site and (said := name_fault("name", words.one_site)):
         parser.error(f"--site is no name: {said[0]}; {said[1]}")
     if words.split and words.stations:
         parser.error("--split has the stations of the log, and not those of --stations")
-    if not logforms.has_site(words) and not (words.one_site or words.site_map or words.stations):
-        form = "--regex" if words.regex else f"--form {words.form}"
+    if not shape.has_site and not plan.has_sites:
+        form = shape.name if shape.regex else f"--form {shape.form}"
         parser.error(f"{form} has no sites: --site, --site-map or --stations names them")
-    return words
+    return Options(words.log, shape, plan, words.received, words.utc, words.split)
 
 
-def convert(words: argparse.Namespace) -> int:
+def convert(options: Options) -> int:
     """Writes the script of a log to standard output, and gives the exit status."""
-    if words.stations:
+    if options.plan.stations:
         end_without_reader(1)
-    with open(1, "wb", closefd=False) as out, opened(words.log) as file:
-        conversion = Conversion(words, out)
+    with open(1, "wb", closefd=False) as out, opened(options.log) as file:
+        conversion = Conversion(options, out)
         conversion.run(unpacked(file), Progress(file))
         conversion.plan.check_sites()
         conversion.script.write()
@@ -398,5 +414,5 @@ def convert(words: argparse.Namespace) -> int:
 
 def main(argv: Sequence[str], prog: str) -> int:
     """Runs the tool with these words; gives its exit status."""
-    words = arguments(argv, prog)
-    return ended(lambda: convert(words))
+    options = arguments(argv, prog)
+    return ended(lambda: convert(options))

@@ -25,15 +25,13 @@ With `month` comes the log of a month of N stations at two sites, with findings 
     ocpp-board traffic 8 month | ocpp-board log-to-script --received | ocpp_board replay
 """
 
-import argparse
 from collections.abc import Iterator, Sequence
+from dataclasses import dataclass
 from datetime import datetime, timedelta, timezone
 
 from ocpp_board.limits import GREATEST_LIMITS, MOMENT, MOST_READINGS, MOST_STATIONS
 from ocpp_board.statuses import Status, ended
-from ocpp_board.traffic import month_traffic
-from ocpp_board.traffic import repeats
-from ocpp_board.traffic import troubles
+from ocpp_board.traffic import month_traffic, repeats, troubles
 from ocpp_board.words import parsed, parser_of
 
 # Events of a session, seconds from one to the next, and what the register reads first and rises by each time, in Wh.
@@ -102,8 +100,17 @@ def unchanging(count: int) -> Iterator[str]:
     yield f"energy {name(0)}"
 
 
-def arguments(argv: Sequence[str], prog: str) -> argparse.Namespace:
-    """The words. Wrong ones end the program with status 2."""
+@dataclass(frozen=True)
+class Options:
+    """What the words ask for: how many of what, and how many stations take turns."""
+
+    count: int
+    kind: str | None
+    stations: int
+
+
+def arguments(argv: Sequence[str], prog: str) -> Options:
+    """What the words ask for. Wrong ones end the program with status 2."""
     parser = parser_of(prog, __doc__)
     parser.add_argument(
         "count",
@@ -131,40 +138,37 @@ def arguments(argv: Sequence[str], prog: str) -> argparse.Namespace:
     if words.kind in SESSIONS and words.count > SESSIONS[words.kind]:
         parser.error(f"N is from 0 to {SESSIONS[words.kind]} with {words.kind}")
     fewest = max(1, -(-words.count // GREATEST_LIMITS["events"]))
-    words.stations = fewest if words.stations is None else words.stations
-    if words.kind is None and not fewest <= words.stations <= MOST_STATIONS:
+    stations = fewest if words.stations is None else words.stations
+    if words.kind is None and not fewest <= stations <= MOST_STATIONS:
         parser.error(f"{words.count:,} events need {fewest} to {MOST_STATIONS} stations")
-    if words.kind is None and -(-words.count // words.stations) * words.stations > MOST_READINGS:
+    if words.kind is None and -(-words.count // stations) * stations > MOST_READINGS:
         parser.error(
-            f"{words.stations} stations with room for the same number each have none for "
-            f"{words.count:,}"
+            f"{stations} stations with room for the same number each have none for {words.count:,}"
         )
-    return words
+    return Options(words.count, words.kind, stations)
 
 
-def lines_of(words: argparse.Namespace) -> Iterator[str]:
-    """The lines of the script that the words ask for."""
-    if words.kind == "troubles":
-        return troubles.script(words.count)
-    if words.kind == "month":
-        return month_traffic.log(words.count)
-    if words.kind in ("repeats", "sessions"):
-        return repeats.script(words.count, words.kind == "repeats")
-    return (
-        unchanging(words.count)
-        if words.kind == "unchanging"
-        else script(words.count, words.stations)
-    )
+def lines_of(asked: Options) -> Iterator[str]:
+    """The lines of the script that is asked for."""
+    if asked.kind == "troubles":
+        return troubles.script(asked.count)
+    if asked.kind == "month":
+        return month_traffic.log(asked.count)
+    if asked.kind in ("repeats", "sessions"):
+        return repeats.script(asked.count, asked.kind == "repeats")
+    if asked.kind == "unchanging":
+        return unchanging(asked.count)
+    return script(asked.count, asked.stations)
 
 
-def write(words: argparse.Namespace) -> int:
+def write(asked: Options) -> int:
     """Writes the script to standard output, and gives the exit status."""
-    for line in lines_of(words):
+    for line in lines_of(asked):
         print(line)
     return Status.DONE
 
 
 def main(argv: Sequence[str], prog: str) -> int:
     """Runs the tool with these words; gives its exit status."""
-    words = arguments(argv, prog)
-    return ended(lambda: write(words))
+    asked = arguments(argv, prog)
+    return ended(lambda: write(asked))

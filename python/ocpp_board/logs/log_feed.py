@@ -1,12 +1,12 @@
 """Feeds a ledger with the script that is kept of a log, and then with the log as it grows."""
 
-import argparse
 import logging
 import re
 import threading
 from collections import Counter
 from collections.abc import Callable
-from datetime import datetime, timedelta, timezone
+from dataclasses import dataclass
+from datetime import datetime, timedelta, timezone, tzinfo
 from functools import partial
 from pathlib import Path
 
@@ -16,8 +16,8 @@ from ocpp_board.logs.fitting_limits import fitting, said, sent_in
 from ocpp_board.logs.followed import Followed, Place
 from ocpp_board.logs.kept_script import KeptScript
 from ocpp_board.logs.log_reader import LogReader, Taken
-from ocpp_board.logs.logforms import Entry
-from ocpp_board.logs.script_plan import ScriptPlan
+from ocpp_board.logs.logforms import Entry, Shape
+from ocpp_board.logs.script_plan import PlanOptions, ScriptPlan
 from ocpp_board.messages.texts import Refused
 from ocpp_board.replay.answered import RECEIVED, Answered, Line, moment_of
 from ocpp_board.replay.archive import Archive, Takers, grouped, next_begin
@@ -38,19 +38,36 @@ RECEIPT = re.compile(rb"^# received (\S+)$", re.MULTILINE)
 LONGEST_DEED = 16_384
 
 
+@dataclass(frozen=True)
+class LogOptions:
+    """A log that is followed, how its lines are read, and its plan. `state`: the folder of the script; `program`: what
+    replays the archive; `close`: the length, month or day, after which sessions are closed, in this zone; `is_once`:
+    the feed ends where the log does."""
+
+    log: Path
+    state: Path
+    shape: Shape
+    plan: PlanOptions
+    program: str
+    close: str | None
+    zone: tzinfo
+    is_utc: bool
+    is_once: bool
+
+
 class LogFeed:
     """A log that is followed, and the script that is kept of it."""
 
-    def __init__(self, words: argparse.Namespace, ledger: Ledger) -> None:
+    def __init__(self, options: LogOptions, ledger: Ledger) -> None:
         """Raises OSError, and Mistaken where the stations are none or another process keeps the script."""
-        self.words, self.ledger = words, ledger
-        plan = ScriptPlan(words)
-        self.fit(plan, words.state / "script")
-        self.kept = KeptScript(words.state, plan.declarations())
+        self.options, self.ledger = options, ledger
+        plan = ScriptPlan(options.plan)
+        self.fit(plan, options.state / "script")
+        self.kept = KeptScript(options.state, plan.declarations())
         ledger.script.path = self.kept.path
         for fault in plan.strangers():
             log.warning("%s; nothing comes of it until that file names the site", fault)
-        self.reader = LogReader(words, plan)
+        self.reader = LogReader(options.shape, plan, True, options.is_utc)
         self.place = self.kept.place()
         self.followed: Followed | None = None
         self.now: str | None = None
@@ -68,8 +85,8 @@ class LogFeed:
         self.taking = threading.Lock()
         # Where closed sessions go, if they do, and from which moment on the next ones are closed.
         self.archive = Archive(
-            words.state / "archive",
-            words.program,
+            options.state / "archive",
+            options.program,
             plan.declarations(),
             ledger.script,
             self.takers(),
@@ -102,7 +119,7 @@ class LogFeed:
             self.gather()
         for lines in self.kept.blocks():
             self.ledger.send(lines)
-            if self.words.close and not self.boundary and (received := RECEIPT.search(lines)):
+            if self.options.close and not self.boundary and (received := RECEIPT.search(lines)):
                 self.boundary = self.begin_behind(received[0])
         self.is_loaded.set()
         if self.archive:
@@ -114,7 +131,7 @@ class LogFeed:
                 continue
             if self.followed.is_current():
                 self.catch_up()
-                if self.words.once:
+                if self.options.is_once:
                     return
             self.is_ending.wait(AGAIN)
 
@@ -128,7 +145,7 @@ class LogFeed:
     def fit(self, plan: ScriptPlan, script: Path) -> bool:
         """Gives stations the limits that fit what a script has, where none are asked for; returns whether they
         changed."""
-        if self.words.limits or not plan.site_of:
+        if self.options.plan.limits or not plan.site_of:
             return False
         limits = fitting([*plan.site_of], sent_in(script))
         if limits == plan.limits_of:
@@ -141,8 +158,8 @@ class LogFeed:
         """Whether nothing was taken yet of a log that is there, and a station's room depends on what it sends."""
         plan, is_new = self.reader.plan, self.place is None and self.kept.is_new
         has_most = len(plan.site_of) * GREATEST_LIMITS["readings"] <= MOST_READINGS
-        is_asked = self.words.limits or self.words.close
-        return is_new and not has_most and not is_asked and bool(self.words.log.exists())
+        is_asked = self.options.plan.limits or self.options.close
+        return is_new and not has_most and not is_asked and self.options.log.exists()
 
     def gather(self) -> None:
         """Takes what the log has into the script, with declarations that fit it."""
@@ -161,15 +178,15 @@ class LogFeed:
         """The log, which is waited for where it is not there yet. Raises OSError."""
         while not self.is_ending.is_set():
             try:
-                followed = Followed(self.words.log, self.place, self.report_cut)
+                followed = Followed(self.options.log, self.place, self.report_cut)
             except FileNotFoundError as fault:
-                if self.words.once:
+                if self.options.is_once:
                     raise
                 self.report_once(f"{fault}; waited for")
                 self.catch_up()
                 self.is_ending.wait(AGAIN)
                 continue
-            if followed.place.place and self.words.form == "citrineos-csv":
+            if followed.place.place and self.options.shape.form == "citrineos-csv":
                 # It names the columns.
                 self.reader.form.read(followed.first_line().decode("utf-8", "replace"))
             return followed
@@ -180,7 +197,7 @@ class LogFeed:
         self.is_caught_up.set()
         if not self.reader.has_form():
             self.report_once(
-                f"no line of {self.words.log} is of the form {self.reader.form_name()}"
+                f"no line of {self.options.log} is of the form {self.reader.form_name()}"
             )
 
     def report_cut(self, what: str) -> None:
@@ -214,10 +231,10 @@ class LogFeed:
     def hand_on(self, lines: bytes) -> None:
         """Takes lines of the script: those of a closed session go to the archive. What ended before the month or the
         day of a message is closed first."""
-        if not (self.words.close or self.archive.of):
+        if not (self.options.close or self.archive.of):
             self.put(lines)
             return
-        if self.words.close and (received := RECEIPT.search(lines)):
+        if self.options.close and (received := RECEIPT.search(lines)):
             moment = received[1].decode()
             if self.boundary and moment >= self.boundary:
                 self.close(moment)
@@ -235,15 +252,15 @@ class LogFeed:
         at = moment_of(received.strip().removeprefix(RECEIVED))
         if at is None:
             return ""
-        begin = next_begin(at.astimezone(self.words.tz or timezone.utc), self.words.close == "day")
+        begin = next_begin(at.astimezone(self.options.zone), self.options.close == "day")
         return begin.astimezone(timezone.utc).strftime(MOMENT)
 
     def close(self, moment: str) -> None:
         """Closes what ended before the month or the day of a moment. Raises OSError, Mistaken, and Ended."""
-        at = datetime.fromisoformat(moment).astimezone(self.words.tz or timezone.utc)
+        at = datetime.fromisoformat(moment).astimezone(self.options.zone)
         begin = at.replace(hour=0, minute=0, second=0, microsecond=0)
-        begin = begin if self.words.close == "day" else begin.replace(day=1)
-        form = "%Y-%m-%d" if self.words.close == "day" else "%Y-%m"
+        begin = begin if self.options.close == "day" else begin.replace(day=1)
+        form = "%Y-%m-%d" if self.options.close == "day" else "%Y-%m"
         label = (begin - timedelta(days=1)).strftime(form)
         # A question is answered behind all that was sent.
         self.ledger.ask(f"total {next(iter(self.reader.plan.site_of))}".encode())
@@ -294,12 +311,12 @@ class LogFeed:
         except Refused as why:
             return self.refused(why)
         except Mistaken as fault:
-            raise Mistaken(f"{self.words.log} {fault}") from None
+            raise Mistaken(f"{self.options.log} {fault}") from None
         self.last = self.reader.entry or self.last
         if taken.note:
             # Of each kind the first.
             if taken.note.kind not in self.reported:
-                log.warning("%s: %s", self.words.log, taken.note)
+                log.warning("%s: %s", self.options.log, taken.note)
             self.reported.add(taken.note.kind)
         return self.after_now(taken)
 

@@ -1,6 +1,5 @@
 """What the lines of a CSMS's log become in a script."""
 
-import argparse
 import logging
 import re
 from datetime import date, datetime, timezone
@@ -9,7 +8,7 @@ from typing import NamedTuple
 
 from ocpp_board.escapes import shown
 from ocpp_board.limits import FIRST_MOMENT, LONGEST_LOG_LINE, MOMENT, PAST_MOMENTS
-from ocpp_board.logs.logforms import Entry, form_of
+from ocpp_board.logs.logforms import Entry, Shape
 from ocpp_board.logs.mending import Mender
 from ocpp_board.logs.script_plan import ScriptPlan
 from ocpp_board.messages.message_faults import OLD_ACTIONS
@@ -97,10 +96,12 @@ class LogReader:
 
     KINDS = ("lines", "messages", "answers", "sent", "old", "other", "blank", "refused")
 
-    def __init__(self, words: argparse.Namespace, plan: ScriptPlan) -> None:
-        self.words, self.plan = words, plan
-        self.form = form_of(words, not (words.one_site or words.site_map or words.stations))
-        self.counts, self.mender = dict.fromkeys(self.KINDS, 0), Mender(words.mend)
+    def __init__(self, shape: Shape, plan: ScriptPlan, is_received: bool, is_utc: bool) -> None:
+        """`is_received`: the times of receipt are in front of messages; `is_utc`: times without an offset are UTC."""
+        self.shape, self.plan = shape, plan
+        self.is_received, self.is_utc = is_received, is_utc
+        self.form = shape.reader(has_site=not plan.asked.has_sites)
+        self.counts, self.mender = dict.fromkeys(self.KINDS, 0), Mender(plan.asked.mend)
         # What the line says that is read, as far as it was understood.
         self.entry: Entry | None = None
 
@@ -142,8 +143,8 @@ class LogReader:
         line = msg_line(station, message)
         self.plan.admit(site, station)
         needs_time = call is not None and has_moment(call[2])
-        moment, note = self.moment(entry) if needs_time or self.words.received else (None, None)
-        received = f"# received {moment}\n".encode() if moment and self.words.received else b""
+        moment, note = self.moment(entry) if needs_time or self.is_received else (None, None)
+        received = f"# received {moment}\n".encode() if moment and self.is_received else b""
         now = moment if needs_time else None
         return Taken("messages", station, now, came + received + line, note)
 
@@ -160,7 +161,7 @@ class LogReader:
         if entry.time is None:
             return None, None
         try:
-            return moment_of(entry.time, self.words.utc), None
+            return moment_of(entry.time, self.is_utc), None
         except Refused as why:
             _, _, detail = str(why).partition(f"{why.kind}: ")
             return None, Refused(f"{why.kind}; its message goes without a time", detail)
@@ -173,7 +174,7 @@ class LogReader:
 
     def form_name(self) -> str:
         """The name of the log's form."""
-        return "--regex" if self.words.regex else str(self.words.form)
+        return self.shape.name
 
     def report(self) -> None:
         """What became of the lines."""

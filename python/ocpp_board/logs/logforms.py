@@ -3,7 +3,8 @@
 import argparse
 import csv
 import re
-from collections.abc import Callable
+from collections.abc import Callable, Mapping
+from dataclasses import dataclass
 from typing import Any, NamedTuple, Protocol
 
 from ocpp_board.escapes import shown
@@ -404,30 +405,63 @@ def add_form(parser: argparse.ArgumentParser) -> None:
     )
 
 
-def has_site(words: argparse.Namespace) -> bool:
-    """Whether the lines of such a log name their site."""
-    if words.regex:
-        return "site" in words.regex.groupindex
-    return bool(words.form == "json")
+@dataclass(frozen=True)
+class Shape:
+    """How the lines of a log are read: by an expression or a form, with the names of a form `json`. `incoming`: what
+    says that a station sent a line."""
+
+    form: str
+    regex: re.Pattern[str] | None
+    fields: Mapping[str, str]
+    incoming: str | None
+    protocol: str | None
+    direction: str | None
+    is_json_message: bool
+
+    @property
+    def name(self) -> str:
+        """Its name in what is reported."""
+        return "--regex" if self.regex else self.form
+
+    @property
+    def has_site(self) -> bool:
+        """Whether the lines of such a log name their site."""
+        return "site" in self.regex.groupindex if self.regex else self.form == "json"
+
+    def reader(self, has_site: bool) -> Form:
+        """What reads the lines. `has_site`: the lines of a form `json` name their site."""
+        incoming = "in" if self.incoming is None else self.incoming
+        if self.regex:
+            return RegexForm(self.regex, incoming)
+        if self.form == "arrows":
+            return ArrowForm(self.incoming)
+        if self.form != "json":
+            return OTHER_FORMS[self.form]()
+        return JsonForm(
+            JsonFields(
+                **self.fields,
+                protocol=self.protocol,
+                direction=self.direction,
+                incoming=incoming,
+                is_json_message=self.is_json_message,
+                has_site=has_site,
+            )
+        )
+
+
+def shape_of(words: argparse.Namespace) -> Shape:
+    """The shape that the words ask for."""
+    return Shape(
+        words.form,
+        words.regex,
+        {field: getattr(words, field) for field in FIELDS if field in words},
+        words.incoming,
+        words.protocol,
+        words.direction,
+        words.json_message,
+    )
 
 
 def form_of(words: argparse.Namespace, has_site: bool) -> Form:
-    """The form that the words name. `has_site`: the lines of a form `json` name their site."""
-    incoming = "in" if words.incoming is None else words.incoming
-    if words.regex:
-        return RegexForm(words.regex, incoming)
-    if words.form == "arrows":
-        return ArrowForm(words.incoming)
-    if words.form != "json":
-        return OTHER_FORMS[words.form]()
-    names = {field: getattr(words, field) for field in FIELDS if field in words}
-    return JsonForm(
-        JsonFields(
-            **names,
-            protocol=words.protocol,
-            direction=words.direction,
-            incoming=incoming,
-            is_json_message=words.json_message,
-            has_site=has_site,
-        )
-    )
+    """What reads the lines of the log that the words describe."""
+    return shape_of(words).reader(has_site)

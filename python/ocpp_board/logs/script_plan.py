@@ -2,7 +2,8 @@
 
 import argparse
 import difflib
-from collections.abc import Iterable, Iterator
+from collections.abc import Iterable, Iterator, Mapping
+from dataclasses import dataclass
 
 from ocpp_board.escapes import shown
 from ocpp_board.limits import (
@@ -17,7 +18,7 @@ from ocpp_board.limits import (
     is_name,
 )
 from ocpp_board.logs.logforms import Entry
-from ocpp_board.logs.mending import add_mending, mends_of
+from ocpp_board.logs.mending import Mends, add_mending, mends_of
 from ocpp_board.messages.texts import Refused
 from ocpp_board.replay.line_faults import NAMES, name_fault
 from ocpp_board.replay.refusals import NOT_IN
@@ -67,24 +68,51 @@ def known(name: str, sites: Iterable[str]) -> str:
     return f"its sites: {', '.join(names[:MOST_SITES])}{more}" if names else "it has no site"
 
 
+@dataclass(frozen=True)
+class PlanOptions:
+    """What a plan is asked to have: the files of its stations and sites, limits, and by site (or for all that have no
+    entry, by the empty text) period, order and rule of settling; what is mended; whether boards are asked for.
+    """
+
+    stations: str | None
+    one_site: str | None
+    site_map: str | None
+    limits: tuple[int, ...] | None
+    period: Mapping[str, int]
+    order: Mapping[str, str]
+    settle: Mapping[str, str]
+    mend: Mends
+    has_boards: bool
+
+    @property
+    def has_sites(self) -> bool:
+        """Whether they say which sites the stations have."""
+        return bool(self.one_site or self.site_map or self.stations)
+
+    @property
+    def has_settings(self) -> bool:
+        """Whether they ask for more than stations."""
+        return bool(self.order or self.settle or self.period or self.limits or self.mend)
+
+
 class ScriptPlan:
     """The stations so far. With `--stations` they are those of its file, and no others."""
 
-    def __init__(self, words: argparse.Namespace, most_stations: int = MOST_STATIONS) -> None:
-        """Raises OSError, and Mistaken where a file of the words has not two names a line or too many stations."""
-        self.words, self.most_stations = words, most_stations
+    def __init__(self, asked: PlanOptions, most_stations: int = MOST_STATIONS) -> None:
+        """Raises OSError, and Mistaken where a file of the options has not two names a line or too many stations."""
+        self.asked, self.most_stations = asked, most_stations
         self.most_sites = MOST_SITES if most_stations == MOST_STATIONS else most_stations
-        self.readings = words.limits[2] if words.limits else DEFAULT_READINGS
+        self.readings = asked.limits[2] if asked.limits else DEFAULT_READINGS
         self.site_of: dict[str, str] = {}
         # The limits of stations where none are asked for; without them they are the program's.
         self.limits_of: dict[str, tuple[int, ...]] = {}
-        self.map = {station: site for station, site in pairs_of(words.site_map or "/dev/null")}
-        self.is_fixed = words.stations is not None
+        self.map = {station: site for station, site in pairs_of(asked.site_map or "/dev/null")}
+        self.is_fixed = asked.stations is not None
         try:
-            for site, station in pairs_of(words.stations or "/dev/null"):
+            for site, station in pairs_of(asked.stations or "/dev/null"):
                 self.admit(site, station)
         except Refused as why:
-            raise Mistaken(f"{words.stations}: {why}") from None
+            raise Mistaken(f"{asked.stations}: {why}") from None
 
     def sites(self) -> list[str]:
         """The sites, in the order in which they came."""
@@ -92,7 +120,7 @@ class ScriptPlan:
 
     def strangers(self) -> list[str]:
         """What is wrong with options that name sites which no station has, a sentence for each."""
-        known_sites = [*self.sites(), *filter(None, [self.words.one_site]), *self.map.values()]
+        known_sites = [*self.sites(), *filter(None, [self.asked.one_site]), *self.map.values()]
         sites = list(dict.fromkeys(known_sites))
         return [
             f"{option} names the site {shown(name)}, which {self.source()} does not have; {known(name, sites)}"
@@ -103,13 +131,13 @@ class ScriptPlan:
 
     def options(self) -> Iterator[tuple[str, Iterable[str]]]:
         """The options that name sites, with these."""
-        yield from (("--order", self.words.order), ("--settle", self.words.settle))
-        yield "--period", self.words.period
-        yield "--mend", self.words.mend
+        yield from (("--order", self.asked.order), ("--settle", self.asked.settle))
+        yield "--period", self.asked.period
+        yield "--mend", self.asked.mend
 
     def source(self) -> str:
         """Where the sites come from, for a reader."""
-        return str(self.words.stations) if self.is_fixed else "the log"
+        return str(self.asked.stations) if self.is_fixed else "the log"
 
     def check_sites(self) -> None:
         """Raises Mistaken where an option names a site that no station has."""
@@ -118,17 +146,17 @@ class ScriptPlan:
 
     def place(self, entry: Entry) -> tuple[str, str]:
         """The site and the station of a line. Raises Refused where they are not known."""
-        station, words = entry.station, self.words
+        station, asked = entry.station, self.asked
         if self.is_fixed:
             if station not in self.site_of:
-                raise Refused(f"{NOT_IN} {words.stations}", shown(station))
+                raise Refused(f"{NOT_IN} {asked.stations}", shown(station))
             return self.site_of[station], station
         if station in self.map:
             return self.map[station], station
-        if words.one_site:
-            return words.one_site, named("station", station)
-        if words.site_map:
-            raise Refused(f"{NOT_IN} {words.site_map}", shown(station))
+        if asked.one_site:
+            return asked.one_site, named("station", station)
+        if asked.site_map:
+            raise Refused(f"{NOT_IN} {asked.site_map}", shown(station))
         return named("site", entry.site), named("station", station)
 
     def admit(self, site: str, station: str) -> bool:
@@ -157,21 +185,21 @@ class ScriptPlan:
 
     def limits_line(self) -> bytes:
         """The line with the limits of all stations, where some are asked for."""
-        return limits_line_of(self.words.limits) if self.words.limits else b""
+        return limits_line_of(self.asked.limits) if self.asked.limits else b""
 
     def period_line(self, site: str) -> bytes:
         """The settlement period of a site, where one is asked for."""
-        seconds = self.words.period.get(site, self.words.period.get(""))
+        seconds = self.asked.period.get(site, self.asked.period.get(""))
         return f"period {site} {seconds}\n".encode() if seconds else b""
 
     def order_line(self, site: str) -> bytes:
         """The order of a site's readings, where one is asked for."""
-        word = self.words.order.get(site, self.words.order.get(""))
+        word = self.asked.order.get(site, self.asked.order.get(""))
         return f"order {site} {word}\n".encode() if word else b""
 
     def settle_line(self, site: str) -> bytes:
         """The rule by which a site's differences count in its periods, where one is asked for."""
-        word = self.words.settle.get(site, self.words.settle.get(""))
+        word = self.asked.settle.get(site, self.asked.settle.get(""))
         return f"settle {site} {word}\n".encode() if word else b""
 
     def declarations(self, site_of: dict[str, str] | None = None) -> bytes:
@@ -191,7 +219,7 @@ class ScriptPlan:
     def boards(self, site_of: dict[str, str] | None = None) -> bytes:
         """The lines that ask for the board of each site, where they are asked for."""
         sites = dict.fromkeys((self.site_of if site_of is None else site_of).values())
-        return b"".join(f"board {site}\n".encode() for site in sites if self.words.boards)
+        return b"".join(f"board {site}\n".encode() for site in sites if self.asked.has_boards)
 
 
 def limits_line_of(limits: Iterable[int]) -> bytes:
@@ -270,11 +298,19 @@ def add_plan(parser: argparse.ArgumentParser) -> None:
     add_mending(parser)
 
 
-def check_plan(parser: argparse.ArgumentParser, words: argparse.Namespace) -> None:
-    """Brings these options into their form. Wrong ones end the program with status 2."""
-    words.period, words.order = dict(words.period), dict(words.order)
-    words.settle = dict(words.settle)
-    words.mend = mends_of(words.mend)
+def plan_options(parser: argparse.ArgumentParser, words: argparse.Namespace) -> PlanOptions:
+    """What the words ask for. Wrong ones end the program with status 2."""
     greatest = GREATEST_LIMITS.values()
     if words.limits and not all(1 <= n <= most for n, most in zip(words.limits, greatest)):
         parser.error("--limits are from 1 to 4096, 65536, 65536 and 9223372036854775808")
+    return PlanOptions(
+        words.stations,
+        words.one_site,
+        words.site_map,
+        tuple(words.limits) if words.limits else None,
+        dict(words.period),
+        dict(words.order),
+        dict(words.settle),
+        mends_of(words.mend),
+        words.boards,
+    )
