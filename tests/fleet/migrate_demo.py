@@ -116,8 +116,12 @@ class Demo(ClosingTrial):
             stdout=subprocess.PIPE,
             check=True,
         )
-        # Each dump has a key of its own.
-        return sorted(re.sub(r"\\(un)?restrict .*", "", made.stdout.decode()).splitlines())
+        # Each dump has a key of its own, and the roles of a policy in the order in which they were changed last.
+        text = re.sub(r"\\(un)?restrict .*", "", made.stdout.decode())
+        roles = re.compile(r"(?<= TO )ledger_[a-z_, ]+(?= USING| WITH)")
+        return sorted(
+            roles.sub(lambda found: ", ".join(sorted(found[0].split(", "))), text).splitlines()
+        )
 
     def schema_refuses(self, schema: Path, wanted: str) -> None:
         """A schema file ends with an error on the database as it is."""
@@ -146,9 +150,13 @@ class Demo(ClosingTrial):
         database, schema = self.fleet.databases[0], self.next_schema()
         first = self.schema("ledger")
         database.run_schema("ledger")
+        after, second = await self.rows(columns), self.schema("ledger")
+        changed = [table for table in columns if after[table] != before[table]]
+        differ = [text for text in difflib.ndiff(first, second) if text[0] in "+-"]
         self.check(
-            await self.rows(columns) == before and self.schema("ledger") == first,
-            f"schema.sql once more: {sum(map(len, before.values()))} rows and the schema as before",
+            not changed and not differ,
+            f"schema.sql once more: {sum(map(len, before.values()))} rows and the schema as before "
+            f"{changed or ''} {differ[:4] or ''}",
         )
         for _ in range(2):
             database.run_schema("ledger", schema=schema)
