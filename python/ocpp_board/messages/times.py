@@ -74,7 +74,8 @@ def clock_of(text: str) -> Clock:
     """What a text writes. Raises TimeFault."""
     found = SHAPE.fullmatch(text)
     if found is None:
-        raise TimeFault(NO_TIME)
+        # A date has no offset either.
+        raise TimeFault(NO_OFFSET if re.fullmatch(DATE, text) else NO_TIME)
     part = found.groups()
     if part[0] not in (None, "+00"):
         # A year that the calendar has, but no moment.
