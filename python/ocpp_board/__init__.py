@@ -9,6 +9,6 @@
     fleet       gateways, workers, feeds, the page and the closings, on PostgreSQL
 
 What all of these use is here: cli (the command `ocpp-board`), words (options that several tools take), statuses (how a
-tool ends), telling (reports on standard error), progress, sources and processes (files and programs), limits (those of
-the program), energies, escapes and shared_work.
+tool ends), reporting (what tools write to standard error), progress, sources and processes (files and programs), limits
+(those of the program), energies, escapes and shared_work.
 """

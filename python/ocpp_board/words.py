@@ -6,7 +6,7 @@ from collections.abc import Sequence
 from typing import NoReturn
 from zoneinfo import ZoneInfo
 
-from ocpp_board import telling
+from ocpp_board import reporting
 from ocpp_board.messages.bills import TOKENS
 from ocpp_board.processes import found_program
 from ocpp_board.reports.quality import MOST_KW
@@ -28,7 +28,7 @@ def parser_of(prog: str, about: str | None, ending: str = "") -> argparse.Argume
         epilog=ending,
         formatter_class=argparse.RawDescriptionHelpFormatter,
     )
-    telling.add_option(parser)
+    reporting.add_option(parser)
     return parser
 
 
@@ -37,7 +37,7 @@ def parsed(
 ) -> argparse.Namespace:
     """The words; from then on messages go where they say. Wrong words end the program with status 2."""
     words = parser.parse_args(argv)
-    telling.set_up(parser.prog, words.log_json, named_from)
+    reporting.set_up(parser.prog, words.log_json, named_from)
     return words
 
 

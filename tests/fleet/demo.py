@@ -13,7 +13,7 @@ what it started. The status is 1 where one of these is not as it must be.
     worker       a worker is killed with -9
     gateway      a gateway is killed with -9
     replay       a worker's replay is killed with -9
-    order        workers are killed between giving lines their places and telling answers, sessions while they give them
+    order        workers are killed between giving lines their places and answering, sessions while they give them
     open         transactions stay open: one that wrote in another database, a station that is added, an operator's line
     server       the database and all its processes are killed with -9 and started again, three times, and in between
                  one process that serves a worker or a gateway, twice
@@ -193,7 +193,7 @@ class Demo(Trial):
         os.kill(children(self.workers[0].pid)[0], signal.SIGKILL)
 
     async def order(self) -> None:
-        """Workers that are killed between giving lines their places and telling answers, and while they give them."""
+        """Workers that are killed between giving lines their places and answering, and while they give them."""
         for _ in range(3):
             self.workers.pop(0).kill()
             self.workers.append(self.new_worker(LATE))

@@ -26,7 +26,7 @@ from urllib.parse import urlsplit
 from websockets.connection import State
 from websockets.http11 import Request, Response
 
-from ocpp_board import telling
+from ocpp_board import reporting
 from ocpp_board.fleet.parts import use_uvloop
 from ocpp_board.fleet.websocket import MASKED, TWO_BYTES, WHOLE_TEXT, ClientLink
 from tests.fleet.trials import messages
@@ -309,7 +309,7 @@ def main() -> int:
     )
     parser.add_argument("--record", required=True, help="the file of what was answered")
     words = parser.parse_args()
-    telling.set_up(parser.prog, named_from=logging.DEBUG)
+    reporting.set_up(parser.prog, named_from=logging.DEBUG)
     use_uvloop()
     try:
         return asyncio.run(run(words))

@@ -14,7 +14,7 @@ from typing import Any
 
 import asyncpg
 
-from ocpp_board import telling
+from ocpp_board import reporting
 from ocpp_board.fleet.database import LOST, Fault, Unreachable, said
 from ocpp_board.limits import MOMENT
 from tests.fleet.fleet import Fleet
@@ -116,7 +116,7 @@ def parser_of(about: str | None) -> argparse.ArgumentParser:
 def parsed(parser: argparse.ArgumentParser) -> argparse.Namespace:
     """The words; from here on faults are reported, and a signal ends all that was started."""
     words = parser.parse_args()
-    telling.set_up(parser.prog, named_from=logging.DEBUG)
+    reporting.set_up(parser.prog, named_from=logging.DEBUG)
     signal.signal(signal.SIGTERM, lambda *_: sys.exit(143))
     return words
 

@@ -13,7 +13,7 @@ from ocpp_board.limits import LONGEST_LOG_LINE
 from ocpp_board.logs.followed import GONE, Followed, Place, front_of, is_replaced, known
 from ocpp_board.logs.kept_script import BEGIN, KeptScript
 from ocpp_board.statuses import Mistaken
-from ocpp_board.telling import set_up
+from ocpp_board.reporting import set_up
 
 STATIONS = b"station north A\n"
 

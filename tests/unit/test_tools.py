@@ -24,7 +24,7 @@ from ocpp_board.replay.answered import Replay
 from ocpp_board.replay.line_faults import bad_line
 from ocpp_board.commands import tables
 from ocpp_board.statuses import Mistaken, Status
-from ocpp_board.telling import JsonFormatter, PlainFormatter
+from ocpp_board.reporting import JsonFormatter, PlainFormatter
 from ocpp_board.traffic import repeats
 from ocpp_board.traffic.troubles import KINDS, MOST_SESSIONS, script as troubled
 from ocpp_board.version import version
