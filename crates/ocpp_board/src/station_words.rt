@@ -30,8 +30,8 @@ impl Display for WordFault<'_> {
 }
 
 /// The plan of the stations that these words name, in their order, under these limits. A site begins at its first
-/// mention, and has so many viewers, these settlement periods and this order of readings. Names of stations that stand
-/// of a station that is there twice.
+/// mention, and has so many viewers, these settlement periods and this order of readings. A station that is there
+/// twice is no fault here: [`Plan::fault`] reports it.
 pub fn plan_of<'a>(
     words: &[&'a str],
     viewers: u16,
