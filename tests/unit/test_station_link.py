@@ -134,6 +134,26 @@ def test_a_handshake_has_so_many_bytes(size: int) -> None:
     ran(job)
 
 
+def test_nothing_is_read_behind_the_end_of_a_connection(monkeypatch: pytest.MonkeyPatch) -> None:
+    def job() -> None:
+        link, wire, own = connected()
+        let_in(link, own)
+        handed, hand_on = list[bytes](), link.hand_on
+
+        def handing(data: bytes) -> None:
+            handed.append(data)
+            hand_on(data)
+
+        monkeypatch.setattr(link, "hand_on", handing)
+        # A part of a message that has no begin.
+        for _ in range(2):
+            link.data_received(masked(OP_CONT, fin=False) * 10_000)
+        assert len(handed) == 1 and b"\x03\xea" in wire.written
+        assert not (link.unread or link.begun)
+
+    ran(job)
+
+
 @pytest.mark.parametrize(
     "front, frame",
     [

@@ -59,6 +59,8 @@ class Link(asyncio.Protocol):
         self.begun = bytearray()
         self.cuts_frames = False
         self.is_lost = self.is_reading = False
+        # Whether this end sends no more, so that nothing of what comes is read any more.
+        self.has_ended = False
 
     def handshake(self, event: Request | Response) -> None:
         """The other end asks to be let in, or answers that."""
@@ -84,7 +86,7 @@ class Link(asyncio.Protocol):
 
     def data_received(self, data: bytes) -> None:
         """Bytes came."""
-        if self.read_whole(data):
+        if self.has_ended or self.read_whole(data):
             return
         if len(data) <= PART or self.cuts_frames:
             self.unread.append(data)
@@ -97,9 +99,12 @@ class Link(asyncio.Protocol):
         if self.is_reading:
             return  # An answer to what is being read.
         self.is_reading = True
-        while not (self.is_lost or self.is_held()) and self.step():
+        while not (self.is_lost or self.has_ended or self.is_held()) and self.step():
             pass
         self.is_reading = False
+        if self.has_ended:
+            self.begun.clear()
+            self.unread.clear()
         if self.is_held() and not self.is_lost:
             self.hold()
 
@@ -223,6 +228,7 @@ class Link(asyncio.Protocol):
             if data:
                 self.transport.write(data)
             else:
+                self.has_ended = True
                 self.end()
                 self.cut_later()
 
