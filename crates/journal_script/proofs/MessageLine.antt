@@ -7,6 +7,9 @@ use Rattle.std.specs.Str.{IsUtf8}
 use Rattle.std.proofs.lemmas.Bool.{false≢true}
 use Rattle.std.proofs.lemmas.List.Elements.{All-append, All-cons, All-nil}
 use Rattle.std.proofs.lemmas.List.Sums.{AllPass-from_list_all}
+use Rattle.kept_desk.specs.Speaking.{AsksFor, Says, Speaks}
+use Rattle.ledger_model.specs.Name.{is_name}
+use Rattle.ledger_model.specs.declared.command.Command.{Command}
 use Rattle.script_lines.specs.LineMeaning.{line_meaning, sends}
 use Rattle.script_lines.specs.Lines.{HasNoFeed}
 use Rattle.script_lines.specs.Ranges.{longest_line}
@@ -34,9 +37,12 @@ stands_in_script name text stands =
     no_return [] bare = refl
     no_return (x ∷ xs) bare = kept_last x xs bare
 
-module _ (name text line : List ℕ) (is : line ≡ message_text name text) (stands : StandsAsItIs name text) where
-  pub line_stands : HasNoFeed line × (strip_last 13 line ≡ line) × (length line ≤ longest_line)
-  line_stands = subst (λ l. HasNoFeed l × (strip_last 13 l ≡ l) × (length l ≤ longest_line)) (sym is) (stands_in_script name text stands)
+pub line_stands : (name text line : List ℕ) → line ≡ message_text name text → StandsAsItIs name text → HasNoFeed line × (strip_last 13 line ≡ line) × (length line ≤ longest_line)
+line_stands name text line is stands = subst (λ l. HasNoFeed l × (strip_last 13 l ≡ l) × (length l ≤ longest_line)) (sym is) (stands_in_script name text stands)
 
-  pub line_says : IsUtf8 text → line_meaning (Some line) ≡ sends name text
-  line_says utf8 = ap (λ l. line_meaning (Some l)) is ∙ msg_says name text utf8 stands.named
+-- a line of a message that is one line speaks for what its text asks for
+pub line_speaks : (name text line bytes : List ℕ) (command : Command) → bytes ≡ line → line ≡ message_text name text → is_name name ≡ true → IsUtf8 text → HasNoFeed bytes → strip_last 13 bytes ≡ bytes → length bytes ≤ longest_line
+    → AsksFor text command → Speaks name line command
+line_speaks name text line bytes command same is named utf8 feedless bare short asks =
+    let says : line_meaning (Some bytes) ≡ sends name text = ap (λ l. line_meaning (Some l)) (same ∙ is) ∙ msg_says name text utf8 named in
+    subst (λ l. Speaks name l command) same (record { feedless = feedless; bare = bare; short = short; says = subst (λ m. Says m name command) (sym says) (refl, asks) })

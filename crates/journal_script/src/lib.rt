@@ -2,8 +2,8 @@
 //!
 //! [`laws`] says which contents stations have after the text of a journal's entries is read behind a script, whole or
 //! cut at any byte, and that the boards which `replay` then writes are those of the stations. [`message_line`] makes
-//! the line of a message, and reads it before it goes into the journal. [`restore`] reads a script up to a `#` and the
-//! line `listen`, and returns its stations with the contents that it leads to.
+//! the line of a message, which asks for the message's delivery whenever it is read. [`restore`] reads a script up to a
+//! `#` and the line `listen`, and returns its stations with the contents that it leads to.
 #![tactic(auto)]
 
 mod fault;

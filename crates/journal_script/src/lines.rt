@@ -1,8 +1,9 @@
 //! The lines of a journal.
-ghost use Rattle.std.specs.Prelude.{◌≡◌, ◌↔◌, ◌≤◌, length, IsTrue, IfOk, OnOk};
+ghost use Rattle.std.specs.Prelude.{◌≡◌, ◌↔◌, ◌≤◌, true, length, IsTrue, IfOk, OnOk};
 ghost use Rattle.std.specs.Io.BufRead.{strip_last};
 ghost use Rattle.ledger_model.specs.declared.command.Command.TheVariants.{Deliver};
-ghost use Rattle.script_lines.specs.LineMeaning.{line_meaning, sends};
+ghost use Rattle.ledger_model.specs.Name.{is_name};
+ghost use Rattle.script_lines.specs.LineMeaning.{line_meaning};
 ghost use Rattle.script_lines.specs.Lines.{HasNoFeed, line_bytes};
 ghost use Rattle.script_lines.specs.Ranges.{longest_line};
 ghost use Rattle.kept_desk.specs.Speaking.{AsksFor, Says, Speaks};
@@ -15,7 +16,7 @@ use transaction_event::{Message, message_of};
 
 /// Makes the line of a station's message, and returns whether the line asks for the same delivery as the message. It
 /// does if the text is one line that is not too long. Line feeds and carriage returns between the tokens of a text
-/// become spaces in the line; such a line is read again and its event compared.
+/// become spaces in the line.
 ///
 /// Condition: the text asks for this delivery.
 pub fn message_line(
@@ -31,20 +32,23 @@ pub fn message_line(
     ensures as_it_is { IfOk result (λ is. StandsAsItIs name.now text.now → IsTrue is) }
 {
     put_message(line, name, text)?;
-    if is_script_line(line) && is_message(Some(line), name, text) {
+    if is_script_line(line) {
         return Ok(true);
     }
+    // No law says that a text with spaces for line feeds asks for the same, so such a line is read.
     put_spaces(line);
     Ok(is_script_line(line) && is_delivery(alloc, Some(line), name, key, event))
 }
 
 // Makes the line `msg <name> <text>`.
 fn put_message(line: &mut Vec<u8>, name: &Name, text: &str) -> Result<(), AllocError>
-    ensures { OnOk result (line.new.items ≡ message_text name.now text.now) }
+    ensures named { is_name name.now ≡ true }
+    ensures text { OnOk result (line.new.items ≡ message_text name.now text.now) }
 {
+    let station = name.text();
     line.clear();
     line.extend_from_slice(b"msg ")?;
-    line.extend_from_slice(name.text().as_bytes())?;
+    line.extend_from_slice(station.as_bytes())?;
     line.push(b' ')?;
     line.extend_from_slice(text.as_bytes())
 }
@@ -81,23 +85,6 @@ fn is_bare(line: &[u8]) -> bool
     ensures { IsTrue result ↔ (strip_last 13 line.now ≡ line.now) }
 {
     without_return(line).len() == line.len()
-}
-
-// Returns whether the line says that this station sends this text.
-fn is_message(line: Option<&[u8]>, name: &Name, text: &str) -> bool
-    ensures { IsTrue result ↔ (line_meaning (line_bytes line.entry) ≡ sends name.now text.now) }
-{
-    match &read_line(line) {
-        ScriptLine::Sends(to, said) => is_sent(to, said, name, text),
-        _ => false,
-    }
-}
-
-// Returns whether both names are the same, and both texts.
-fn is_sent(to: &Name, said: &str, name: &Name, text: &str) -> bool
-    ensures { IsTrue result ↔ ((to.now ≡ name.now) × (said.now ≡ text.now)) }
-{
-    *to == *name && *said == *text
 }
 
 // Returns whether the line asks for this delivery by a message of this station.

@@ -29,6 +29,7 @@ use Rattle.live_server.specs.Told.{Tells}
 use Rattle.running_desk.specs.Ordered.{lines_in}
 use Rattle.site_desk.specs.Close.{changes_of}
 use Rattle.station_cell.specs.Cell.{Cell, Held}
+use Rattle.station_link.specs.Attended.{IsAnswered}
 use Rattle.journal_server.specs.Left.{Left}
 
 -- The state of a replay after these bytes.
@@ -76,13 +77,28 @@ AreAccepted stations firsts log = (before : List Entry) (e : Entry) (rest : List
 abbrev pub AreGiven : List Cell → List Entry → List Held → Type 0
 AreGiven firsts log passes = (k : ℕ) (f : Cell) → slice_get firsts k ≡ Some f → changes_of k passes ≡ f.content.changes + length (of_station k log)
 
+-- What came with an answer to a command is what a desk with a journal returns with it, for a line
+-- of the command and the bytes in front of it.
+abbrev pub IsKeptAnswer : (ℕ → Content) → ℕ → StationPlace → Command → Answer → Option Known → Option (List Entry) → Type 0
+IsKeptAnswer first number at command answer told seen = (note line : List ℕ) × IsReceived at (first number) answer (entry number note line command) told seen
+
+-- So many texts of stations were answered with an accepted change. The moment of the journal with each answer is a
+-- front of this list of lines: the line of the text's event is the last of that front, and its answer is the ledger's
+-- at the content to which the station's earlier lines lead.
+pub record AreTextAnswers (first : ℕ → Content) (log : List Entry) (answers : ℕ) : Type 0 where
+  pub moments : List (List Entry)
+  pub count : length moments ≡ answers
+  pub begin : All (λ m. IsPrefix m log) moments
+  pub each : All (IsAnswered (IsKeptAnswer first)) moments
+
 -- What a server wrote behind the front of its script, and the boards that it gave at its end. The
 -- front ends with these sites and stations, with the contents of the cells `firsts`. There is one
 -- list of lines. The writer, which had `before`, took their text and, if a write failed, a front of
 -- one more line. Each line speaks for its command on its station, and was accepted at the content
 -- to which the earlier lines of the station lead. Each station's own lines lead to its content, and
--- its passes counted one accepted answer for each of them. The console's answers belong to this
--- list. The boards are what `replay` answers behind the front and the lines.
+-- its passes counted one accepted answer for each of them. The accepted answers to stations' texts
+-- and the console's answers belong to this list. The boards are what `replay` answers behind the
+-- front and the lines.
 pub record IsItsScript (front : List ℕ) (sites : List SitePlan) (stations : List StationPlan) (firsts : List Cell) (before : Option (List ℕ)) (left : Left) (tells : List Entry → Type 0) : Type 0 where
   pub log : List Entry
   pub written : IsWritten left.broken before left.now left.buffer log
@@ -92,6 +108,7 @@ pub record IsItsScript (front : List ℕ) (sites : List SitePlan) (stations : Li
   pub accepted : AreAccepted stations firsts log
   pub each : AreLeftFrom stations firsts cells log
   pub given : AreGiven firsts log left.passes
+  pub texts : AreTextAnswers (contents_of firsts) log left.answers
   pub told : tells log
   pub ended : Shows (after (front ++ text_of log)) sites stations cells
   pub shown : AreAnswers (after (front ++ text_of log)) sites left.boards
@@ -133,21 +150,18 @@ pub record IsRestoredRun (allows : Bool) (input before : Option (List ℕ)) (lef
 abbrev pub IsRefused : Option (List ℕ) → (List ℕ → Type 0) → Type 0
 IsRefused input why = (read last : List ℕ) × Begins input (read ++ last) × IsListen last × why read
 
--- A desk with a journal at its close, with its boards and its passes, and the answers that belong to its list of lines.
+-- A desk with a journal at its close, with its boards and its passes, and the answers that belong to its list of lines:
+-- those to stations' texts, and the console's.
 pub record IsEnded (name : ℕ → List ℕ) (first : ℕ → Content) (before : Option (List ℕ)) (sites : List SitePlan) (stations : List StationPlan) (left : Left) (tells : List Entry → Type 0) : Type 0 where
   pub cells : List Cell
   pub seen : List (List Entry)
   pub written : IsWrittenDown name first before left.broken left.now left.buffer cells seen
+  pub texts : AreTextAnswers first written.log left.answers
   pub told : tells written.log
   pub given : (k : ℕ) (c : Cell) → slice_get cells k ≡ Some c → c.content.changes ≡ changes_of k left.passes
   pub count : length cells ≡ length stations
   pub limits : (k : ℕ) (s : StationPlan) (c : Cell) → slice_get stations k ≡ Some s → slice_get cells k ≡ Some c → c.limits ≡ s.limits
   pub is : left.boards ≡ boards_text sites stations cells (length sites)
-
--- What came with an answer to a command is what a desk with a journal returns with it, for a line
--- of the command and the bytes in front of it.
-abbrev pub IsKeptAnswer : (ℕ → Content) → ℕ → StationPlace → Command → Answer → Option Known → Option (List Entry) → Type 0
-IsKeptAnswer first number at command answer told seen = (note line : List ℕ) × IsReceived at (first number) answer (entry number note line command) told seen
 
 -- The console of a server, which had `before`, took the lines of the ports and then the answers to
 -- its operator's lines, at a desk of the plan's stations with their first contents. The moment of

@@ -1,5 +1,5 @@
 //! A server with a journal, from its desk to its boards.
-ghost use Rattle.std.specs.Prelude.{◌≡◌, ◌<◌, ℕ, List, [], None, All, IfOk, IsOk, OnOk, length};
+ghost use Rattle.std.specs.Prelude.{◌≡◌, ◌<◌, ◌++◌, ℕ, List, [], None, All, IfOk, IsOk, OnOk, length};
 ghost use Rattle.std.specs.Io.Buffered.{writer_buffer, writer_inner};
 ghost use Rattle.kept_desk.specs.Opened.{contents_of, names_of};
 ghost use Rattle.site_book.specs.Tables.{HasTable, NamedBy};
@@ -7,7 +7,8 @@ ghost use Rattle.site_desk.specs.Plan.{plan_fault};
 ghost use Rattle.site_desk.specs.Roster.{AreCellsOf, AreNewPlaces};
 ghost use Rattle.journal_server.specs.Left.{left_of};
 ghost use Rattle.live_server.specs.Told.{operator_input};
-ghost use Rattle.journal_server.specs.Served.{IsEnded, IsItsScript, Leaves, TellsNew};
+ghost use Rattle.journal_server.specs.Served.{IsEnded, IsItsScript, IsKeptAnswer, Leaves, TellsNew};
+ghost use Rattle.station_link.specs.Attended.{IsAnswered};
 ghost use Rattle.site_book.specs.Prefix.{IsPrefix};
 ghost use Rattle.script_ledgers.specs.Running.{AreTheirPasses};
 
@@ -40,6 +41,8 @@ pub struct Served<W, T> {
     pub boards: Vec<u8>,
     /// All passes of its desk. Each counted the commands that were accepted with it.
     pub passes: Vec<Pass>,
+    /// How many texts of stations were answered with an accepted change.
+    pub answers: usize,
     /// How the operator's lines ended.
     pub ended: Result<(), ServiceFault>,
     /// The console, which took the lines of the ports and the answers to the operator.
@@ -223,29 +226,41 @@ fn seen_of<M: Drop>(
     }
 }
 
+// These moments, and those behind them.
+fn with_more<M: Drop>(mut seen: Vec<M>, mut more: Vec<M>) -> Result<Vec<M>, AllocError>
+    ensures { IfOk result (λ all. all.items ≡ seen.items ++ more.items) }
+{
+    seen.append(&mut more)?;
+    Ok(seen)
+}
+
 // Closes a desk with a journal after its sessions have ended, and makes the board of each site, in the plan's
 // order.
-fn end_run<J: Naming, K: Opening, W: Write + Drop, T: Write + Drop>(
+fn end_run<J: Naming + Send + Sync, K: Opening + Send + Sync, W: Write + Drop, T: Write + Drop>(
     alloc: Global,
     plan: &Plan,
     kept: KeptDesk<J, K, W>,
-    ran: Ran<J, Moment<K>, T>,
+    ran: Ran<Serving<J, K, W>, T>,
 ) -> Result<Served<W, T>, ServiceFault>
     requires opened { AreNewPlaces plan.now.sites.items plan.now.stations.items kept.stations }
     requires sites { kept.sites ≡ length plan.now.sites.items }
     requires faultless { plan_fault plan.now.sites.items plan.now.stations.items ≡ None }
+    requires answered { All (IsAnswered (IsKeptAnswer K.first)) ran.answers.items }
     ensures { IfOk result (λ s. IsEnded K.name K.first K.before plan.now.sites.items plan.now.stations.items (left_of W.contents s)
         (λ log. (s.console ≡ ran.output) × OnOk s.ended (IsOk ran.ended) × IfOk ran.ended (λ seen. All (λ m. IsPrefix m log) seen.items))) }
 {
     let Ran {
         passes,
         viewers,
+        answers: texts,
         ended,
         output: console,
     } = ran;
+    let answers = texts.len();
     let (ended, seen) = seen_of(alloc, ended);
+    let moments = with_more(seen, texts)?;
     let mut boards = Vec::new(alloc);
-    let closed = match kept.close(passes, viewers, seen) {
+    let closed = match kept.close(passes, viewers, moments) {
         Ok(closed) => closed,
         Err(refused) => return Err(ServiceFault::from(refused.fault)),
     };
@@ -259,6 +274,7 @@ fn end_run<J: Naming, K: Opening, W: Write + Drop, T: Write + Drop>(
         is_broken: closed.is_broken,
         boards,
         passes: closed.closed.into_passes(),
+        answers,
         ended,
         console,
     })

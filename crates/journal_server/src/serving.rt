@@ -44,12 +44,17 @@ fn exhausted<J: Naming, K: Opening>() -> (Answer, Option<Told<J>>, Option<Moment
     (Answer::Refused(Refusal::ChangesExhausted), None, None)
 }
 
-impl<J: Naming, K: Opening, W: Write + Drop> Delivers<J, Moment<K>> for Serving<J, K, W> {
+impl<J: Naming + Send + Sync, K: Opening + Send + Sync, W: Write + Drop> Delivers
+    for Serving<J, K, W> {
+    type Names = J;
+
+    type Seen = Moment<K>;
+
     ghost use Rattle.journal_server.specs.Served.{IsKeptAnswer};
 
     ghost stations = { λ s. s.kept.stations };
 
-    ghost gives = { λ _. IsKeptAnswer K.first };
+    ghost gives = { IsKeptAnswer K.first };
 
     fn deliver<G: Gate, R: Wait + Clock>(
         &self,
@@ -81,8 +86,10 @@ impl<J: Naming, K: Opening, W: Write + Drop> Delivers<J, Moment<K>> for Serving<
     }
 }
 
-impl<J: Naming, K: Opening, W: Write + Drop> Serves<J, KeptCell<K>, Moment<K>>
+impl<J: Naming + Send + Sync, K: Opening + Send + Sync, W: Write + Drop> Serves
     for Serving<J, K, W> {
+    type Cell = KeptCell<K>;
+
     ghost use Rattle.kept_desk.specs.Kept.{AreBoardsBehind};
 
     ghost roster = { λ s. s.kept };

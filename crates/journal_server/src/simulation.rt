@@ -69,6 +69,7 @@ pub fn simulate<R: AllocGlobal + Host + RandomSource, T: Write + Drop>(
         is_broken,
         boards,
         passes,
+        answers,
         ended,
         console: _,
     } = served;
@@ -78,6 +79,7 @@ pub fn simulate<R: AllocGlobal + Host + RandomSource, T: Write + Drop>(
         is_broken,
         boards,
         passes,
+        answers,
         ended,
         console,
     })

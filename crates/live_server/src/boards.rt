@@ -14,8 +14,7 @@ use crate::shared::Shared;
 use board_report::running_board;
 use ledger_model::Name;
 use running_desk::{Running, Serves, site_of};
-use site_book::Naming;
-use site_desk::{HasCell, Plan};
+use site_desk::Plan;
 use station_link::Attendant;
 use std::alloc::{AllocError, Global};
 use std::io;
@@ -46,15 +45,7 @@ const PAGE: &str = "text/html; charset=utf-8";
 const NO_MEMORY: &[u8] =
     b"HTTP/1.1 503 Service Unavailable\r\nContent-Length: 0\r\nConnection: close\r\n\r\n";
 
-impl<J: Naming, C: HasCell, M: Drop, S: Serves<J, C, M>, R: Wait + Clock, L: Write + Drop> Shared<
-    '_,
-    J,
-    C,
-    M,
-    S,
-    R,
-    L,
-> {
+impl<S: Serves, R: Wait + Clock, L: Write + Drop> Shared<'_, S, R, L> {
     // Answers one request after the other until the server closes.
     pub(crate) fn serve_boards(&self, acceptor: &Acceptor<'_>) {
         for _ in self.rt.forever() {
@@ -151,10 +142,10 @@ fn read_rest<S: Read>(stream: &mut S) {
 }
 
 // The bytes that answer a request.
-fn answer<J: Naming, C: HasCell, M: Drop, S: Serves<J, C, M>, R: Wait>(
+fn answer<S: Serves, R: Wait>(
     rt: &R,
     alloc: Global,
-    running: &Running<'_, J, C, M, S>,
+    running: &Running<'_, S>,
     request: Request,
 ) -> Result<Vec<u8>, AllocError>
     ensures { IfOk result (λ bytes. IsBrowsed running.now.plan.now.sites.items running.now.desk.desk.now.stations request bytes.items) }
@@ -178,10 +169,10 @@ fn told(alloc: Global, status: Status) -> Result<Vec<u8>, AllocError>
 
 // The board of the site of this name. It waits for no journal, so a browser gets its answer while a journal's output
 // stalls.
-fn answer_board<J: Naming, C: HasCell, M: Drop, S: Serves<J, C, M>, R: Wait>(
+fn answer_board<S: Serves, R: Wait>(
     rt: &R,
     alloc: Global,
-    running: &Running<'_, J, C, M, S>,
+    running: &Running<'_, S>,
     name: &Name,
 ) -> Result<Vec<u8>, AllocError>
     ensures { IfOk result (λ bytes. IsBoardAnswer running.now.plan.now.sites.items running.now.desk.desk.now.stations (position (λ s. bytes_eq name.now s.name) running.now.plan.now.sites.items) bytes.items) }

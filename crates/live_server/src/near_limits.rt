@@ -3,8 +3,7 @@ ghost use Rattle.std.specs.Prelude.{◌*◌, ◌≤◌, ◌↔◌, IsTrue};
 
 use crate::log::Log;
 use ledger_model::{Limits, Name};
-use site_book::Naming;
-use site_desk::{Desk, Gate, HasCell, Plan};
+use site_desk::{Gate, Plan};
 use station_ledger::UsedLimits;
 use std::alloc::{AllocError, Global};
 use std::cell::Cell;
@@ -65,47 +64,31 @@ impl NearLimits {
             return;
         };
         let most = &own.limits;
-        if is_new(
-            &own.transactions,
-            u64::from(used.transactions),
-            u64::from(most.transactions()),
-        ) {
-            log.tell_near(
-                rt,
-                name,
+        let rows = [
+            (
                 "transactions",
+                &own.transactions,
                 u64::from(used.transactions),
                 u64::from(most.transactions()),
-            );
-        }
-        if is_new(
-            &own.events,
-            u64::from(used.events),
-            u64::from(most.events()),
-        ) {
-            log.tell_near(
-                rt,
-                name,
+            ),
+            (
                 "events",
+                &own.events,
                 u64::from(used.events),
                 u64::from(most.events()),
-            );
-        }
-        if is_new(
-            &own.readings,
-            u64::from(used.readings),
-            u64::from(most.readings()),
-        ) {
-            log.tell_near(
-                rt,
-                name,
+            ),
+            (
                 "readings",
+                &own.readings,
                 u64::from(used.readings),
                 u64::from(most.readings()),
-            );
-        }
-        if is_new(&own.changes, used.changes, most.changes()) {
-            log.tell_near(rt, name, "changes", used.changes, most.changes());
+            ),
+            ("changes", &own.changes, used.changes, most.changes()),
+        ];
+        for (what, told, used, limit) in rows.iter() {
+            if is_new(told, *used, *limit) {
+                log.tell_near(rt, name, what, *used, *limit);
+            }
         }
     }
 }
@@ -122,28 +105,26 @@ fn is_near(used: u64, limit: u64) -> bool
     limit - limit / 10 <= used
 }
 
-// Looks at the limits of a session's station after each event that came to the desk.
+// Reports the limits of a session's station after each event that came to the desk.
 #[derive(Drop)]
-pub(crate) struct LimitGate<'a, J: Naming, C: HasCell, L: Write + Drop> {
-    pub(crate) desk: &'a Desk<J, C>,
+pub(crate) struct LimitObserver<'a, L: Write + Drop> {
     pub(crate) near: &'a NearLimits,
     pub(crate) log: &'a Log<L>,
     pub(crate) station: u16,
-    // Whether an event came since it looked last.
-    pub(crate) has_event: Cell<bool>,
+    // How much the station used of its limits after the last event, if it was not looked at since.
+    pub(crate) used: Cell<Option<UsedLimits>>,
 }
 
-impl<'a, J: Naming, C: HasCell, L: Write + Drop> Gate for LimitGate<'a, J, C, L> {
-    fn held<R: Wait + Clock>(&self, _rt: &R, _station: &Name) {
-        self.has_event.set(true);
+impl<'a, L: Write + Drop> Gate for LimitObserver<'a, L> {
+    fn held<R: Wait + Clock>(&self, _rt: &R, _station: &Name) {}
+
+    fn settled(&self, used: UsedLimits) {
+        self.used.set(Some(used));
     }
 
     fn after<R: Wait + Clock>(&self, rt: &R, station: &Name, _call: u64) {
-        if self.has_event.get() {
-            self.has_event.set(false);
-            if let Ok(used) = self.desk.used_limits(rt, self.station) {
-                self.near.tell(rt, self.log, self.station, station, used);
-            }
+        if let Some(used) = self.used.replace(None) {
+            self.near.tell(rt, self.log, self.station, station, used);
         }
     }
 }

@@ -1,8 +1,9 @@
 //! A live server at a desk that the caller hands in.
-ghost use Rattle.std.specs.Prelude.{◌≡◌, ◌≤◌, IfOk, sum_by};
+ghost use Rattle.std.specs.Prelude.{◌≡◌, ◌≤◌, All, IfOk, sum_by};
 ghost use Rattle.std.specs.Thread.{IsSend, IsSync};
 ghost use Rattle.ledger_model.specs.Ranges.{most_plan_readings};
 ghost use Rattle.site_desk.specs.Roster.{AreNewPlaces};
+ghost use Rattle.station_link.specs.Attended.{IsAnswered};
 ghost use Rattle.live_server.specs.Told.{Tells, operator_input};
 ghost use Rattle.running_desk.specs.Ordered.{lines_in};
 ghost use Rattle.running_desk.specs.Replies.{AddsReplies};
@@ -10,14 +11,15 @@ ghost use Rattle.running_desk.specs.Replies.{AddsReplies};
 use crate::acceptor::{Acceptor, Acceptors};
 use crate::listeners::Listeners;
 use crate::log::Log;
-use crate::shared::Shared;
+use crate::shared::{Shared, Viewers};
 use core::thread::{Anything, Stack};
 use gathered_input::Readiness;
 use running_desk::{Running, Serves, operate};
 use server_parts::{Host, ServiceFault};
-use site_book::{Naming, Viewer};
-use site_desk::{HasCell, Plan};
+use site_book::Viewer;
+use site_desk::Plan;
 use station_cell::Pass;
+use station_link::Delivers;
 use std::alloc::Global;
 use std::io::{BufRead, Write};
 use std::net::TcpListener;
@@ -75,14 +77,16 @@ pub struct Run<'a, R> {
 
 /// The result of a server, after all threads have ended.
 #[derive(Drop)]
-pub struct Ran<J: Naming, M, W: Write + Drop> {
+pub struct Ran<S: Serves, W: Write + Drop> {
     /// All passes in the desk's pool.
     pub passes: Vec<Pass>,
     /// The viewers.
-    pub viewers: Vec<Viewer<J>>,
+    pub viewers: Vec<Viewer<S::Names>>,
+    /// What came with the answers of sessions.
+    pub answers: Vec<S::Seen>,
     /// How the operator's lines ended, or why no connection was served; after Ok, what was seen of the desk's journal
     /// with the answers to these lines.
-    pub ended: Result<Vec<M>, ServiceFault>,
+    pub ended: Result<Vec<S::Seen>, ServiceFault>,
     /// The output.
     pub output: W,
 }
@@ -97,10 +101,7 @@ pub struct Ran<J: Naming, M, W: Write + Drop> {
 /// Condition: the desk was opened for this plan, and the plan's limits allow no more than 1,048,576
 /// readings in all.
 pub fn serve_plan_at<
-    J: Naming + Send + Sync,
-    C: HasCell + Send,
-    M: Drop + Send,
-    S: Serves<J, C, M> + Sync,
+    S: Serves + Sync,
     R: Host,
     I: BufRead + Readiness,
     W: Write + Drop,
@@ -109,14 +110,15 @@ pub fn serve_plan_at<
     run: Run<'_, R>,
     serves: &S,
     passes: Vec<Pass>,
-    viewers: Vec<Viewer<J>>,
+    viewers: Vec<Viewer<S::Names>>,
     input: &mut I,
     mut output: W,
     lines: L,
-) -> Result<Ran<J, M, W>, ServiceFault>
+) -> Result<Ran<S, W>, ServiceFault>
     requires opened { AreNewPlaces run.plan.now.sites.items run.plan.now.stations.items (S.roster serves.now).stations }
     requires readings { sum_by (λ s. s.limits.readings) run.plan.now.stations.items ≤ most_plan_readings }
-    ensures { IfOk result (λ r. IfOk r.ended (λ seen. Tells (S.gives serves.now) (S.shows serves.now) run.entry.plan.now.sites.items (S.roster serves.now).stations
+    ensures answered { IfOk result (λ r. All (IsAnswered S.gives) r.answers.items) }
+    ensures tells { IfOk result (λ r. IfOk r.ended (λ seen. Tells S.gives (S.shows serves.now) run.entry.plan.now.sites.items (S.roster serves.now).stations
         (lines_in (operator_input run.entry.clients.connections (I.remaining input.old))) (W.contents output) (W.contents r.output) seen.items)) }
 {
     let Run {
@@ -142,67 +144,68 @@ fn workers_for(plan: &Plan) -> usize {
 
 // Serves to the end, and takes the passes from the pool.
 fn serve_all<
-    J: Naming + Send + Sync,
-    C: HasCell + Send,
-    M: Drop + Send,
-    S: Serves<J, C, M> + Sync,
+    S: Serves + Sync,
     R: Host,
     I: BufRead + Readiness,
     W: Write + Drop,
     L: Write + Send + Drop,
 >(
-    shared: Shared<'_, J, C, M, S, R, L>,
+    shared: Shared<'_, S, R, L>,
     listeners: &Listeners,
     glances: u16,
-    viewers: Vec<Viewer<J>>,
+    viewers: Viewers<S>,
     input: &mut I,
     output: W,
-) -> Ran<J, M, W>
-    ensures { IfOk result.ended (λ seen. AddsReplies (S.gives shared.entry.running.serves.now) (S.shows shared.entry.running.serves.now) shared.entry.running.plan.now.sites.items shared.entry.running.desk.desk.now.stations
+) -> Ran<S, W>
+    ensures answered { All (IsAnswered S.gives) result.answers.items }
+    ensures tells { IfOk result.ended (λ seen. AddsReplies S.gives (S.shows shared.entry.running.serves.now) shared.entry.running.plan.now.sites.items shared.entry.running.desk.desk.now.stations
         (lines_in (operator_input shared.entry.connections (I.remaining input.old))) (W.contents output) (W.contents result.output) seen.items) }
 {
     let acceptors = Acceptors::open(&listeners.stations, listeners.browsers.as_ref());
     let (ended, viewers, output) = serve_beside(
         &shared, &acceptors, glances, viewers, input, output,
     );
+    let (passes, answers) = shared.into_parts();
     Ran {
-        passes: shared.into_passes(),
+        passes,
         viewers,
+        answers,
         ended,
         output,
     }
 }
 
 // The result at the end of the threads: how the operator's lines ended, the viewers, and the output.
-type Ended<J, M, W> = (Result<Vec<M>, ServiceFault>, Vec<Viewer<J>>, W);
+type Ended<S, W> = (
+    Result<Vec<<S as Delivers>::Seen>, ServiceFault>,
+    Viewers<S>,
+    W,
+);
 
 // Serves on threads while this thread answers the operator's lines, and then ends them all.
 fn serve_beside<
-    J: Naming + Send + Sync,
-    C: HasCell + Send,
-    M: Drop + Send,
-    S: Serves<J, C, M> + Sync,
+    S: Serves + Sync,
     R: Host,
     I: BufRead + Readiness,
     W: Write + Drop,
     L: Write + Send + Drop,
 >(
-    shared: &Shared<'_, J, C, M, S, R, L>,
+    shared: &Shared<'_, S, R, L>,
     acceptors: &Acceptors<'_>,
     glances: u16,
-    viewers: Vec<Viewer<J>>,
+    viewers: Viewers<S>,
     input: &mut I,
     output: W,
-) -> Ended<J, M, W>
-    ensures { IfOk result.0 (λ seen. AddsReplies (S.gives shared.now.running.serves.now) (S.shows shared.now.running.serves.now) shared.now.running.plan.now.sites.items shared.now.running.desk.desk.now.stations
+) -> Ended<S, W>
+    ensures { IfOk result.0 (λ seen. AddsReplies S.gives (S.shows shared.now.running.serves.now) shared.now.running.plan.now.sites.items shared.now.running.desk.desk.now.stations
         (lines_in (operator_input shared.now.connections (I.remaining input.old))) (W.contents output) (W.contents result.2) seen.items) }
 {
     thread::scope(
         thread::scope_env(),
         shared.rt,
-        |scope| -> Ended<J, M, W>
-            requires { IsSync R.row × IsSend J.row × IsSync J.row × IsSend C.row × IsSend M.row × IsSync S.row × IsSend L.row }
-            ensures { IfOk result.0 (λ seen. AddsReplies (S.gives shared.entry.now.running.serves.now) (S.shows shared.entry.now.running.serves.now) shared.entry.now.running.plan.now.sites.items shared.entry.now.running.desk.desk.now.stations
+        |scope| -> Ended<S, W>
+            requires { IsSync R.row × IsSend S.Names.row × IsSync S.Names.row × IsSend S.Cell.row × IsSend S.Seen.row × IsSync S.row × IsSend L.row }
+            ensures { IfOk result.0 (λ seen. AddsReplies S.gives (S.shows shared.entry.now.running.serves.now) shared.entry.now.running.plan.now.sites.items shared.entry.now.running.desk.desk.now.stations
                 (lines_in (operator_input shared.entry.now.connections (I.remaining input.entry.now))) (W.contents output) (W.contents result.2) seen.items) }
         {
             let mut own = output;
@@ -224,22 +227,19 @@ fn serve_beside<
 fn serve_until_end<
     's,
     E: 's,
-    J: Naming + Send + Sync,
-    C: HasCell + Send,
-    M: Drop + Send,
-    S: Serves<J, C, M> + Sync,
+    S: Serves + Sync,
     R: Host,
     I: BufRead + Readiness,
     W: Write,
     L: Write + Send + Drop,
 >(
     scope: &'s Scope<'s, E>,
-    shared: &'s Shared<'_, J, C, M, S, R, L>,
+    shared: &'s Shared<'_, S, R, L>,
     acceptors: &'s Acceptors<'_>,
     input: &mut I,
     output: &mut W,
-) -> Result<Vec<M>, ServiceFault>
-    ensures { IfOk result (λ seen. AddsReplies (S.gives shared.now.running.serves.now) (S.shows shared.now.running.serves.now) shared.now.running.plan.now.sites.items shared.now.running.desk.desk.now.stations
+) -> Result<Vec<S::Seen>, ServiceFault>
+    ensures { IfOk result (λ seen. AddsReplies S.gives (S.shows shared.now.running.serves.now) shared.now.running.plan.now.sites.items shared.now.running.desk.desk.now.stations
         (lines_in (operator_input shared.now.connections (I.remaining input.old))) (W.contents output.old) (W.contents output.new) seen.items) }
 {
     let ended = if start_all(scope, shared, acceptors) {
@@ -254,20 +254,13 @@ fn serve_until_end<
 
 // Answers the operator's lines to their end, or waits until as many connections have ended as it serves.
 fn answer_lines<
-    J: Naming,
-    C: HasCell,
-    M: Drop,
-    S: Serves<J, C, M>,
+    S: Serves,
     R: Threads + Wait + Clock,
     I: BufRead + Readiness,
     W: Write,
     L: Write + Drop,
->(
-    shared: &Shared<'_, J, C, M, S, R, L>,
-    input: &mut I,
-    output: &mut W,
-) -> Result<Vec<M>, ServiceFault>
-    ensures { IfOk result (λ seen. AddsReplies (S.gives shared.now.running.serves.now) (S.shows shared.now.running.serves.now) shared.now.running.plan.now.sites.items shared.now.running.desk.desk.now.stations
+>(shared: &Shared<'_, S, R, L>, input: &mut I, output: &mut W) -> Result<Vec<S::Seen>, ServiceFault>
+    ensures { IfOk result (λ seen. AddsReplies S.gives (S.shows shared.now.running.serves.now) shared.now.running.plan.now.sites.items shared.now.running.desk.desk.now.stations
         (lines_in (operator_input shared.now.connections (I.remaining input.old))) (W.contents output.old) (W.contents output.new) seen.items) }
 {
     match shared.connections {
@@ -280,18 +273,9 @@ fn answer_lines<
 }
 
 // Starts the threads at both acceptors, and returns whether all could start.
-fn start_all<
-    's,
-    E: 's,
-    J: Naming + Send + Sync,
-    C: HasCell + Send,
-    M: Drop + Send,
-    S: Serves<J, C, M> + Sync,
-    R: Threads + Wait + Clock + Sync,
-    L: Write + Send + Drop,
->(
+fn start_all<'s, E: 's, S: Serves + Sync, R: Threads + Wait + Clock + Sync, L: Write + Send + Drop>(
     scope: &'s Scope<'s, E>,
-    shared: &'s Shared<'_, J, C, M, S, R, L>,
+    shared: &'s Shared<'_, S, R, L>,
     acceptors: &'s Acceptors<'_>,
 ) -> bool {
     for worker in 0..shared.workers.marks.len() {
@@ -309,15 +293,12 @@ fn start_all<
 fn start_worker<
     's,
     E: 's,
-    J: Naming + Send + Sync,
-    C: HasCell + Send,
-    M: Drop + Send,
-    S: Serves<J, C, M> + Sync,
+    S: Serves + Sync,
     R: Threads + Wait + Clock + Sync,
     L: Write + Send + Drop,
 >(
     scope: &'s Scope<'s, E>,
-    shared: &'s Shared<'_, J, C, M, S, R, L>,
+    shared: &'s Shared<'_, S, R, L>,
     acceptor: &'s Acceptor<'_>,
     worker: usize,
 ) -> bool {
@@ -336,17 +317,10 @@ fn start_worker<
 fn start_boards<
     's,
     E: 's,
-    J: Naming + Send + Sync,
-    C: HasCell + Send,
-    M: Drop + Send,
-    S: Serves<J, C, M> + Sync,
+    S: Serves + Sync,
     R: Threads + Wait + Clock + Sync,
     L: Write + Send + Drop,
->(
-    scope: &'s Scope<'s, E>,
-    shared: &'s Shared<'_, J, C, M, S, R, L>,
-    acceptor: &'s Acceptor<'_>,
-) -> bool {
+>(scope: &'s Scope<'s, E>, shared: &'s Shared<'_, S, R, L>, acceptor: &'s Acceptor<'_>) -> bool {
     let started = Stack::new()
         .stack_size(SMALL_STACK)
         .spawn_scoped_with(scope, Anything, move || shared.serve_boards(acceptor));

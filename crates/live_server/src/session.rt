@@ -1,14 +1,16 @@
 //! A worker's connections, from accept to end.
+ghost use Rattle.std.specs.Prelude.{All};
+ghost use Rattle.site_desk.specs.Roster.{IsNamed};
+ghost use Rattle.station_link.specs.Attended.{IsAnswered};
+
 use crate::acceptor::Acceptor;
 use crate::connection::{Connection, ConnectionStream, Patience};
-use crate::near_limits::LimitGate;
+use crate::near_limits::LimitObserver;
 use crate::shared::Shared;
 use arrayvec::ArrayString;
 use ledger_model::Name;
 use running_desk::Serves;
 use server_parts::SystemMoments;
-use site_book::Naming;
-use site_desk::HasCell;
 use station_cell::Pass;
 use station_link::{Attendant, Client, Greeted, SessionEnd, greet, refuse, serve_session};
 use std::cell::Cell;
@@ -26,14 +28,7 @@ const PATIENCE: Patience = Patience {
     writing: 30,
 };
 
-impl<
-    J: Naming,
-    C: HasCell,
-    M: Drop,
-    S: Serves<J, C, M>,
-    R: Threads + Wait + Clock,
-    L: Write + Drop,
-> Shared<'_, J, C, M, S, R, L> {
+impl<S: Serves, R: Threads + Wait + Clock, L: Write + Drop> Shared<'_, S, R, L> {
     // Accepts connections and serves each, until the server closes or as many connections came as
     // it serves.
     pub(crate) fn work(&self, acceptor: &Acceptor<'_>, worker: usize, mark: &AtomicBool) {
@@ -99,17 +94,18 @@ impl<
         name: &Name,
         pass: Pass,
         connection: &Connection<'_, R>,
-    ) {
+    )
+        requires { IsNamed self.now.running.desk.desk.now.stations name.now pass.station }
+    {
         self.log.tell_begun(self.rt, name);
         connection.serves();
         let before = pass.changes();
         let (rt, alloc, desk) = (self.rt, self.alloc, self.running.serves);
-        let gate = LimitGate {
-            desk: self.running.desk.desk,
+        let gate = LimitObserver {
             near: &self.near,
             log: &self.log,
             station: pass.station(),
-            has_event: Cell::new(false),
+            used: Cell::new(None),
         };
         let mut clock = SystemMoments { rt };
         let client = Client { socket, name, pass };
@@ -117,14 +113,19 @@ impl<
         self.finish(name, before, end);
     }
 
-    // Reports how a session ended, which began with this many changes, and puts its pass back.
-    fn finish(&self, name: &Name, before: u64, end: SessionEnd) {
+    // Reports how a session ended, which began with this many changes, puts its pass back, and keeps what came with its
+    // answers.
+    fn finish(&self, name: &Name, before: u64, end: SessionEnd<S::Seen>)
+        requires { All (IsAnswered S.gives) end.seen.items }
+    {
         let SessionEnd {
             why,
             pass,
+            messages: _,
             texts,
-            ..
+            seen,
         } = end;
+        self.answers.lock(self.rt).add(seen);
         if let Some(pass) = pass {
             let changes = pass.changes().saturating_sub(before);
             self.log.tell_ended(self.rt, name, why, texts, changes);

@@ -1,51 +1,43 @@
 //! The values that all threads of a live server share.
-ghost use Rattle.std.specs.Prelude.{◌≡◌, IfOk};
+ghost use Rattle.std.specs.Prelude.{◌≡◌, All, IfOk};
+ghost use Rattle.station_link.specs.Attended.{IsAnswered};
 
 use crate::log::Log;
 use crate::near_limits::NearLimits;
+use crate::session_answers::SessionAnswers;
 use crate::workers::Workers;
 use running_desk::{Running, Serves};
-use site_book::Naming;
-use site_desk::HasCell;
+use site_book::Viewer;
 use station_cell::Pass;
+use station_link::Delivers;
 use std::alloc::{AllocError, Global};
 use std::io::Write;
+use std::sync::Mutex;
+
+// The viewers of a desk's totals.
+pub(crate) type Viewers<S> = Vec<Viewer<<S as Delivers>::Names>>;
 
 // The values that all threads of a live server share.
 #[derive(Drop)]
-pub(crate) struct Shared<
-    'a,
-    J: Naming,
-    C: HasCell,
-    M: Drop,
-    S: Serves<J, C, M>,
-    R,
-    L: Write + Drop,
-> {
+pub(crate) struct Shared<'a, S: Serves, R, L: Write + Drop> {
     pub(crate) rt: &'a R,
     pub(crate) alloc: Global,
-    pub(crate) running: Running<'a, J, C, M, S>,
+    pub(crate) running: Running<'a, S>,
     // After how many connections the server ends; `None` if its operator's lines end it.
     pub(crate) connections: Option<u8>,
     pub(crate) workers: Workers,
     pub(crate) log: Log<L>,
     pub(crate) near: NearLimits,
+    // What came with the answers of sessions that have ended.
+    pub(crate) answers: Mutex<SessionAnswers<S>>,
 }
 
-impl<'a, J: Naming, C: HasCell, M: Drop, S: Serves<J, C, M>, R, L: Write + Drop> Shared<
-    'a,
-    J,
-    C,
-    M,
-    S,
-    R,
-    L,
-> {
+impl<'a, S: Serves, R, L: Write + Drop> Shared<'a, S, R, L> {
     // A running desk, its workers, which serve nobody yet, and the log.
     pub(crate) fn open(
         rt: &'a R,
         alloc: Global,
-        running: Running<'a, J, C, M, S>,
+        running: Running<'a, S>,
         connections: Option<u8>,
         workers: usize,
         log: Log<L>,
@@ -64,11 +56,15 @@ impl<'a, J: Naming, C: HasCell, M: Drop, S: Serves<J, C, M>, R, L: Write + Drop>
             workers: Workers::open(alloc, workers, connections)?,
             log,
             near,
+            answers: Mutex::new(SessionAnswers::new(alloc)),
         })
     }
 
-    // All passes in the desk's pool.
-    pub(crate) fn into_passes(self) -> Vec<Pass> {
-        self.running.desk.into_passes()
+    // All passes in the desk's pool, and what came with the answers of sessions.
+    pub(crate) fn into_parts(self) -> (Vec<Pass>, Vec<S::Seen>)
+        ensures { All (IsAnswered S.gives) result.1.items }
+    {
+        let answers = self.answers.into_inner();
+        (self.running.desk.into_passes(), answers.into_seen())
     }
 }

@@ -1,9 +1,7 @@
 //! A thread that glances at the totals while a live server serves.
-use crate::shared::Shared;
+use crate::shared::{Shared, Viewers};
 use running_desk::Serves;
 use server_parts::tell_totals;
-use site_book::{Naming, Viewer};
-use site_desk::HasCell;
 use std::io::Write;
 use std::sync::Wait;
 use std::sync::atomic::Ordering;
@@ -13,18 +11,10 @@ use std::time::{Clock, Duration};
 // The time from one glance to the next.
 const SECONDS_BETWEEN: u64 = 1;
 
-impl<J: Naming, C: HasCell, M: Drop, S: Serves<J, C, M>, R: Wait + Clock, L: Write + Drop> Shared<
-    '_,
-    J,
-    C,
-    M,
-    S,
-    R,
-    L,
-> {
+impl<S: Serves, R: Wait + Clock, L: Write + Drop> Shared<'_, S, R, L> {
     // Glances `glances` times at the totals of each viewer's site, a second apart, and reports them. If an operator
     // ends the server, it glances until then.
-    pub(crate) fn watch(&self, glances: u16, mut viewers: Vec<Viewer<J>>) -> Vec<Viewer<J>> {
+    pub(crate) fn watch(&self, glances: u16, mut viewers: Viewers<S>) -> Viewers<S> {
         for glance in 0..glances {
             if glance > 0 {
                 thread::sleep(self.rt, Duration::from_secs(SECONDS_BETWEEN));

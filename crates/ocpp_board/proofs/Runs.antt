@@ -1,12 +1,13 @@
 -- How the run of a server ends.
-use Rattle.std.proofs.Common.{◌≡◌, ◌∙◌, ℕ, Bool, true, List, [], ◌++◌, Option, None, Some, Result, Ok, Err, IfSome, OnOk, ap, append_assoc, refl, subst, sym}
+use Rattle.std.proofs.Common.{◌≡◌, ◌∙◌, ℕ, Bool, false, true, List, [], ◌++◌, Option, Some, Result, Ok, Err, IfOk, IfSome, OnOk, ap, append_assoc, refl, subst, sym}
 use Rattle.std.specs.Prelude.{is_some}
-use Rattle.std.specs.Io.KnownBytes.{Appends, Keeps}
-use Rattle.std.proofs.KnownBytes.{Appends-kept, Appends-trans}
+use Rattle.std.specs.Io.KnownBytes.{Appends}
+use Rattle.std.proofs.KnownBytes.{Appends-trans}
 use Rattle.journal_server.specs.declared.fault.JournalFault.{JournalFault}
 use Rattle.journal_server.specs.declared.run.Served.{Served}
 use Rattle.journal_server.specs.Left.{Left, left_of}
 use Rattle.journal_server.specs.Served.{IsNewRun, IsRestoredRun, IsToldOf, TellsNew, TellsRestored}
+use Rattle.journal_server.specs.Simulated.{IsSimulatedRun}
 use Rattle.journal_server.proofs.Ends.{telling}
 use Rattle.journal_script.specs.Restoring.{Grows}
 use Rattle.kept_desk.specs.Opened.{contents_of}
@@ -16,12 +17,10 @@ use Rattle.site_desk.specs.declared.plan.StationPlan.{StationPlan}
 use Rattle.server_parts.specs.declared.fault.ServiceFault.{ServiceFault}
 use Rattle.script_lines.specs.Writing.{WritesFront}
 use Rattle.script_replay.specs.Whole.{HasOutput, Writes}
-use Rattle.script_replay.specs.declared.whole.Ended.{Ended}
 use Rattle.station_cell.specs.Cell.{Held}
-use Rattle.ocpp_board.specs.declared.journalling.Kept.{Kept}
 use Rattle.ocpp_board.specs.declared.run.Ran.{Ran}
-use Rattle.ocpp_board.specs.Run.{IsJournalRun, IsServerEnd}
-use Rattle.ocpp_board.specs.Serving.{IsKept, kept_left}
+use Rattle.ocpp_board.specs.Run.{IsJournalRun, IsServerEnd, IsUnwrittenRun}
+use Rattle.ocpp_board.specs.Serving.{EndsJournalled, EndsUnwritten}
 
 -- a front of bytes, behind others
 front_behind : {T E : Type 0} (r : Result T E) (x bytes written : List ℕ) → WritesFront r bytes written → WritesFront r (x ++ bytes) (x ++ written)
@@ -39,23 +38,6 @@ front_of_more x y written rest is = ap (λ l. l ++ y) is ∙ append_assoc writte
 of_ok : {T E : Type 0} (r : Result T E) (t : T) (P : Type 0) → r ≡ Ok t → OnOk r P → P
 of_ok (Ok _) t P is h = h
 of_ok (Err _) t P is h = cc
-
--- the run of a server with a journal
-pub journal_run : {W C E : Type 0} (contents : W → Option (List ℕ)) (consoles : C → Option (List ℕ)) (reports : E → Option (List ℕ)) (errors : E) (ran : Ran W C E) (kept : Kept W C) (holds : Left → Result (Unit {0}) JournalFault → Option (List ℕ) → Type 0)
-    → ran.ended.output ≡ kept.output → ran.console ≡ kept.console → ran.passes ≡ kept.passes → IsServerEnd reports errors ran.ended kept.ended
-    → OnOk kept.ended (is_some kept.output ≡ true) → IsKept contents consoles kept holds → IsJournalRun contents consoles reports errors ran holds
-journal_run {W} {C} contents consoles reports errors ran kept holds out console passes end given is =
-    let P : Option W → Option C → List Held → Type 0 = λ o t ps. IfSome o (λ x. (answered : Option (List ℕ)) × holds (record { now = contents x; buffer = kept.unwritten.items; broken = kept.is_broken; boards = kept.boards.items; passes = ps }) kept.ended answered
-    × OnOk kept.ended (HasOutput consoles t (λ now. Appends answered now kept.boards.items))) in
-    record {
-      ended = kept.ended;
-      end = end;
-      buffer = kept.unwritten.items;
-      broken = kept.is_broken;
-      boards = kept.boards.items;
-      journal = subst (λ o. P o ran.console ran.passes.items) (sym out) (subst (λ t. P kept.output t ran.passes.items) (sym console) (subst (λ ps. P kept.output kept.console ps) (sym (λ i. (passes i).items)) is));
-      given = subst (λ o. OnOk kept.ended (is_some o ≡ true)) (sym out) given;
-    }
 
 -- what holds where a server ended well, holds where it was kept well
 on_through : {E F : Type 0} (kept : Result (Unit {0}) E) (served : Result (Unit {0}) F) (P : Type 0) → OnOk kept (served ≡ Ok tt) → OnOk served P → OnOk kept P
@@ -93,36 +75,86 @@ restored_through kept served allows input before left told now well r = record {
       (λ log t. on_through kept served ((reported : Option (List ℕ)) × Grows told reported × IsToldOf r.sites r.stations (contents_of r.firsts) log (lines_in r.rest) reported now) well t) r.script;
 }
 
--- a server with a journal that was kept
-pub is_kept : {W C : Type 0} (contents : W → Option (List ℕ)) (consoles : C → Option (List ℕ)) (kept : Kept W C) (served : Served W C) (holds : Left → Result (Unit {0}) JournalFault → Option (List ℕ) → Type 0)
-    → kept.output ≡ Some served.journal → kept_left contents kept served.journal ≡ left_of contents served → holds (left_of contents served) kept.ended (consoles served.console)
-    → OnOk kept.ended (HasOutput consoles kept.console (λ now. Appends (consoles served.console) now served.boards.items)) → IsKept contents consoles kept holds
-is_kept contents consoles kept served holds out left h console =
-    let told = consoles served.console in
-    subst (λ o. IfSome o (λ x. (answered : Option (List ℕ)) × holds (kept_left contents kept x) kept.ended answered × OnOk kept.ended (HasOutput consoles kept.console (λ now. Appends answered now kept.boards.items)))) (sym out)
-    (told, subst (λ l. holds l kept.ended told) (sym left) h, subst (λ (l : List ℕ). OnOk kept.ended (HasOutput consoles kept.console (λ now. Appends told now l))) (sym (ap (λ (l : Left). l.boards) left)) console)
+-- the answers of a new run, at other names of its input and of what its outputs had before
+pub new_run : {N T : Type 0} (r : Result (Served N T) JournalFault) (journals : N → Option (List ℕ)) (consoles : T → Option (List ℕ)) (sites : List SitePlan) (stations : List StationPlan) (before before' input input' told told' : Option (List ℕ))
+    → before ≡ before' → input ≡ input' → told ≡ told'
+    → IfOk r (λ s. IsNewRun sites stations before (left_of journals s) (TellsNew s.ended stations input told (consoles s.console)))
+    → IfOk r (λ s. (e : Result (Unit {0}) JournalFault) → OnOk e (s.ended ≡ Ok tt) → IsNewRun sites stations before' (left_of journals s) (TellsNew e stations input' told' (consoles s.console)))
+new_run (Ok s) journals consoles sites stations before before' input input' told told' b i t is = λ e well.
+    new_through e s.ended sites stations before' (left_of journals s) input' told' (consoles s.console) well
+    (subst (λ (x : Option (List ℕ)). IsNewRun sites stations x (left_of journals s) (TellsNew s.ended stations input' told' (consoles s.console))) b
+    (subst (λ (x : Option (List ℕ)). IsNewRun sites stations before (left_of journals s) (TellsNew s.ended stations x told' (consoles s.console))) i
+    (subst (λ (x : Option (List ℕ)). IsNewRun sites stations before (left_of journals s) (TellsNew s.ended stations input x (consoles s.console))) t is)))
+new_run (Err f) journals consoles sites stations before before' input input' told told' b i t is = is
 
--- what a console took that an output took in its turn
-handed_on : {W C : Type 0} (contents : W → Option (List ℕ)) (consoles : C → Option (List ℕ)) (output : Option W) (console : Option C) (answered : Option (List ℕ)) (boards : List ℕ)
-    → HasOutput consoles console (λ now. Appends answered now boards) → HasOutput consoles console (λ written. HasOutput contents output (Keeps written)) → HasOutput contents output (λ now. Appends answered now boards)
-handed_on contents consoles (Some o) (Some c) answered boards first then = Appends-kept answered (consoles c) (contents o) boards first then
-handed_on contents consoles None (Some c) answered boards first then = absurd then
-handed_on contents consoles output None answered boards first then = absurd first
+-- the same of a restored run
+pub restored_run : {N T : Type 0} (r : Result (Served N T) JournalFault) (journals : N → Option (List ℕ)) (consoles : T → Option (List ℕ)) (allows : Bool) (before before' input input' told told' : Option (List ℕ))
+    → before ≡ before' → input ≡ input' → told ≡ told'
+    → IfOk r (λ s. IsRestoredRun allows input before (left_of journals s) (TellsRestored s.ended told (consoles s.console)))
+    → IfOk r (λ s. (e : Result (Unit {0}) JournalFault) → OnOk e (s.ended ≡ Ok tt) → IsRestoredRun allows input' before' (left_of journals s) (TellsRestored e told' (consoles s.console)))
+restored_run (Ok s) journals consoles allows before before' input input' told told' b i t is = λ e well.
+    restored_through e s.ended allows input' before' (left_of journals s) told' (consoles s.console) well
+    (subst (λ (x : Option (List ℕ)). IsRestoredRun allows input' x (left_of journals s) (TellsRestored s.ended told' (consoles s.console))) b
+    (subst (λ (x : Option (List ℕ)). IsRestoredRun allows x before (left_of journals s) (TellsRestored s.ended told' (consoles s.console))) i
+    (subst (λ (x : Option (List ℕ)). IsRestoredRun allows input before (left_of journals s) (TellsRestored s.ended x (consoles s.console))) t is)))
+restored_run (Err f) journals consoles allows before before' input input' told told' b i t is = is
 
--- the end of a server without a journal
-pub nowhere_kept : {W N C : Type 0} (contents : W → Option (List ℕ)) (nowhere : N → Option (List ℕ)) (consoles : C → Option (List ℕ)) (ended : Result (Unit {0}) JournalFault) (output : Option W) (own : List Held) (kept : Kept N C) (served : Served N C)
-    (holds : Left → Result (Unit {0}) JournalFault → Option (List ℕ) → Type 0) → kept_left nowhere kept served.journal ≡ left_of nowhere served
-    → ((e : Result (Unit {0}) JournalFault) → OnOk e (served.ended ≡ Ok tt) → holds (left_of nowhere served) e (consoles served.console))
-    → OnOk kept.ended (served.ended ≡ Ok tt) → OnOk kept.ended (HasOutput consoles kept.console (λ now. Appends (consoles served.console) now served.boards.items))
-    → OnOk ended (kept.ended ≡ Ok tt) → OnOk ended (own ≡ kept.passes.items) → OnOk ended (HasOutput consoles kept.console (λ written. HasOutput contents output (Keeps written)))
-    → OnOk ended ((left : Left) × (answered : Option (List ℕ)) × holds left ended answered × (left.passes ≡ own) × HasOutput contents output (λ now. Appends answered now left.boards))
-nowhere_kept contents nowhere consoles (Ok u) output own kept served holds left h well took closed passes on =
-    let well' = of_ok kept.ended tt (served.ended ≡ Ok tt) closed well in
-    let took' = of_ok kept.ended tt (HasOutput consoles kept.console (λ now. Appends (consoles served.console) now served.boards.items)) closed took in (
-      left_of nowhere served,
-      consoles served.console,
-      h (Ok u) well',
-      sym (λ i. (left i).passes) ∙ sym passes,
-      handed_on contents consoles output kept.console (consoles served.console) served.boards.items took' on,
-    )
-nowhere_kept contents nowhere consoles (Err _) output own kept served holds left h well took closed passes on = closed
+-- the same of simulated stations, which write nothing to the console
+pub simulated_run : {N T : Type 0} (r : Result (Served N T) JournalFault) (journals : N → Option (List ℕ)) (consoles : T → Option (List ℕ)) (stations : ℕ) (console : T) (before : Option (List ℕ))
+    → consoles console ≡ before
+    → IfOk r (λ s. IsSimulatedRun stations (left_of journals s) × (s.console ≡ console))
+    → IfOk r (λ s. (e : Result (Unit {0}) JournalFault) → OnOk e (s.ended ≡ Ok tt) → (consoles s.console ≡ before) × IsSimulatedRun stations (left_of journals s))
+simulated_run (Ok s) journals consoles stations console before b is = λ e well. (ap consoles is.1 ∙ b, is.0)
+simulated_run (Err f) journals consoles stations console before b is = is
+
+-- each of two facts of a good end
+on_both : {T E : Type 0} (r : Result T E) (P Q : Type 0) → OnOk r (P × Q) → OnOk r P × OnOk r Q
+on_both (Ok _) P Q h = h
+on_both (Err _) P Q h = (h, h)
+
+-- the run of a server without a journal
+pub unwritten_run : {W N T C E : Type 0} (contents : W → Option (List ℕ)) (nowhere : N → Option (List ℕ)) (consoles : T → Option (List ℕ)) (reports : E → Option (List ℕ)) (errors : E) (ran : Ran W C E) (served : Result (Served N T) JournalFault)
+    (holds : Left → Result (Unit {0}) JournalFault → Option (List ℕ) → Type 0)
+    → IfOk served (λ s. (e : Result (Unit {0}) JournalFault) → OnOk e (s.ended ≡ Ok tt) → holds (left_of nowhere s) e (consoles s.console))
+    → EndsUnwritten contents consoles reports errors served ran → IsUnwrittenRun contents reports errors ran holds
+unwritten_run contents nowhere consoles reports errors ran (Err fault) holds h is = (Err fault, is, h)
+unwritten_run contents nowhere consoles reports errors ran (Ok s) holds h is = (is.0, is.1, at is.0 is.3)
+  where
+    at : (e : Result (Unit {0}) JournalFault) → OnOk e ((s.ended ≡ Ok tt) × HasOutput contents ran.ended.output (λ now. Appends (consoles s.console) now s.boards.items))
+        → OnOk e ((left : Left) × (answered : Option (List ℕ)) × holds left e answered × (left.passes ≡ ran.passes.items) × HasOutput contents ran.ended.output (λ now. Appends answered now left.boards))
+    at (Ok u) w = (left_of nowhere s, consoles s.console, h (Ok u) w.0, sym (λ i. (is.2 i).items), w.1)
+    at (Err f) w = w
+
+-- the run of a server without a journal that found no memory
+pub unwritten_failed : {W C E : Type 0} (contents : W → Option (List ℕ)) (reports : E → Option (List ℕ)) (errors : E) (ran : Ran W C E) (fault : JournalFault) (holds : Left → Result (Unit {0}) JournalFault → Option (List ℕ) → Type 0)
+    → IsServerEnd reports errors ran.ended (Err fault) → IsUnwrittenRun contents reports errors ran holds
+unwritten_failed contents reports errors ran fault holds is = (Err fault, is, tt)
+
+-- the run of a server with a journal
+pub journal_run : {W C E : Type 0} (contents : W → Option (List ℕ)) (consoles : C → Option (List ℕ)) (reports : E → Option (List ℕ)) (errors : E) (ran : Ran W C E) (served : Result (Served W C) JournalFault)
+    (holds : Left → Result (Unit {0}) JournalFault → Option (List ℕ) → Type 0)
+    → IfOk served (λ s. (e : Result (Unit {0}) JournalFault) → OnOk e (s.ended ≡ Ok tt) → holds (left_of contents s) e (consoles s.console))
+    → EndsJournalled consoles reports errors served ran → IsJournalRun contents consoles reports errors ran holds
+journal_run {W} contents consoles reports errors ran (Err fault) holds h is =
+    let ended : Result (Unit {0}) JournalFault = Err fault in
+    let P : Option W → Type 0 = λ o. IfSome o (λ x. (answered : Option (List ℕ)) × holds (record { now = contents x; buffer = []; broken = false; boards = []; passes = ran.passes.items; answers = 0 }) ended answered
+    × OnOk ended (HasOutput consoles ran.console (λ now. Appends answered now []))) in
+    record { ended = ended; end = is.0; buffer = []; broken = false; boards = []; answers = 0; journal = subst P (sym is.1) h; given = h }
+journal_run {W} contents consoles reports errors ran (Ok s) holds h is =
+    let P : Option W → List Held → Type 0 = λ o ps. IfSome o (λ x. (answered : Option (List ℕ)) × holds (record { now = contents x; buffer = s.unwritten.items; broken = s.is_broken; boards = s.boards.items; passes = ps; answers = s.answers }) is.0 answered
+    × OnOk is.0 (HasOutput consoles ran.console (λ now. Appends answered now s.boards.items))) in
+    let both = on_both is.0 (s.ended ≡ Ok tt) (HasOutput consoles ran.console (λ now. Appends (consoles s.console) now s.boards.items)) is.4 in
+    record {
+      ended = is.0;
+      end = is.1;
+      buffer = s.unwritten.items;
+      broken = s.is_broken;
+      boards = s.boards.items;
+      answers = s.answers;
+      journal = subst (λ o. P o ran.passes.items) (sym is.2) (subst (λ ps. P (Some s.journal) ps) (sym (λ i. (is.3 i).items)) (consoles s.console, h is.0 both.0, both.1));
+      given = subst (λ (o : Option W). OnOk is.0 (is_some o ≡ true)) (sym is.2) (always is.0);
+    }
+  where
+    always : (e : Result (Unit {0}) JournalFault) → OnOk e (true ≡ true)
+    always (Ok u) = refl
+    always (Err f) = tt

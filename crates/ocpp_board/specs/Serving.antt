@@ -1,29 +1,24 @@
--- The results of the steps of a server's run.
-use Rattle.std.specs.Prelude.{◌≡◌, ℕ, List, Option, IfSome, OnOk}
+-- How a server ends its run.
+use Rattle.std.specs.Prelude.{◌≡◌, ℕ, List, Option, None, Some, OnOk}
 use Rattle.std.specs.declared.result.Result.{Result}
-use Rattle.std.specs.Io.KnownBytes.{Appends, Keeps}
+use Rattle.std.specs.declared.result.Result.TheVariants.{Ok, Err}
+use Rattle.std.specs.Io.KnownBytes.{Appends}
 use Rattle.journal_server.specs.declared.fault.JournalFault.{JournalFault}
-use Rattle.journal_server.specs.Left.{Left}
+use Rattle.journal_server.specs.declared.run.Served.{Served}
 use Rattle.script_replay.specs.Whole.{HasOutput}
-use Rattle.station_cell.specs.Cell.{Held}
-use Rattle.ocpp_board.specs.declared.serving.Closed.{Closed}
-use Rattle.ocpp_board.specs.declared.journalling.Kept.{Kept}
+use Rattle.ocpp_board.specs.declared.run.Ran.{Ran}
+use Rattle.ocpp_board.specs.Run.{IsServerEnd}
 
--- After Ok a server has these passes, and its output has all of these bytes.
-abbrev pub IsClosed : {W : Type 0} → (W → Option (List ℕ)) → Option (List ℕ) → List Held → Closed W → Type 0
-IsClosed contents written passes closed = OnOk closed.ended ((closed.passes.items ≡ passes) × HasOutput contents closed.output (Keeps written))
+-- A server without a journal ends with its fault. Else its run has its passes; and after Ok its operator's lines ended
+-- well, and the output took what the console had taken, and then the boards.
+abbrev pub EndsUnwritten : {W N T C E : Type 0} → (W → Option (List ℕ)) → (T → Option (List ℕ)) → (E → Option (List ℕ)) → E → Result (Served N T) JournalFault → Ran W C E → Type 0
+EndsUnwritten contents consoles reports errors (Err fault) ran = IsServerEnd reports errors ran.ended (Err fault)
+EndsUnwritten contents consoles reports errors (Ok s) ran = (ended : Result (Unit {0}) JournalFault) × IsServerEnd reports errors ran.ended ended × (ran.passes ≡ s.passes)
+    × OnOk ended ((s.ended ≡ Ok tt) × HasOutput contents ran.ended.output (λ now. Appends (consoles s.console) now s.boards.items))
 
--- The result of a server with a journal, with this output.
-abbrev pub kept_left : {W C : Type 0} → (W → Option (List ℕ)) → Kept W C → W → Left
-kept_left contents kept output = record { now = contents output; buffer = kept.unwritten.items; broken = kept.is_broken; boards = kept.boards.items; passes = kept.passes.items }
-
--- If the output comes back, this holds for the result of a server with a journal, for its end, and
--- for what its console took before the boards; after Ok the console took the boards behind that.
-abbrev pub IsKept : {W C : Type 0} → (W → Option (List ℕ)) → (C → Option (List ℕ)) → Kept W C → (Left → Result (Unit {0}) JournalFault → Option (List ℕ) → Type 0) → Type 0
-IsKept contents consoles kept holds = IfSome kept.output (λ o. (answered : Option (List ℕ)) × holds (kept_left contents kept o) kept.ended answered × OnOk kept.ended (HasOutput consoles kept.console (λ now. Appends answered now kept.boards.items)))
-
--- After Ok, this holds for the result of a server without a journal, for its end, and for what its
--- output took before the boards; the output took the boards behind that.
-abbrev pub IsUnwritten : {W : Type 0} → (W → Option (List ℕ)) → Closed W → (Left → Result (Unit {0}) JournalFault → Option (List ℕ) → Type 0) → Type 0
-IsUnwritten contents closed holds =
-    OnOk closed.ended ((left : Left) × (answered : Option (List ℕ)) × holds left closed.ended answered × (left.passes ≡ closed.passes.items) × HasOutput contents closed.output (λ now. Appends answered now left.boards))
+-- A server with a journal ends with its fault, and loses its output. Else its run has its journal and its passes; and
+-- after Ok its operator's lines ended well, and the console took the boards behind what it had taken.
+abbrev pub EndsJournalled : {W C E : Type 0} → (C → Option (List ℕ)) → (E → Option (List ℕ)) → E → Result (Served W C) JournalFault → Ran W C E → Type 0
+EndsJournalled consoles reports errors (Err fault) ran = IsServerEnd reports errors ran.ended (Err fault) × (ran.ended.output ≡ None)
+EndsJournalled consoles reports errors (Ok s) ran = (ended : Result (Unit {0}) JournalFault) × IsServerEnd reports errors ran.ended ended × (ran.ended.output ≡ Some s.journal) × (ran.passes ≡ s.passes)
+    × OnOk ended ((s.ended ≡ Ok tt) × HasOutput consoles ran.console (λ now. Appends (consoles s.console) now s.boards.items))

@@ -1,7 +1,7 @@
 //! What the options of a command ask for.
 ghost use Rattle.std.specs.Prelude.{◌≡◌, ◌≤◌, codes, option_map, true};
 ghost use Rattle.clap.specs.Matches.{found_of};
-ghost use Rattle.ocpp_board.specs.Arguments.{AsksLength, AsksLive, AsksOrder, AsksPeriod, AsksPlan, AsksServe, AsksService, AsksSimulate, IsAskable, IsFlag, asked_order, asked_rule, is_live};
+ghost use Rattle.ocpp_board.specs.Arguments.{AsksLength, AsksLive, AsksOrder, AsksPeriod, AsksPlan, AsksServe, AsksService, AsksSimulate, IsAskable, IsFlag, asked_rule, is_live};
 
 use crate::limit_words::limits_of;
 use crate::station_words::{WordFault, plan_of};
@@ -80,25 +80,17 @@ fn plan_asked<'a>(matches: &ArgMatches<'a>, glances: u16) -> Result<Plan, WordFa
     };
     let words = matches.get_strs("stations").unwrap_or(&[]);
     let viewers = if glances > 0 { 1 } else { 0 };
-    plan_of(
-        words,
-        viewers,
-        period_of(matches),
-        order_asked(matches),
-        limits,
-    )
+    let (period, order) = (period_of(matches), order_asked(matches));
+    plan_of(words, viewers, period, order, limits)
 }
 
 /// What the options of `serve --live` ask for.
 pub fn live_of(matches: &ArgMatches<'_>) -> Live
     ensures { AsksLive (found_of matches.now) result }
 {
-    let port = matches.get_one::<u16>("port");
-    let watch = matches.get_one::<u16>("watch");
-    let glances = watch.unwrap_or(0);
     Live {
-        port: port.unwrap_or(0),
-        glances,
+        port: matches.get_one::<u16>("port").unwrap_or(0),
+        glances: matches.get_one::<u16>("watch").unwrap_or(0),
         is_logged: matches.get_flag("log"),
         board_port: matches.get_one::<u16>("board-port"),
     }
@@ -110,11 +102,10 @@ pub fn service_of(matches: &ArgMatches<'_>) -> Service
     ensures range { (1 ≤ result.connections) × (result.connections ≤ 64) }
     ensures asked { AsksService (found_of matches.now) result }
 {
-    let port = matches.get_one::<u16>("port");
     let connections = matches.get_one::<u8>("connections");
     let watch = matches.get_one::<u16>("watch");
     Service {
-        port: port.unwrap_or(0),
+        port: matches.get_one::<u16>("port").unwrap_or(0),
         connections: connections.unwrap_or(1).clamp(1, MAX_CONNECTIONS),
         glances: watch.unwrap_or(0),
     }
@@ -143,10 +134,7 @@ fn length_of(matches: &ArgMatches<'_>) -> Period
     ensures { AsksLength (found_of matches.now) result }
 {
     match matches.get_one::<u16>("period") {
-        Some(seconds) => match Period::new(seconds) {
-            Some(period) => period,
-            None => Period::default(),
-        },
+        Some(seconds) => Period::new(seconds).unwrap_or(Period::default()),
         None => Period::default(),
     }
 }
@@ -155,14 +143,7 @@ fn length_of(matches: &ArgMatches<'_>) -> Period
 pub fn order_asked(matches: &ArgMatches<'_>) -> Order
     ensures { AsksOrder (found_of matches.now) result }
 {
-    order_of_word(matches.get_str("order"))
-}
-
-// The order of readings that a word asks for.
-fn order_of_word(word: Option<&str>) -> Order
-    ensures { result ≡ asked_order (option_map (λ w. w.now) word.entry) }
-{
-    match word {
+    match matches.get_str("order") {
         Some(word) => order_of(word).unwrap_or(Order::Sequence),
         None => Order::Sequence,
     }

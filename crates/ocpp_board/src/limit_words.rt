@@ -35,8 +35,5 @@ fn number(word: &str) -> Option<u64>
     ensures says { IfSome result (λ n. Says word.now n) }
     ensures none { result ≡ None → (n : ℕ) → Says word.now n → ⊥ }
 {
-    match word.parse::<u64>() {
-        Ok(number) => Some(number),
-        Err(_) => None,
-    }
+    word.parse::<u64>().ok()
 }

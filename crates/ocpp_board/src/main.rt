@@ -3,64 +3,45 @@
 //! `ocpp_board` or `ocpp_board replay` answers a script from standard input on standard output, by `script_replay`;
 //! `serve` and `sim` run a server of stations, and simulated ones, by `journal_server`. `options` has its commands and
 //! options, and `arguments`, `asked`, `limit_words` and `station_words` say what words ask for. One function, `run` of
-//! `run`, is the whole program, over any words and streams: `serving` and `journalling` run its servers, and `report`
-//! has the exit statuses and the reports of faults on standard error. `main` hands `run` the words and the streams of
-//! the process.
+//! `run`, is the whole program, over any words and streams: `serving` runs its servers, and `report` has the exit
+//! statuses and the reports of faults on standard error. `main` hands `run` the words and the streams of the process.
 #![tactic(auto)]
 
 mod arguments;
 mod asked;
-mod journalling;
 mod limit_words;
 mod options;
+mod process;
 mod report;
 mod run;
 mod serving;
 mod station_words;
 
-use crate::run::{Streams, refuse_unread, run};
-use gathered_input::{Readiness, gathered};
-use std::io::{Read, Write};
-use std::net::{Net, TcpListener, TcpStream};
+use crate::process::Process;
+use crate::run::{Streams, StreamsOf, refuse_unread, run};
+use gathered_input::gathered;
 use std::process::ExitCode;
-use std::random::RandomSource;
 use std::rt::Env;
-use std::sync::Wait;
-use std::thread::Threads;
-use std::time::Clock;
 use std::{env, io};
 
 fn main(rt: HostRuntime) -> ExitCode {
-    let input = gathered(&rt, rt.stdin());
-    let (console, errors, lines) = (rt.stderr(), rt.stderr(), rt.stderr());
-    ExitCode::from(run_words(&rt, input, rt.stdout(), console, errors, lines))
+    let streams = Streams {
+        input: gathered(&rt, rt.stdin()),
+        output: rt.stdout(),
+        console: rt.stderr(),
+        errors: rt.stderr(),
+        lines: rt.stderr(),
+    };
+    ExitCode::from(run_words::<(HostRuntime, _, _, _, _, _)>(&rt, streams))
 }
 
 // Runs the program with the words of the process, and gives its exit status.
-fn run_words<
-    X: AllocGlobal
-        + Env
-        + Threads
-        + Wait
-        + Clock
-        + RandomSource
-        + Sync
-        + Net<Listener = TcpListener, Stream = TcpStream>,
-    R: Read + Readiness + Drop,
-    W: Write + Send + Drop,
-    C: Write + Drop,
-    E: Write + Drop,
-    L: Write + Send + Drop,
->(rt: &X, input: R, output: W, console: C, errors: E, lines: L) -> u8 {
-    let streams = Streams {
-        input,
-        output,
-        console,
-        errors,
-        lines,
-    };
+fn run_words<P: Process>(rt: &P::Runtime, streams: StreamsOf<P>) -> u8
+where
+    P::Runtime: Env,
+{
     match program_words(rt) {
-        Ok(words) => run(rt, words.as_slice(), streams).ended.status,
+        Ok(words) => run::<P, _>(rt, words.as_slice(), streams).ended.status,
         Err(error) => refuse_unread(streams, error.kind()).status,
     }
 }

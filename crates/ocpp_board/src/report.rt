@@ -1,9 +1,9 @@
 //! How a server's end is reported on standard error.
 ghost use Rattle.std.specs.Prelude.{◌≡◌, ◌++◌, ℕ, List};
-ghost use Rattle.ocpp_board.specs.Run.{IsServerEnd, IsServerReport, IsWordMistake, fault_status, restore_name, server_name, server_status, service_name, word_name};
+ghost use Rattle.ocpp_board.specs.Run.{IsServerEnd, IsServerReport, IsWordMistake, server_name, server_status, word_name};
 ghost use Rattle.script_replay.specs.Whole.{Writes, fault_report};
 
-use crate::run::{Ran, Streams};
+use crate::run::{Ran, unserved};
 use crate::station_words::WordFault;
 use journal_script::RestoreFault;
 use journal_server::JournalFault;
@@ -24,15 +24,18 @@ const STOPPED: u8 = 1;
 /// Ends the run of a server with its exit status and, after a fault, with `fault <name>` and the line of its cause on
 /// standard error.
 pub fn end_server<W, E: Write>(
+    alloc: Global,
     output: Option<W>,
     mut errors: E,
     ended: Result<(), JournalFault>,
-    cause: &[u8],
+    plan: Option<&Plan>,
+    port: Option<u16>,
 ) -> Ended<W, E>
     ensures output { result.output ≡ output }
     ensures end { IsServerEnd E.contents errors result ended }
 {
-    let reported = report_server(&mut errors, ended, cause);
+    let cause = cause_of(alloc, ended, plan, port);
+    let reported = report_server(&mut errors, ended, &cause);
     Ended {
         output,
         errors,
@@ -83,52 +86,44 @@ fn fault_line(fault: JournalFault) -> &'static [u8]
     ensures { result.now ≡ fault_report (server_name fault) }
 {
     match fault {
-        JournalFault::Service(fault) => service_line(fault),
-        JournalFault::Restore(fault) => restore_line(fault),
+        JournalFault::Service(ServiceFault::PlanLimit) => b"fault PlanLimit\n",
+        JournalFault::Service(ServiceFault::StationTwice) => b"fault StationTwice\n",
+        JournalFault::Service(ServiceFault::ListenFailed(_)) => b"fault ListenFailed\n",
+        JournalFault::Service(ServiceFault::HandshakeFailed) => b"fault HandshakeFailed\n",
+        JournalFault::Service(ServiceFault::ReadFault) => b"fault ReadFault\n",
+        JournalFault::Service(ServiceFault::WriteFault) => b"fault WriteFault\n",
+        JournalFault::Service(ServiceFault::OutOfMemory) => b"fault OutOfMemory\n",
+        JournalFault::Service(ServiceFault::PassMissing) => b"fault PassMissing\n",
+        JournalFault::Service(ServiceFault::ViewerMissing) => b"fault ViewerMissing\n",
+        JournalFault::Service(ServiceFault::Torn) => b"fault Torn\n",
+        JournalFault::Restore(RestoreFault::NotRestored) => b"fault NotRestored\n",
+        JournalFault::Restore(RestoreFault::NotMarked) => b"fault NotMarked\n",
+        JournalFault::Restore(RestoreFault::ReadFault) => b"fault ReadFault\n",
+        JournalFault::Restore(RestoreFault::TooMuchInput) => b"fault TooMuchInput\n",
+        JournalFault::Restore(RestoreFault::OutOfMemory) => b"fault OutOfMemory\n",
         JournalFault::LeftOut => b"fault LeftOut\n",
     }
 }
 
-fn service_line(fault: ServiceFault) -> &'static [u8]
-    ensures { result.now ≡ fault_report (service_name fault) }
-{
-    match fault {
-        ServiceFault::PlanLimit => b"fault PlanLimit\n",
-        ServiceFault::StationTwice => b"fault StationTwice\n",
-        ServiceFault::ListenFailed(_) => b"fault ListenFailed\n",
-        ServiceFault::HandshakeFailed => b"fault HandshakeFailed\n",
-        ServiceFault::ReadFault => b"fault ReadFault\n",
-        ServiceFault::WriteFault => b"fault WriteFault\n",
-        ServiceFault::OutOfMemory => b"fault OutOfMemory\n",
-        ServiceFault::PassMissing => b"fault PassMissing\n",
-        ServiceFault::ViewerMissing => b"fault ViewerMissing\n",
-        ServiceFault::Torn => b"fault Torn\n",
-    }
-}
-
-fn restore_line(fault: RestoreFault) -> &'static [u8]
-    ensures { result.now ≡ fault_report (restore_name fault) }
-{
-    match fault {
-        RestoreFault::NotRestored => b"fault NotRestored\n",
-        RestoreFault::NotMarked => b"fault NotMarked\n",
-        RestoreFault::ReadFault => b"fault ReadFault\n",
-        RestoreFault::TooMuchInput => b"fault TooMuchInput\n",
-        RestoreFault::OutOfMemory => b"fault OutOfMemory\n",
-    }
-}
-
-/// The line that gives the cause of a fault of a server with this plan at this port: which station is there twice, or
-/// the system's words for the port. It is empty if there is nothing more to say, or no memory for it.
-pub fn cause_of(alloc: Global, plan: &Plan, port: u16, ended: Result<(), JournalFault>) -> Vec<u8> {
+// The line that gives the cause of a fault of a server with this plan at this port: which station is there twice, or
+// the system's words for the port. It is empty if there is nothing more to say, or no memory for it.
+fn cause_of(
+    alloc: Global,
+    ended: Result<(), JournalFault>,
+    plan: Option<&Plan>,
+    port: Option<u16>,
+) -> Vec<u8> {
     let mut cause = Vec::new(alloc);
-    match ended {
-        Err(JournalFault::Service(ServiceFault::StationTwice)) => {
+    let Err(JournalFault::Service(fault)) = ended else {
+        return cause;
+    };
+    match (fault, plan, port) {
+        (ServiceFault::StationTwice, Some(plan), _) => {
             if let Some(name) = plan.station_twice() {
                 let _ = writeln!(cause, "the station {} is there twice", name.text());
             }
         }
-        Err(JournalFault::Service(ServiceFault::ListenFailed(Some(code)))) => {
+        (ServiceFault::ListenFailed(Some(code)), _, Some(port)) => {
             let error = io::Error::from_raw_os_error(code);
             let _ = writeln!(cause, "127.0.0.1:{port}: {error}");
         }
@@ -138,32 +133,23 @@ pub fn cause_of(alloc: Global, plan: &Plan, port: u16, ended: Result<(), Journal
 }
 
 /// Ends a run with words that make no plan.
-pub fn refuse_plan<R: Drop, W: Drop, C: Drop, E: Write, L: Drop>(
+pub fn refuse_plan<W, C, E: Write>(
     alloc: Global,
     fault: WordFault<'_>,
-    streams: Streams<R, W, C, E, L>,
+    output: W,
+    mut errors: E,
 ) -> Ran<W, C, E>
-    ensures { IsWordMistake E.contents fault.entry streams.output streams.errors result.ended }
+    ensures { IsWordMistake E.contents fault.entry output errors result.ended }
 {
-    let Streams {
-        input: _,
-        output,
-        console,
-        mut errors,
-        lines: _,
-    } = streams;
     let cause = cause_of_word(alloc, fault);
     let reported = report_lines(&mut errors, word_line(fault), &cause);
-    Ran {
-        ended: Ended {
-            output: Some(output),
-            errors,
-            status: MISTAKEN,
-            reported,
-        },
-        console: Some(console),
-        passes: Vec::new(alloc),
-    }
+    let ended = Ended {
+        output: Some(output),
+        errors,
+        status: MISTAKEN,
+        reported,
+    };
+    unserved(alloc, ended)
 }
 
 // The line `fault <name>` of words that make no plan.

@@ -1,222 +1,209 @@
-//! Servers without a journal, as the program runs them.
-ghost use Rattle.std.specs.Prelude.{◌≡◌, [], Err, None, Ok, Some};
+//! Servers, as the program runs them: each reads and writes through buffers.
+ghost use Rattle.std.specs.Prelude.{◌≡◌, Ok, OnOk, false, true};
 ghost use Rattle.std.specs.Io.Buffered.{writer_contents};
-ghost use Rattle.journal_server.specs.declared.fault.JournalFault.{JournalFault};
-ghost use Rattle.journal_server.specs.Served.{IsNewRun, TellsNew};
-ghost use Rattle.journal_server.specs.Simulated.{IsSimulatedRun};
 ghost use Rattle.ocpp_board.specs.declared.asked.Asked.{Asked};
-ghost use Rattle.ocpp_board.specs.Run.{IsServerEnd, Runs};
-ghost use Rattle.ocpp_board.specs.Serving.{IsClosed, IsUnwritten};
+ghost use Rattle.ocpp_board.specs.Run.{Runs};
+ghost use Rattle.ocpp_board.specs.Serving.{EndsJournalled, EndsUnwritten};
 ghost use Rattle.station_link.specs.Sim.{IsSimulated};
 
-use crate::journalling::{close_kept, keep};
-use crate::report::{cause_of, end_server};
-use crate::run::{Ran, Streams};
-use gathered_input::Readiness;
-use journal_server::{JournalFault, Service, serve_counted, serve_live, simulate};
+use crate::process::Process;
+use crate::report::end_server;
+use crate::run::{Ran, RanOf, StreamsOf};
+use board_report::write_out;
+use journal_server::{
+    JournalFault, Journalling, Restoring, Served, Service, serve_counted, serve_journalled,
+    serve_live, serve_restored, simulate,
+};
 use live_server::Live;
 use script_replay::buffered;
-use server_parts::{Host, ServiceFault};
+use server_parts::ServiceFault;
 use site_desk::Plan;
-use station_cell::Pass;
 use std::alloc::Global;
-use std::io::{BufWriter, Read, Write};
-use std::random::RandomSource;
+use std::io;
+use std::io::{BufWriter, Sink, Write};
 
-/// How a server without a journal ended, with its output and its passes.
-#[derive(Drop)]
-pub struct Closed<W> {
-    /// The output; `None` if the server ended with a fault.
-    pub output: Option<W>,
-    /// The passes.
-    pub passes: Vec<Pass>,
-    /// How it ended.
-    pub ended: Result<(), JournalFault>,
-}
-
-/// A server that ended well: the output takes all bytes that were written.
-pub fn close_well<W: Write + Drop>(
-    alloc: Global,
-    mut writer: BufWriter<W>,
-    passes: Vec<Pass>,
-) -> Closed<W>
-    ensures { IsClosed W.contents (writer_contents W.contents writer) passes.items result }
-{
-    match writer.flush() {
-        Ok(()) => {
-            let (output, _kept) = writer.into_parts();
-            Closed {
-                output: Some(output),
-                passes,
-                ended: Ok(()),
-            }
-        }
-        Err(_) => close_badly(alloc, JournalFault::Service(ServiceFault::WriteFault)),
-    }
-}
-
-/// A server that ended with a fault.
-pub fn close_badly<W>(alloc: Global, fault: JournalFault) -> Closed<W>
-    ensures { result.ended ≡ Err fault }
-{
-    Closed {
-        output: None,
-        passes: Vec::new(alloc),
-        ended: Err(fault),
-    }
-}
-
-/// Ends a server's run with its report.
-pub fn end_closed<W, C, E: Write>(
-    closed: Closed<W>,
-    cause: &[u8],
-    console: C,
-    errors: E,
-) -> Ran<W, C, E>
-    ensures output { result.ended.output ≡ closed.output }
-    ensures passes { result.passes ≡ closed.passes }
-    ensures end { IsServerEnd E.contents errors result.ended closed.ended }
-{
-    let Closed {
-        output,
-        passes,
-        ended,
-    } = closed;
-    Ran {
-        ended: end_server(output, errors, ended, cause),
-        console: Some(console),
-        passes,
-    }
-}
+// The fault of a server without memory for its buffers.
+const NO_MEMORY: JournalFault = JournalFault::Service(ServiceFault::OutOfMemory);
 
 /// Serves a number of connections of a plan's stations.
-pub fn serve<
-    X: AllocGlobal + Host,
-    R: Read + Drop,
-    W: Write + Drop,
-    C: Write + Drop,
-    E: Write,
-    L: Write + Send + Drop,
->(rt: &X, plan: &Plan, service: Service, streams: Streams<R, W, C, E, L>) -> Ran<W, C, E>
-    ensures { Runs W.contents C.contents E.contents (Asked.Serve (Ok plan.now) service) (R.remaining streams.input) streams.output streams.console streams.errors result }
-{
-    let Streams {
-        input,
-        output,
-        console,
-        errors,
-        lines,
-    } = streams;
-    let closed = serve_through(rt, plan, service, input, output, lines);
-    let cause = cause_of(rt.alloc(), plan, service.port, closed.ended);
-    end_closed(closed, &cause, console, errors)
-}
-
-// Serves a number of connections of a plan's stations, through buffers.
-fn serve_through<X: AllocGlobal + Host, R: Read + Drop, W: Write + Drop, L: Write + Send + Drop>(
-    rt: &X,
+pub fn serve<P: Process>(
+    rt: &P::Runtime,
     plan: &Plan,
     service: Service,
-    input: R,
-    output: W,
-    lines: L,
-) -> Closed<W>
-    ensures { IsUnwritten W.contents result (λ left ended answered. IsNewRun plan.now.sites.items plan.now.stations.items None left
-        (TellsNew ended plan.now.stations.items (Some []) (W.contents output) answered)) }
+    streams: StreamsOf<P>,
+) -> RanOf<P>
+    ensures { Runs P.Output.contents P.Console.contents P.Errors.contents (Asked.Serve (Ok plan.now) service) (P.Input.remaining streams.input) streams.output streams.console streams.errors result }
 {
-    let memory = JournalFault::Service(ServiceFault::OutOfMemory);
-    let Ok((_reader, writer)) = buffered(rt, input, output) else {
-        return close_badly(rt.alloc(), memory);
+    let Ok((_reader, writer)) = buffered(rt, streams.input, streams.output) else {
+        return end_unwritten(rt.alloc(), Err(NO_MEMORY), None, None, streams.errors);
     };
-    match serve_counted(rt, plan, service, writer, lines) {
-        Ok(served) => close_kept(rt.alloc(), keep(served)),
-        Err(fault) => close_badly(rt.alloc(), fault),
-    }
+    let served = serve_counted(rt, plan, service, writer, streams.lines);
+    end_unwritten(
+        rt.alloc(),
+        served,
+        Some(plan),
+        Some(service.port),
+        streams.errors,
+    )
 }
 
 /// Serves a plan until its operator's lines end.
-pub fn live<
-    X: AllocGlobal + Host,
-    R: Read + Readiness + Drop,
-    W: Write + Drop,
-    C: Write + Drop,
-    E: Write,
-    L: Write + Send + Drop,
->(rt: &X, plan: &Plan, live: Live, streams: Streams<R, W, C, E, L>) -> Ran<W, C, E>
-    ensures { Runs W.contents C.contents E.contents (Asked.ServeLive (Ok plan.now) live) (R.remaining streams.input) streams.output streams.console streams.errors result }
+pub fn live<P: Process>(rt: &P::Runtime, plan: &Plan, live: Live, streams: StreamsOf<P>) -> RanOf<P>
+    ensures { Runs P.Output.contents P.Console.contents P.Errors.contents (Asked.ServeLive (Ok plan.now) live) (P.Input.remaining streams.input) streams.output streams.console streams.errors result }
 {
-    let Streams {
-        input,
-        output,
-        console,
-        errors,
-        lines,
-    } = streams;
-    let closed = live_through(rt, plan, live, input, output, lines);
-    let cause = cause_of(rt.alloc(), plan, live.port, closed.ended);
-    end_closed(closed, &cause, console, errors)
+    let Ok((mut reader, writer)) = buffered(rt, streams.input, streams.output) else {
+        return end_unwritten(rt.alloc(), Err(NO_MEMORY), None, None, streams.errors);
+    };
+    let served = serve_live(rt, plan, live, &mut reader, writer, streams.lines);
+    end_unwritten(
+        rt.alloc(),
+        served,
+        Some(plan),
+        Some(live.port),
+        streams.errors,
+    )
 }
 
-// Serves a plan until its operator's lines end, through buffers.
-fn live_through<
-    X: AllocGlobal + Host,
-    R: Read + Readiness + Drop,
-    W: Write + Drop,
-    L: Write + Send + Drop,
->(rt: &X, plan: &Plan, live: Live, input: R, output: W, lines: L) -> Closed<W>
-    ensures { IsUnwritten W.contents result (λ left ended answered. IsNewRun plan.now.sites.items plan.now.stations.items None left
-        (TellsNew ended plan.now.stations.items (R.remaining input) (W.contents output) answered)) }
+/// Serves a plan until its operator's lines end; its output is a journal.
+pub fn journalled<P: Process>(
+    rt: &P::Runtime,
+    plan: &Plan,
+    journalling: Journalling,
+    streams: StreamsOf<P>,
+) -> RanOf<P>
+    ensures { Runs P.Output.contents P.Console.contents P.Errors.contents (Asked.ServeJournalled (Ok plan.now) journalling) (P.Input.remaining streams.input) streams.output streams.console streams.errors result }
 {
-    let memory = JournalFault::Service(ServiceFault::OutOfMemory);
-    let Ok((mut reader, writer)) = buffered(rt, input, output) else {
-        return close_badly(rt.alloc(), memory);
+    let Ok((mut reader, journal)) = buffered(rt, streams.input, streams.output) else {
+        return end_journalled(rt.alloc(), Err(NO_MEMORY), None, None, streams.errors);
     };
-    match serve_live(rt, plan, live, &mut reader, writer, lines) {
-        Ok(served) => close_kept(rt.alloc(), keep(served)),
-        Err(fault) => close_badly(rt.alloc(), fault),
-    }
+    let (console, lines) = (streams.console, streams.lines);
+    let served = serve_journalled(rt, plan, journalling, &mut reader, journal, console, lines);
+    let port = Some(journalling.live.port);
+    end_journalled(rt.alloc(), served, Some(plan), port, streams.errors)
+}
+
+/// Serves the stations of the script that the input begins with; its output goes on with the journal.
+pub fn restored<P: Process>(
+    rt: &P::Runtime,
+    restoring: Restoring,
+    streams: StreamsOf<P>,
+) -> RanOf<P>
+    ensures { Runs P.Output.contents P.Console.contents P.Errors.contents (Asked.ServeRestored restoring true) (P.Input.remaining streams.input) streams.output streams.console streams.errors result }
+{
+    let Ok((mut reader, journal)) = buffered(rt, streams.input, streams.output) else {
+        return end_journalled(rt.alloc(), Err(NO_MEMORY), None, None, streams.errors);
+    };
+    let (console, lines) = (streams.console, streams.lines);
+    let served = serve_restored(rt, restoring, &mut reader, journal, console, lines);
+    let port = Some(restoring.journalling.live.port);
+    end_journalled(rt.alloc(), served, None, port, streams.errors)
+}
+
+/// Serves the stations of the script that the input begins with, without a journal. Its output takes what the console
+/// of a server with a journal takes.
+pub fn restored_live<P: Process>(
+    rt: &P::Runtime,
+    restoring: Restoring,
+    streams: StreamsOf<P>,
+) -> RanOf<P>
+    ensures { Runs P.Output.contents P.Console.contents P.Errors.contents (Asked.ServeRestored restoring false) (P.Input.remaining streams.input) streams.output streams.console streams.errors result }
+{
+    let Ok((mut reader, writer)) = buffered(rt, streams.input, streams.output) else {
+        return end_unwritten(rt.alloc(), Err(NO_MEMORY), None, None, streams.errors);
+    };
+    let Ok(nowhere) = BufWriter::with_capacity(rt.alloc(), 0, io::sink()) else {
+        return end_unwritten(rt.alloc(), Err(NO_MEMORY), None, None, streams.errors);
+    };
+    let served = serve_restored(rt, restoring, &mut reader, nowhere, writer, streams.lines);
+    let port = Some(restoring.journalling.live.port);
+    end_unwritten(rt.alloc(), served, None, port, streams.errors)
 }
 
 /// Plays simulated stations against a server of their own.
-pub fn simulated<
-    X: AllocGlobal + Host + RandomSource,
-    R: Read + Drop,
-    W: Write + Drop,
-    C: Write + Drop,
-    E: Write,
-    L: Drop,
->(rt: &X, stations: u16, events: u32, streams: Streams<R, W, C, E, L>) -> Ran<W, C, E>
-    requires { IsSimulated stations events }
-    ensures { Runs W.contents C.contents E.contents (Asked.Simulate stations events) (R.remaining streams.input) streams.output streams.console streams.errors result }
-{
-    let Streams {
-        input,
-        output,
-        console,
-        errors,
-        lines: _,
-    } = streams;
-    let closed = simulate_through(rt, stations, events, input, output);
-    end_closed(closed, b"", console, errors)
-}
-
-// Plays simulated stations, and writes their board through a buffer.
-fn simulate_through<X: AllocGlobal + Host + RandomSource, R: Read + Drop, W: Write + Drop>(
-    rt: &X,
+pub fn simulated<P: Process>(
+    rt: &P::Runtime,
     stations: u16,
     events: u32,
-    input: R,
-    output: W,
-) -> Closed<W>
+    streams: StreamsOf<P>,
+) -> RanOf<P>
     requires { IsSimulated stations events }
-    ensures { IsUnwritten W.contents result (λ left ended answered. (answered ≡ W.contents output) × IsSimulatedRun stations left) }
+    ensures { Runs P.Output.contents P.Console.contents P.Errors.contents (Asked.Simulate stations events) (P.Input.remaining streams.input) streams.output streams.console streams.errors result }
 {
-    let memory = JournalFault::Service(ServiceFault::OutOfMemory);
-    let Ok((_reader, writer)) = buffered(rt, input, output) else {
-        return close_badly(rt.alloc(), memory);
+    let Ok((_reader, writer)) = buffered(rt, streams.input, streams.output) else {
+        return end_unwritten(rt.alloc(), Err(NO_MEMORY), None, None, streams.errors);
     };
-    match simulate(rt, stations, events, writer) {
-        Ok(served) => close_kept(rt.alloc(), keep(served)),
-        Err(fault) => close_badly(rt.alloc(), fault),
+    let served = simulate(rt, stations, events, writer);
+    end_unwritten(rt.alloc(), served, None, None, streams.errors)
+}
+
+// Ends a server without a journal: its output takes the boards.
+fn end_unwritten<W: Write + Drop, C, E: Write>(
+    alloc: Global,
+    served: Result<Served<Sink, BufWriter<W>>, JournalFault>,
+    plan: Option<&Plan>,
+    port: Option<u16>,
+    errors: E,
+) -> Ran<W, C, E>
+    ensures { EndsUnwritten W.contents (writer_contents W.contents) E.contents errors served result }
+{
+    match served {
+        Ok(served) => {
+            let mut writer = served.console;
+            let is_shown = writer.write_all(&served.boards).is_ok() && writer.flush().is_ok();
+            let ended = end_of(is_shown, served.ended);
+            let (output, _kept) = writer.into_parts();
+            Ran {
+                ended: end_server(alloc, Some(output), errors, ended, plan, port),
+                console: None,
+                passes: served.passes,
+            }
+        }
+        Err(fault) => Ran {
+            ended: end_server(alloc, None, errors, Err(fault), plan, port),
+            console: None,
+            passes: Vec::new(alloc),
+        },
+    }
+}
+
+// Ends a server with a journal: its console takes the boards. Bytes that a failed write left in the journal's buffer
+// are not written, since their change was refused.
+fn end_journalled<W, C: Write, E: Write>(
+    alloc: Global,
+    served: Result<Served<W, C>, JournalFault>,
+    plan: Option<&Plan>,
+    port: Option<u16>,
+    errors: E,
+) -> Ran<W, C, E>
+    ensures { EndsJournalled C.contents E.contents errors served result }
+{
+    match served {
+        Ok(served) => {
+            let mut console = served.console;
+            let is_shown = write_out(&mut console, &served.boards).is_ok();
+            let ended = end_of(is_shown, served.ended);
+            Ran {
+                ended: end_server(alloc, Some(served.journal), errors, ended, plan, port),
+                console: Some(console),
+                passes: served.passes,
+            }
+        }
+        Err(fault) => Ran {
+            ended: end_server(alloc, None, errors, Err(fault), plan, port),
+            console: None,
+            passes: Vec::new(alloc),
+        },
+    }
+}
+
+// How a server ended, by whether its boards were written.
+fn end_of(is_shown: bool, ended: Result<(), ServiceFault>) -> Result<(), JournalFault>
+    ensures shown { OnOk result (is_shown ≡ true) }
+    ensures well { OnOk result (ended ≡ Ok tt) }
+{
+    match ended {
+        _ if !is_shown => Err(JournalFault::Service(ServiceFault::WriteFault)),
+        Ok(()) => Ok(()),
+        Err(fault) => Err(JournalFault::Service(fault)),
     }
 }

@@ -4,8 +4,6 @@ ghost use Rattle.ocpp_board.specs.StationWords.{declared_by, first_bad, station_
 
 use ledger_model::{Limits, Name, Order, Periods};
 use site_desk::Plan;
-use std::fmt;
-use std::fmt::{Display, Formatter};
 
 /// Why words make no plan, with the word at fault. The first fault that applies, in this order, is
 /// reported.
@@ -19,19 +17,8 @@ pub enum WordFault<'a> {
     PlanLimit(&'a str),
 }
 
-impl Display for WordFault<'_> {
-    fn fmt<W: fmt::Write>(&self, f: &mut Formatter<W>) -> fmt::Result {
-        f.pad(match self {
-            WordFault::BadLimits => "BadLimits",
-            WordFault::BadStation(_) => "BadStation",
-            WordFault::PlanLimit(_) => "PlanLimit",
-        })
-    }
-}
-
 /// The plan of the stations that these words name, in their order, under these limits. A site begins at its first
-/// mention, and has so many viewers, these settlement periods and this order of readings. A station that is there
-/// twice is no fault here: [`Plan::fault`] reports it.
+/// mention, and has so many viewers, these settlement periods and this order of readings.
 pub fn plan_of<'a>(
     words: &[&'a str],
     viewers: u16,

@@ -19,7 +19,8 @@ use Rattle.running_desk.specs.declared.orders.Came.{Came}
 use Rattle.running_desk.specs.declared.orders.Came.TheVariants as kind
 use Rattle.running_desk.specs.Ordered.{AreAnswered, Comes, before_close, ends, is_close}
 use Rattle.running_desk.specs.Replied.{IsReplyOrMemory}
-use Rattle.running_desk.specs.Replies.{AddsReplies, AddsReply, Replied, if_seen}
+use Rattle.station_link.specs.Attended.{if_seen}
+use Rattle.running_desk.specs.Replies.{AddsReplies, AddsReply, Replied}
 
 -- of the lines that came first, those that were answered are in front of what is answered of those that come now
 abbrev pub Stands : Option (List Line) → Option (List Line) → List Line → Type 0

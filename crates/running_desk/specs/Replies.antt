@@ -10,6 +10,7 @@ use Rattle.script_lines.specs.Lines.{Line}
 use Rattle.site_book.specs.Book.{Known}
 use Rattle.site_desk.specs.declared.plan.SitePlan.{SitePlan}
 use Rattle.site_desk.specs.declared.roster.StationPlace.{StationPlace}
+use Rattle.station_link.specs.Attended.{if_seen}
 use Rattle.running_desk.specs.Ordered.{AreAnswered}
 use Rattle.running_desk.specs.Replied.{IsReplyOrMemory}
 
@@ -18,11 +19,6 @@ pub record Replied (M : Type 0) : Type 0 where
   pub line : Line
   pub text : List ℕ
   pub seen : Option M
-
--- A list of the value, if there is one; else none.
-abbrev pub if_seen : {M : Type 0} → Option M → List M
-if_seen None = []
-if_seen (Some m) = m ∷ []
 
 -- The answers to the operator's lines that come, up to the line that says `close`, were appended
 -- one after the other, and nothing else. `lines` has each line with its answer and with what was

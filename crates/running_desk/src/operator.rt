@@ -12,7 +12,8 @@ ghost use Rattle.site_desk.specs.Roster.{IsNamed};
 ghost use Rattle.running_desk.specs.declared.pooled_desk.PassFault.{PassFault};
 ghost use Rattle.running_desk.specs.Replied.{IsBoard, IsCommandLine, IsCommanded, IsMessageLine, IsMessaged, IsReply, IsSent, IsSubmitted, IsTotals, totals_line};
 ghost use Rattle.running_desk.specs.Ordered.{ends, is_close, lines_in};
-ghost use Rattle.running_desk.specs.Replies.{AddsReplies, AddsReply, if_seen};
+ghost use Rattle.running_desk.specs.Replies.{AddsReplies, AddsReply};
+ghost use Rattle.station_link.specs.Attended.{if_seen};
 
 use crate::orders::{Came, Orders};
 use crate::pooled_desk::PassFault;
@@ -24,8 +25,7 @@ use gathered_input::Readiness;
 use ledger_model::{Command, Figures, Name};
 use script_lines::{LineFault, ScriptLine, put_answer, put_fault, put_line, read_line};
 use server_parts::{ServiceFault, SystemMoments};
-use site_book::Naming;
-use site_desk::{BoardFault, HasCell, NoGate};
+use site_desk::{BoardFault, NoGate};
 use station_cell::Pass;
 use station_link::{answer_text, present};
 use std::alloc::{AllocError, Global};
@@ -51,22 +51,14 @@ const TORN: &str = "fault Torn";
 /// Answers line after line of the input until it ends, a line says `close`, or no change is accepted any more, which is
 /// a `WriteFault`. An answer is out before the next line is read. While there is no line, it looks ten times a second
 /// whether changes are still accepted. It returns what was seen of the desk's journal with the answers, in their order.
-pub fn operate<
-    J: Naming,
-    C: HasCell,
-    M: Drop,
-    S: Serves<J, C, M>,
-    R: Threads + Wait + Clock,
-    I: BufRead + Readiness,
-    W: Write,
->(
+pub fn operate<S: Serves, R: Threads + Wait + Clock, I: BufRead + Readiness, W: Write>(
     rt: &R,
     alloc: Global,
-    running: &Running<'_, J, C, M, S>,
+    running: &Running<'_, S>,
     input: &mut I,
     writer: &mut W,
-) -> Result<Vec<M>, ServiceFault>
-    ensures { IfOk result (λ seen. AddsReplies (S.gives running.now.serves.now) (S.shows running.now.serves.now) running.now.plan.now.sites.items running.now.desk.desk.now.stations
+) -> Result<Vec<S::Seen>, ServiceFault>
+    ensures { IfOk result (λ seen. AddsReplies S.gives (S.shows running.now.serves.now) running.now.plan.now.sites.items running.now.desk.desk.now.stations
         (lines_in (I.remaining input.old)) (W.contents writer.old) (W.contents writer.new) seen.items) }
 {
     let mut orders = Orders::open(rt, alloc, input, running.serves);
@@ -120,21 +112,14 @@ fn says_close(line: Option<&[u8]>) -> bool
 }
 
 // Writes the answer to a line.
-fn put_reply<
-    J: Naming,
-    C: HasCell,
-    M: Drop,
-    S: Serves<J, C, M>,
-    R: Threads + Wait + Clock,
-    W: Write,
->(
+fn put_reply<S: Serves, R: Threads + Wait + Clock, W: Write>(
     rt: &R,
     alloc: Global,
-    running: &Running<'_, J, C, M, S>,
+    running: &Running<'_, S>,
     line: Option<&[u8]>,
     writer: &mut W,
-) -> Result<Option<M>, ServiceFault>
-    ensures { IfOk result (λ seen. AddsReply (S.gives running.now.serves.now) (S.shows running.now.serves.now) running.now.plan.now.sites.items running.now.desk.desk.now.stations
+) -> Result<Option<S::Seen>, ServiceFault>
+    ensures { IfOk result (λ seen. AddsReply S.gives (S.shows running.now.serves.now) running.now.plan.now.sites.items running.now.desk.desk.now.stations
         (line_bytes line.entry) (W.contents writer.old) (W.contents writer.new) seen) }
 {
     let mut reply = Vec::new(alloc);
@@ -148,31 +133,31 @@ fn put_reply<
 
 // Appends the answer to an operator's line, which is that of a script's line after its declarations. Moments come
 // from the clock, so a line that gives one is `BadLine`.
-fn answer_line<J: Naming, C: HasCell, M: Drop, S: Serves<J, C, M>, R: Threads + Wait + Clock>(
+fn answer_line<S: Serves, R: Threads + Wait + Clock>(
     rt: &R,
     alloc: Global,
-    running: &Running<'_, J, C, M, S>,
+    running: &Running<'_, S>,
     line: Option<&[u8]>,
     reply: &mut Vec<u8>,
-) -> Result<Option<M>, AllocError>
+) -> Result<Option<S::Seen>, AllocError>
     requires { reply.old.items ≡ [] }
-    ensures { IfOk result (λ seen. IsReply (S.gives running.now.serves.now) (S.shows running.now.serves.now) running.now.plan.now.sites.items running.now.desk.desk.now.stations (line_meaning (line_bytes line.entry)) reply.new.items seen) }
+    ensures { IfOk result (λ seen. IsReply S.gives (S.shows running.now.serves.now) running.now.plan.now.sites.items running.now.desk.desk.now.stations (line_meaning (line_bytes line.entry)) reply.new.items seen) }
 {
     answer_said(rt, alloc, running, read_line(line), line, reply)
 }
 
 // Appends the answer to what an operator's line says.
-fn answer_said<J: Naming, C: HasCell, M: Drop, S: Serves<J, C, M>, R: Threads + Wait + Clock>(
+fn answer_said<S: Serves, R: Threads + Wait + Clock>(
     rt: &R,
     alloc: Global,
-    running: &Running<'_, J, C, M, S>,
+    running: &Running<'_, S>,
     said: ScriptLine<'_>,
     line: Option<&[u8]>,
     reply: &mut Vec<u8>,
-) -> Result<Option<M>, AllocError>
+) -> Result<Option<S::Seen>, AllocError>
     requires said { meaning_of said ≡ line_meaning (line_bytes line) }
     requires empty { reply.old.items ≡ [] }
-    ensures { IfOk result (λ seen. IsReply (S.gives running.now.serves.now) (S.shows running.now.serves.now) running.now.plan.now.sites.items running.now.desk.desk.now.stations (meaning_of said.entry) reply.new.items seen) }
+    ensures { IfOk result (λ seen. IsReply S.gives (S.shows running.now.serves.now) running.now.plan.now.sites.items running.now.desk.desk.now.stations (meaning_of said.entry) reply.new.items seen) }
 {
     match said {
         ScriptLine::Sends(name, text) => return receive(rt, alloc, running, &name, text, reply),
@@ -196,17 +181,17 @@ fn answer_said<J: Naming, C: HasCell, M: Drop, S: Serves<J, C, M>, R: Threads + 
 }
 
 // Delivers a message of the station of this name at the clock's moment, and appends its reply.
-fn receive<J: Naming, C: HasCell, M: Drop, S: Serves<J, C, M>, R: Threads + Wait + Clock>(
+fn receive<S: Serves, R: Threads + Wait + Clock>(
     rt: &R,
     alloc: Global,
-    running: &Running<'_, J, C, M, S>,
+    running: &Running<'_, S>,
     name: &Name,
     text: &str,
     reply: &mut Vec<u8>,
-) -> Result<Option<M>, AllocError>
+) -> Result<Option<S::Seen>, AllocError>
     requires { reply.old.items ≡ [] }
     ensures sent { OnOk result ((moment : ℕ) × IsSent running.now.desk.desk.now.stations name.now text.now moment reply.new.items) }
-    ensures messaged { IfOk result (λ seen. IsMessaged (S.gives running.now.serves.now) running.now.desk.desk.now.stations name.now text.now reply.new.items seen) }
+    ensures messaged { IfOk result (λ seen. IsMessaged S.gives running.now.desk.desk.now.stations name.now text.now reply.new.items seen) }
 {
     match running.desk.pass_of(rt, name) {
         Ok(mut pass) => {
@@ -222,16 +207,16 @@ fn receive<J: Naming, C: HasCell, M: Drop, S: Serves<J, C, M>, R: Threads + Wait
 }
 
 // Delivers a message with a pass, and appends its reply.
-fn deliver<J: Naming, C: HasCell, M: Drop, S: Serves<J, C, M>, R: Threads + Wait + Clock>(
+fn deliver<S: Serves, R: Threads + Wait + Clock>(
     rt: &R,
     alloc: Global,
-    running: &Running<'_, J, C, M, S>,
+    running: &Running<'_, S>,
     pass: &mut Pass,
     text: &str,
     reply: &mut Vec<u8>,
-) -> Result<Option<M>, AllocError>
+) -> Result<Option<S::Seen>, AllocError>
     requires { reply.old.items ≡ [] }
-    ensures { IfOk result (λ seen. IsMessageLine (S.gives running.now.serves.now) running.now.desk.desk.now.stations pass.old text.now pass.new reply.new.items seen) }
+    ensures { IfOk result (λ seen. IsMessageLine S.gives running.now.desk.desk.now.stations pass.old text.now pass.new reply.new.items seen) }
 {
     reply.reserve(MOST_ANSWER)?;
     let now = present(&mut SystemMoments { rt });
@@ -244,18 +229,18 @@ fn deliver<J: Naming, C: HasCell, M: Drop, S: Serves<J, C, M>, R: Threads + Wait
 }
 
 // Submits an operator's command on the station of this name, and appends its answer.
-fn put_command<J: Naming, C: HasCell, M: Drop, S: Serves<J, C, M>, R: Threads + Wait + Clock>(
+fn put_command<S: Serves, R: Threads + Wait + Clock>(
     rt: &R,
-    running: &Running<'_, J, C, M, S>,
+    running: &Running<'_, S>,
     name: &Name,
     what: Command,
     line: Option<&[u8]>,
     reply: &mut Vec<u8>,
-) -> Result<Option<M>, AllocError>
+) -> Result<Option<S::Seen>, AllocError>
     requires line { line_meaning (line_bytes line) ≡ commands name.now what }
     requires empty { reply.old.items ≡ [] }
     ensures answer { OnOk result (IsCommanded running.now.desk.desk.now.stations name.now what reply.new.items) }
-    ensures submitted { IfOk result (λ seen. IsSubmitted (S.gives running.now.serves.now) running.now.desk.desk.now.stations name.now what reply.new.items seen) }
+    ensures submitted { IfOk result (λ seen. IsSubmitted S.gives running.now.desk.desk.now.stations name.now what reply.new.items seen) }
 {
     match running.desk.pass_of(rt, name) {
         Ok(mut pass) => {
@@ -271,20 +256,20 @@ fn put_command<J: Naming, C: HasCell, M: Drop, S: Serves<J, C, M>, R: Threads + 
 }
 
 // Submits an operator's command with a pass of the station of this name, and appends its answer.
-fn submit<J: Naming, C: HasCell, M: Drop, S: Serves<J, C, M>, R: Threads + Wait + Clock>(
+fn submit<S: Serves, R: Threads + Wait + Clock>(
     rt: &R,
-    running: &Running<'_, J, C, M, S>,
+    running: &Running<'_, S>,
     pass: &mut Pass,
     name: &Name,
     what: Command,
     line: Option<&[u8]>,
     reply: &mut Vec<u8>,
-) -> Result<Option<M>, AllocError>
+) -> Result<Option<S::Seen>, AllocError>
     requires named { IsNamed running.now.desk.desk.now.stations name.now pass.old.station }
     requires line { line_meaning (line_bytes line) ≡ commands name.now what }
     requires empty { reply.old.items ≡ [] }
     ensures { IfOk result (λ seen. (at : StationPlace) → slice_get running.now.desk.desk.now.stations pass.old.station ≡ Some at
-        → IsCommandLine (S.gives running.now.serves.now pass.old.station at) at pass.old what pass.new reply.new.items seen) }
+        → IsCommandLine (S.gives pass.old.station at) at pass.old what pass.new reply.new.items seen) }
 {
     reply.reserve(MOST_ANSWER)?;
     let (answer, _told, seen) = running.serves.command(rt, pass, name, what, line);
@@ -312,9 +297,9 @@ pub enum Asked {
 }
 
 // Appends totals of the station of this name.
-fn put_totals<J: Naming, C: HasCell, M: Drop, S: Serves<J, C, M>, R: Wait>(
+fn put_totals<S: Serves, R: Wait>(
     rt: &R,
-    running: &Running<'_, J, C, M, S>,
+    running: &Running<'_, S>,
     name: &Name,
     asked: Asked,
     reply: &mut Vec<u8>,
@@ -347,13 +332,13 @@ fn put_total(
 }
 
 // Appends the board of the site of this name.
-fn put_board<J: Naming, C: HasCell, M: Drop, S: Serves<J, C, M>, R: Wait>(
+fn put_board<S: Serves, R: Wait>(
     rt: &R,
     alloc: Global,
-    running: &Running<'_, J, C, M, S>,
+    running: &Running<'_, S>,
     name: &Name,
     reply: &mut Vec<u8>,
-) -> Result<Option<M>, AllocError>
+) -> Result<Option<S::Seen>, AllocError>
     requires { reply.old.items ≡ [] }
     ensures { IfOk result (λ seen. IsBoard (S.shows running.now.serves.now) running.now.plan.now.sites.items running.now.desk.desk.now.stations
         (position (λ s. bytes_eq name.now s.name) running.now.plan.now.sites.items) reply.new.items seen) }

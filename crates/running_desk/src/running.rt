@@ -11,32 +11,29 @@ use crate::pooled_desk::{PassFault, PooledDesk};
 use crate::serves::Serves;
 use board_report::running_text;
 use ledger_model::Name;
-use site_book::Naming;
-use site_desk::{BoardFault, HasCell, Plan};
+use site_desk::{BoardFault, Plan};
 use station_cell::Pass;
 use station_link::Why;
 use std::alloc::Global;
-use std::marker::PhantomData;
-use std::sync::{Mutex, Wait};
+use std::sync::Wait;
 use std::thread::Threads;
 
 /// The desk of a plan while it is served, with the pool of its passes.
 #[derive(Drop)]
-pub struct Running<'a, J: Naming, C: HasCell, M, S: Serves<J, C, M>> {
+pub struct Running<'a, S: Serves> {
     /// The plan.
     pub plan: &'a Plan,
     /// What is served.
     pub serves: &'a S,
     /// Its desk, with the pool of its passes.
-    pub desk: PooledDesk<'a, J, C>,
-    named: PhantomData<Mutex<M>>,
+    pub desk: PooledDesk<'a, S::Names, S::Cell>,
     ghost same: { desk.desk.now ≡ S.roster serves.now },
     ghost stations: { desk.desk.now.stations ≡ S.stations serves.now },
     ghost opened: { AreNewPlaces plan.now.sites.items plan.now.stations.items desk.desk.now.stations },
     ghost readings: { sum_by (λ s. s.limits.readings) plan.now.stations.items ≤ most_plan_readings },
 }
 
-impl<'a, J: Naming, C: HasCell, M: Drop, S: Serves<J, C, M>> Running<'a, J, C, M, S> {
+impl<'a, S: Serves> Running<'a, S> {
     /// The desk of this plan, with the passes that were given out before in the pool.
     ///
     /// Conditions: the desk was opened for this plan, and the plan's limits allow no more than 1,048,576
@@ -49,12 +46,7 @@ impl<'a, J: Naming, C: HasCell, M: Drop, S: Serves<J, C, M>> Running<'a, J, C, M
         ensures desk { result.desk.desk.now ≡ S.roster serves.now }
     {
         let desk = PooledDesk::open(serves.desk(), passes);
-        Running {
-            plan,
-            serves,
-            desk,
-            named: PhantomData,
-        }
+        Running { plan, serves, desk }
     }
 
     /// A pass of the station that a request asks for, with its name.
@@ -81,7 +73,7 @@ impl<'a, J: Naming, C: HasCell, M: Drop, S: Serves<J, C, M>> Running<'a, J, C, M
         rt: &R,
         alloc: Global,
         site: u16,
-    ) -> Result<(Vec<u8>, M), BoardFault>
+    ) -> Result<(Vec<u8>, S::Seen), BoardFault>
         requires { site < length self.now.plan.now.sites.items }
         ensures { IfOk result (λ r. IsShownBoard (S.shows self.now.serves.now) self.now.plan.now.sites.items self.now.desk.desk.now.stations site r.0.items (Some r.1)) }
     {

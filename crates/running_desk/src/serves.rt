@@ -2,7 +2,7 @@
 ghost use Rattle.std.specs.Prelude.{◌≡◌, Some, slice_get};
 
 use ledger_model::{Answer, Command, Figures, Name};
-use site_book::{Naming, Told};
+use site_book::Told;
 use site_desk::{BoardFault, Desk, HasCell};
 use station_cell::Pass;
 use station_ledger::StationBoard;
@@ -23,7 +23,10 @@ pub type Seen<M> = (Vec<(Name, StationBoard)>, Figures, M);
 /// A desk that a live server serves: it takes what stations send and what an operator commands, and makes the boards of
 /// its sites. With the boards of a site it returns what it saw of its journal then; `shows` is what that says of the
 /// boards.
-pub trait Serves<J: Naming, C: HasCell, M>: Delivers<J, M> + MayBreak {
+pub trait Serves: Delivers + MayBreak {
+    /// What is behind a station's lock.
+    type Cell: HasCell + Send;
+
     ghost use Rattle.std.specs.Prelude.{◌≡◌, ℕ, List, Some, IfOk, map, slice_get};
     ghost use Rattle.ledger_model.specs.Board.{Board, sum_of_figures};
     ghost use Rattle.script_lines.specs.LineMeaning.{commands, line_meaning};
@@ -36,10 +39,10 @@ pub trait Serves<J: Naming, C: HasCell, M>: Delivers<J, M> + MayBreak {
 
     ghost roster: { Self → Roster };
 
-    ghost shows: { Self → ℕ → List (List ℕ × Board) → M → Type 0 };
+    ghost shows: { Self → ℕ → List (List ℕ × Board) → Self.Seen → Type 0 };
 
     /// The desk, for its boards and totals.
-    fn desk(&self) -> &Desk<J, C>
+    fn desk(&self) -> &Desk<Self::Names, Self::Cell>
         ensures desk { result.now ≡ roster self.now }
         ensures stations { result.now.stations ≡ Self.stations self.now };
 
@@ -55,15 +58,20 @@ pub trait Serves<J: Naming, C: HasCell, M>: Delivers<J, M> + MayBreak {
         name: &Name,
         what: Command,
         line: Option<&[u8]>,
-    ) -> (Answer, Option<Told<J>>, Option<M>)
+    ) -> (Answer, Option<Told<Self::Names>>, Option<Self::Seen>)
         requires named { IsNamed (roster self.now).stations name.now pass.old.station }
         requires line { line_meaning (line_bytes line) ≡ commands name.now what }
         ensures settled { (at : StationPlace) → slice_get (roster self.now).stations pass.old.station ≡ Some at → Submitted at pass.old what result.0 pass.new result.1 }
-        ensures given { IsGivenAt (Self.gives self.now) (roster self.now).stations pass.old.station what result.0 result.1 result.2 };
+        ensures given { IsGivenAt Self.gives (roster self.now).stations pass.old.station what result.0 result.1 result.2 };
 
     /// The boards of the stations of the site of this number, as [`Desk::site_boards`](site_desk::Desk::site_boards)
     /// gives them.
-    fn boards<R: Wait>(&self, rt: &R, alloc: Global, site: u16) -> Result<Seen<M>, BoardFault>
+    fn boards<R: Wait>(
+        &self,
+        rt: &R,
+        alloc: Global,
+        site: u16,
+    ) -> Result<Seen<Self::Seen>, BoardFault>
         ensures boards { IfOk result (λ r. AreBoardsAt (roster self.now).stations site r.0.items) }
         ensures totals { IfOk result (λ r. r.1 ≡ sum_of_figures (map (λ s. s.1.figures) r.0.items)) }
         ensures shown { IfOk result (λ r. shows self.now site r.0.items r.2) };

@@ -14,8 +14,6 @@ use Rattle.site_desk.specs.declared.roster.StationPlace.{StationPlace}
 use Rattle.site_desk.specs.Roster.{IsNamed, StandsAt}
 use Rattle.station_cell.specs.Cell.{Cell}
 use Rattle.site_desk.specs.Submit.{IsBoardWithin}
-use Rattle.station_ledger.specs.declared.used.UsedLimits.{UsedLimits}
-use Rattle.station_ledger.specs.Used.{used_limits}
 
 -- Some content that accepted commands reach under these limits has these figures and these imported
 -- and exported energies, in this order of readings.
@@ -32,18 +30,6 @@ pub record AreTotalsOfName (places : List StationPlace) (name : List ℕ) (f : F
   pub number : ℕ
   pub named : IsNamed places name number
   pub totals : AreTotalsWithin named.place.limits named.place.order f e x
-
--- Some content that accepted commands reach under these limits uses this much of each limit.
-pub record IsUsedWithin (limits : Bounds) (used : UsedLimits) : Type 0 where
-  pub content : Content
-  pub reached : Reached limits content.changes content
-  pub is : used ≡ used_limits content
-
--- It belongs to the station of this number, under the limits of the station's place.
-pub record IsUsedAt (places : List StationPlace) (station : ℕ) (used : UsedLimits) : Type 0 where
-  pub place : StationPlace
-  pub there : slice_get places station ≡ Some place
-  pub used_within : IsUsedWithin place.limits used
 
 -- The board of the station of this place, under its name: it is the board of some content that
 -- accepted commands reach under the place's limits, by the place's period and order.

@@ -14,7 +14,7 @@ ghost use Rattle.site_desk.specs.Parts.{AreTied, new_viewers};
 ghost use Rattle.site_desk.specs.Plan.{plan_fault};
 ghost use Rattle.site_desk.specs.Roster.{AreNewPlaces, IsNamed};
 ghost use Rattle.ledger_model.specs.Board.{sum_of_figures};
-ghost use Rattle.site_desk.specs.Operator.{AreBoardsAt, AreNotedBoards, AreTotalsOfName, IsUsedAt};
+ghost use Rattle.site_desk.specs.Operator.{AreBoardsAt, AreNotedBoards, AreTotalsOfName};
 ghost use Rattle.site_desk.specs.Submit.{IsBoardOfName, IsUnchanged, Submitted};
 
 use crate::checks::fault_of;
@@ -24,7 +24,7 @@ use crate::gate::Gate;
 use crate::has_cell::HasCell;
 use crate::locks::{Locked, Spare, lock_up, take_viewers, unlock};
 use crate::notes::Notes;
-use crate::operator::{hold_stations, noted_boards_of, site_boards_of, sum_of, totals_of, used_of};
+use crate::operator::{hold_stations, noted_boards_of, site_boards_of, sum_of, totals_of};
 use crate::parts::Parts;
 use crate::plan::Plan;
 use crate::roster::{Located, StationPlace, number_of, open_places};
@@ -34,7 +34,7 @@ use energy_flow::Flow;
 use ledger_model::{Answer, Command, Figures, Listed, Name, Refusal};
 use site_book::{Naming, SiteBook, Tables, Told, Viewer};
 use station_cell::{Pass, StationCell};
-use station_ledger::{StationBoard, UsedLimits};
+use station_ledger::StationBoard;
 use std::alloc::{AllocError, Global};
 use std::marker::Model;
 use std::sync::{Mutex, Wait};
@@ -230,14 +230,10 @@ impl<J: Naming, C: HasCell> Desk<J, C> {
         let mut held = lock.lock(rt);
         gate.held(rt, &place.name);
         let book: &Mutex<SiteBook<J>> = &self.books[place.site as usize];
-        way.settle(
-            rt,
-            &mut held,
-            book,
-            Located { number, place },
-            pass,
-            command,
-        )
+        let at = Located { number, place };
+        let settled = way.settle(rt, &mut held, book, at, pass, command);
+        gate.settled(held.cell().ledger().used_limits());
+        settled
     }
 
     /// The board of the station of this name. It waits for the station's lock. Errors:
@@ -310,26 +306,6 @@ impl<J: Naming, C: HasCell> Desk<J, C> {
             return Err(BoardFault::Torn);
         }
         Ok(totals_of(own))
-    }
-
-    /// How much of each limit the station of this number uses. It waits for the station's lock. Errors:
-    /// `UnknownStation`, `Torn`. `Torn` means that another station's cell is there, which no run of these calls
-    /// meets.
-    pub fn used_limits<R: Wait>(&self, rt: &R, station: u16) -> Result<UsedLimits, BoardFault>
-        ensures unknown { (result ≡ Err BoardFault.UnknownStation) ↔ (nat_lt station (length self.now.stations) ≡ false) }
-        ensures used { IfOk result (IsUsedAt self.now.stations station) }
-    {
-        let number = station as usize;
-        let Some(place) = self.places.get(number) else {
-            return Err(BoardFault::UnknownStation);
-        };
-        let lock: &Mutex<C> = &self.cells[number];
-        let held = lock.lock(rt);
-        let own = held.cell();
-        if !stands_at(own, number, place) {
-            return Err(BoardFault::Torn);
-        }
-        Ok(used_of(own))
     }
 
     /// The boards of the stations of the site of this number, in the plan's order and each with the

@@ -4,7 +4,7 @@ ghost use Rattle.std.specs.Prelude.{◌≡◌, ◌≢◌, ◌++◌, ◌∷◌, [
 ghost use Rattle.site_desk.specs.declared.fault.BoardFault.{BoardFault};
 ghost use Rattle.ledger_model.specs.Board.{Board, sum_of_figures};
 ghost use Rattle.std.specs.Sync.Mutex.{mutex_guard_value};
-ghost use Rattle.site_desk.specs.Operator.{AreBoardsAt, AreNotedBoards, AreTotalsWithin, IsAmong, IsBoardAt, IsBoardOfCell, IsUsedWithin};
+ghost use Rattle.site_desk.specs.Operator.{AreBoardsAt, AreNotedBoards, AreTotalsWithin, IsAmong, IsBoardAt, IsBoardOfCell};
 ghost use Rattle.station_cell.specs.Cell.{Cell};
 
 use crate::checks::plus;
@@ -17,7 +17,7 @@ use crate::submit::{board_of, stands_at};
 use energy_flow::Flow;
 use ledger_model::{Figures, Name};
 use station_cell::StationCell;
-use station_ledger::{StationBoard, UsedLimits};
+use station_ledger::StationBoard;
 use std::alloc::{AllocError, Global};
 use std::sync::{Mutex, MutexGuard, Wait};
 
@@ -27,13 +27,6 @@ pub(crate) fn totals_of(cell: &StationCell) -> (Figures, Flow, Flow)
 {
     let ledger = cell.ledger();
     (ledger.figures(), ledger.energy(), ledger.export())
-}
-
-// How much of each limit a cell's station uses.
-pub(crate) fn used_of(cell: &StationCell) -> UsedLimits
-    ensures { IsUsedWithin cell.now.limits result }
-{
-    cell.ledger().used_limits()
 }
 
 // The cells of a site's stations, each with its lock held, in the plan's order.

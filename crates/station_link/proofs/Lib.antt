@@ -1,2 +1,3 @@
 mod Submits
 mod Refusals
+mod Attended

@@ -105,11 +105,11 @@ memory_at (Called id MeterValues payload) = refl
 memory_at Silence = refl
 memory_at (Ready reply) = refl
 
-pub memory_told : (words reply : List ℕ) (p p' : Held) → reply ≡ memory_reply (codes "-1") → p' ≡ p → TellsMemory words p (Some reply) p' None
+pub memory_told : {M : Type 0} (words reply : List ℕ) (p p' : Held) → reply ≡ memory_reply (codes "-1") → p' ≡ p → TellsMemory {M = M} words p (Some reply) p' None None
 memory_told words reply p p' is same = record {
   reply = reply;
   tells = subst (IsMemoryReply (frame words)) (sym is) (memory_at (frame words));
-  ready = record { same = refl; unchanged = record { pass = same; untold = refl } };
+  ready = record { same = refl; unchanged = record { pass = same; untold = refl }; nothing = refl };
 }
 
 too_long : (b : Bool) (reply : List ℕ) (rest : Frame) (now : ℕ) (id : List ℕ) (request : Request) → meaning_of now (cond b (Ready reply) rest) ≡ Event id request → b ≡ false

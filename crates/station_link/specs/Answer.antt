@@ -50,27 +50,28 @@ pub record IsDelivered {M : Type 0} (gives : ℕ → StationPlace → Command �
   pub given : IsGivenAt gives stations p.station (Deliver request.key request.event) answer told seen
   pub reply : text ≡ Some (event_reply_bytes id request.token answer)
 
--- This text is ready, or none is, and nothing changed.
-pub record IsReady (expected : Option (List ℕ)) (p : Held) (text : Option (List ℕ)) (p' : Held) (told : Option Known) : Type 0 where
+-- This text is ready, or none is, and nothing changed or came with it.
+pub record IsReady {M : Type 0} (expected : Option (List ℕ)) (p : Held) (text : Option (List ℕ)) (p' : Held) (told : Option Known) (seen : Option M) : Type 0 where
   pub same : text ≡ expected
   pub unchanged : IsUnchanged p p' told
+  pub nothing : seen ≡ None
 
 -- The reply reports OutOfMemory, and nothing changed.
-pub record TellsMemory (words : List ℕ) (p : Held) (text : Option (List ℕ)) (p' : Held) (told : Option Known) : Type 0 where
+pub record TellsMemory {M : Type 0} (words : List ℕ) (p : Held) (text : Option (List ℕ)) (p' : Held) (told : Option Known) (seen : Option M) : Type 0 where
   pub reply : List ℕ
   pub tells : IsMemoryReply (frame words) reply
-  pub ready : IsReady (Some reply) p text p' told
+  pub ready : IsReady (Some reply) p text p' told seen
 
 -- The answer to a meaning: silence, the ready reply, or the reply to the delivery.
 abbrev pub AnswersMeaning : {M : Type 0} → (ℕ → StationPlace → Command → Answer → Option Known → Option M → Type 0) → List StationPlace → Held → Meaning → Option (List ℕ) → Held → Option Known → Option M → Type 0
-AnswersMeaning gives stations p Silence text p' told seen = IsReady None p text p' told
-AnswersMeaning gives stations p (Ready reply) text p' told seen = IsReady (Some reply) p text p' told
+AnswersMeaning gives stations p Silence text p' told seen = IsReady None p text p' told seen
+AnswersMeaning gives stations p (Ready reply) text p' told seen = IsReady (Some reply) p text p' told seen
 AnswersMeaning gives stations p (Event id request) text p' told seen = IsDelivered gives stations p id request text p' told seen
 
 -- The answer to a station's text at a moment; the last argument says whether there was no memory to read
 -- it.
 abbrev pub Answers : {M : Type 0} → (ℕ → StationPlace → Command → Answer → Option Known → Option M → Type 0) → List StationPlace → Held → List ℕ → ℕ → Option (List ℕ) → Held → Option Known → Option M → Bool → Type 0
-Answers gives stations p words now text p' told seen true = TellsMemory words p text p' told
+Answers gives stations p words now text p' told seen true = TellsMemory words p text p' told seen
 Answers gives stations p words now text p' told seen false = AnswersMeaning gives stations p (message words now) text p' told seen
 
 -- The reply in the caller's buffer, if there is one.

@@ -9,7 +9,7 @@ use crate::delivers::{Delivers, Ordered};
 use arrayvec::ArrayString;
 use ledger_model::{Answer, Moment};
 use ocppj_frame::{ErrorCode, error_text};
-use site_book::{Naming, Told};
+use site_book::Told;
 use site_desk::Gate;
 use station_cell::Pass;
 use std::alloc::{AllocError, Global};
@@ -19,42 +19,42 @@ use transaction_event::{Asked, Delivery, deliveries_are_answered, put_event_repl
 
 /// The result of one text of a station.
 #[derive(Drop)]
-pub struct Answered<J: Naming, M> {
+pub struct Answered<D: Delivers> {
     /// The reply; `None` if the text gets none.
     pub text: Option<ArrayString<512>>,
     /// The `Told` of the site's book, if the text's event was accepted.
-    pub told: Option<Told<J>>,
+    pub told: Option<Told<D::Names>>,
     /// What the desk returned with the answer.
-    pub seen: Option<M>,
+    pub seen: Option<D::Seen>,
     /// Whether the reply reports OutOfMemory; nothing changed then.
     pub memory: bool,
 }
 
 // The result of one text of a station, with the reply in the caller's buffer.
 #[derive(Drop)]
-pub(crate) struct Replied<J: Naming, M> {
+pub(crate) struct Replied<D: Delivers> {
     // Whether it has a reply, which is then in the buffer.
     pub(crate) has_reply: bool,
     // The `Told` of the site's book, if the text's event was accepted.
-    pub(crate) told: Option<Told<J>>,
+    pub(crate) told: Option<Told<D::Names>>,
     // What the desk returned with the answer.
-    pub(crate) seen: Option<M>,
+    pub(crate) seen: Option<D::Seen>,
     // Whether the reply reports OutOfMemory; nothing changed then.
     pub(crate) memory: bool,
 }
 
 // The answer to the delivery of an event, which always has a reply.
-fn deliver<J: Naming, M: Drop, D: Delivers<J, M>, G: Gate, R: Wait + Clock>(
+fn deliver<D: Delivers, G: Gate, R: Wait + Clock>(
     desk: &D,
     rt: &R,
     alloc: Global,
     pass: &mut Pass,
     ordered: Ordered<'_>,
     gate: &G,
-) -> Result<(Answer, Option<Told<J>>, Option<M>), AllocError>
+) -> Result<(Answer, Option<Told<D::Names>>, Option<D::Seen>), AllocError>
     requires { Asks ordered.text.now ordered.key ordered.event }
     ensures submitted { IfOk result (λ r. IsSubmitted (D.stations desk.now) pass.old (Command.Deliver ordered.entry.key ordered.entry.event) r.0 pass.new r.1) }
-    ensures given { IfOk result (λ r. IsGivenAt (D.gives desk.now) (D.stations desk.now) pass.old.station (Command.Deliver ordered.entry.key ordered.entry.event) r.0 r.1 r.2) }
+    ensures given { IfOk result (λ r. IsGivenAt D.gives (D.stations desk.now) pass.old.station (Command.Deliver ordered.entry.key ordered.entry.event) r.0 r.1 r.2) }
     ensures answered { IfOk result (λ r. answers_delivery r.0 ≡ true) }
     ensures same { OnErr result (pass.new ≡ pass.old) }
     ensures next { IsNextPass pass.old pass.new }
@@ -74,7 +74,7 @@ fn memory_reply() -> ArrayString<512>
 /// reply is that to the desk's answer; any other text has a ready reply or none. It may wait for the locks of
 /// the station and its site. It takes memory only before the desk takes the event, so a text that finds none
 /// changes nothing.
-pub fn answer_text<J: Naming, M: Drop, D: Delivers<J, M>, G: Gate, R: Wait + Clock>(
+pub fn answer_text<D: Delivers, G: Gate, R: Wait + Clock>(
     desk: &D,
     rt: &R,
     alloc: Global,
@@ -82,8 +82,8 @@ pub fn answer_text<J: Naming, M: Drop, D: Delivers<J, M>, G: Gate, R: Wait + Clo
     text: &str,
     now: Moment,
     gate: &G,
-) -> Answered<J, M>
-    ensures answers { Answers (D.gives desk.now) (D.stations desk.now) pass.old text.now now (option_map (λ t. t.bytes) result.text) pass.new result.told result.seen result.memory }
+) -> Answered<D>
+    ensures answers { Answers D.gives (D.stations desk.now) pass.old text.now now (option_map (λ t. t.bytes) result.text) pass.new result.told result.seen result.memory }
     ensures next { IsNextPass pass.old pass.new }
     ensures while_reading { IsTrue result.memory → length text.now ≤ longest_message }
 {
@@ -104,7 +104,7 @@ pub fn answer_text<J: Naming, M: Drop, D: Delivers<J, M>, G: Gate, R: Wait + Clo
 
 // Answers a text as `answer_text` does, and puts the reply into `reply`, in place of what was there. If the text gets
 // no reply, what `reply` has means nothing.
-pub(crate) fn put_answer<J: Naming, M: Drop, D: Delivers<J, M>, G: Gate, R: Wait + Clock>(
+pub(crate) fn put_answer<D: Delivers, G: Gate, R: Wait + Clock>(
     desk: &D,
     rt: &R,
     alloc: Global,
@@ -113,8 +113,8 @@ pub(crate) fn put_answer<J: Naming, M: Drop, D: Delivers<J, M>, G: Gate, R: Wait
     now: Moment,
     gate: &G,
     reply: &mut ArrayString<512>,
-) -> Replied<J, M>
-    ensures answers { Answers (D.gives desk.now) (D.stations desk.now) pass.old text.now now (reply_of result.has_reply reply.new.bytes) pass.new result.told result.seen result.memory }
+) -> Replied<D>
+    ensures answers { Answers D.gives (D.stations desk.now) pass.old text.now now (reply_of result.has_reply reply.new.bytes) pass.new result.told result.seen result.memory }
     ensures next { IsNextPass pass.old pass.new }
     ensures while_reading { IsTrue result.memory → length text.now ≤ longest_message }
 {

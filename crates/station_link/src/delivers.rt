@@ -19,9 +19,15 @@ pub struct Ordered<'a> {
 }
 
 /// Takes the events that the texts of sessions ask to deliver: a desk, or one with a journal. With an answer it may
-/// return what it saw of its journal then (M); `gives` is what that says of the command on the station of this number
-/// and place.
-pub trait Delivers<J: Naming, M> {
+/// return what it saw of its journal then; `gives` is what that says of the command on the station of this number and
+/// place.
+pub trait Delivers {
+    /// The naming of its sites' tables.
+    type Names: Naming + Send + Sync;
+
+    /// What it returns with an answer.
+    type Seen: Drop + Send;
+
     ghost use Rattle.std.specs.Prelude.{◌≡◌, ℕ, List, Option, IfOk, OnErr};
     ghost use Rattle.ledger_model.specs.declared.answer.Answer.{Answer};
     ghost use Rattle.ledger_model.specs.declared.command.Command.{Command};
@@ -31,7 +37,7 @@ pub trait Delivers<J: Naming, M> {
 
     ghost stations: { Self → List StationPlace };
 
-    ghost gives: { Self → ℕ → StationPlace → Command → Answer → Option Known → Option M → Type 0 };
+    ghost gives: { ℕ → StationPlace → Command → Answer → Option Known → Option Self.Seen → Type 0 };
 
     /// Takes the delivery that a text asks for, with a pass, and returns the answer as
     /// [`Desk::submit`](site_desk::Desk::submit) does. If there is no memory, nothing changes.
@@ -44,17 +50,21 @@ pub trait Delivers<J: Naming, M> {
         pass: &mut Pass,
         ordered: Ordered<'_>,
         gate: &G,
-    ) -> Result<(Answer, Option<Told<J>>, Option<M>), AllocError>
+    ) -> Result<(Answer, Option<Told<Self::Names>>, Option<Self::Seen>), AllocError>
         requires { Asks ordered.text.now ordered.key ordered.event }
         ensures submitted { IfOk result (λ r. IsSubmitted (stations self.now) pass.old (Command.Deliver ordered.entry.key ordered.entry.event) r.0 pass.new r.1) }
-        ensures given { IfOk result (λ r. IsGivenAt (gives self.now) (stations self.now) pass.old.station (Command.Deliver ordered.entry.key ordered.entry.event) r.0 r.1 r.2) }
+        ensures given { IfOk result (λ r. IsGivenAt gives (stations self.now) pass.old.station (Command.Deliver ordered.entry.key ordered.entry.event) r.0 r.1 r.2) }
         ensures same { OnErr result (pass.new ≡ pass.old) };
 }
 
-impl<J: Naming> Delivers<J, ()> for Desk<J> {
+impl<J: Naming + Send + Sync> Delivers for Desk<J> {
+    type Names = J;
+
+    type Seen = ();
+
     ghost stations = { λ d. d.stations };
 
-    ghost gives = { λ _ _ _ _ _ _ _. Unit {0} };
+    ghost gives = { λ _ _ _ _ _ _. Unit {0} };
 
     fn deliver<G: Gate, R: Wait + Clock>(
         &self,

@@ -1,9 +1,11 @@
 //! A session: one connection of a station, from its handshake to its end.
-ghost use Rattle.std.specs.Prelude.{◌≡◌, ◌≢◌, ◌≤◌, ◌<◌, ◌+◌, IsNone, IsSome, IfErr, IfSome, None, length};
+ghost use Rattle.std.specs.Prelude.{◌≡◌, ◌≢◌, ◌≤◌, ◌<◌, ◌+◌, ◌++◌, [], All, IsNone, IsSome, IfErr, IfSome, None, Some, length, slice_get, vec_capacity, vec_len};
+ghost use Rattle.site_desk.specs.declared.roster.StationPlace.{StationPlace};
 ghost use Rattle.station_link.specs.declared.ending.Why.{Why};
+ghost use Rattle.station_link.specs.Attended.{IsAnswered, IsAttended, if_seen};
 ghost use Rattle.station_link.specs.Session.{MayEnd, MayHavePass, MayLackPass, most_messages};
 
-use crate::answer::put_answer;
+use crate::answer::{Replied, put_answer};
 use crate::attendant::{Attendant, Nobody};
 use crate::delivers::Delivers;
 use crate::ending::{Ending, Why, end_of_read, end_of_refusal};
@@ -52,7 +54,7 @@ pub struct Client<'a, S: Read + Write + Drop> {
 
 /// How a session ended.
 #[derive(Drop)]
-pub struct SessionEnd {
+pub struct SessionEnd<M> {
     /// Why it ended.
     pub why: Why,
     /// The pass of its station, if it got one.
@@ -62,19 +64,22 @@ pub struct SessionEnd {
     pub messages: u64,
     /// How many of them were texts, with a reply or without one.
     pub texts: u64,
+    /// What the desk returned with the answers, in their order.
+    pub seen: Vec<M>,
 }
 
-impl SessionEnd {
-    // The end of a session that got no pass.
-    fn refused(why: Why) -> SessionEnd
-        ensures { result ≡ record { why = why; pass = None; messages = 0; texts = 0 } }
-    {
-        SessionEnd {
-            why,
-            pass: None,
-            messages: 0,
-            texts: 0,
-        }
+// The end of a session that got no pass.
+fn refused<M>(alloc: Global, why: Why) -> SessionEnd<M>
+    ensures why { result.why ≡ why }
+    ensures pass { result.pass ≡ None }
+    ensures messages { result.messages ≡ 0 }
+{
+    SessionEnd {
+        why,
+        pass: None,
+        messages: 0,
+        texts: 0,
+        seen: Vec::new(alloc),
     }
 }
 
@@ -82,12 +87,12 @@ impl SessionEnd {
 /// subprotocol `ocpp2.0.1` (RFC 6455; OCPP 2.0.1 Part 4), then a session ([`serve_session`]) that nobody attends.
 /// It may wait for locks and for the stream.
 pub fn serve_connection<
-    J: Naming,
+    J: Naming + Send + Sync,
     R: Wait + Threads + Clock,
     S: Read + Write + Drop,
     G: Gate,
     C: MomentSource,
->(rt: &R, alloc: Global, stream: S, desk: &Desk<J>, gate: &G, clock: &mut C) -> SessionEnd
+>(rt: &R, alloc: Global, stream: S, desk: &Desk<J>, gate: &G, clock: &mut C) -> SessionEnd<()>
     ensures lacks { IsNone result.pass → MayLackPass result.why }
     ensures has { IsSome result.pass → MayHavePass result.why }
     ensures station { IfSome result.pass (λ p. p.station < length desk.now.stations) }
@@ -98,7 +103,7 @@ pub fn serve_connection<
     let seen = Cell::new(Seen::Nothing);
     let mut socket = match shake_hands(alloc, stream, Look { seen: &seen }) {
         Ok(socket) => socket,
-        Err(why) => return SessionEnd::refused(why),
+        Err(why) => return refused(alloc, why),
     };
     match admit(rt, desk, seen.into_inner()) {
         Ok((name, pass)) => {
@@ -111,7 +116,7 @@ pub fn serve_connection<
         }
         Err(why) => {
             say_goodbye(&mut socket, end_of_refusal(why).code, "");
-            SessionEnd::refused(why)
+            refused(alloc, why)
         }
     }
 }
@@ -123,9 +128,7 @@ pub fn serve_connection<
 /// reply can't be sent. At the end it calls the attendant's `leaves`, and then sends the close frame. It gives the pass
 /// back whatever ends the session, also a lack of memory.
 pub fn serve_session<
-    J: Naming,
-    M: Drop,
-    D: Delivers<J, M>,
+    D: Delivers,
     R: Wait + Clock,
     S: Read + Write + Drop,
     G: Gate,
@@ -139,7 +142,9 @@ pub fn serve_session<
     gate: &G,
     clock: &mut C,
     attendant: &A,
-) -> SessionEnd
+) -> SessionEnd<D::Seen>
+    ensures attended { IfSome result.pass (λ p. IsAttended D.gives (D.stations desk.now) client.entry.pass p [] result.seen.items) }
+    ensures answered { (at : StationPlace) → slice_get (D.stations desk.now) client.entry.pass.station ≡ Some at → All (IsAnswered D.gives) result.seen.items }
     ensures given_back { IsSome result.pass }
     ensures why { MayEnd (A.dismisses attendant.now) result.why }
     ensures station { IfSome result.pass (λ p. p.station ≡ client.entry.pass.station) }
@@ -164,6 +169,7 @@ pub fn serve_session<
         pass: Some(pass),
         messages: ended.messages,
         texts: ended.texts,
+        seen: ended.seen,
     }
 }
 
@@ -189,17 +195,16 @@ pub(crate) fn shake_hands<S: Read + Write + Drop, L: Callback + Drop>(
 // The result of all messages: how the session ends, how many messages it took, the last one included, and how
 // many texts.
 #[derive(Drop)]
-struct Ended {
+struct Ended<M> {
     end: Ending,
     messages: u64,
     texts: u64,
+    seen: Vec<M>,
 }
 
 // Answers message after message until the session ends.
 fn answer_all<
-    J: Naming,
-    M: Drop,
-    D: Delivers<J, M>,
+    D: Delivers,
     R: Wait + Clock,
     S: Read + Write + Drop,
     G: Gate,
@@ -215,7 +220,8 @@ fn answer_all<
     gate: &G,
     clock: &mut C,
     attendant: &A,
-) -> Ended
+) -> Ended<D::Seen>
+    ensures attended { IsAttended D.gives (D.stations desk.now) pass.old pass.new [] result.seen.items }
     ensures why { MayEnd (A.dismisses attendant.now) result.end.why }
     ensures station { pass.new.station ≡ pass.old.station }
     ensures few { pass.new.changes ≤ pass.old.changes + result.messages }
@@ -224,14 +230,15 @@ fn answer_all<
     ensures spent { result.end.why ≡ Why.MessagesSpent → result.messages ≡ most_messages }
 {
     let mut reply = ArrayString::new();
+    let mut seen = Vec::new(alloc);
     let mut texts = 0;
     for turn in 0..MAX_MESSAGES {
         let message = match await_message(rt, socket, attendant) {
             Ok(message) => message,
-            Err(end) => return end_after(end, turn + 1, texts),
+            Err(end) => return end_after(end, turn + 1, texts, seen),
         };
         let taken = answer_message(
-            rt, alloc, socket, desk, pass, gate, clock, message, &mut reply,
+            rt, alloc, socket, desk, pass, gate, clock, message, &mut reply, &mut seen,
         );
         match taken {
             Ok(true) => {
@@ -239,21 +246,22 @@ fn answer_all<
                 gate.after(rt, name, texts);
             }
             Ok(false) => {}
-            Err(end) => return end_after(end, turn + 1, texts),
+            Err(end) => return end_after(end, turn + 1, texts, seen),
         }
     }
     let end = Ending::told(Why::MessagesSpent, CloseCode::Error);
-    end_after(end, MAX_MESSAGES, texts)
+    end_after(end, MAX_MESSAGES, texts, seen)
 }
 
 // The end of a session after this many messages, with this many texts among them.
-fn end_after(end: Ending, messages: u64, texts: u64) -> Ended
-    ensures { result ≡ record { end = end; messages = messages; texts = texts } }
+fn end_after<M>(end: Ending, messages: u64, texts: u64, seen: Vec<M>) -> Ended<M>
+    ensures { result ≡ record { end = end; messages = messages; texts = texts; seen = seen } }
 {
     Ended {
         end,
         messages,
         texts,
+        seen,
     }
 }
 
@@ -294,16 +302,9 @@ fn is_tick(error: &Error) -> bool {
     }
 }
 
-// Answers a message, with a buffer for the reply, and returns whether it was a text.
-fn answer_message<
-    J: Naming,
-    M: Drop,
-    D: Delivers<J, M>,
-    R: Wait + Clock,
-    S: Read + Write + Drop,
-    G: Gate,
-    C: MomentSource,
->(
+// Answers a message, with a buffer for the reply, and returns whether it was a text. What came with the answer is
+// appended; there is room for it before the desk takes the event.
+fn answer_message<D: Delivers, R: Wait + Clock, S: Read + Write + Drop, G: Gate, C: MomentSource>(
     rt: &R,
     alloc: Global,
     socket: &mut WebSocket<S, NoMask>,
@@ -313,7 +314,9 @@ fn answer_message<
     clock: &mut C,
     message: Message,
     reply: &mut ArrayString<512>,
+    seen: &mut Vec<D::Seen>,
 ) -> Result<bool, Ending>
+    ensures attended { IsAttended D.gives (D.stations desk.now) pass.old pass.new seen.old.items seen.new.items }
     ensures has { IfErr result (λ end. MayHavePass end.why) }
     ensures unspent { IfErr result (λ end. end.why ≢ Why.MessagesSpent) }
     ensures station { pass.new.station ≡ pass.old.station }
@@ -321,10 +324,19 @@ fn answer_message<
 {
     match message {
         Message::Text(text) => {
+            if seen.reserve(1).is_err() {
+                return Err(Ending::untold(Why::OutOfMemory));
+            }
             let now = present(clock);
             let text = text.as_str();
-            let replied = put_answer(desk, rt, alloc, pass, text, now, gate, reply);
-            if replied.has_reply {
+            let Replied {
+                has_reply,
+                told: _,
+                seen: one,
+                memory: _,
+            } = put_answer(desk, rt, alloc, pass, text, now, gate, reply);
+            keep(seen, one);
+            if has_reply {
                 send_reply(alloc, socket, reply.as_str())?;
             }
             Ok(true)
@@ -335,6 +347,16 @@ fn answer_message<
             let _ = socket.flush();
             Err(Ending::untold(Why::PeerClosed))
         }
+    }
+}
+
+// Appends what came with an answer, if anything did.
+fn keep<M: Drop>(seen: &mut Vec<M>, one: Option<M>)
+    requires room { vec_len seen.old < vec_capacity seen.old }
+    ensures { seen.new.items ≡ seen.old.items ++ if_seen one }
+{
+    if let Some(one) = one {
+        seen.push_reserved(one);
     }
 }
 

@@ -54,7 +54,7 @@ enum Scene {
 }
 
 // The passes after a scene; none if the scene saw something wrong.
-fn play<J: Naming, R: Threads + Wait + Clock>(
+fn play<J: Naming + Send + Sync, R: Threads + Wait + Clock>(
     rt: &R,
     alloc: Global,
     desk: &Desk<J>,
@@ -67,7 +67,7 @@ fn play<J: Naming, R: Threads + Wait + Clock>(
     }
 }
 
-fn at_desk<J: Naming, R: Threads + Wait + Clock>(
+fn at_desk<J: Naming + Send + Sync, R: Threads + Wait + Clock>(
     rt: &R,
     alloc: Global,
     tables: Tables,
@@ -136,7 +136,7 @@ fn text_frames(alloc: Global, of_client: bool, texts: &[&str]) -> Option<Frames>
 }
 
 // The session with this peer.
-fn serve<J: Naming, R: Threads + Wait + Clock>(
+fn serve<J: Naming + Send + Sync, R: Threads + Wait + Clock>(
     rt: &R,
     alloc: Global,
     desk: &Desk<J>,
@@ -160,7 +160,7 @@ fn serve<J: Naming, R: Threads + Wait + Clock>(
 }
 
 // How many changes A and B made when the desk is closed with these passes.
-fn changes_at_close<J: Naming>(
+fn changes_at_close<J: Naming + Send + Sync>(
     alloc: Global,
     desk: Desk<J>,
     given: [Option<Pass>; 2],

@@ -51,7 +51,7 @@ pub(crate) enum Wish {
     Erase,
 }
 
-// A command in short. `tx` numbers its transaction, in the order of the ids.
+// A command in short. Numbers in the order of their ids stand for its transactions.
 #[derive(Clone, Copy)]
 pub(crate) struct Asked {
     pub(crate) tx: u8,

@@ -1,11 +1,12 @@
-use Rattle.std.proofs.Common.{◌++◌, ℕ, List, Option, ap, length, refl, subst, sym, ◌∙◌}
+use Rattle.std.proofs.Common.{◌++◌, ℕ, List, Option, All, ap, length, refl, subst, sym, ◌∙◌}
+use Rattle.site_book.specs.Prefix.{IsPrefix}
 use Rattle.board_report.specs.Closed.{boards_text}
 use Rattle.board_report.proofs.ClosedSites.{closed_of}
 use Rattle.kept_desk.specs.Journal.{IsWritten}
 use Rattle.ledger_model.specs.declared.command.Command.{Command}
 use Rattle.site_desk.specs.Close.{changes_of}
 use Rattle.site_desk.proofs.NewParts.{planned_readings}
-use Rattle.journal_server.proofs.Ends.{begin_those}
+use Rattle.journal_server.proofs.Ends.{all_back, all_front, begin_those}
 use Rattle.journal_server.proofs.run.end_run.Goals as goal
 
 pub write_boards-requires-clause-closed : goal.write_boards-requires-clause-closed
@@ -20,10 +21,11 @@ returns g c =
     let kept = c.in-Ok.ensures.kept in
     let contents = g.W.Write.contents in
     let buffer = c.into_parts-journal.result.1.items in
+    let begins = subst (λ ms. All (λ m. IsPrefix m kept.log) ms) c.in_ok-moments.ensures kept.begins in
     let closed = closed_of sites stations c.args.kept ended.closed c.args.ran.passes.items c.args.ran.viewers.items c.requires.sites c.requires.opened c.in-Ok.ensures.stations c.in-Ok.ensures.sites c.in-Ok.ensures.whole in
     record {
       cells = ended.closed.cells;
-      seen = c.seen_of-ended.result.1.items;
+      seen = c.in_ok-moments.moments.items;
       written = record {
         log = kept.log;
         written = subst (λ (o : Option (List ℕ)). IsWritten ended.is_broken g.K.Opening.before o buffer kept.log) (sym (ap contents c.into_parts-journal.ensures.inner))
@@ -32,7 +34,18 @@ returns g c =
         left = kept.left;
         begins = kept.begins;
       };
-      told = (refl, c.seen_of-ended.ensures.well, begin_those c.args.ran.ended (λ seen. seen.items) c.seen_of-ended.result.1.items kept.log c.seen_of-ended.ensures.seen kept.begins);
+      texts = record {
+        moments = c.args.ran.answers.items;
+        count = sym (c.len-answers.ensures ∙ c.args.ran.answers.ok.0);
+        begin = all_back (λ m. IsPrefix m kept.log) c.seen_of-ended.result.1.items c.args.ran.answers.items begins;
+        each = c.requires.answered;
+      };
+      told = (
+        refl,
+        c.seen_of-ended.ensures.well,
+        begin_those c.args.ran.ended (λ seen. seen.items) c.seen_of-ended.result.1.items kept.log c.seen_of-ended.ensures.seen
+            (all_front (λ m. IsPrefix m kept.log) c.seen_of-ended.result.1.items c.args.ran.answers.items begins),
+      );
       given = λ k d at. (c.in-Ok.ensures.whole.whole k d at).counted.changes ∙ ap (changes_of k) (sym (c.into_passes.ensures ∙ c.in-Ok.ensures.given));
       count = c.in-Ok.ensures.stations ∙ c.requires.opened.count;
       limits = closed.cells.limits;

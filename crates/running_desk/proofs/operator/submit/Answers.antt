@@ -5,5 +5,5 @@ use Rattle.running_desk.proofs.operator.submit.Goals as goal
 
 pub returns : goal.returns
 returns g c =
-    submitted_line (g.S.Delivers.gives c.args.running.now.serves.now) _ _ _ _ _ _ _ _ _ _ (ap (λ (d : Roster). d.stations) c.args.running.now.same) (c.in_ok-reserve.ensures.items ∙ c.requires.empty)
+    submitted_line g.S.Delivers.gives _ _ _ _ _ _ _ _ _ _ (ap (λ (d : Roster). d.stations) c.args.running.now.same) (c.in_ok-reserve.ensures.items ∙ c.requires.empty)
     c.command-answer.ensures.settled c.command-answer.ensures.given c.in_ok-put_answer.ensures

@@ -12,7 +12,7 @@ use std::time::Clock;
 
 // Returns whether a session of station B is refused, with a close frame of this code and nothing
 // else.
-fn is_refused<J: Naming, R: Threads + Wait + Clock>(
+fn is_refused<J: Naming + Send + Sync, R: Threads + Wait + Clock>(
     rt: &R,
     alloc: Global,
     desk: &Desk<J>,
@@ -26,7 +26,10 @@ fn is_refused<J: Naming, R: Threads + Wait + Clock>(
 }
 
 // Takes all passes of station B; returns whether it gave them.
-fn takes_all<J: Naming, R: Threads + Wait + Clock>(rt: &R, desk: &Desk<J>) -> Option<bool> {
+fn takes_all<J: Naming + Send + Sync, R: Threads + Wait + Clock>(
+    rt: &R,
+    desk: &Desk<J>,
+) -> Option<bool> {
     let name = Name::new("B")?;
     for _ in 0..MAX_PASSES {
         if desk.enlist(rt, &name).is_err() {
@@ -37,7 +40,7 @@ fn takes_all<J: Naming, R: Threads + Wait + Clock>(rt: &R, desk: &Desk<J>) -> Op
 }
 
 // A station that gave out all its passes; they are lost.
-pub(super) fn all_taken<J: Naming, R: Threads + Wait + Clock>(
+pub(super) fn all_taken<J: Naming + Send + Sync, R: Threads + Wait + Clock>(
     rt: &R,
     alloc: Global,
     desk: &Desk<J>,

@@ -10,7 +10,7 @@ use std::thread::Threads;
 use std::time::Clock;
 
 // A's two sessions: the reply of the first can't be sent, and the message is sent again on a new stream.
-fn sent_twice<J: Naming, R: Threads + Wait + Clock>(
+fn sent_twice<J: Naming + Send + Sync, R: Threads + Wait + Clock>(
     rt: &R,
     alloc: Global,
     desk: &Desk<J>,
@@ -23,7 +23,7 @@ fn sent_twice<J: Naming, R: Threads + Wait + Clock>(
     Some((first, second))
 }
 
-pub(super) fn sends_again<J: Naming, R: Threads + Wait + Clock>(
+pub(super) fn sends_again<J: Naming + Send + Sync, R: Threads + Wait + Clock>(
     rt: &R,
     alloc: Global,
     desk: &Desk<J>,

@@ -35,7 +35,7 @@ fn are(strings: &[String], expected: &[&str]) -> bool {
 }
 
 // Returns whether a text of the pass has this reply, and comes with a `Told` or not.
-fn is_answered<J: Naming, R: Wait + Clock>(
+fn is_answered<J: Naming + Send + Sync, R: Wait + Clock>(
     rt: &R,
     alloc: Global,
     desk: &Desk<J>,
@@ -51,7 +51,7 @@ fn is_answered<J: Naming, R: Wait + Clock>(
 
 // The pass of the station's texts when they are answered one by one: the last one repeats the first, and only
 // that comes without a `Told`.
-fn pass_of_texts<J: Naming, R: Threads + Wait + Clock>(
+fn pass_of_texts<J: Naming + Send + Sync, R: Threads + Wait + Clock>(
     rt: &R,
     alloc: Global,
     desk: &Desk<J>,
@@ -68,7 +68,7 @@ fn pass_of_texts<J: Naming, R: Threads + Wait + Clock>(
 }
 
 // The events, complete transactions and energy of a station.
-fn shown<J: Naming, R: Wait>(
+fn shown<J: Naming + Send + Sync, R: Wait>(
     rt: &R,
     alloc: Global,
     desk: &Desk<J>,
@@ -78,7 +78,7 @@ fn shown<J: Naming, R: Wait>(
     Some((figures.events, figures.complete, figures.up))
 }
 
-pub(super) fn each_text<J: Naming, R: Threads + Wait + Clock>(
+pub(super) fn each_text<J: Naming + Send + Sync, R: Threads + Wait + Clock>(
     rt: &R,
     alloc: Global,
     desk: &Desk<J>,

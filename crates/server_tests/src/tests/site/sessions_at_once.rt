@@ -47,7 +47,7 @@ fn ask_both<R: Threads + Wait + Clock + Sync + Net<Listener = TcpListener, Strea
 }
 
 // Serves the next connection, and gives its pass.
-fn serve_next<J: Naming, R: Threads + Wait + Clock>(
+fn serve_next<J: Naming + Send + Sync, R: Threads + Wait + Clock>(
     rt: &R,
     alloc: Global,
     desk: &Desk<J>,

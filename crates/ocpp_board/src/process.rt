@@ -1,0 +1,43 @@
+//! What a run of the program takes from its process.
+
+use gathered_input::Readiness;
+use server_parts::Host;
+use std::io::{Read, Write};
+use std::random::RandomSource;
+
+/// The machine that the program runs on, and the types of its streams.
+pub trait Process {
+    /// The machine.
+    type Runtime: AllocGlobal + Host + RandomSource;
+    /// Standard input.
+    type Input: Read + Readiness + Drop;
+    /// Standard output.
+    type Output: Write + Send + Drop;
+    /// Standard error, as the console of a server with a journal.
+    type Console: Write + Drop;
+    /// Standard error, as a run reports its end there.
+    type Errors: Write + Drop;
+    /// Standard error, as a server shows totals and logs sessions there.
+    type Lines: Write + Send + Drop;
+}
+
+impl<
+    X: AllocGlobal + Host + RandomSource,
+    R: Read + Readiness + Drop,
+    W: Write + Send + Drop,
+    C: Write + Drop,
+    E: Write + Drop,
+    L: Write + Send + Drop,
+> Process for (X, R, W, C, E, L) {
+    type Runtime = X;
+
+    type Input = R;
+
+    type Output = W;
+
+    type Console = C;
+
+    type Errors = E;
+
+    type Lines = L;
+}
