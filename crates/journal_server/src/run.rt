@@ -64,6 +64,14 @@ pub(crate) struct Outputs<W: Write + Drop, T, L> {
     pub(crate) lines: L,
 }
 
+// What a desk with a journal begins with: the tables of its stations' figures and of its journal, and its cells.
+#[derive(Drop)]
+struct DeskParts {
+    tables: Tables,
+    table: JournalTable,
+    cells: Vec<StationCell>,
+}
+
 // Serves the stations of a restored script until the operator's lines, which come from the input, end, or until as many
 // connections have ended as are asked for.
 pub(crate) fn run_restored<
@@ -95,12 +103,15 @@ pub(crate) fn run_restored<
     } = restored;
     let tables = Tables::make(rt.alloc(), draft.plan().sites.len() as u16)?;
     let table = JournalTable::new(rt.alloc())?;
-    run_over::<Brand, Brand, R, I, W, T, L>(
-        rt,
+    let desk_parts = DeskParts {
         tables,
         table,
-        draft.plan(),
         cells,
+    };
+    run_over::<Brand, Brand, R, I, W, T, L>(
+        rt,
+        draft.plan(),
+        desk_parts,
         passes,
         asked,
         input,
@@ -119,28 +130,26 @@ fn run_over<
     L: Write + Send + Drop,
 >(
     rt: &R,
-    tables: Tables,
-    table: JournalTable,
     plan: &Plan,
-    cells: Vec<StationCell>,
+    desk_parts: DeskParts,
     passes: Vec<Pass>,
     asked: Asked,
     input: &mut I,
     outputs: Outputs<W, T, L>,
 ) -> Result<Served<W, T>, ServiceFault>
-    requires named { NamedBy J.table tables }
-    requires there { (site : ℕ) → site < length plan.now.sites.items → HasTable tables site }
-    requires table { table ≡ K.table }
+    requires named { NamedBy J.table desk_parts.tables }
+    requires there { (site : ℕ) → site < length plan.now.sites.items → HasTable desk_parts.tables site }
+    requires table { desk_parts.table ≡ K.table }
     requires before { W.contents (writer_inner outputs.journal) ≡ K.before }
     requires empty { writer_buffer outputs.journal ≡ [] }
-    requires first { K.first ≡ contents_of cells.items }
+    requires first { K.first ≡ contents_of desk_parts.cells.items }
     requires names { K.name ≡ names_of plan.now.stations.items }
     requires faultless { plan_fault plan.now.sites.items plan.now.stations.items ≡ None }
-    requires cells { AreCellsOf plan.now.sites.items plan.now.stations.items cells.items }
-    requires passes { AreTheirPasses cells.items passes.items }
-    ensures { IfOk result (λ s. IsEnded (names_of plan.now.stations.items) (contents_of cells.items) (W.contents (writer_inner outputs.journal))
+    requires cells { AreCellsOf plan.now.sites.items plan.now.stations.items desk_parts.cells.items }
+    requires passes { AreTheirPasses desk_parts.cells.items passes.items }
+    ensures { IfOk result (λ s. IsEnded (names_of plan.now.stations.items) (contents_of desk_parts.cells.items) (W.contents (writer_inner outputs.journal))
         plan.now.sites.items plan.now.stations.items (left_of W.contents s)
-        (TellsNew s.ended plan.now.stations.items (operator_input asked.clients.connections (I.remaining input.old)) (T.contents outputs.console) (T.contents s.console) plan.now.sites.items cells.items)) }
+        (TellsNew s.ended plan.now.stations.items (operator_input asked.clients.connections (I.remaining input.old)) (T.contents outputs.console) (T.contents s.console) plan.now.sites.items desk_parts.cells.items)) }
 {
     let alloc = rt.alloc();
     let Asked {
@@ -156,15 +165,7 @@ fn run_over<
         console,
         lines,
     } = outputs;
-    let (kept, viewers) = open_over::<J, K, W>(
-        alloc,
-        tables,
-        table,
-        plan,
-        cells,
-        live.glances,
-        journal,
-    )?;
+    let (kept, viewers) = open_over::<J, K, W>(alloc, plan, desk_parts, live.glances, journal)?;
     let serving = Serving {
         kept,
         has_receipt_times,
@@ -183,25 +184,28 @@ fn run_over<
 // The desk of a plan over cells that took commands before, with a journal that has no lines yet, and its viewers.
 fn open_over<J: Naming, K: Opening, W: Write + Drop>(
     alloc: Global,
-    tables: Tables,
-    table: JournalTable,
     plan: &Plan,
-    cells: Vec<StationCell>,
+    desk_parts: DeskParts,
     glances: u16,
     journal: BufWriter<W>,
 ) -> Result<(KeptDesk<J, K, W>, Vec<Viewer<J>>), AllocError>
-    requires named { NamedBy J.table tables }
-    requires there { (site : ℕ) → site < length plan.now.sites.items → HasTable tables site }
-    requires table { table ≡ K.table }
+    requires named { NamedBy J.table desk_parts.tables }
+    requires there { (site : ℕ) → site < length plan.now.sites.items → HasTable desk_parts.tables site }
+    requires table { desk_parts.table ≡ K.table }
     requires before { W.contents (writer_inner journal) ≡ K.before }
     requires empty { writer_buffer journal ≡ [] }
-    requires first { K.first ≡ contents_of cells.items }
+    requires first { K.first ≡ contents_of desk_parts.cells.items }
     requires names { K.name ≡ names_of plan.now.stations.items }
     requires faultless { plan_fault plan.now.sites.items plan.now.stations.items ≡ None }
-    requires cells { AreCellsOf plan.now.sites.items plan.now.stations.items cells.items }
+    requires cells { AreCellsOf plan.now.sites.items plan.now.stations.items desk_parts.cells.items }
     ensures opened { IfOk result (λ r. AreNewPlaces plan.now.sites.items plan.now.stations.items r.0.stations) }
     ensures sites { IfOk result (λ r. r.0.sites ≡ length plan.now.sites.items) }
 {
+    let DeskParts {
+        tables,
+        table,
+        cells,
+    } = desk_parts;
     let each = if glances > 0 { 1 } else { 0 };
     let parts = Parts::over(alloc, tables, plan, cells, each)?;
     let (kept, numbered) = KeptDesk::open(alloc, plan, parts, table, journal)?;
