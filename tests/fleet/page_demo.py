@@ -118,7 +118,7 @@ class Demo(Trial):
 
     async def joins(self) -> None:
         """A board that is joined of one text is that text."""
-        query = "select b.site, text, period, reading_order from own_board b join own_site using (shard, site)"
+        query = "select b.site, text, period, reading_order, settle from own_board b join own_site using (shard, site)"
         for row in await self.owner.fetch(query):
             if joined(row["site"], Reckoning.of(row), [row["text"]], {}, {}) != row["text"]:
                 self.check(False, f"a board joined of the one of {row['site']} is another")

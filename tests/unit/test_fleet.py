@@ -15,7 +15,7 @@ pytest.importorskip("websockets")
 import asyncpg  # noqa: E402
 
 from ocpp_board.energies import Flow  # noqa: E402
-from ocpp_board.fleet import begun_anew, database, metrics, parts, worker  # noqa: E402
+from ocpp_board.fleet import begun_anew, database, metrics, parts, shards, worker  # noqa: E402
 from ocpp_board.fleet import watched as watching  # noqa: E402
 from ocpp_board.fleet.archives import Late, packed, unpacked, widened  # noqa: E402
 from ocpp_board.fleet.board_writer import Board, BoardWriter, chunks  # noqa: E402
@@ -56,7 +56,7 @@ from ocpp_board.fleet.lines import (  # noqa: E402
     readings_of,
     transaction_of,
 )
-from ocpp_board.fleet.orders import WAITS  # noqa: E402
+from ocpp_board.fleet.orders import READ, STATE, WAITS  # noqa: E402
 from ocpp_board.fleet.plans import Plan, Reckoning, known_lines  # noqa: E402
 from ocpp_board.fleet.replays import Replay, ReplayEnded  # noqa: E402
 from ocpp_board.fleet.worker import Session, payloads_of  # noqa: E402
@@ -185,35 +185,169 @@ class Held:
     def __init__(self) -> None:
         self.session: Session | None = None
         self.released: list[int] = []
+        self.told: list[str] = []
 
     def get_server_pid(self) -> int:
         return 7
 
-    async def fetch(self, query: str, *values: int) -> list[object]:
+    async def fetch(self, query: str, *values: Any) -> list[object]:
         if "release_shard" in query:
             self.released += values
             assert self.session
             self.session.shards.pop(2, None)
             return []
-        return [{"shard": number, "plan": 1} for number in range(6)]
+        if query == shards.TELL_PLAN:
+            self.told += values
+            return []
+        # Others hold what it asks for.
+        return [] if query == worker.HOLD else [{"shard": number, "plan": 1} for number in range(6)]
+
+
+def holding(held: Held) -> Session:
+    """The session of a worker that holds four shards."""
+    words = argparse.Namespace(
+        program="none", hang=1.0, name="worker_1", seen=metrics.WorkerSeen(1.0)
+    )
+    session = held.session = Session(words, [held, held, held])
+    row = {"plan": 1, "taken": 1, "last": 0, "told": 0}
+    for number in range(4):
+        replay = argparse.Namespace(kill=lambda: None)
+        values: Any = (replay, ["north"], Late(number, {}, False), None)
+        session.shards[number] = shards.Shard({"shard": number, **row}, *values)
+    return session
 
 
 def test_a_shard_that_is_opened_anew_is_given_back_another_time() -> None:
     async def shared() -> None:
-        words = argparse.Namespace(
-            program="none", hang=1.0, name="worker_1", seen=metrics.WorkerSeen(1.0)
-        )
         held = Held()
-        session = held.session = Session(words, [held, held, held])
-        row = {"plan": 1, "taken": 1, "last": 0, "told": 0}
-        for number in range(4):
-            replay = argparse.Namespace(kill=lambda: None)
-            values: Any = (replay, ["north"], Late(number, {}, False), None)
-            session.shards[number] = worker.Shard({"shard": number, **row}, *values)
+        session = holding(held)
+        # It offered them for long enough.
+        session.passing.over_since = time.monotonic() - 2 * shards.OFFERED
         assert not await session.share(6)
         assert held.released == [1, 3] and list(session.shards) == [0]
 
     asyncio.run(shared())
+
+
+def test_shards_above_the_share_are_offered_and_given_to_who_is_ready() -> None:
+    async def shared() -> None:
+        held = Held()
+        session = holding(held)
+        # Nobody has more than its share here, so that nothing is given, whatever somebody says.
+        assert not session.passing.heard("ready 3")
+        assert not await session.share(1) and (held.told, held.released) == ([], [])
+        assert await session.share(3) and held.told == ["offer 2 3"] and not held.released
+        # It offers them once a second, and not at each look.
+        assert await session.share(3) and held.told == ["offer 2 3"]
+        assert not session.passing.heard("ready 5") and session.passing.heard("ready 3 x")
+        assert await session.share(3) and held.released == [3]
+        assert list(session.shards) == [0, 1]
+        assert session.passing.heard("4") and session.passing.heard("")
+        # Its own offers, and what nobody is ready for here, are not looked at.
+        assert not session.passing.heard("offer 0") and not session.passing.heard("given 3")
+
+    asyncio.run(shared())
+
+
+def test_only_as_many_logs_are_read_as_are_lacking(monkeypatch: pytest.MonkeyPatch) -> None:
+    async def looked() -> None:
+        session, read = holding(Held()), list[int]()
+
+        async def made(number: int) -> None:
+            read.append(number)
+
+        monkeypatch.setattr(session.passing, "make_ready", made)
+        assert session.passing.heard("offer 3 4 5 6 7 8")
+        session.passing.look(0, dict.fromkeys(range(9), 1))
+        session.passing.look(2, dict.fromkeys(range(8), 1))
+        session.passing.look(2, dict.fromkeys(range(8), 1))
+        await asyncio.gather(*session.jobs)
+        assert len(read) == 2 and set(read) < {4, 5, 6, 7}
+
+    asyncio.run(looked())
+
+
+class Reading:
+    """A worker that reads logs: a line for each place, and what was sent and asked."""
+
+    def __init__(self, last: int) -> None:
+        self.last, self.sent, self.killed = last, list[tuple[str, str]](), list[str]()
+        self.shards: dict[int, shards.Shard] = {}
+        self.begun_ones, self.loaded_ones = list[shards.Shard](), list[shards.Shard]()
+        self.boards, self.late = self, argparse.Namespace(forget=lambda *_: None)
+
+    async def ask(self, query: str, *values: Any) -> list[Any]:
+        if query == STATE:
+            return [{"shard": 1, "plan": 1, "taken": 7, "last": self.last, "told": 2}]
+        assert query == READ
+        _, (read,), (last,), (told,) = values
+        return [(read + 1, told)] if read < min(last, self.last) else []
+
+    async def begun(self, row: Any, _ask: Any) -> shards.Shard:
+        return self.shard(row, "fresh")
+
+    def shard(self, row: Any, name: str) -> shards.Shard:
+        """A shard with a replay of this name."""
+        replay: Any = argparse.Namespace(kill=lambda: self.killed.append(name))
+        watched: Any = None
+        return shards.Shard(row, replay, ["north"], Late(1, {}, False), watched)
+
+    async def answer(self, shard: shards.Shard, row: tuple[int, int]) -> Any:
+        shard.read, told = row
+        return shard, [("gateway", f"{shard.read}")] if shard.read > told else []
+
+    async def send(self, answers: list[tuple[str, str]]) -> None:
+        self.sent += answers
+
+    def begin(self, shard: shards.Shard) -> None:
+        self.begun_ones.append(shard)
+
+    def loaded(self, shard: shards.Shard) -> None:
+        self.loaded_ones.append(shard)
+
+    def is_answering(self) -> bool:
+        return False
+
+
+def test_a_replay_that_is_ready_answers_what_the_one_before_it_may_not_have() -> None:
+    async def taken() -> None:
+        own: Any = Reading(6)
+        passing = shards.Passing(own)
+        shard = await passing.read(1)
+        assert shard and shard.read == 6 and not own.sent
+        # Others noted that the fourth was answered; two more came since.
+        state = {"shard": 1, "plan": 1, "taken": 8, "last": 8, "told": 4}
+        await passing.take_over(shard, state)
+        assert own.sent == [("gateway", "5"), ("gateway", "6")] and own.begun_ones == [shard]
+        assert (shard.taken, shard.last, shard.read, shard.told, shard.noted) == (8, 8, 6, 6, 4)
+
+    asyncio.run(taken())
+
+
+def test_a_replay_follows_another_one_once_it_has_read_as_much() -> None:
+    async def renewed() -> None:
+        own: Any = Reading(9)
+        passing, row = shards.Passing(own), {
+            "shard": 1,
+            "plan": 0,
+            "taken": 7,
+            "last": 9,
+            "told": 5,
+        }
+        old = own.shards[1] = own.shard(row, "old")
+        old.read, old.told, old.noted, old.is_loaded, old.is_answering = 8, 8, 5, True, True
+        fresh = await passing.read(1)
+        assert fresh and fresh.read == 9
+        job = asyncio.create_task(passing.follows(old, fresh))
+        await asyncio.sleep(0.05)
+        # The ninth line is numbered, and not answered yet.
+        assert not job.done() and old.is_passing and own.shards[1] is old
+        old.read, old.told, old.is_answering = 9, 9, False
+        assert await job and own.shards[1] is fresh and own.loaded_ones == [fresh]
+        assert (fresh.taken, fresh.told, fresh.noted) == (7, 9, 5) and own.killed == ["old"]
+        assert not own.sent
+
+    asyncio.run(renewed())
 
 
 def test_payloads_of_wakes_fit() -> None:
@@ -341,6 +475,16 @@ def test_a_plan_declares_the_order_of_a_site_by_moment_alone() -> None:
     assert Plan(rows, sites, known).lines == front + both
     with pytest.raises(Fault, match="knows no orders of readings, and site north has .* by moment"):
         Plan(rows, sites, frozenset(["period"]))
+
+
+def test_a_plan_declares_the_rule_of_a_site_that_settles_by_closing_alone() -> None:
+    rows, known = [station("A"), station("C", "south")], frozenset(["order", "settle"])
+    sites = {"north": Reckoning(900, "moment", "closing"), "south": Reckoning()}
+    front = b"limits 1 2 4 9\nstation north A\nstation south C\n"
+    assert Plan(rows, sites, known).lines == front + b"order north moment\nsettle north closing\n"
+    assert sites["north"].said() == "period=900 order=moment settle=closing"
+    with pytest.raises(Fault, match="knows no rules of settling, and site north has .* by closing"):
+        Plan(rows, sites, frozenset(["order"]))
 
 
 def test_a_program_tells_which_lines_it_knows(tmp_path: Path) -> None:

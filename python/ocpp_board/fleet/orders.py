@@ -26,7 +26,8 @@ from numbering n join own_shard s using (shard)
 left join lateral (select place from own_log where shard = n.shard order by place desc limit 1) l on true
 where n.shard = any($1)
 """
-# The lines behind a place, up to the last one.
+# The lines behind a place, up to the last one; no place is behind the end.
+END = (1 << 63) - 1
 READ = f"""
 select w.shard, r.*
 from unnest($1::int[], $2::bigint[], $3::bigint[], $4::bigint[]) as w (shard, place, last, told)
