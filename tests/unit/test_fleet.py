@@ -3,6 +3,7 @@
 import argparse
 import asyncio
 import time
+from collections.abc import Coroutine
 from datetime import datetime, timezone
 from pathlib import Path
 from typing import Any
@@ -249,6 +250,32 @@ def test_shards_above_the_share_are_offered_and_given_to_who_is_ready() -> None:
     asyncio.run(shared())
 
 
+def test_a_shard_passes_only_between_rounds(monkeypatch: pytest.MonkeyPatch) -> None:
+    async def rested() -> None:
+        session, is_committed, killed = holding(Held()), asyncio.Event(), list[int]()
+        shard = session.shards[2]
+        shard.is_loaded, session.woken["wake"][2] = True, 0
+        shard.replay = argparse.Namespace(kill=lambda: killed.append(2))  # type: ignore[assignment]
+
+        async def numbered(*_: Any) -> list[Any]:
+            await is_committed.wait()
+            return []
+
+        monkeypatch.setattr(session, "committed", numbered)
+        assert session.next_to_read() == [shard]
+        jobs = [session.spawn(session.hand_over([shard]))]
+        await asyncio.sleep(0)
+        # Its lines are getting their places, so nobody knows yet up to where its log goes.
+        jobs.append(session.spawn(session.passing.give(2)))
+        await asyncio.sleep(0.02)
+        assert session.shards[2] is shard and not killed and not session.next_to_read()
+        is_committed.set()
+        await asyncio.gather(*jobs)
+        assert 2 not in session.shards and killed == [2]
+
+    asyncio.run(rested())
+
+
 def test_only_as_many_logs_are_read_as_are_lacking(monkeypatch: pytest.MonkeyPatch) -> None:
     async def looked() -> None:
         session, read = holding(Held()), list[int]()
@@ -267,18 +294,25 @@ def test_only_as_many_logs_are_read_as_are_lacking(monkeypatch: pytest.MonkeyPat
     asyncio.run(looked())
 
 
+ROW = {"shard": 1, "plan": 1, "taken": 7, "last": 0, "told": 2}
+
+
 class Reading:
     """A worker that reads logs: a line for each place, and what was sent and asked."""
 
     def __init__(self, last: int) -> None:
         self.last, self.sent, self.killed = last, list[tuple[str, str]](), list[str]()
         self.shards: dict[int, shards.Shard] = {}
-        self.begun_ones, self.loaded_ones = list[shards.Shard](), list[shards.Shard]()
+        self.reopened, self.jobs = list[shards.Shard](), list[asyncio.Task[Any]]()
         self.boards, self.late = self, argparse.Namespace(forget=lambda *_: None)
+        self.waking, self.planned = asyncio.Event(), asyncio.Event()
+
+    def spawn(self, job: Coroutine[Any, Any, Any]) -> None:
+        self.jobs.append(asyncio.create_task(job))
 
     async def ask(self, query: str, *values: Any) -> list[Any]:
         if query == STATE:
-            return [{"shard": 1, "plan": 1, "taken": 7, "last": self.last, "told": 2}]
+            return [dict(ROW, last=self.last)]
         assert query == READ
         _, (read,), (last,), (told,) = values
         return [(read + 1, told)] if read < min(last, self.last) else []
@@ -300,10 +334,10 @@ class Reading:
         self.sent += answers
 
     def begin(self, shard: shards.Shard) -> None:
-        self.begun_ones.append(shard)
+        self.shards[1] = shard
 
-    def loaded(self, shard: shards.Shard) -> None:
-        self.loaded_ones.append(shard)
+    def reopen(self, shard: shards.Shard) -> None:
+        self.reopened.append(shard)
 
     def is_answering(self) -> bool:
         return False
@@ -315,39 +349,54 @@ def test_a_replay_that_is_ready_answers_what_the_one_before_it_may_not_have() ->
         passing = shards.Passing(own)
         shard = await passing.read(1)
         assert shard and shard.read == 6 and not own.sent
-        # Others noted that the fourth was answered; two more came since.
-        state = {"shard": 1, "plan": 1, "taken": 8, "last": 8, "told": 4}
-        await passing.take_over(shard, state)
-        assert own.sent == [("gateway", "5"), ("gateway", "6")] and own.begun_ones == [shard]
-        assert (shard.taken, shard.last, shard.read, shard.told, shard.noted) == (8, 8, 6, 6, 4)
+        # Others noted that the fourth was answered; two more came since, which are read from the log.
+        await passing.follow(shard, 8, 8, 4)
+        assert own.sent == [("gateway", "5"), ("gateway", "6")] and own.shards == {1: shard}
+        assert (shard.taken, shard.last, shard.read, shard.told) == (8, 8, 6, 6)
+        assert not (shard.is_loaded or shard.is_opening or shard.is_answering)
 
     asyncio.run(taken())
 
 
-def test_a_replay_follows_another_one_once_it_has_read_as_much() -> None:
+def test_a_replay_follows_another_one_once_that_has_answered_its_lines() -> None:
     async def renewed() -> None:
         own: Any = Reading(9)
-        passing, row = shards.Passing(own), {
-            "shard": 1,
-            "plan": 0,
-            "taken": 7,
-            "last": 9,
-            "told": 5,
-        }
-        old = own.shards[1] = own.shard(row, "old")
-        old.read, old.told, old.noted, old.is_loaded, old.is_answering = 8, 8, 5, True, True
-        fresh = await passing.read(1)
-        assert fresh and fresh.read == 9
-        job = asyncio.create_task(passing.follows(old, fresh))
+        passing = shards.Passing(own)
+        old = own.shards[1] = own.shard(dict(ROW, told=5, last=9), "old")
+        old.read, old.told, old.is_loaded, old.is_answering = 9, 9, True, True
+        passing.renew(old)
         await asyncio.sleep(0.05)
-        # The ninth line is numbered, and not answered yet.
-        assert not job.done() and old.is_passing and own.shards[1] is old
-        old.read, old.told, old.is_answering = 9, 9, False
-        assert await job and own.shards[1] is fresh and own.loaded_ones == [fresh]
-        assert (fresh.taken, fresh.told, fresh.noted) == (7, 9, 5) and own.killed == ["old"]
-        assert not own.sent
+        # A round has given a tenth line its place, which is not read and not answered yet.
+        assert old.is_passing and own.shards[1] is old and not own.killed
+        old.read = old.last = 10
+        old.answered_to(10)
+        old.is_answering = False
+        await asyncio.gather(*own.jobs)
+        fresh = own.shards[1]
+        assert fresh is not old and own.killed == ["old"] and not own.reopened
+        # It reads the tenth line from the log, which needs no answer.
+        assert (fresh.taken, fresh.read, fresh.last, fresh.told) == (7, 9, 10, 10)
+        assert not own.sent and not passing.renewed
 
     asyncio.run(renewed())
+
+
+def test_a_line_of_a_station_that_is_new_is_answered_by_the_next_replay() -> None:
+    async def answered() -> None:
+        own: Any = Reading(6)
+        passing = shards.Passing(own)
+        old = own.shards[1] = own.shard(dict(ROW, told=2, last=6), "old")
+        old.is_loaded = True
+        # The fifth line is of a station that is new. What this replay answers behind it comes once more, too.
+        old.withheld = 5
+        old.answered_to(6)
+        assert old.told == 4
+        fresh = await passing.read(1)
+        assert fresh
+        await passing.follow(fresh, old.taken, old.last, old.told)
+        assert own.sent == [("gateway", "5"), ("gateway", "6")] and fresh.told == 6
+
+    asyncio.run(answered())
 
 
 def test_payloads_of_wakes_fit() -> None:

@@ -4,6 +4,9 @@ What came is in `inbox`, or in `inbox_kept` if nobody would append it again. Who
 from there into the log, each with the next place, in one transaction that is on disk before it ends. A shard that was
 taken since has another number in `numbering`, which is locked until that transaction ends: so of two that believe to
 hold a shard only the later one moves lines, and it begins behind what the earlier one moved.
+
+That number is the only thing that says who holds a shard. The lock of `hold_shard` keeps others from trying: it ends
+with the session that has it.
 """
 
 import asyncpg

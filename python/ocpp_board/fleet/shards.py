@@ -9,7 +9,10 @@ for a log. Workers arrange this by notifications of the channel `plan`:
     given 7      by the first one, once it holds the shard no longer
 
 Anybody may notify, so no more follows from these than would happen anyway: whoever has too many gives them to others
-within OFFERED seconds, and whoever has too few reads no more logs than it may hold.
+OFFERED seconds after somebody was ready for one, and whoever has too few reads no more logs than it may hold.
+
+None of this says who holds a shard: `numbering` does (orders.py), and each append looks there. To read a log needs no
+hold, and what is answered follows from the log up to the line.
 """
 
 import asyncio
@@ -32,8 +35,8 @@ if TYPE_CHECKING:
 
 log = logging.getLogger(__name__)
 
-# Seconds for which a worker offers shards before it gives them back to whoever takes them, between two offers, for
-# which an offer holds, and for which a replay stays ready.
+# Seconds for which a worker offers shards and nobody is ready before it gives them to whoever takes them, between two
+# offers, for which an offer holds, and for which a replay stays ready.
 OFFERED, OFFERS, HOLDS, READY = 30.0, 1.0, 3.0, 20.0
 # Logs that are read at once for shards that others answer still, and seconds between looks whether answers are given.
 READING, LOOKS = 2, 0.005
@@ -63,12 +66,26 @@ class Shard:
         # Lines that were read, bytes of the log, and bytes that its replay was handed, which has an end as well.
         self.lines = self.bytes = self.handed = 0
         self.changed, self.due = True, 0.0
-        self.is_loaded = self.is_answering = self.is_showing = False
-        # Whether it passes to another replay, so that no more lines are read; and since when it is ready to follow one.
-        self.is_passing, self.ready_since = False, 0.0
+        self.is_loaded = self.is_showing = False
+        # Whether a round has it: from before its lines get their places until they are answered.
+        self.is_answering = False
+        # Whether it passes to another replay, so that no more rounds have it; whether it followed another replay, and
+        # stations wait for it alone; and since when it is ready to follow one.
+        self.is_passing, self.has_followed, self.ready_since = False, False, 0.0
         # Answers that whoever answers may not have given: each with a place of the log that is not before its line.
         self.unsaid: list[tuple[int, list[tuple[str, str]]]] = []
+        # The first line that a replay with the next plan answers.
+        self.withheld = END
         self.busy = asyncio.Lock()
+
+    @property
+    def is_opening(self) -> bool:
+        """Whether it reads its log from the start, so that its stations wait for a log in any case."""
+        return not (self.is_loaded or self.has_followed)
+
+    def answered_to(self, place: int) -> None:
+        """Notes that answers were given up to this place, but for those that are withheld."""
+        self.told = max(self.told, min(place, self.withheld - 1))
 
 
 Answers = tuple[Shard, list[tuple[str, str]]]
@@ -109,19 +126,14 @@ class Passing:
     # Where a replay begins anew ---------------------------------------------------------------------------------------
 
     def renew(self, shard: Shard) -> None:
-        """Begins a shard's replay anew; the earlier one answers until it has read the log."""
-        if not shard.is_loaded:
+        """Begins the replay of a shard that is held anew; the earlier one answers until it has read the log."""
+        if self.session.shards.get(shard.number) is not shard or shard.number in self.renewed:
+            return
+        if shard.is_opening:
             self.session.reopen(shard)
-        elif shard.number not in self.renewed:
+        else:
             self.renewed.add(shard.number)
             self.session.spawn(self.renew_one(shard))
-
-    def not_waiting(self, channel: str, shards: list[Shard]) -> list[Shard]:
-        """Those of these shards with lines in this inbox that don't wait for the next replay. What operators and feeds
-        sent does: no station waits for it, and after a closing an operator's answer is another one.
-        """
-        waits = self.renewed if channel == "wake_kept" else ()
-        return [shard for shard in shards if shard.number not in waits]
 
     async def renew_one(self, shard: Shard) -> None:
         """The same, once its turn comes."""
@@ -130,7 +142,12 @@ class Passing:
             async with self.places:
                 if held.get(number) is shard:
                     fresh = await self.read(number)
-            if not (fresh and await self.follows(shard, fresh)):
+            if fresh:
+                await self.rest(shard)
+            if fresh and held.get(number) is shard:
+                shard.replay.kill()
+                await self.follow(fresh, shard.taken, shard.last, shard.told)
+            else:
                 self.session.reopen(shard)
         finally:
             self.renewed.discard(number)
@@ -139,35 +156,25 @@ class Passing:
             if fresh and held.get(number) is not fresh:
                 fresh.replay.kill()
 
-    async def follows(self, shard: Shard, fresh: Shard) -> bool:
-        """Has a replay answer in place of the one before it. Whether it does."""
-        await self.rest(shard)
-        columns = [[one] for one in (shard.number, shard.read, shard.read)]
-        while fresh.read <= shard.read and self.session.shards.get(shard.number) is shard:
-            front, *others = columns
-            rows = await self.session.ask(READ, front, [fresh.read], *others)
-            if not rows:
-                break
-            if await self.session.answer(fresh, rows[0]) is None:
-                return False
-        if fresh.read > shard.read or self.session.shards.get(shard.number) is not shard:
-            return False
-        # All of these lines were answered.
-        fresh.unsaid.clear()
-        fresh.read, fresh.last, fresh.taken = shard.read, shard.last, shard.taken
-        fresh.told, fresh.noted = shard.told, shard.noted
-        fresh.oldest, fresh.next = shard.oldest, shard.next
-        self.session.shards[shard.number] = fresh
-        self.session.late.forget(shard.number, fresh.late)
-        self.session.loaded(fresh)
-        shard.replay.kill()
-        return True
-
     async def rest(self, shard: Shard) -> None:
-        """Has no more lines of a shard read, and waits for the answers to those that were."""
+        """Has no more rounds have a shard, and waits for the end of the one that has it."""
         shard.is_passing = True
         while shard.is_answering and self.session.shards.get(shard.number) is shard:
             await asyncio.sleep(LOOKS)
+
+    async def follow(self, shard: Shard, taken: int, last: int, told: int) -> None:
+        """Has a replay that is ready answer a shard that is held: first what the one before it, which answered up to
+        `told`, did not; and then the log from where it was read to its last place."""
+        shard.taken, shard.last, shard.told = taken, last, told
+        unsaid = [one for place, part in shard.unsaid if place > told for one in part]
+        shard.unsaid.clear()
+        shard.has_followed = shard.is_answering = True
+        self.session.late.forget(shard.number, shard.late)
+        self.session.begin(shard)
+        await self.session.send(unsaid)
+        shard.answered_to(shard.read)
+        shard.is_answering = False
+        self.session.waking.set()
 
     async def read(self, number: int) -> Shard | None:
         """A replay that has read a shard's log, while somebody else answers; nothing where that can't be."""
@@ -212,6 +219,8 @@ class Passing:
             self.over_since = now
         wanted = [number for number in self.session.shards if number in self.wanted]
         leaving = over if now > self.over_since + OFFERED else wanted[: len(over)]
+        if wanted:
+            self.over_since = now
         self.wanted.clear()
         for number in leaving:
             await self.give(number)
@@ -221,11 +230,6 @@ class Passing:
             numbers = map(str, rest[:MOST_OFFERED])
             await self.session.beats.ask(TELL_PLAN, " ".join(["offer", *numbers]))
         return bool(rest)
-
-    def hurry(self) -> None:
-        """Shards are held twice: what is more than the share goes at once."""
-        self.over_since = time.monotonic() - 2 * OFFERED
-        self.session.planned.set()
 
     async def give(self, number: int) -> None:
         """Gives a shard to whoever takes it. One that is just opened anew is left another time."""
@@ -251,6 +255,8 @@ class Passing:
         now = time.monotonic()
         for number, shard in list(self.ready.items()):
             is_old = now > shard.ready_since + READY
+            if number in self.session.opening:
+                continue
             if lacking <= 0 or plans.get(number) != shard.plan or is_old:
                 del self.ready[number]
                 shard.replay.kill()
@@ -272,16 +278,6 @@ class Passing:
         if shard:
             self.ready[number], shard.ready_since = shard, time.monotonic()
             await self.session.beats.ask(TELL_PLAN, f"ready {number}")
-
-    async def take_over(self, shard: Shard, state: Any) -> None:
-        """Answers with a replay that is ready, now that this worker holds the shard: first what the one before it may
-        not have answered."""
-        shard.taken, shard.last, shard.noted = state["taken"], state["last"], state["told"]
-        unsaid = [one for place, part in shard.unsaid if place > shard.noted for one in part]
-        shard.unsaid.clear()
-        await self.session.send(unsaid)
-        shard.told = max(shard.noted, shard.read)
-        self.session.begin(shard)
 
     def close(self) -> None:
         """Ends what is ready."""

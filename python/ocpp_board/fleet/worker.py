@@ -66,6 +66,7 @@ from ocpp_board.fleet.orders import (
 from ocpp_board.fleet.plans import Plan, known_lines
 from ocpp_board.fleet.replays import Replay, ReplayEnded
 from ocpp_board.fleet.shards import Answers, Passing, Shard
+from ocpp_board.fleet.surplus import UNKNOWN
 from ocpp_board.fleet.watched import STANDING, Watched
 from ocpp_board.limits import LONGEST_SCRIPT
 from ocpp_board.processes import run_tool
@@ -295,7 +296,7 @@ class Session:
         plans = {row["shard"]: row["plan"] for row in rows}
         for shard in list(self.shards.values()):
             if shard.number not in plans:
-                await self.give_back(shard.number)
+                await self.passing.give(shard.number)
             elif plans[shard.number] != shard.plan:
                 self.passing.renew(shard)
         share = -(-len(plans) // living)
@@ -311,17 +312,9 @@ class Session:
             taken = [row["shard"] for row in await self.ask(HOLD, numbers, most)]
         for number in taken:
             self.opening.add(number)
-            self.spawn(self.open(number, 0, self.passing.ready.pop(number, None)))
+            self.spawn(self.open(number, 0))
         self.passing.look(most - len(taken), plans)
         return bool(taken) and len(taken) == most or is_over
-
-    async def give_back(self, number: int) -> None:
-        """Leaves a shard that is no longer of this cell."""
-        if not (shard := self.shards.pop(number, None)):
-            return
-        async with shard.busy:
-            shard.replay.kill()
-        await self.ask("select release_shard($1)", number)
 
     def reopen(self, shard: Shard) -> None:
         """A new replay for a shard; its lock stays held. One that ends again and again gets time in between."""
@@ -333,14 +326,15 @@ class Session:
         lived = asyncio.get_running_loop().time() - shard.began
         self.spawn(self.open(shard.number, 0 if lived > 2 else 0.5))
 
-    async def open(self, number: int, pause: float, ready: Shard | None = None) -> None:
+    async def open(self, number: int, pause: float) -> None:
         """Begins the replay of a shard, with its lock held, after so many seconds; or takes one that is ready."""
         await asyncio.sleep(pause)
         await self.committed(TAKE, [number])
         state = (await self.read_state([number])).get(number)
-        if ready and state and state["plan"] == ready.plan:
-            return await self.passing.take_over(ready, state)
-        if ready:
+        if ready := self.passing.ready.pop(number, None):
+            if state and state["plan"] == ready.plan:
+                await self.passing.follow(ready, state["taken"], state["last"], state["told"])
+                return
             ready.replay.kill()
         try:
             if state is None:
@@ -395,11 +389,18 @@ class Session:
             for number in woken.keys() - self.shards.keys():
                 del woken[number]
         self.behind.intersection_update(self.shards)
-        numbers = self.behind.union(*self.woken.values())
+        numbers = self.behind.union(*map(self.to_number, INBOXES))
         ready = [self.shards[number] for number in numbers]
         ready = [shard for shard in ready if not (shard.is_answering or shard.is_passing)]
-        opening = [shard for shard in ready if not shard.is_loaded][:OPENING]
-        return [shard for shard in ready if shard.is_loaded][: AT_ONCE - OPENING] + opening
+        opening = [shard for shard in ready if shard.is_opening][:OPENING]
+        return [shard for shard in ready if not shard.is_opening][: AT_ONCE - OPENING] + opening
+
+    def to_number(self, channel: str) -> set[int]:
+        """Shards with lines in an inbox that may get their places. What operators and feeds sent waits for a replay
+        that begins anew: no station waits for it, and after a closing an operator's answer is another one.
+        """
+        waiting = self.passing.renewed if channel == "wake_kept" else set[int]()
+        return self.woken[channel].keys() - waiting
 
     async def read(self) -> None:
         """Gives lines of woken shards their places, has them answered, and sends the answers, round by round."""
@@ -425,17 +426,20 @@ class Session:
 
     async def hand_over(self, shards: list[Shard]) -> None:
         """Reads what is new in these shards, and has it answered; slow ones are answered while the next are read."""
+        for shard in shards:
+            shard.is_answering = True
         rows = await self.read_behind([shard for shard in shards if not shard.is_loaded])
         for channel in INBOXES:
             had = {row["shard"] for row in rows}
             ready = [one for one in shards if one.is_loaded and one.number not in had]
-            rows += await self.number(channel, self.passing.not_waiting(channel, ready))
-        new = set[asyncio.Task[Answers | None]]()
-        for row in rows:
-            shard = self.shards.get(row["shard"])
-            if shard and shard in shards:
-                shard.is_answering = True
+            rows += await self.number(channel, ready)
+        new, found = set[asyncio.Task[Answers | None]](), {row["shard"]: row for row in rows}
+        for shard in shards:
+            row = found.get(shard.number)
+            if row and self.shards.get(shard.number) is shard:
                 new.add(self.spawn(self.answer(shard, row)))
+            else:
+                shard.is_answering = False
         if new:
             self.answering.update(new)
             for task in (await asyncio.wait(new, timeout=SLOW))[1]:
@@ -454,8 +458,8 @@ class Session:
 
     async def number(self, channel: str, shards: list[Shard]) -> list[Any]:
         """Gives lines that came to these shards their places in the log, and gives them as they are there."""
-        woken = self.woken[channel]
-        shards = [shard for shard in shards if shard.number in woken]
+        woken, numbers = self.woken[channel], self.to_number(channel)
+        shards = [shard for shard in shards if shard.number in numbers]
         if not shards:
             return []
         firsts = {shard.number: woken.pop(shard.number) for shard in shards}
@@ -464,7 +468,6 @@ class Session:
             rows = list(await self.committed(NUMBER[channel], *map(list, columns)))
         except CONTESTED as fault:
             self.seen.counts["contested"] += 1
-            self.passing.hurry()
             log.warning("shards are held twice, and taken again: %s", said(fault))
             await self.take_again(shards)
             self.wake_all(channel, firsts)
@@ -498,6 +501,8 @@ class Session:
 
     def loaded(self, shard: Shard) -> None:
         """The shard's log was read to its end; what is in its inboxes comes next."""
+        if self.shards.get(shard.number) is not shard:
+            return
         self.behind.discard(shard.number)
         shard.is_loaded, shard.read = True, shard.last
         took = asyncio.get_running_loop().time() - shard.began
@@ -511,30 +516,34 @@ class Session:
             answers, is_live = await self.replayed(shard, row)
         except (ReplayEnded, OSError, asyncio.TimeoutError) as fault:
             self.seen.counts["replays_ended"] += 1
-            words = (shard.number, str(fault) or "its replay hangs")
-            log.warning("shard %d: %s; it begins anew", *words)
+            why = str(fault) or "its replay hangs"
+            log.warning("shard %d: %s; it begins anew", shard.number, why)
             self.reopen(shard)
             return None
-        if any(answer == b"fault UnknownStation" for answer in answers) and await self.is_replanned(
-            shard
-        ):
-            self.reopen(shard)
+        withheld = set[int]()
+        if UNKNOWN in answers and await self.is_replanned(shard):
+            # The stations are new: a replay of the next plan answers them.
+            withheld = {place for place, answer in zip(row["places"], answers) if answer == UNKNOWN}
+            shard.withheld = min(shard.withheld, *withheld)
+            self.passing.renew(shard)
+        if shard.replay.is_killed:
             return None
         shard.read, shard.changed = row["place"], shard.changed or is_live
         shard.lines += row["rows"]
         said = [answer.decode("utf-8", "replace") for answer in answers]
         texts = row["text"].split("\n")
         for number, (place, text) in enumerate(zip(row["places"], texts)):
-            shard.watched.take(place, text, said[number])
+            if place not in withheld:
+                shard.watched.take(place, text, said[number])
             if number % TURN == TURN - 1:
                 await asyncio.sleep(0)
         self.weigh(shard, len(row["text"].encode()) + 1)
         front = row["silent"]
-        parts = zip(row["gateways"][front:], row["tokens"][front:], said[front:])
+        columns = (row[name][front:] for name in ("places", "gateways", "tokens"))
         answered = [
             (gateway, f"{token} {answer}")
-            for gateway, token, answer in parts
-            if gateway and token is not None
+            for place, gateway, token, answer in zip(*columns, said[front:])
+            if gateway and token is not None and place not in withheld
         ]
         return shard, answered
 
@@ -616,8 +625,8 @@ class Session:
         self.seen.counts["answers"] += sum(len(answers) for _, answers in answered)
         now = time.monotonic()
         for (shard, _), place in zip(answered, places):
-            shard.told, shard.answered = max(shard.told, place), now
-            shard.is_answering = False
+            shard.answered_to(place)
+            shard.answered, shard.is_answering = now, False
             if not shard.is_loaded and shard.read >= shard.last:
                 self.loaded(shard)
 
@@ -790,6 +799,7 @@ def run(words: argparse.Namespace) -> int:
     """Works until a signal comes."""
     words.name = f"worker_{secrets.token_hex(4)}"
     words.known = known_lines(words.program)
+    # What was reported once of stations near their limits.
     words.reported = set[str]()
     words.seen = metrics.WorkerSeen(words.hang)
     parts.use_uvloop()
