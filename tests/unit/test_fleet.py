@@ -393,8 +393,8 @@ def test_a_line_of_a_station_that_is_new_is_answered_by_the_next_replay() -> Non
         assert old.told == 4
         fresh = await passing.read(1)
         assert fresh
-        await passing.follow(fresh, old.taken, old.last, old.told)
-        assert own.sent == [("gateway", "5"), ("gateway", "6")] and fresh.told == 6
+        await passing.follow(fresh, old.taken, old.last - 1, old.told)
+        assert own.sent == [("gateway", "5"), ("gateway", "6")] and fresh.told == fresh.last == 6
 
     asyncio.run(answered())
 
@@ -536,15 +536,20 @@ def test_a_plan_declares_the_rule_of_a_site_that_settles_by_closing_alone() -> N
         Plan(rows, sites, frozenset(["order"]))
 
 
-def test_a_program_tells_which_lines_it_knows(tmp_path: Path) -> None:
+def test_lines_are_known_that_a_replay_takes(tmp_path: Path) -> None:
     program = tmp_path / "program"
-    program.write_text("#!/bin/sh\necho '  period <site> <seconds>   ..'\n")
-    program.chmod(0o700)
-    assert known_lines(str(program)) == {"period"}
+    kinds = "limits|station|period|order"
+    # As the program does, it has an answer for a line that it does not know.
     program.write_text(
-        "#!/bin/sh\necho '  period <site> <seconds>'; echo '  order <site> <word>'\n"
+        "#!/bin/sh\n[ $1 = replay ] && while read kind rest; do case $kind in "
+        f"{kinds}) ;; total) echo total events=0 ;; *) echo fault Unknown ;; esac; done\n"
     )
+    program.chmod(0o700)
     assert known_lines(str(program)) == {"period", "order"}
+    program.write_text(program.read_text().replace(kinds, f"{kinds}|settle"))
+    assert known_lines(str(program)) == {"period", "order", "settle"}
+    # What is no replay knows none.
+    assert known_lines("/bin/true") == known_lines("/bin/echo") == set()
     with pytest.raises(Fault, match="No such file"):
         known_lines(str(tmp_path / "nowhere"))
 

@@ -1,11 +1,11 @@
 """The plan of a shard: its stations with their limits, how its sites are reckoned, as lines of a script."""
 
-import os
 import subprocess
 from collections.abc import Awaitable, Callable, Iterable, Mapping
 from typing import Any, NamedTuple
 
 from ocpp_board.fleet.database import Fault, without_secrets
+from ocpp_board.processes import replay_environment
 
 # What a site has that has no line `period`, `order` or `settle`.
 DEFAULT_PERIOD, DEFAULT_ORDER, DEFAULT_SETTLE = 900, "sequence", "later"
@@ -47,21 +47,33 @@ class Reckoning(NamedTuple):
         return {name: one for name, one, default in pairs if one != default}
 
 
+# A site with a further line of each kind, and what of a script is around such a line.
+ODD = Reckoning(300, "moment", "closing")
+FRONT, ASKED = "limits 1 2 4 9\nstation site A\n", "total A"
+
+
 def known_lines(program: str) -> frozenset[str]:
-    """Which lines on sites the program's scripts have, such as `period <site> <seconds>`: its --help lists them.
+    """Which lines on sites the program's scripts have, such as `period <site> <seconds>`: its replay takes them.
 
     Raises Fault where it can't be started.
     """
+    return frozenset(name for name, word in ODD.lines().items() if is_taken(program, name, word))
+
+
+def is_taken(program: str, name: str, word: object) -> bool:
+    """Whether a program takes this line on a site."""
     try:
-        text = subprocess.run(
-            [program, "--help"],
+        answers = subprocess.run(
+            [program, "replay"],
+            input=f"{FRONT}{name} site {word}\n{ASKED}\n".encode(),
             stdout=subprocess.PIPE,
-            env=without_secrets(os.environ),
+            env=without_secrets(replay_environment()),
             check=False,
         ).stdout
     except OSError as fault:
         raise Fault(f"{program}: {fault.strerror}") from None
-    return frozenset(name for name in MEANINGS if f"{name} <site>".encode() in text)
+    # A line that it does not know has an answer of its own.
+    return answers.startswith(ASKED.split()[0].encode())
 
 
 def declarations(
