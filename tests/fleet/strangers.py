@@ -135,12 +135,15 @@ class Strangers:
                 self.odd.append(f"{station}: {heard[:80]}")
 
     async def again(self, name: str, work: Callable[[], Awaitable[None]]) -> None:
-        """Does something again and again, whatever is away."""
+        """Does something again and again, whatever is away. Any other fault is odd."""
         while True:
             try:
                 await work()
                 self.done[name] += 1
             except AWAY:
+                await asyncio.sleep(1)
+            except Exception as fault:
+                self.odd.append(f"{name}: {fault!r}")
                 await asyncio.sleep(1)
 
     # What they do -----------------------------------------------------------------------------------------------------

@@ -25,14 +25,16 @@ from tests.fleet.trials import Trial, messages, parsed, parser_of, tried
 
 # Stations of a shard that is full, and of each that sends.
 FULL, EACH = 64, 20
-# Events of a full station, of one with closed sessions: 60,032 lines, and of one beside stations that send.
-EVENTS = {"boards": 2048, "closing": 938, "passing": 600}
+# Events of a full station, of one with closed sessions: 60,032 lines, and of each of those beside stations that send:
+# 10,560 lines of a shard.
+EVENTS = {"boards": 2048, "closing": 938, "passing": 240}
 # Seconds between changes of the plan.
 CHANGES = 5
 REPLAN = "update own_shard set plan = plan + 1 where shard = any($1)"
 # By which all stations of the last days are over.
 DAY = "2026-03-20"
 LINES = "select count(*) from own_log where shard = $1"
+HELD = "select shards from worker order by 1"
 # Stations that have the rows of the plan, and rows of periods and sessions.
 WRITTEN = (
     "select count(*) from own_board_station join own_shard s using (shard, plan) where shard = $1"
@@ -186,15 +188,24 @@ class Waits(Trial):
         """Shards that pass to new replays, and to a worker that begins."""
         front = self.shards
         waiting = await self.sent_meanwhile("passing", self.words.seconds, FULL - EACH)
-        session, changes = await self.fleet.owner(), 0
+        session, changes, began = await self.fleet.owner(), 0, time.monotonic()
         shards = list(range(front, self.shards))
         self.workers.append(self.fleet.worker())
-        for _ in range(int(self.words.seconds / CHANGES)):
+        # Boards are compared once their plans don't change any more.
+        while not waiting.done() and time.monotonic() < began + self.words.seconds:
             await self.replan(shards, session)
             changes += 1
             await asyncio.wait([waiting], timeout=CHANGES)
+        held, end = list[int](), time.monotonic() + PATIENCE
+        while sum(held) != self.shards and time.monotonic() < end:
+            await asyncio.sleep(0.2)
+            held = [row["shards"] for row in await session.fetch(HELD)]
         await session.close()
-        print(f"passing: {changes} changes of the plans of {len(shards)} shards", flush=True)
+        share = -(-self.shards // len(self.workers))
+        self.check(
+            sum(held) == self.shards and max(held) <= share,
+            f"passing: {changes} changes of the plans of {len(shards)} shards; workers hold {held} shards",
+        )
         await waiting
 
     async def run(self) -> None:

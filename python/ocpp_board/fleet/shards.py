@@ -165,7 +165,8 @@ class Passing:
     async def follow(self, shard: Shard, taken: int, last: int, told: int) -> None:
         """Has a replay that is ready answer a shard that is held: first what the one before it, which answered up to
         `told`, did not; and then the log from where it was read to its last place."""
-        shard.taken, shard.last, shard.told = taken, last, told
+        # It may have read lines that somebody appended meanwhile who is no worker.
+        shard.taken, shard.last, shard.told = taken, max(last, shard.read), told
         unsaid = [one for place, part in shard.unsaid if place > told for one in part]
         shard.unsaid.clear()
         shard.has_followed = shard.is_answering = True
