@@ -88,8 +88,8 @@ begin
         perform pg_notify(channel_of(channel), payload);
     end if;
 end $$;
--- Answers without a notification, because the queue is full, or so full that they would come late: anybody who may connect
--- can fill it. Gateways look here each second.
+-- Answers that no notification may bring in time, because the queue is full, or so full that it is slow: anybody who may
+-- connect can fill it. Gateways look here each second, and more often while the queue is slow.
 create unlogged table untold (
     gateway text not null,
     at timestamptz not null default now(),
