@@ -276,6 +276,43 @@ def test_a_shard_passes_only_between_rounds(monkeypatch: pytest.MonkeyPatch) -> 
     asyncio.run(rested())
 
 
+def test_a_station_that_is_new_makes_no_replay_begin_anew_at_once(
+    monkeypatch: pytest.MonkeyPatch,
+) -> None:
+    async def answered() -> None:
+        session, plan = holding(Held()), 1
+        shard, seen, renewed = session.shards[2], list[int](), list[shards.Shard]()
+        shard.is_loaded = True
+        shard.replay = argparse.Namespace(  # type: ignore[assignment]
+            write=lambda data: None, answers=told_by, is_killed=False
+        )
+        shard.watched = argparse.Namespace(take=lambda place, *_: seen.append(place))  # type: ignore[assignment]
+
+        async def asked(query: str, *_: Any) -> list[Any]:
+            assert "plan" in query
+            return [{"plan": plan}]
+
+        monkeypatch.setattr(session, "ask", asked)
+        monkeypatch.setattr(session.passing, "renew", renewed.append)
+        row = {"place": 3, "rows": 3, "silent": 0, "places": [1, 2, 3], "tokens": [7, 8, 9]}
+        row |= {"text": "msg A {}\nmsg NEW {}\nmsg A {}", "gateways": ["g"] * 3}
+        # As long as the plan has no such station, that is the answer.
+        texts = ["7 [3,1]", "8 fault UnknownStation", "9 [3,1]"]
+        assert await session.answer(shard, row) == (shard, [("g", text) for text in texts])
+        assert not renewed and seen == [1, 2, 3]
+        plan = 2
+        assert await session.answer(shard, row) == (shard, [("g", texts[0]), ("g", texts[2])])
+        assert renewed == [shard] and seen == [1, 2, 3, 1, 3]
+        # Nobody notes that the second line was answered, nor what is behind it.
+        await session.passing.follow(shard, 1, 3, 0)
+        assert (shard.read, shard.told) == (3, 1)
+
+    async def told_by(count: int) -> list[bytes]:
+        return [b"[3,1]", b"fault UnknownStation", b"[3,1]"][:count]
+
+    asyncio.run(answered())
+
+
 def test_only_as_many_logs_are_read_as_are_lacking(monkeypatch: pytest.MonkeyPatch) -> None:
     async def looked() -> None:
         session, read = holding(Held()), list[int]()

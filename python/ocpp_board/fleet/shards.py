@@ -69,8 +69,8 @@ class Shard:
         self.is_loaded = self.is_showing = False
         # Whether a round has it: from before its lines get their places until they are answered.
         self.is_answering = False
-        # Whether it passes to another replay, so that no more rounds have it; whether it followed another replay, and
-        # stations wait for it alone; and since when it is ready to follow one.
+        # Whether it passes to another replay, so that no more rounds have it; whether it followed another one, with few
+        # lines of its log left to read; and since when it is ready to follow one.
         self.is_passing, self.has_followed, self.ready_since = False, False, 0.0
         # Answers that whoever answers may not have given: each with a place of the log that is not before its line.
         self.unsaid: list[tuple[int, list[tuple[str, str]]]] = []

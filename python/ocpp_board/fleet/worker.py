@@ -520,10 +520,11 @@ class Session:
             log.warning("shard %d: %s; it begins anew", shard.number, why)
             self.reopen(shard)
             return None
-        withheld = set[int]()
-        if UNKNOWN in answers and await self.is_replanned(shard):
-            # The stations are new: a replay of the next plan answers them.
-            withheld = {place for place, answer in zip(row["places"], answers) if answer == UNKNOWN}
+        front, withheld = row["silent"], set[int]()
+        if UNKNOWN in answers[front:] and await self.is_replanned(shard):
+            # Their stations are new: a replay with the next plan answers these lines.
+            pairs = zip(row["places"][front:], answers[front:])
+            withheld = {place for place, answer in pairs if answer == UNKNOWN}
             shard.withheld = min(shard.withheld, *withheld)
             self.passing.renew(shard)
         if shard.replay.is_killed:
@@ -538,7 +539,6 @@ class Session:
             if number % TURN == TURN - 1:
                 await asyncio.sleep(0)
         self.weigh(shard, len(row["text"].encode()) + 1)
-        front = row["silent"]
         columns = (row[name][front:] for name in ("places", "gateways", "tokens"))
         answered = [
             (gateway, f"{token} {answer}")
