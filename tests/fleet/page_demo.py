@@ -260,7 +260,7 @@ class Demo(Trial):
         # Those with troubles come first.
         stations = [
             one.text
-            for one in self.browser.find_elements(By.CSS_SELECTOR, "table.plain a")
+            for one in self.browser.find_elements(By.CSS_SELECTOR, "tbody th a")
             if "CS" in one.text
         ]
         self.check(
@@ -410,9 +410,7 @@ class Demo(Trial):
             row.find_element(By.CSS_SELECTOR, "th a")
             .text: row.find_elements(By.TAG_NAME, "td")[-1]
             .text
-            for row in self.browser.find_elements(
-                By.CSS_SELECTOR, "table.plain:not(.days) tbody tr"
-            )
+            for row in self.browser.find_elements(By.CSS_SELECTOR, "table.cards tbody tr")
             if row.find_elements(By.CSS_SELECTOR, "th a")
         }
         stations = {name: cell for name, cell in cells.items() if name.startswith("CS-")}
