@@ -26,10 +26,10 @@ from ocpp_board.fleet.database import (  # noqa: E402
     Fault,
     SessionLost,
     Unreachable,
+    by_shard,
     places,
     said,
     wakes,
-    woken_by,
 )
 from ocpp_board.fleet.events import citrine_event, event_of, maeve_event  # noqa: E402
 from ocpp_board.fleet.figures import (  # noqa: E402
@@ -235,12 +235,15 @@ def test_shards_above_the_share_are_offered_and_given_to_who_is_ready() -> None:
         held = Held()
         session = holding(held)
         # Nobody has more than its share here, so that nothing is given, whatever somebody says.
-        assert not session.passing.heard("ready 3")
+        assert not session.passing.heard("ready 3:1")
         assert not await session.share(1) and (held.told, held.released) == ([], [])
         assert await session.share(3) and held.told == ["offer 2 3"] and not held.released
         # It offers them once a second, and not at each look.
         assert await session.share(3) and held.told == ["offer 2 3"]
-        assert not session.passing.heard("ready 5") and session.passing.heard("ready 3 x")
+        assert not session.passing.heard("ready 5:1") and session.passing.heard("ready 3:0 x 2")
+        # Who read the log under another plan would have to read it once more.
+        assert await session.share(3) and not held.released
+        assert session.passing.heard("ready 3:1")
         assert await session.share(3) and held.released == [3]
         assert list(session.shards) == [0, 1]
         assert session.passing.heard("4") and session.passing.heard("")
@@ -440,7 +443,7 @@ def test_payloads_of_wakes_fit() -> None:
     firsts = {shard: 10 * shard for shard in range(4_000)}
     texts = list(wakes(firsts))
     assert all(len(text) < 8_000 for text in texts) and len(texts) > 1
-    found = [woken_by(text) for text in texts]
+    found = [by_shard(text) for text in texts]
     assert {shard: first for part in found for shard, first in part.items()} == firsts
     assert list(wakes({})) == []
 

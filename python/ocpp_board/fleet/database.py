@@ -333,13 +333,10 @@ def wakes(firsts: Mapping[int, int]) -> Iterator[str]:
         text = text[end + 1 :]
 
 
-def woken_by(payload: str) -> dict[int, int]:
-    """The shards that such a payload wakes, each with the number of its first line. Anybody may notify, so what is
-    none is left."""
+def by_shard(payload: str) -> dict[int, int]:
+    """The shards of such a payload, each with its number. Anybody may notify, so what is none is left."""
     pairs = (word.partition(":") for word in payload.split())
-    return {
-        int(shard): int(first) for shard, _, first in pairs if is_number(shard) and is_number(first)
-    }
+    return {int(shard): int(one) for shard, _, one in pairs if is_number(shard) and is_number(one)}
 
 
 def is_number(text: str) -> bool:

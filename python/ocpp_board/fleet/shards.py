@@ -5,7 +5,7 @@ another one. Whoever answers goes on until the next replay has read the log, so 
 for a log. Workers arrange this by notifications of the channel `plan`:
 
     offer 3 7    by one that has these shards above its share
-    ready 7      by one that has fewer than its share, and has read this shard's log
+    ready 7:12   by one that has fewer than its share, and has read this shard's log under this plan
     given 7      by the first one, once it holds the shard no longer
 
 Anybody may notify, so no more follows from these than would happen anyway: whoever has too many gives them to others
@@ -23,7 +23,7 @@ from collections.abc import Iterable, Mapping
 from typing import TYPE_CHECKING, Any
 
 from ocpp_board.fleet.archives import Late
-from ocpp_board.fleet.database import Fault, is_number
+from ocpp_board.fleet.database import Fault, by_shard, is_number
 from ocpp_board.fleet.orders import END, PROGRESS, READ, STATE
 from ocpp_board.fleet.replays import Replay, ReplayEnded
 from ocpp_board.fleet.surplus import Surplus
@@ -99,9 +99,10 @@ class Passing:
         # Shards with a replay that begins anew, those of others with a log that is read, and those that are ready.
         self.renewed, self.reading = set[int](), set[int]()
         self.ready: dict[int, Shard] = {}
-        # Shards that others offer, each with the moment, and those of this worker that others are ready for.
+        # Shards that others offer, each with the moment, and those of this worker that others are ready for, each with
+        # the plan.
         self.offered: dict[int, float] = {}
-        self.wanted = set[int]()
+        self.wanted: dict[int, int] = {}
         # Since when this worker has more than its share, and when it offers some the next time.
         self.over_since: float | None = None
         self.next_offer = 0.0
@@ -112,10 +113,11 @@ class Passing:
         kind, *words = payload.split(" ")
         if kind not in ("offer", "ready", "given"):
             return True
-        numbers = {int(word) for word in words if is_number(word)}
         if kind == "ready":
-            self.wanted |= numbers & self.session.shards.keys()
+            plans = by_shard(" ".join(words))
+            self.wanted |= {one: plans[one] for one in plans.keys() & self.session.shards.keys()}
             return bool(self.wanted) and self.over_since is not None
+        numbers = {int(word) for word in words if is_number(word)}
         if kind == "given":
             return bool(numbers & self.ready.keys())
         numbers -= self.session.shards.keys()
@@ -208,7 +210,7 @@ class Passing:
 
     # Between workers --------------------------------------------------------------------------------------------------
 
-    async def even_out(self, over: list[int]) -> bool:
+    async def even_out(self, over: list[int], plans: Mapping[int, int]) -> bool:
         """Gives shards that are more than the share to who is ready for them, and after a while to anybody. Whether
         some are left."""
         now = time.monotonic()
@@ -218,7 +220,7 @@ class Passing:
             return False
         if self.over_since is None:
             self.over_since = now
-        wanted = [number for number in self.session.shards if number in self.wanted]
+        wanted = [one for one in self.session.shards if self.wanted.get(one, -1) == plans.get(one)]
         leaving = over if now > self.over_since + OFFERED else wanted[: len(over)]
         if wanted:
             self.over_since = now
@@ -278,7 +280,7 @@ class Passing:
             self.reading.discard(number)
         if shard:
             self.ready[number], shard.ready_since = shard, time.monotonic()
-            await self.session.beats.ask(TELL_PLAN, f"ready {number}")
+            await self.session.beats.ask(TELL_PLAN, f"ready {number}:{shard.plan}")
 
     def close(self) -> None:
         """Ends what is ready."""

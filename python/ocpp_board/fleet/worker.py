@@ -38,13 +38,13 @@ from ocpp_board.fleet.database import (
     Asked,
     Fault,
     Unreachable,
+    by_shard,
     connect,
     listen,
     said,
     seen,
     until_ended,
     within,
-    woken_by,
 )
 from ocpp_board.fleet.lines import Transaction
 from ocpp_board.fleet.orders import (
@@ -223,7 +223,7 @@ class Session:
 
     def wake(self, channel: str, _session: Any, _pid: int, _name: str, payload: str) -> None:
         """Lines of shards came, as a notification says."""
-        self.wake_all(channel, woken_by(payload))
+        self.wake_all(channel, by_shard(payload))
 
     def wake_all(self, channel: str, firsts: Mapping[int, int]) -> None:
         """Has an inbox of these shards looked at, from its first new line on."""
@@ -300,7 +300,7 @@ class Session:
             elif plans[shard.number] != shard.plan:
                 self.passing.renew(shard)
         share = -(-len(plans) // living)
-        is_over = await self.passing.even_out(list(self.shards)[share:])
+        is_over = await self.passing.even_out(list(self.shards)[share:], plans)
         held = self.shards.keys() | self.opening
         free = [n for n in plans if n not in held and self.refused.get(n) != plans[n]]
         most = min(share - len(held), TAKEN)
