@@ -324,12 +324,13 @@ def test_only_as_many_logs_are_read_as_are_lacking(monkeypatch: pytest.MonkeyPat
             read.append(number)
 
         monkeypatch.setattr(session.passing, "make_ready", made)
+        session.refused[5] = 1
         assert session.passing.heard("offer 3 4 5 6 7 8")
         session.passing.look(0, dict.fromkeys(range(9), 1))
         session.passing.look(2, dict.fromkeys(range(8), 1))
         session.passing.look(2, dict.fromkeys(range(8), 1))
         await asyncio.gather(*session.jobs)
-        assert len(read) == 2 and set(read) < {4, 5, 6, 7}
+        assert len(read) == 2 and set(read) < {4, 6, 7}
 
     asyncio.run(looked())
 
@@ -346,6 +347,7 @@ class Reading:
         self.reopened, self.jobs = list[shards.Shard](), list[asyncio.Task[Any]]()
         self.boards, self.late = self, argparse.Namespace(forget=lambda *_: None)
         self.waking, self.planned = asyncio.Event(), asyncio.Event()
+        self.refused: dict[int, int] = {}
 
     def spawn(self, job: Coroutine[Any, Any, Any]) -> None:
         self.jobs.append(asyncio.create_task(job))
@@ -396,6 +398,18 @@ def test_a_replay_that_is_ready_answers_what_the_one_before_it_may_not_have() ->
         assert not (shard.is_loaded or shard.is_opening or shard.is_answering)
 
     asyncio.run(taken())
+
+
+def test_a_plan_that_the_program_refuses_is_tried_once(monkeypatch: pytest.MonkeyPatch) -> None:
+    async def tried() -> None:
+        own: Any = Reading(6)
+        monkeypatch.setattr(own, "begun", refuse)
+        assert await shards.Passing(own).read(1) is None and own.refused == {1: 1}
+
+    async def refuse(*_: Any) -> None:
+        raise Fault("the program knows no such lines")
+
+    asyncio.run(tried())
 
 
 def test_a_replay_follows_another_one_once_that_has_answered_its_lines() -> None:

@@ -200,6 +200,9 @@ class Passing:
                     await asyncio.sleep(clock() - began)
         except (Fault, ReplayEnded, OSError) as fault:
             log.warning("shard %d: no replay could be made ready: %s", number, fault)
+            if isinstance(fault, Fault):
+                # It is left alone until its plan changes.
+                self.session.refused[number] = row["plan"]
         except BaseException:
             if shard:
                 shard.replay.kill()
@@ -265,7 +268,12 @@ class Passing:
                 shard.replay.kill()
         self.offered = {one: at for one, at in self.offered.items() if now < at + HOLDS}
         there = self.session.shards.keys() | self.session.opening | self.reading | self.ready.keys()
-        others = [one for one in self.offered if one in plans and one not in there]
+        refused = self.session.refused
+        others = [
+            one
+            for one in self.offered
+            if one in plans and one not in there and refused.get(one) != plans[one]
+        ]
         random.shuffle(others)
         for number in others[: max(0, lacking - len(self.reading) - len(self.ready))]:
             self.reading.add(number)
