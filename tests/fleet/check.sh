@@ -1,7 +1,8 @@
 #!/usr/bin/env bash
 # Installs what is missing and runs demo.py here: a fleet on a database of its own, with faults, and each board compared.
-# Beside it order_demo.py, of a site by moment, and surplus_demo.py, of what changes nothing and
-# comes without end. stranger_demo.py measures waits and wants the machine for itself, so it is run by hand.
+# Beside it order_demo.py, of a site by moment, surplus_demo.py, of what changes nothing and comes without end, and
+# settle_demo.py, of a site that settles by closing. stranger_demo.py measures waits and wants the machine for itself,
+# so it is run by hand.
 #     tests/fleet/check.sh PROGRAM [WORD..]      such as crates/ocpp_board/out/ocpp_board; further words are demo.py's
 # Status: 0 where all is right, 1 where something is wrong, 2 for wrong words, and 77 where packages are missing and can't
 # be installed, so that nothing was tried. Packages that it installs stay; the database and all processes do not.
@@ -53,7 +54,12 @@ if [ $# = 1 ]; then
     half=(--half 1)
     { sleep 2; exec "$here/../one" fleet.demo "$1" --half 2; } > "$more" 2>&1 &
     beside+=($!)
-    { sleep 2; exec "$here/../one" fleet.surplus_demo "$1"; } > "$others" 2>&1 &
+    {
+        sleep 2
+        "$here/../one" fleet.surplus_demo "$1"
+        surplus=$?
+        "$here/../one" fleet.settle_demo "$1" && exit $surplus
+    } > "$others" 2>&1 &
     beside+=($!)
 fi
 "$here/../one" fleet.demo "$@" "${half[@]}"

@@ -83,7 +83,7 @@ WORK: dict[str, str] = {
     "select add_station(0, 'north', 'B')": "",
     "select * from placement()": "provisioner",
     "select * from place_of('north', 'A')": "provisioner",
-    "select place_station(0, 'north', 'B', 900, 'UTC', 'sequence')": "provisioner",
+    "select place_station(0, 'north', 'B', 900, 'UTC', 'sequence', 'later')": "provisioner",
     "select age_history(2020)": "keeper",
     "update own_aged set before = now()": "",
     "select retire_station('A')": "",

@@ -268,7 +268,7 @@ NUMBERS = {
 
 def is_of(line: str, kept: set[tuple[str, str]]) -> bool:
     """Whether a line of an archive declares, or is of one of these transactions."""
-    return line.startswith(("limits ", "station ", "period ", "order ")) or (
+    return line.startswith(("limits ", "station ", "period ", "order ", "settle ")) or (
         line.startswith(COMMANDS) and transaction_of(line) in kept
     )
 

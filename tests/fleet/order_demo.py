@@ -111,7 +111,7 @@ class Demo(ClosingTrial):
         await self.alike("boards by moment", BOARD, "A", "B")
         await self.alike("boards by moment, another shard", BOARD, "D", "F")
         await self.alike("boards by sequence", BOARD, "C", "E", wanted=False)
-        query = "select b.site, text, period, reading_order from own_board b join own_site using (shard, site)"
+        query = "select b.site, text, period, reading_order, settle from own_board b join own_site using (shard, site)"
         for row in await self.owner.fetch(query):
             text = joined(row["site"], Reckoning.of(row), [row["text"]], {}, {})
             self.check(text == row["text"], f"a board of {row['site']} joined of one is that one")
@@ -180,9 +180,9 @@ class Demo(ClosingTrial):
         taken = await self.until(HEAD, "board north period=900", 0, "north")
         self.check(taken, "another order is taken while all runs")
         status, said = await self.close_day("2026-03-03")
-        wanted = "by periods of 900 seconds and readings by moment, and its plan has periods of 900 seconds and "
+        wanted = "by periods of 900 seconds, readings by moment and settling by later, and its plan has periods of "
         self.check(
-            status == 2 and wanted + "readings by sequence" in said,
+            status == 2 and wanted + "900 seconds, readings by sequence and" in said,
             f"a site that is read in another way than it was closed: {said}",
         )
         await self.owner.execute(begin, "moment")

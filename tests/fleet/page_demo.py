@@ -118,7 +118,7 @@ class Demo(Trial):
 
     async def joins(self) -> None:
         """A board that is joined of one text is that text."""
-        query = "select b.site, text, period, reading_order from own_board b join own_site using (shard, site)"
+        query = "select b.site, text, period, reading_order, settle from own_board b join own_site using (shard, site)"
         for row in await self.owner.fetch(query):
             if joined(row["site"], Reckoning.of(row), [row["text"]], {}, {}) != row["text"]:
                 self.check(False, f"a board joined of the one of {row['site']} is another")
@@ -260,7 +260,7 @@ class Demo(Trial):
         # Those with troubles come first.
         stations = [
             one.text
-            for one in self.browser.find_elements(By.CSS_SELECTOR, "table.plain a")
+            for one in self.browser.find_elements(By.CSS_SELECTOR, "tbody th a")
             if "CS" in one.text
         ]
         self.check(
@@ -410,9 +410,7 @@ class Demo(Trial):
             row.find_element(By.CSS_SELECTOR, "th a")
             .text: row.find_elements(By.TAG_NAME, "td")[-1]
             .text
-            for row in self.browser.find_elements(
-                By.CSS_SELECTOR, "table.plain:not(.days) tbody tr"
-            )
+            for row in self.browser.find_elements(By.CSS_SELECTOR, "table.cards tbody tr")
             if row.find_elements(By.CSS_SELECTOR, "th a")
         }
         stations = {name: cell for name, cell in cells.items() if name.startswith("CS-")}

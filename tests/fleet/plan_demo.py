@@ -34,6 +34,7 @@ CHANGES = (
     "update own_station set shard = 1, site = 'south' where station = 'CS-01'",
     "delete from own_station where station = 'CS-01'",
     "update own_site set period = 300 where site = 'south'",
+    "update own_site set settle = 'closing' where site = 'south'",
     "update own_site set zone = 'Europe/Berlin' where site = 'south'",
     "update own_site set site = 'west' where site = 'south'",
     "update own_shard set moving_to = 2 where shard = 0",

@@ -130,15 +130,18 @@ class Demo(Trial):
 
     # What is tried ----------------------------------------------------------------------------------------------------
 
-    async def sends(self, front: bytes, data: bytes, is_right: bool) -> None:
+    async def sends(self, login: bytes, front: bytes, data: bytes, is_right: bool) -> None:
         """Someone sends bytes again and again, a million a second, whatever is answered."""
         host, port = self.url.removeprefix("ws://").removesuffix("/ocpp").split(":")
         reader, writer = await asyncio.open_connection(
             host, int(port), local_addr=(self.stranger, 0)
         )
-        writer.write(front)
+        writer.write(login)
         if is_right:
             await reader.readline()
+        # What comes with a handshake is read by nobody.
+        if front:
+            writer.write(front)
         block, began, sent = data * (RATE // 50 // len(data)), time.monotonic(), 0
         try:
             while time.monotonic() < began + SECONDS:
@@ -159,7 +162,7 @@ class Demo(Trial):
         ]
         links = await asyncio.gather(*tries)
         pong = Frame(OP_PONG, b"").serialize(mask=True)
-        wait = await self.waits(self.sends(handshake(GUESSED, WRONG), pong, False))
+        wait = await self.waits(self.sends(handshake(GUESSED, WRONG), b"", pong, False))
         self.check(
             wait < self.limit,
             f"a stranger sends pongs before the verdict: a station waits {wait:.2f} s",
@@ -173,10 +176,11 @@ class Demo(Trial):
             ("pongs", b"", pong),
             ("pings", b"", Frame(OP_PING, b"").serialize(mask=True)),
             ("empty parts of a message", part, more),
+            ("parts of a message that has no begin", b"", more),
             ("heartbeats", b"", Frame(OP_TEXT, HEARTBEAT).serialize(mask=True)),
         ):
-            own = handshake(ODD, password_of(ODD)) + front
-            wait = await self.waits(self.sends(own, data, True))
+            own = handshake(ODD, password_of(ODD))
+            wait = await self.waits(self.sends(own, front, data, True))
             self.check(
                 wait < self.limit,
                 f"a station that is let in sends {what}: another waits {wait:.2f} s",

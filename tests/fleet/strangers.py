@@ -75,10 +75,13 @@ def masked(opcode: Opcode, data: bytes = b"", fin: bool = True) -> bytes:
     return Frame(opcode, data, fin=fin).serialize(mask=True)
 
 
+# What a station that is let in sends without end, each with what it sends before that: a part of a message that has no
+# begin ends the connection.
 KINDS = (
     (b"", masked(OP_PONG)),
     (b"", masked(OP_PING)),
     (masked(OP_TEXT, fin=False), masked(OP_CONT, fin=False)),
+    (b"", masked(OP_CONT, fin=False)),
     (b"", masked(OP_TEXT, HEARTBEAT)),
 )
 
@@ -132,12 +135,15 @@ class Strangers:
                 self.odd.append(f"{station}: {heard[:80]}")
 
     async def again(self, name: str, work: Callable[[], Awaitable[None]]) -> None:
-        """Does something again and again, whatever is away."""
+        """Does something again and again, whatever is away. Any other fault is odd."""
         while True:
             try:
                 await work()
                 self.done[name] += 1
             except AWAY:
+                await asyncio.sleep(1)
+            except Exception as fault:
+                self.odd.append(f"{name}: {fault!r}")
                 await asyncio.sleep(1)
 
     # What they do -----------------------------------------------------------------------------------------------------
@@ -183,12 +189,15 @@ class Strangers:
                 self.done["events by turns"] += 1
                 await asyncio.sleep(max(0.0, began + number / BY_TURNS - time.monotonic()))
 
-    async def sends(self, front: bytes, data: bytes) -> None:
+    async def sends(self, login: bytes, front: bytes, data: bytes) -> None:
         """Someone sends a million bytes a second, whatever is answered."""
         host, port = self.url().removeprefix("ws://").removesuffix("/ocpp").split(":")
         _, writer = await asyncio.open_connection(host, int(port), local_addr=(self.address(), 0))
-        writer.write(front)
+        writer.write(login)
         await asyncio.sleep(0.5)
+        # What comes with a handshake is read by nobody.
+        if front and not writer.transport.is_closing():
+            writer.write(front)
         block, began, sent = data * (RATE // 20 // len(data)), time.monotonic(), 0
         try:
             while time.monotonic() < began + KIND and not writer.transport.is_closing():
@@ -202,11 +211,11 @@ class Strangers:
     async def frames(self) -> None:
         """A station that is let in sends one kind of frames after the other."""
         for front, data in KINDS:
-            await self.sends(handshake(FRAMES, self.words.password) + front, data)
+            await self.sends(handshake(FRAMES, self.words.password), front, data)
 
     async def unjudged(self) -> None:
         """A stranger sends pongs behind a wrong password."""
-        await self.sends(handshake(GUESSED, WRONG), masked(OP_PONG))
+        await self.sends(handshake(GUESSED, WRONG), b"", masked(OP_PONG))
 
     async def guesses(self) -> None:
         """A stranger guesses a station's password from one address."""

@@ -4,8 +4,9 @@
     tests/one fleet.waits ocpp_board --what open --seconds 60
 
 Stations of some shards send. Meanwhile a transaction that wrote in another database stays open (`open`), boards of 64
-full stations are written whole again and again (`boards`), or a day of 60,000 lines is closed (`closing`). The 99th
-wait of the stations that send has to be below a second. The status is 1 where it is not, or where a board is wrong.
+full stations are written whole again and again (`boards`), a day of 60,000 lines is closed (`closing`), or the plans of
+shards with long logs change again and again while a further worker begins (`passing`). The 99th wait of the stations
+that send has to be below a second. The status is 1 where it is not, or where a board is wrong.
 """
 
 import argparse
@@ -14,6 +15,7 @@ import re
 import subprocess
 import sys
 import time
+from typing import Any
 
 import asyncpg
 
@@ -23,11 +25,16 @@ from tests.fleet.trials import Trial, messages, parsed, parser_of, tried
 
 # Stations of a shard that is full, and of each that sends.
 FULL, EACH = 64, 20
-# Events of a full station, and of one with closed sessions: 60,032 lines.
-EVENTS = {"boards": 2048, "closing": 938}
+# Events of a full station, of one with closed sessions: 60,032 lines, and of each of those beside stations that send:
+# 10,560 lines of a shard.
+EVENTS = {"boards": 2048, "closing": 938, "passing": 240}
+# Seconds between changes of the plan.
+CHANGES = 5
+REPLAN = "update own_shard set plan = plan + 1 where shard = any($1)"
 # By which all stations of the last days are over.
 DAY = "2026-03-20"
 LINES = "select count(*) from own_log where shard = $1"
+HELD = "select shards from worker order by 1"
 # Stations that have the rows of the plan, and rows of periods and sessions.
 WRITTEN = (
     "select count(*) from own_board_station join own_shard s using (shard, plan) where shard = $1"
@@ -53,16 +60,26 @@ class Waits(Trial):
     async def filled(self, events: int) -> tuple[int, list[str]]:
         """A shard of 64 stations with so many events each: its number, and its lines."""
         shard, self.shards = self.shards, self.shards + 1
-        first = await self.fleet.add(self.owner, FULL, FULL, shard)
+        return shard, await self.fill(shard, FULL, events)
+
+    async def fill(self, shard: int, count: int, events: int) -> list[str]:
+        """Adds so many stations with so many events each, and gives their lines."""
+        first = await self.fleet.add(self.owner, count, count, shard)
         lines = list[str]()
-        for number in range(first, first + FULL):
+        for number in range(first, first + count):
             texts = dict.fromkeys(messages(number, events))
             lines += [f"msg CS-{number:05} {text}" for text in texts]
         await self.owner.execute(FILL, shard, lines)
         # Its replay begins anew, with these.
-        await self.owner.execute("update own_shard set plan = plan + 1 where shard = $1", shard)
-        await self.owner.execute("select tell('plan', $1)", str(shard))
-        return shard, lines
+        await self.replan([shard])
+        return lines
+
+    async def replan(self, shards: list[int], session: Any = None) -> None:
+        """The plans of shards change."""
+        session = session or self.owner
+        await session.execute(REPLAN, shards)
+        for shard in shards:
+            await session.execute("select tell('plan', $1)", str(shard))
 
     async def loaded(self, shard: int, lines: list[str]) -> bool:
         """Whether the board of a shard comes to be that of a replay of these lines, within two minutes."""
@@ -80,10 +97,20 @@ class Waits(Trial):
             await asyncio.sleep(0.5)
         return bool(await self.owner.fetchval(query, shard, wanted))
 
-    async def sent_meanwhile(self, name: str, seconds: float) -> "asyncio.Task[None]":
-        """Stations that send for so many seconds, and report their waits."""
+    async def sent_meanwhile(
+        self, name: str, seconds: float, full: int = 0
+    ) -> "asyncio.Task[None]":
+        """Stations that send for so many seconds, and report their waits; in each of their shards are so many that do
+        not, and have lines in the log."""
         shard, self.shards = self.shards, self.shards + -(-self.words.stations // EACH)
         first = await self.fleet.add(self.owner, self.words.stations, EACH, shard)
+        if full:
+            self.fleet.records.append(self.fleet.folder / "had.script")
+            with open(self.fleet.records[-1], "w", encoding="utf-8") as record:
+                for number in range(shard, self.shards):
+                    lines = await self.fill(number, full, EVENTS[name])
+                    record.writelines(f"{line}\n" for line in lines)
+            await self.fleet.until_told(self.owner, 3 * PATIENCE)
         # One in five is sent twice.
         events = max(2, int(seconds * self.words.rate / self.words.stations / 1.2))
         words = ("--events", events, "--rate", self.words.rate, "--seconds", 3 * seconds + 60)
@@ -157,9 +184,34 @@ class Waits(Trial):
         )
         await waiting
 
+    async def passing(self) -> None:
+        """Shards that pass to new replays, and to a worker that begins."""
+        front = self.shards
+        waiting = await self.sent_meanwhile("passing", self.words.seconds, FULL - EACH)
+        session, changes, began = await self.fleet.owner(), 0, time.monotonic()
+        shards = list(range(front, self.shards))
+        self.workers.append(self.fleet.worker())
+        # Boards are compared once their plans don't change any more.
+        while not waiting.done() and time.monotonic() < began + self.words.seconds:
+            await self.replan(shards, session)
+            changes += 1
+            await asyncio.wait([waiting], timeout=CHANGES)
+        held, end = list[int](), time.monotonic() + PATIENCE
+        while sum(held) != self.shards and time.monotonic() < end:
+            await asyncio.sleep(0.2)
+            held = [row["shards"] for row in await session.fetch(HELD)]
+        await session.close()
+        share = -(-self.shards // len(self.workers))
+        self.check(
+            sum(held) == self.shards and max(held) <= share,
+            f"passing: {changes} changes of the plans of {len(shards)} shards; workers hold {held} shards",
+        )
+        await waiting
+
     async def run(self) -> None:
         await self.open()
         jobs = {"open": self.open_one, "boards": self.boards, "closing": self.closing}
+        jobs["passing"] = self.passing
         for name in self.words.what:
             await jobs[name]()
         await self.owner.close()
@@ -168,7 +220,7 @@ class Waits(Trial):
 def main() -> int:
     """Measures it, and gives the exit status."""
     parser = parser_of(__doc__)
-    whats = ["open", "boards", "closing"]
+    whats = ["open", "boards", "closing", "passing"]
     parser.add_argument(
         "--what", nargs="+", choices=whats, default=whats, help="which (default: all)"
     )

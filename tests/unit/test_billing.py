@@ -20,7 +20,7 @@ from ocpp_board.messages.bills import Details, Signed  # noqa: E402
 from ocpp_board.traffic.troubles import FIRST, Session, messages, signed_differs  # noqa: E402
 
 SITE: dict[str, Any] = {"shard": 0, "site": "north", "zone": "UTC", "period": 900}
-SITE["reading_order"] = "sequence"
+SITE |= {"reading_order": "sequence", "settle": "later"}
 FLOWS = {"up": 750_000, "down": 0, "export_up": 0, "export_down": 0}
 KEY = base64.b64encode(b"oca:base16:asn1:00").decode()
 

@@ -3,6 +3,7 @@
 import argparse
 import asyncio
 import time
+from collections.abc import Coroutine
 from datetime import datetime, timezone
 from pathlib import Path
 from typing import Any
@@ -15,7 +16,7 @@ pytest.importorskip("websockets")
 import asyncpg  # noqa: E402
 
 from ocpp_board.energies import Flow  # noqa: E402
-from ocpp_board.fleet import begun_anew, database, metrics, parts, worker  # noqa: E402
+from ocpp_board.fleet import begun_anew, database, metrics, parts, shards, worker  # noqa: E402
 from ocpp_board.fleet import watched as watching  # noqa: E402
 from ocpp_board.fleet.archives import Late, packed, unpacked, widened  # noqa: E402
 from ocpp_board.fleet.board_writer import Board, BoardWriter, chunks  # noqa: E402
@@ -25,10 +26,10 @@ from ocpp_board.fleet.database import (  # noqa: E402
     Fault,
     SessionLost,
     Unreachable,
+    by_shard,
     places,
     said,
     wakes,
-    woken_by,
 )
 from ocpp_board.fleet.events import citrine_event, event_of, maeve_event  # noqa: E402
 from ocpp_board.fleet.figures import (  # noqa: E402
@@ -56,7 +57,7 @@ from ocpp_board.fleet.lines import (  # noqa: E402
     readings_of,
     transaction_of,
 )
-from ocpp_board.fleet.orders import WAITS  # noqa: E402
+from ocpp_board.fleet.orders import READ, STATE, WAITS  # noqa: E402
 from ocpp_board.fleet.plans import Plan, Reckoning, known_lines  # noqa: E402
 from ocpp_board.fleet.replays import Replay, ReplayEnded  # noqa: E402
 from ocpp_board.fleet.worker import Session, payloads_of  # noqa: E402
@@ -185,42 +186,278 @@ class Held:
     def __init__(self) -> None:
         self.session: Session | None = None
         self.released: list[int] = []
+        self.told: list[str] = []
 
     def get_server_pid(self) -> int:
         return 7
 
-    async def fetch(self, query: str, *values: int) -> list[object]:
+    async def fetch(self, query: str, *values: Any) -> list[object]:
         if "release_shard" in query:
             self.released += values
             assert self.session
             self.session.shards.pop(2, None)
             return []
-        return [{"shard": number, "plan": 1} for number in range(6)]
+        if query == shards.TELL_PLAN:
+            self.told += values
+            return []
+        # Others hold what it asks for.
+        return [] if query == worker.HOLD else [{"shard": number, "plan": 1} for number in range(6)]
+
+
+def holding(held: Held) -> Session:
+    """The session of a worker that holds four shards."""
+    words = argparse.Namespace(
+        program="none", hang=1.0, name="worker_1", seen=metrics.WorkerSeen(1.0)
+    )
+    session = held.session = Session(words, [held, held, held])
+    row = {"plan": 1, "taken": 1, "last": 0, "told": 0}
+    for number in range(4):
+        replay = argparse.Namespace(kill=lambda: None)
+        values: Any = (replay, ["north"], Late(number, {}, False), None)
+        session.shards[number] = shards.Shard({"shard": number, **row}, *values)
+    return session
 
 
 def test_a_shard_that_is_opened_anew_is_given_back_another_time() -> None:
     async def shared() -> None:
-        words = argparse.Namespace(
-            program="none", hang=1.0, name="worker_1", seen=metrics.WorkerSeen(1.0)
-        )
         held = Held()
-        session = held.session = Session(words, [held, held, held])
-        row = {"plan": 1, "taken": 1, "last": 0, "told": 0}
-        for number in range(4):
-            replay = argparse.Namespace(kill=lambda: None)
-            values: Any = (replay, ["north"], Late(number, {}, False), None)
-            session.shards[number] = worker.Shard({"shard": number, **row}, *values)
+        session = holding(held)
+        # It offered them for long enough.
+        session.passing.over_since = time.monotonic() - 2 * shards.OFFERED
         assert not await session.share(6)
         assert held.released == [1, 3] and list(session.shards) == [0]
 
     asyncio.run(shared())
 
 
+def test_shards_above_the_share_are_offered_and_given_to_who_is_ready() -> None:
+    async def shared() -> None:
+        held = Held()
+        session = holding(held)
+        # Nobody has more than its share here, so that nothing is given, whatever somebody says.
+        assert not session.passing.heard("ready 3:1")
+        assert not await session.share(1) and (held.told, held.released) == ([], [])
+        assert await session.share(3) and held.told == ["offer 2 3"] and not held.released
+        # It offers them once a second, and not at each look.
+        assert await session.share(3) and held.told == ["offer 2 3"]
+        assert not session.passing.heard("ready 5:1") and session.passing.heard("ready 3:0 x 2")
+        # Who read the log under another plan would have to read it once more.
+        assert await session.share(3) and not held.released
+        assert session.passing.heard("ready 3:1")
+        assert await session.share(3) and held.released == [3]
+        assert list(session.shards) == [0, 1]
+        assert session.passing.heard("4") and session.passing.heard("")
+        # Its own offers, and what nobody is ready for here, are not looked at.
+        assert not session.passing.heard("offer 0") and not session.passing.heard("given 3")
+
+    asyncio.run(shared())
+
+
+def test_a_shard_passes_only_between_rounds(monkeypatch: pytest.MonkeyPatch) -> None:
+    async def rested() -> None:
+        session, is_committed, killed = holding(Held()), asyncio.Event(), list[int]()
+        shard = session.shards[2]
+        shard.is_loaded, session.woken["wake"][2] = True, 0
+        shard.replay = argparse.Namespace(kill=lambda: killed.append(2))  # type: ignore[assignment]
+
+        async def numbered(*_: Any) -> list[Any]:
+            await is_committed.wait()
+            return []
+
+        monkeypatch.setattr(session, "committed", numbered)
+        assert session.next_to_read() == [shard]
+        jobs = [session.spawn(session.hand_over([shard]))]
+        await asyncio.sleep(0)
+        # Its lines are getting their places, so nobody knows yet up to where its log goes.
+        jobs.append(session.spawn(session.passing.give(2)))
+        await asyncio.sleep(0.02)
+        assert session.shards[2] is shard and not killed and not session.next_to_read()
+        is_committed.set()
+        await asyncio.gather(*jobs)
+        assert 2 not in session.shards and killed == [2]
+
+    asyncio.run(rested())
+
+
+def test_a_station_that_is_new_makes_no_replay_begin_anew_at_once(
+    monkeypatch: pytest.MonkeyPatch,
+) -> None:
+    async def answered() -> None:
+        session, plan = holding(Held()), 1
+        shard, seen, renewed = session.shards[2], list[int](), list[shards.Shard]()
+        shard.is_loaded = True
+        shard.replay = argparse.Namespace(  # type: ignore[assignment]
+            write=lambda data: None, answers=told_by, is_killed=False
+        )
+        shard.watched = argparse.Namespace(take=lambda place, *_: seen.append(place))  # type: ignore[assignment]
+
+        async def asked(query: str, *_: Any) -> list[Any]:
+            assert "plan" in query
+            return [{"plan": plan}]
+
+        monkeypatch.setattr(session, "ask", asked)
+        monkeypatch.setattr(session.passing, "renew", renewed.append)
+        row = {"place": 3, "rows": 3, "silent": 0, "places": [1, 2, 3], "tokens": [7, 8, 9]}
+        row |= {"text": "msg A {}\nmsg NEW {}\nmsg A {}", "gateways": ["g"] * 3}
+        # As long as the plan has no such station, that is the answer.
+        texts = ["7 [3,1]", "8 fault UnknownStation", "9 [3,1]"]
+        assert await session.answer(shard, row) == (shard, [("g", text) for text in texts])
+        assert not renewed and seen == [1, 2, 3]
+        plan = 2
+        assert await session.answer(shard, row) == (shard, [("g", texts[0]), ("g", texts[2])])
+        assert renewed == [shard] and seen == [1, 2, 3, 1, 3]
+        # Nobody notes that the second line was answered, nor what is behind it.
+        await session.passing.follow(shard, 1, 3, 0)
+        assert (shard.read, shard.told) == (3, 1)
+
+    async def told_by(count: int) -> list[bytes]:
+        return [b"[3,1]", b"fault UnknownStation", b"[3,1]"][:count]
+
+    asyncio.run(answered())
+
+
+def test_only_as_many_logs_are_read_as_are_lacking(monkeypatch: pytest.MonkeyPatch) -> None:
+    async def looked() -> None:
+        session, read = holding(Held()), list[int]()
+
+        async def made(number: int) -> None:
+            read.append(number)
+
+        monkeypatch.setattr(session.passing, "make_ready", made)
+        session.refused[5] = 1
+        assert session.passing.heard("offer 3 4 5 6 7 8")
+        session.passing.look(0, dict.fromkeys(range(9), 1))
+        session.passing.look(2, dict.fromkeys(range(8), 1))
+        session.passing.look(2, dict.fromkeys(range(8), 1))
+        await asyncio.gather(*session.jobs)
+        assert len(read) == 2 and set(read) < {4, 6, 7}
+
+    asyncio.run(looked())
+
+
+ROW = {"shard": 1, "plan": 1, "taken": 7, "last": 0, "told": 2}
+
+
+class Reading:
+    """A worker that reads logs: a line for each place, and what was sent and asked."""
+
+    def __init__(self, last: int) -> None:
+        self.last, self.sent, self.killed = last, list[tuple[str, str]](), list[str]()
+        self.shards: dict[int, shards.Shard] = {}
+        self.reopened, self.jobs = list[shards.Shard](), list[asyncio.Task[Any]]()
+        self.boards, self.late = self, argparse.Namespace(forget=lambda *_: None)
+        self.waking, self.planned = asyncio.Event(), asyncio.Event()
+        self.refused: dict[int, int] = {}
+
+    def spawn(self, job: Coroutine[Any, Any, Any]) -> None:
+        self.jobs.append(asyncio.create_task(job))
+
+    async def ask(self, query: str, *values: Any) -> list[Any]:
+        if query == STATE:
+            return [dict(ROW, last=self.last)]
+        assert query == READ
+        _, (read,), (last,), (told,) = values
+        return [(read + 1, told)] if read < min(last, self.last) else []
+
+    async def begun(self, row: Any, _ask: Any) -> shards.Shard:
+        return self.shard(row, "fresh")
+
+    def shard(self, row: Any, name: str) -> shards.Shard:
+        """A shard with a replay of this name."""
+        replay: Any = argparse.Namespace(kill=lambda: self.killed.append(name))
+        watched: Any = None
+        return shards.Shard(row, replay, ["north"], Late(1, {}, False), watched)
+
+    async def answer(self, shard: shards.Shard, row: tuple[int, int]) -> Any:
+        shard.read, told = row
+        return shard, [("gateway", f"{shard.read}")] if shard.read > told else []
+
+    async def send(self, answers: list[tuple[str, str]]) -> None:
+        self.sent += answers
+
+    def begin(self, shard: shards.Shard) -> None:
+        self.shards[1] = shard
+
+    def reopen(self, shard: shards.Shard) -> None:
+        self.reopened.append(shard)
+
+    def is_answering(self) -> bool:
+        return False
+
+
+def test_a_replay_that_is_ready_answers_what_the_one_before_it_may_not_have() -> None:
+    async def taken() -> None:
+        own: Any = Reading(6)
+        passing = shards.Passing(own)
+        shard = await passing.read(1)
+        assert shard and shard.read == 6 and not own.sent
+        # Others noted that the fourth was answered; two more came since, which are read from the log.
+        await passing.follow(shard, 8, 8, 4)
+        assert own.sent == [("gateway", "5"), ("gateway", "6")] and own.shards == {1: shard}
+        assert (shard.taken, shard.last, shard.read, shard.told) == (8, 8, 6, 6)
+        assert not (shard.is_loaded or shard.is_opening or shard.is_answering)
+
+    asyncio.run(taken())
+
+
+def test_a_plan_that_the_program_refuses_is_tried_once(monkeypatch: pytest.MonkeyPatch) -> None:
+    async def tried() -> None:
+        own: Any = Reading(6)
+        monkeypatch.setattr(own, "begun", refuse)
+        assert await shards.Passing(own).read(1) is None and own.refused == {1: 1}
+
+    async def refuse(*_: Any) -> None:
+        raise Fault("the program knows no such lines")
+
+    asyncio.run(tried())
+
+
+def test_a_replay_follows_another_one_once_that_has_answered_its_lines() -> None:
+    async def renewed() -> None:
+        own: Any = Reading(9)
+        passing = shards.Passing(own)
+        old = own.shards[1] = own.shard(dict(ROW, told=5, last=9), "old")
+        old.read, old.told, old.is_loaded, old.is_answering = 9, 9, True, True
+        passing.renew(old)
+        await asyncio.sleep(0.05)
+        # A round has given a tenth line its place, which is not read and not answered yet.
+        assert old.is_passing and own.shards[1] is old and not own.killed
+        old.read = old.last = 10
+        old.answered_to(10)
+        old.is_answering = False
+        await asyncio.gather(*own.jobs)
+        fresh = own.shards[1]
+        assert fresh is not old and own.killed == ["old"] and not own.reopened
+        # It reads the tenth line from the log, which needs no answer.
+        assert (fresh.taken, fresh.read, fresh.last, fresh.told) == (7, 9, 10, 10)
+        assert not own.sent and not passing.renewed
+
+    asyncio.run(renewed())
+
+
+def test_a_line_of_a_station_that_is_new_is_answered_by_the_next_replay() -> None:
+    async def answered() -> None:
+        own: Any = Reading(6)
+        passing = shards.Passing(own)
+        old = own.shards[1] = own.shard(dict(ROW, told=2, last=6), "old")
+        old.is_loaded = True
+        # The fifth line is of a station that is new. What this replay answers behind it comes once more, too.
+        old.withheld = 5
+        old.answered_to(6)
+        assert old.told == 4
+        fresh = await passing.read(1)
+        assert fresh
+        await passing.follow(fresh, old.taken, old.last - 1, old.told)
+        assert own.sent == [("gateway", "5"), ("gateway", "6")] and fresh.told == fresh.last == 6
+
+    asyncio.run(answered())
+
+
 def test_payloads_of_wakes_fit() -> None:
     firsts = {shard: 10 * shard for shard in range(4_000)}
     texts = list(wakes(firsts))
     assert all(len(text) < 8_000 for text in texts) and len(texts) > 1
-    found = [woken_by(text) for text in texts]
+    found = [by_shard(text) for text in texts]
     assert {shard: first for part in found for shard, first in part.items()} == firsts
     assert list(wakes({})) == []
 
@@ -343,15 +580,30 @@ def test_a_plan_declares_the_order_of_a_site_by_moment_alone() -> None:
         Plan(rows, sites, frozenset(["period"]))
 
 
-def test_a_program_tells_which_lines_it_knows(tmp_path: Path) -> None:
+def test_a_plan_declares_the_rule_of_a_site_that_settles_by_closing_alone() -> None:
+    rows, known = [station("A"), station("C", "south")], frozenset(["order", "settle"])
+    sites = {"north": Reckoning(900, "moment", "closing"), "south": Reckoning()}
+    front = b"limits 1 2 4 9\nstation north A\nstation south C\n"
+    assert Plan(rows, sites, known).lines == front + b"order north moment\nsettle north closing\n"
+    assert sites["north"].said() == "period=900 order=moment settle=closing"
+    with pytest.raises(Fault, match="knows no rules of settling, and site north has .* by closing"):
+        Plan(rows, sites, frozenset(["order"]))
+
+
+def test_lines_are_known_that_a_replay_takes(tmp_path: Path) -> None:
     program = tmp_path / "program"
-    program.write_text("#!/bin/sh\necho '  period <site> <seconds>   ..'\n")
-    program.chmod(0o700)
-    assert known_lines(str(program)) == {"period"}
+    kinds = "limits|station|period|order"
+    # As the program does, it has an answer for a line that it does not know.
     program.write_text(
-        "#!/bin/sh\necho '  period <site> <seconds>'; echo '  order <site> <word>'\n"
+        "#!/bin/sh\n[ $1 = replay ] && while read kind rest; do case $kind in "
+        f"{kinds}) ;; total) echo total events=0 ;; *) echo fault Unknown ;; esac; done\n"
     )
+    program.chmod(0o700)
     assert known_lines(str(program)) == {"period", "order"}
+    program.write_text(program.read_text().replace(kinds, f"{kinds}|settle"))
+    assert known_lines(str(program)) == {"period", "order", "settle"}
+    # What is no replay knows none.
+    assert known_lines("/bin/true") == known_lines("/bin/echo") == set()
     with pytest.raises(Fault, match="No such file"):
         known_lines(str(tmp_path / "nowhere"))
 

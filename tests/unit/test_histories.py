@@ -19,6 +19,7 @@ from tests.fleet.trials import event  # noqa: E402
 AT = datetime(2026, 3, 2, 9, tzinfo=timezone.utc)
 ROW: dict[str, Any] = {
     **{"site": "north", "station": "A", "zone": "UTC", "reading_order": "sequence"},
+    "settle": "later",
     **{"shard": 7, "period": 900, "transactions": 32, "events": 256, "readings": 256},
     "changes": 1000,
 }

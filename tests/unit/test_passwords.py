@@ -27,6 +27,7 @@ from ocpp_board.fleet.passwords import (  # noqa: E402
     Passwords,
     Places,
     Stored,
+    TOGETHER,
     Tries,
     Verdict,
     address_of,
@@ -233,6 +234,14 @@ def test_who_fails_often_waits_and_the_right_password_is_let_in_at_once(
     assert time.monotonic() - began < 0.4
     door.waiting["10.0.0.1"] = SLOWED
     assert judged(door, known(RIGHT), WRONG) == [Verdict.BUSY]
+
+
+def test_many_stations_of_one_address_may_come_together() -> None:
+    door = Passwords()
+    door.waiting["10.0.0.1"] = TOGETHER - 1
+    assert judged(door, known(RIGHT), RIGHT, WRONG) == [Verdict.RIGHT, Verdict.WRONG]
+    door.waiting["10.0.0.1"] = TOGETHER
+    assert judged(door, known(RIGHT), RIGHT) == [Verdict.BUSY]
 
 
 def test_strangers_at_one_address_stop_no_other_name_or_address(

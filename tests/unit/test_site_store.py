@@ -46,7 +46,14 @@ class Cell:
 
 def pages(text: str, place: int = 1, store: SiteStore | None = None) -> SitePages:
     """A site's pages of this board."""
-    row = {"shard": 1, "period": 900, "reading_order": "sequence", "zone": "UTC", "closing": None}
+    row = {
+        "shard": 1,
+        "period": 900,
+        "reading_order": "sequence",
+        "settle": "later",
+        "zone": "UTC",
+        "closing": None,
+    }
     row |= {"place": place, "at": AT, "text": text}
     rows: Any = [(Cell(), row)]
     return asyncio.run((store or SiteStore()).pages("north", rows, date(2026, 3, 1)))

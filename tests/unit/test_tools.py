@@ -140,8 +140,8 @@ def test_replays_get_no_secrets(tmp_path: Path, monkeypatch: pytest.MonkeyPatch)
 
     assert asyncio.run(of_the_fleet()) == b"period <site> 0\n"
     assert forget.replayed(str(program), []) == b"period <site> 0\n"
-    program.write_text("#!/bin/sh\n[ $(env | grep -c secret-of) = 0 ] && echo 'period <site>'\n")
-    assert known_lines(str(program)) == {"period"}
+    program.write_text("#!/bin/sh\n[ $(env | grep -c secret-of) = 0 ] && echo total\n")
+    assert known_lines(str(program)) == {"period", "order", "settle"}
 
 
 def test_escapes() -> None:

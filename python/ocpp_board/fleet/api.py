@@ -148,8 +148,9 @@ def site_json(site: Site) -> Json:
     return {
         "site": site.name,
         "zone": site.zone,
-        "period": site.period,
-        "reading_order": site.order,
+        "period": site.reckoning.period,
+        "reading_order": site.reckoning.order,
+        "settle": site.reckoning.settle,
         **{key: site.numbers[key] for key in keys},
         **flow_json(site.numbers),
         "state": site.state(),

@@ -60,6 +60,11 @@ SITE: dict[str, Any] = {
     "zone": TEXT,
     "period": {"type": "integer", "description": "Seconds of a settlement period"},
     "reading_order": {"type": "string", "enum": ["sequence", "moment"]},
+    "settle": {
+        "type": "string",
+        "enum": ["later", "closing"],
+        "description": "Whether a reading at the end of a period counts in the next one, or closes it",
+    },
     "stations": INTEGER,
     **COUNTS,
     **flows(),

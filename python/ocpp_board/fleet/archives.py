@@ -195,9 +195,9 @@ class KeptReplays:
             self.kept.popitem(last=False)[1].replay.kill()
         return found
 
-    def forget(self, shard: int) -> None:
-        """A shard begins anew: what is archived may be more."""
-        for key in [key for key in self.kept if key[0].shard == shard]:
+    def forget(self, shard: int, late: "Late | None" = None) -> None:
+        """A shard begins anew, by this from now on: what is archived may be more."""
+        for key in [key for key in self.kept if key[0].shard == shard and key[0] is not late]:
             self.kept.pop(key).replay.kill()
 
     def close(self) -> None:
@@ -222,25 +222,30 @@ class Late:
         # Lines with their places that were answered before; what they changed is not known yet.
         self.unjudged: dict[Transaction, list[tuple[int, str]]] = {}
 
-    def named(self, text: str) -> Transaction | None:
-        """Which transaction a line is of, where that may be an archived one."""
-        names = may_name(text)
-        if names is not None and names <= self.live or station_of(text) not in self.rows:
-            return None
-        return transaction_of(text)
-
     async def places(self, fetch: Fetch, texts: list[str]) -> dict[int, Transaction]:
         """The lines that are for archived transactions, with the transactions."""
         if not self.has_archived:
             return {}
-        named = [self.named(text) for text in texts]
-        unknown = {one for one in named if one and one not in self.lines} - self.live
-        if unknown:
-            stations, names = zip(*unknown)
-            for row in await fetch(NAMES, self.shard, stations, names):
+        # Most lines are of transactions that are not archived, so few have to be read.
+        own = [
+            (place, text, may_name(text))
+            for place, text in enumerate(texts)
+            if station_of(text) in self.rows
+        ]
+        read = {place: transaction_of(text) for place, text, names in own if names is None}
+        ones = {one for one in read.values() if one}.union(*(names or () for *_, names in own))
+        if unknown := ones - self.live - self.lines.keys():
+            stations, transactions = zip(*unknown)
+            for row in await fetch(NAMES, self.shard, stations, transactions):
                 self.lines[row["station"], row["transaction"]] = []
             self.live |= unknown - self.lines.keys()
-        return {place: one for place, one in enumerate(named) if one in self.lines and one}
+        late = dict[int, Transaction]()
+        for place, text, names in own:
+            if names is None or not names <= self.live:
+                one = read[place] if names is None else transaction_of(text)
+                if one and one in self.lines:
+                    late[place] = one
+        return late
 
     def answered(self, place: int, text: str, one: Transaction) -> None:
         """Takes a line of an archived transaction that was answered before."""

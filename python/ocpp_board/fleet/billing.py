@@ -68,7 +68,7 @@ ROOM = Room(1, 1)
 # MiB of a table that a page holds at most: signed values are as long as stations make them.
 MOST_MIB = 64
 SITES = """
-select p.shard, p.site, p.zone, p.period, p.reading_order from own_site p join own_shard h using (shard)
+select p.shard, p.site, p.zone, p.period, p.reading_order, p.settle from own_site p join own_shard h using (shard)
 where site = $1 and h.moving_to is null order by shard
 """
 STATIONS = "select * from own_station where shard = $1 and site = $2 order by place"

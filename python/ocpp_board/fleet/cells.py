@@ -47,7 +47,7 @@ WITHOUT = 5
 # A site's figures, of its stations in this cell and a shard: what is in the log, what archives have, what is settled.
 # What a closing archived counts once the board of a station is without it, some seconds later.
 SITES = """
-select p.shard, p.site, p.zone, p.period, p.reading_order, h.moving_to, b.*, a.*, u.*, s.*,
+select p.shard, p.site, p.zone, p.period, p.reading_order, p.settle, h.moving_to, b.*, a.*, u.*, s.*,
        (select count(*) from own_station t
         where t.shard = p.shard and t.site = p.site and t.retired is null) as stations,
        (select at from own_board o where o.shard = p.shard and o.site = p.site) as board_at
@@ -91,7 +91,7 @@ order by p.site, p.shard
 """
 # Up to which closing the board knows what archives have: it is written anew some seconds after one.
 BOARD = """
-select p.shard, p.site, p.period, p.reading_order, p.zone, h.moving_to, b.text, b.place, b.at,
+select p.shard, p.site, p.period, p.reading_order, p.settle, p.zone, h.moving_to, b.text, b.place, b.at,
        (select closing from own_closing c where c.shard = p.shard and c.site = p.site and c.plan <= b.plan
         order by closing desc limit 1) as closing
 from own_site p join own_shard h using (shard) left join own_board b using (shard, site)
@@ -120,7 +120,7 @@ FINDINGS = """
 select station, transaction, finding, times, first, detail from own_finding where shard = $1 and site = $2
 """
 STATION = """
-select t.*, p.zone, p.period, p.reading_order, h.moving_to
+select t.*, p.zone, p.period, p.reading_order, p.settle, h.moving_to
 from own_station t join own_site p using (shard, site) join own_shard h using (shard) where t.station = $1
 """
 WAITS = "select waits, beat, now() as now, exists (select from own_station) as has_stations from waits_since()"
@@ -414,7 +414,7 @@ class Site:
 
     def __init__(self, name: str) -> None:
         self.name, self.zone = name, "UTC"
-        self.period, self.order = 0, ""
+        self.reckoning = Reckoning()
         self.numbers: Numbers = {}
         # What closings settled of energies, what they archived of sessions, and what later ones corrected of these.
         self.settled: Numbers = {}
@@ -428,7 +428,7 @@ class Site:
 
     def add(self, row: Any) -> None:
         """Adds what a shard has of the site."""
-        self.zone, self.period, self.order = row["zone"], row["period"], row["reading_order"]
+        self.zone, self.reckoning = row["zone"], Reckoning.of(row)
         for name in ("stations", *EVENTS):
             self.numbers[name] = self.numbers.get(name, 0) + row[name]
         for name in (*SESSIONS, *FLOW):

@@ -686,7 +686,7 @@ async def run(words: argparse.Namespace) -> None:
 async def closed(words: argparse.Namespace, session: Any, done: set[int]) -> None:
     """Closes the day in each of these shards that is not done, and notes those that are."""
     sites = await session.fetch(
-        "select shard, site, period, reading_order, zone from own_site where site = $1 order by 1",
+        "select shard, site, period, reading_order, settle, zone from own_site where site = $1 order by 1",
         words.site,
     )
     if not sites:

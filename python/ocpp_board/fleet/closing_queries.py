@@ -12,7 +12,9 @@ REMOVE = "delete from own_log where shard = $1 and place = any($2::bigint[])"
 REPLAN = "update own_shard set plan = plan + 1 where shard = $1 and plan = $2 and moving_to is null"
 # The same where lines came to be known: it wakes the worker.
 ANEW = "with one as (update own_shard set plan = plan + 1 where shard = $1) select tell('plan', $1::text)"
-BEFORE = "select day, period, reading_order from own_closing where shard = $1 and site = $2 order by closing"
+BEFORE = """
+select day, period, reading_order, settle from own_closing where shard = $1 and site = $2 order by closing
+"""
 # At which site each of these periods was settled first.
 SITES = """
 select distinct on (station, starts) station, starts, site
@@ -67,8 +69,8 @@ delete from own_open_period o using unnest($2::text[], $3::timestamptz[]) as w (
 where o.shard = $1 and (o.station, o.starts) = (w.station, w.starts)
 """
 CLOSING = """
-insert into own_closing (shard, site, closing, day, period, reading_order, place, archive, plan, packed)
-values ($1, $2, $3, $4, $5, $6, $7, $8, $9, true)
+insert into own_closing (shard, site, closing, day, period, reading_order, settle, place, archive, plan, packed)
+values ($1, $2, $3, $4, $5, $6, $7, $8, $9, $10, true)
 """
 CLOSED = """
 insert into own_closed_period (shard, site, closing, station, starts, day, up, down, export_up, export_down)

@@ -50,8 +50,9 @@ VERSION = 7
 LET_IN = set[str]()
 # Seconds in which a host has to let a session in.
 ADMISSION = 5.0
-# Bytes of a notification, which PostgreSQL ends at 7,999.
-PAYLOAD = 7_900
+# Bytes of a notification, which PostgreSQL ends at 7,999. From which part of the queue of notifications on these may
+# come late, so that answers take another way, too, and from which part on nothing notifies (`tell` of the schema).
+PAYLOAD, SLOW_QUEUE, FULL_QUEUE = 7_900, 0.005, 0.9
 # Tokens that are drawn from the system at once.
 DRAWN = 64
 # A wake says nothing that inboxes do not have, so it waits for no disk.
@@ -120,6 +121,7 @@ async def enter(
 
     Raises Fault where it lets nobody in, and Unreachable where it does not answer or is not what is wanted.
     """
+    asyncio.get_running_loop().set_exception_handler(unseen)
     try:
         session = await asyncpg.connect(
             host=host,
@@ -272,6 +274,15 @@ def seen(job: "asyncio.Future[Any]") -> None:
         job.exception()
 
 
+def unseen(loop: asyncio.AbstractEventLoop, context: dict[str, Any]) -> None:
+    """Reports a fault that nobody took, but not that a session ended before it was entered: asyncpg itself leaves such
+    a future behind."""
+    left, fault = context.get("future"), context.get("exception")
+    is_left = isinstance(fault, asyncpg.ConnectionDoesNotExistError)
+    if isinstance(left, asyncio.Task) or not is_left:
+        loop.default_exception_handler(context)
+
+
 async def within(seconds: float, session: Any, call: str, *values: Any) -> Any:
     """A statement with an end to waiting, after which the session is ended. Raises what LOST has, or PostgresError.
 
@@ -322,13 +333,10 @@ def wakes(firsts: Mapping[int, int]) -> Iterator[str]:
         text = text[end + 1 :]
 
 
-def woken_by(payload: str) -> dict[int, int]:
-    """The shards that such a payload wakes, each with the number of its first line. Anybody may notify, so what is
-    none is left."""
+def by_shard(payload: str) -> dict[int, int]:
+    """The shards of such a payload, each with its number. Anybody may notify, so what is none is left."""
     pairs = (word.partition(":") for word in payload.split())
-    return {
-        int(shard): int(first) for shard, _, first in pairs if is_number(shard) and is_number(first)
-    }
+    return {int(shard): int(one) for shard, _, one in pairs if is_number(shard) and is_number(one)}
 
 
 def is_number(text: str) -> bool:

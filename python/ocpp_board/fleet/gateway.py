@@ -33,7 +33,9 @@ from ocpp_board.fleet import metrics, parts, passwords, station_tls
 from ocpp_board.fleet.database import (
     BY_INDEX,
     FORMER,
+    FULL_QUEUE,
     LOST,
+    SLOW_QUEUE,
     Unreachable,
     answers_in,
     connect,
@@ -41,6 +43,7 @@ from ocpp_board.fleet.database import (
     listen,
     new_token,
     said,
+    seen,
     until_ended,
     within,
 )
@@ -82,7 +85,8 @@ LONGEST_ID = 36
 BATCH, BATCH_BYTES, GATHERED = 1000, 4_000_000, 0.015
 # Seconds: for the database to answer, for a handshake from its connection on, and without a byte from a
 # station, twice its heartbeat interval; between looks for stations that the plan did not have, for answers that no
-# notification brought, which come one after the other where there are some, and for all else while nothing notifies.
+# notification brought, more often where there are some or notifications may be late, and for all else while nothing
+# notifies.
 ANSWER, HANDSHAKE, SILENCE, LOOKS = 10, 10, 600, 0.05
 POLLS, FAST_POLLS, CATCHING_UP = 1.0, 0.1, 5.0
 # After changes of the plan for at most so many shards only these are read; after more, all shards are read.
@@ -118,8 +122,7 @@ select coalesce(sum(rows), 0)::int as rows, count(sent) from woken
 UNTOLD = """
 delete from untold where gateway = $1 or at < now() - interval '1 minute' returning gateway, payload
 """
-# Whether nothing notifies (`tell` of the schema).
-IS_FULL = "select pg_notification_queue_usage() >= 0.9"
+QUEUE = "select pg_notification_queue_usage()"
 STATIONS = """
 select t.shard, t.station from own_station t join own_shard s using (shard)
 where s.moving_to is null and t.retired is null and ($1::int[] is null or s.shard = any($1))
@@ -253,6 +256,9 @@ class Cell:
                         until_ended(sessions[3]),
                     )
                 ]
+                for job in jobs:
+                    # Of several that end together one says why.
+                    job.add_done_callback(seen)
                 try:
                     done, _ = await asyncio.wait(jobs, return_when=asyncio.FIRST_EXCEPTION)
                     for job in done:
@@ -370,13 +376,14 @@ class Cell:
         due = 0.0
         while True:
             rows = await self.ask("fetch", UNTOLD, self.gateway.channel)
-            if time.monotonic() > due and await self.ask("fetchval", IS_FULL):
+            queue = await self.ask("fetchval", QUEUE)
+            if queue >= FULL_QUEUE and time.monotonic() > due:
                 await self.catch_up()
                 due = time.monotonic() + CATCHING_UP
             for row in rows:
                 if row["gateway"] == self.gateway.channel:
                     self.gateway.answered(None, 0, "", row["payload"])
-            await asyncio.sleep(FAST_POLLS if rows else POLLS)
+            await asyncio.sleep(FAST_POLLS if rows or queue > SLOW_QUEUE else POLLS)
 
     async def saw(self, station: str, known: bytes) -> bool:
         """Notes that a station came with this password. Whether it has it still, and the cell answers."""

@@ -24,7 +24,8 @@ from ocpp_board.version import version
 if TYPE_CHECKING:
     from ocpp_board.fleet.feed_log import Counts, Log
     from ocpp_board.fleet.gateway import Gateway
-    from ocpp_board.fleet.worker import Session, Shard
+    from ocpp_board.fleet.shards import Shard
+    from ocpp_board.fleet.worker import Session
 
 log = logging.getLogger(__name__)
 

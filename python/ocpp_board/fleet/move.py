@@ -63,7 +63,7 @@ insert into station_password (station, hash, salt, cost, set_at, seen_at) values
 HISTORY = (
     (
         "own_closing",
-        "site, closing, day, period, reading_order, at, archive, plan, place, packed",
+        "site, closing, day, period, reading_order, settle, at, archive, plan, place, packed",
         "closing",
     ),
     (
@@ -91,7 +91,7 @@ HISTORY = (
     ("own_archived_lines", "site, closing, station, transaction, lines", "transaction"),
 )
 PARTS = (
-    ("own_site", "site, period, reading_order, zone", "site"),
+    ("own_site", "site, period, reading_order, settle, zone", "site"),
     ("own_station", "site, station, transactions, events, readings, changes, retired", "place"),
     ("own_board", "site, text, at, plan, place", "site"),
     *(

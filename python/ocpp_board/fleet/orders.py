@@ -4,6 +4,9 @@ What came is in `inbox`, or in `inbox_kept` if nobody would append it again. Who
 from there into the log, each with the next place, in one transaction that is on disk before it ends. A shard that was
 taken since has another number in `numbering`, which is locked until that transaction ends: so of two that believe to
 hold a shard only the later one moves lines, and it begins behind what the earlier one moved.
+
+That number is the only thing that says who holds a shard. The lock of `hold_shard` keeps others from trying: it ends
+with the session that has it.
 """
 
 import asyncpg
@@ -26,7 +29,8 @@ from numbering n join own_shard s using (shard)
 left join lateral (select place from own_log where shard = n.shard order by place desc limit 1) l on true
 where n.shard = any($1)
 """
-# The lines behind a place, up to the last one.
+# The lines behind a place, up to the last one; no place is behind the end.
+END = (1 << 63) - 1
 READ = f"""
 select w.shard, r.*
 from unnest($1::int[], $2::bigint[], $3::bigint[], $4::bigint[]) as w (shard, place, last, told)

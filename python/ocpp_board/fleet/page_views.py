@@ -23,7 +23,7 @@ from ocpp_board.fleet.histories import Entry, History, history_of
 from ocpp_board.fleet.operators import SEES, VOIDS
 from ocpp_board.fleet.page_app import Asked, view
 from ocpp_board.fleet.page_render import Line, heads_of, lines_of, link, moment, zone_of
-from ocpp_board.fleet.plans import DEFAULT_ORDER
+from ocpp_board.fleet.plans import DEFAULT_ORDER, DEFAULT_SETTLE
 from ocpp_board.fleet.site_pages import fragment_of, session_path
 from ocpp_board.fleet.site_store import DAYS, SiteStore
 from ocpp_board.fleet.states import CORRECTED, PROVISIONAL, SETTLED, sessions_said, state_of
@@ -112,8 +112,16 @@ def site_line(site: Site, is_exporting: bool) -> Line:
     """A site's row."""
     numbers, (net, others) = site.numbers, energy_cells(site.numbers, is_exporting)
     name: str = link(site_path(site.name), site.name)
-    if site.order != DEFAULT_ORDER:
-        name = lines_of(name, "readings by moment")
+    rules = [
+        text
+        for text, is_so in (
+            ("readings by moment", site.reckoning.order != DEFAULT_ORDER),
+            ("settled by closing", site.reckoning.settle != DEFAULT_SETTLE),
+        )
+        if is_so
+    ]
+    if rules:
+        name = lines_of(name, ", ".join(rules))
     cells = [
         name,
         net,

@@ -31,8 +31,9 @@ KEPT = 2
 THREADS = 4
 # So many failures are free within some time, and each one more costs so many seconds, up to so many at once.
 FREE, PAUSE, SLOWEST = 10, 2.0, 10.0
-# For how many names and addresses failures are kept, and how many tries of one address may wait.
-FAILED, SLOWED = 20_000, 100
+# For how many names and addresses failures are kept, and how many tries of one address may wait: of one with many
+# failures lately, and of another one, which many stations may have that come together.
+FAILED, SLOWED, TOGETHER = 20_000, 100, 2_000
 # While someone is slowed down one failure of so many is logged.
 LOGGED = 100
 
@@ -155,6 +156,11 @@ class Tries:
         due, _ = self.failed.get(key, (now, 0))
         return max(0.0, due - now)
 
+    def are_many(self, key: str, now: float) -> bool:
+        """Whether the next failure is slowed down."""
+        due, count = self.failed.get(key, (0.0, 0))
+        return count >= FREE and due > now - (FREE - 1) * PAUSE
+
     def fail(self, key: str, now: float) -> int:
         """Counts a failure, and gives how many there are."""
         due, count = self.failed.pop(key, (0.0, 0))
@@ -259,7 +265,8 @@ class Passwords:
     async def judge(self, station: str, address: str, given: Given, find: Find) -> Verdict:
         """Whether a station may come in. `find` looks for its passwords, and says whether all cells answered."""
         network = network_of(address)
-        if self.waiting[network] >= SLOWED:
+        is_slowed = self.tries.are_many(f"address {network}", time.monotonic())
+        if self.waiting[network] >= (SLOWED if is_slowed else TOGETHER):
             return Verdict.BUSY
         self.waiting[network] += 1
         try:

@@ -32,7 +32,7 @@ NEAR = 0.2
 
 SHARDS = "select * from placement()"
 SITE = "select * from place_of($1, $2)"
-PLACE = "select place_station($1, $2, $3, $4, $5, $6)"
+PLACE = "select place_station($1, $2, $3, $4, $5, $6, $7)"
 
 
 class Load(NamedTuple):
@@ -144,7 +144,7 @@ def propose(words: argparse.Namespace, loads: Sequence[Load]) -> None:
 
 async def place(words: argparse.Namespace, sessions: Sequence[Any], loads: list[Load]) -> None:
     """Places the station."""
-    settings = (900, "UTC", "sequence")
+    settings = (900, "UTC", "sequence", "later")
     for session in sessions:
         row = await session.fetchrow(SITE, words.site, words.station)
         if row["shard"] is not None:
@@ -152,7 +152,7 @@ async def place(words: argparse.Namespace, sessions: Sequence[Any], loads: list[
                 f"station {words.station} is in shard {row['shard']} of cell {row['cell']} already"
             )
         if row["period"] is not None:
-            settings = (row["period"], row["zone"], row["reading_order"])
+            settings = (row["period"], row["zone"], row["reading_order"], row["settle"])
     cell, shard = chosen(len(sessions), loads, words.site)
     await parts.say_why(sessions[cell], words.reason)
     await sessions[cell].execute(PLACE, shard, words.site, words.station, *settings)

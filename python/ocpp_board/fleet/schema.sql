@@ -88,8 +88,8 @@ begin
         perform pg_notify(channel_of(channel), payload);
     end if;
 end $$;
--- Answers without a notification, because the queue is full, or so full that they would come late: anybody who may connect
--- can fill it. Gateways look here each second.
+-- Answers that no notification may bring in time, because the queue is full, or so full that it is slow: anybody who may
+-- connect can fill it. Gateways look here each second, and more often while the queue is slow.
 create unlogged table untold (
     gateway text not null,
     at timestamptz not null default now(),
@@ -139,14 +139,17 @@ create table site (
     site name_in_plan not null,
     period integer not null default 900,   -- seconds
     zone text not null default 'UTC',      -- its days are the settlement days; such as Europe/Berlin
-    reading_order text not null default 'sequence'   -- of a transaction's readings: by number of event, or by moment
+    reading_order text not null default 'sequence',  -- of a transaction's readings: by number of event, or by moment
+    -- Whether a difference counts in the period of its later reading, or in the one that a reading at its end closes.
+    settle text not null default 'later'
 ) partition by list (cell);
 create table own_site partition of site (
     primary key (shard, site),
     foreign key (shard) references own_shard on delete cascade,
     constraint "a period is 300, 900, 1800 or 3600 seconds" check (period in (300, 900, 1800, 3600)),
     constraint "a zone is one that PostgreSQL knows" check (timestamp '2000-01-01' at time zone zone is not null),
-    constraint "an order of readings is sequence or moment" check (reading_order in ('sequence', 'moment'))
+    constraint "an order of readings is sequence or moment" check (reading_order in ('sequence', 'moment')),
+    constraint "a rule of settling is later or closing" check (settle in ('later', 'closing'))
 ) for values in (:cell);
 
 -- PostgreSQL takes more texts as a zone than the tools do: abbreviations, offsets, names in small letters.
@@ -214,7 +217,7 @@ begin
 end $$;
 create trigger plan_changed after insert or update or delete on own_station
     for each row execute function plan_changed();
-create trigger plan_changed after update of period, reading_order on own_site
+create trigger plan_changed after update of period, reading_order, settle on own_site
     for each row execute function plan_changed();
 
 -- The messages of a station belong to its shard and its name. So a station that sent messages is retired: it is not removed,
@@ -765,6 +768,7 @@ create table closing (
     plan bigint not null default 0,        -- which it made: boards of earlier plans still have what it archived
     place bigint not null default 0,
     reading_order text not null default 'sequence',
+    settle text not null default 'later',
     packed boolean not null default false  -- whether own_archived_lines has all lines that it archived
 ) partition by list (cell);
 create table own_closing partition of closing (
@@ -1554,23 +1558,26 @@ create function placement() returns table (shard integer, is_moving boolean, sta
         (select count(*) from own_log l where l.shard = s.shard and l.at > now() - interval '1 day')
     from own_shard s order by 1;
 $$;
--- The cell, the shard where it has this station, and the period, zone and order of this site.
+-- The cell, the shard where it has this station, and the period, zone, order and rule of settling of this site.
 create function place_of(site_name text, station_name text) returns table (cell smallint, shard integer, period integer,
-        zone text, reading_order text) language sql stable security definer set search_path = public, pg_temp as $$
-    select c.cell, (select t.shard from own_station t where t.station = station_name), s.period, s.zone, s.reading_order
+        zone text, reading_order text, settle text) language sql stable security definer
+        set search_path = public, pg_temp as $$
+    select c.cell, (select t.shard from own_station t where t.station = station_name), s.period, s.zone, s.reading_order,
+        s.settle
     from own_cell c left join (select * from own_site where site = site_name order by shard limit 1) s on true;
 $$;
--- Adds a station, at a site with this period, zone and order if the shard lacks the site.
+-- Adds a station, at a site with this period, zone, order and rule of settling if the shard lacks the site.
 create function place_station(shard_number integer, site_name text, station_name text, site_period integer, site_zone text,
-        site_order text) returns void language plpgsql security definer set search_path = public, pg_temp as $$
+        site_order text, site_settle text) returns void language plpgsql security definer
+        set search_path = public, pg_temp as $$
 begin
     insert into own_shard (shard) values (shard_number) on conflict do nothing;
     perform from own_shard where shard = shard_number and moving_to is null for key share;
     if not found then
         raise 'shard % moves to another cell', shard_number;
     end if;
-    insert into own_site (shard, site, period, zone, reading_order)
-        values (shard_number, site_name, site_period, site_zone, site_order) on conflict do nothing;
+    insert into own_site (shard, site, period, zone, reading_order, settle)
+        values (shard_number, site_name, site_period, site_zone, site_order, site_settle) on conflict do nothing;
     insert into own_station (shard, site, station) values (shard_number, site_name, station_name);
 end $$;
 
@@ -1746,7 +1753,7 @@ grant execute on function set_operator(text, text[], text[], boolean, bytea, byt
 
 -- A provisioner places stations and sets their passwords, and sees no password.
 grant execute on function set_password(text, bytea, bytea, boolean), placement(), place_of(text, text),
-    place_station(integer, text, text, integer, text, text) to ledger_provisioner;
+    place_station(integer, text, text, integer, text, text, text) to ledger_provisioner;
 
 -- Programs that change a shard's log reserve it, read its lines, and notify.
 grant execute on function reserve_shard(integer)

@@ -25,7 +25,7 @@ DAYS = 92
 SMALL = 65_536
 # A shard has no more stations.
 MOST_STATIONS = 64
-MARKS = ("shard", "period", "reading_order", "zone", "place", "at", "closing")
+MARKS = ("shard", "period", "reading_order", "settle", "zone", "place", "at", "closing")
 
 
 class SitePages(NamedTuple):

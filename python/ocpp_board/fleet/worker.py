@@ -20,8 +20,7 @@ import os
 import random
 import secrets
 import time
-from collections.abc import Coroutine, Mapping, Sequence
-from contextlib import suppress
+from collections.abc import Awaitable, Callable, Coroutine, Mapping, Sequence
 from functools import partial
 from typing import Any
 
@@ -35,16 +34,17 @@ from ocpp_board.fleet.database import (
     FORMER,
     LOST,
     PAYLOAD,
+    SLOW_QUEUE,
     Asked,
     Fault,
     Unreachable,
+    by_shard,
     connect,
     listen,
     said,
     seen,
     until_ended,
     within,
-    woken_by,
 )
 from ocpp_board.fleet.lines import Transaction
 from ocpp_board.fleet.orders import (
@@ -65,7 +65,8 @@ from ocpp_board.fleet.orders import (
 )
 from ocpp_board.fleet.plans import Plan, known_lines
 from ocpp_board.fleet.replays import Replay, ReplayEnded
-from ocpp_board.fleet.surplus import Surplus
+from ocpp_board.fleet.shards import Answers, Passing, Shard
+from ocpp_board.fleet.surplus import UNKNOWN
 from ocpp_board.fleet.watched import STANDING, Watched
 from ocpp_board.limits import LONGEST_SCRIPT
 from ocpp_board.processes import run_tool
@@ -95,8 +96,9 @@ where datallowconn and datname <> current_database() and has_database_privilege(
 """
 SHUT = "revoke connect on database .. from public"
 HOLD = "select shard from unnest($1::int[]) as s (shard) where hold_shard(shard) limit $2"
-# Shards that are read at once, and those among them that still read their log from the start.
-AT_ONCE, OPENING = 64, 2
+# Shards that are read at once, those among them that still read their log from the start, and lines after which others
+# go on.
+AT_ONCE, OPENING, TURN = 64, 2, 100
 # Seconds after which the other shards no longer wait for a slow one, and seconds to gather lines for one round: a round
 # costs the same, whether it has one line or many.
 SLOW, GATHERED = 0.02, 0.02
@@ -109,40 +111,11 @@ SWEEP, SETTLING, FENCING = 20, 5, 5
 NOTING, CONTEST = 0.5, 0.05
 # How many shards' boards are made at once.
 SHOWN = 8
-# When so much of the queue of notifications is full, answers go by a table.
-SLOW_QUEUE = 0.005
 # Shards taken at once, and seconds in which the program has to open a plan.
 TAKEN, OPENING_TIME = 16, 60
 # Seconds that the database has for an answer at least, however soon workers that hang are ended; and seconds until a
 # worker looks whether a commit waits for a standby.
 ANSWER, WAITING = 10.0, 1.0
-
-
-class Shard:
-    """A shard that this worker holds."""
-
-    def __init__(
-        self, row: Any, replay: Replay, sites: list[str], late: Late, watched: Watched
-    ) -> None:
-        self.number, self.plan, self.taken = row["shard"], row["plan"], row["taken"]
-        # Places of the log: its last one, up to where the replay has it, and up to where answers were given and noted.
-        self.last, self.read = row["last"], 0
-        self.told = self.noted = row["told"]
-        # Which line of its inbox is the oldest that may have come unseen, and which was the next at the last look.
-        self.oldest = self.next = 0
-        self.replay, self.sites, self.late, self.watched = replay, sites, late, watched
-        self.shown: dict[str, Shown] = {}
-        self.began = asyncio.get_running_loop().time()
-        self.answered = time.monotonic()
-        self.surplus = Surplus()
-        # Lines that were read, bytes of the log, and bytes that its replay was handed, which has an end as well.
-        self.lines = self.bytes = self.handed = 0
-        self.changed, self.due = True, 0.0
-        self.is_loaded = self.is_answering = self.is_showing = False
-        self.busy = asyncio.Lock()
-
-
-Answers = tuple[Shard, list[tuple[str, str]]]
 
 
 class Session:
@@ -166,6 +139,7 @@ class Session:
         # Whether the queue of notifications has so much in it that what goes there comes late.
         self.is_queue_slow = False
         self.shards: dict[int, Shard] = {}
+        self.passing = Passing(self)
         # Shards with a held lock that are not open yet.
         self.opening: set[int] = set()
         self.refused: dict[int, int] = {}
@@ -197,7 +171,7 @@ class Session:
             listener = self.databases[-1]
             for channel in INBOXES:
                 await listen(listener, channel, partial(self.wake, channel))
-            await listen(listener, "plan", lambda *_: self.planned.set())
+            await listen(listener, "plan", lambda *words: self.heard_plan(words[3]))
             self.spawn(until_ended(listener))
             await self.beat_once()
             self.seen.session = self
@@ -213,6 +187,7 @@ class Session:
                 task.cancel()
             for shard in self.shards.values():
                 shard.replay.kill()
+            self.passing.close()
             self.late.close()
             for database in self.databases:
                 database.terminate()
@@ -241,9 +216,14 @@ class Session:
         """The state of shards, once they are taken."""
         return {row["shard"]: row for row in await self.ask(STATE, numbers)}
 
+    def heard_plan(self, payload: str) -> None:
+        """The plan changed, or another worker passes shards on."""
+        if self.passing.heard(payload):
+            self.planned.set()
+
     def wake(self, channel: str, _session: Any, _pid: int, _name: str, payload: str) -> None:
         """Lines of shards came, as a notification says."""
-        self.wake_all(channel, woken_by(payload))
+        self.wake_all(channel, by_shard(payload))
 
     def wake_all(self, channel: str, firsts: Mapping[int, int]) -> None:
         """Has an inbox of these shards looked at, from its first new line on."""
@@ -316,32 +296,25 @@ class Session:
         plans = {row["shard"]: row["plan"] for row in rows}
         for shard in list(self.shards.values()):
             if shard.number not in plans:
-                await self.give_back(shard.number)
+                await self.passing.give(shard.number)
             elif plans[shard.number] != shard.plan:
-                self.reopen(shard)
+                self.passing.renew(shard)
         share = -(-len(plans) // living)
-        for number in list(self.shards)[share:]:
-            await self.give_back(number)
+        is_over = await self.passing.even_out(list(self.shards)[share:], plans)
         held = self.shards.keys() | self.opening
         free = [n for n in plans if n not in held and self.refused.get(n) != plans[n]]
         most = min(share - len(held), TAKEN)
-        if most <= 0 or not free:
-            return False
-        # One worker begins here, another there: fewer tries at what is held.
-        start = secrets.randbelow(len(free))
-        taken = [row["shard"] for row in await self.ask(HOLD, free[start:] + free[:start], most)]
+        taken = list[int]()
+        if most > 0 and free:
+            # One worker begins here, another there: fewer tries at what is held.
+            start = secrets.randbelow(len(free))
+            numbers = self.passing.in_order(free[start:] + free[:start])
+            taken = [row["shard"] for row in await self.ask(HOLD, numbers, most)]
         for number in taken:
             self.opening.add(number)
             self.spawn(self.open(number, 0))
-        return len(taken) == most
-
-    async def give_back(self, number: int) -> None:
-        """Leaves a shard to whoever takes it. One that is just opened anew is left another time."""
-        if not (shard := self.shards.pop(number, None)):
-            return
-        async with shard.busy:
-            shard.replay.kill()
-        await self.ask("select release_shard($1)", number)
+        self.passing.look(most - len(taken), plans)
+        return bool(taken) and len(taken) == most or is_over
 
     def reopen(self, shard: Shard) -> None:
         """A new replay for a shard; its lock stays held. One that ends again and again gets time in between."""
@@ -354,34 +327,50 @@ class Session:
         self.spawn(self.open(shard.number, 0 if lived > 2 else 0.5))
 
     async def open(self, number: int, pause: float) -> None:
-        """Begins the replay of a shard, with its lock held, after so many seconds."""
+        """Begins the replay of a shard, with its lock held, after so many seconds; or takes one that is ready."""
         await asyncio.sleep(pause)
         await self.committed(TAKE, [number])
         state = (await self.read_state([number])).get(number)
+        if ready := self.passing.ready.pop(number, None):
+            if state and state["plan"] == ready.plan:
+                await self.passing.follow(ready, state["taken"], state["last"], state["told"])
+                return
+            ready.replay.kill()
         try:
             if state is None:
                 raise Fault("is no longer in the plan")
-            plan = await Plan.of(self.ask, number, self.words.known)
-            replay = await Replay.start(self.words.program)
-            await asyncio.wait_for(replay.open(plan), OPENING_TIME)
-            late = Late(number, plan.rows, bool(await self.ask(HAS_ARCHIVED, number)))
             self.late.forget(number)
-            standing = [row["place"] for row in await self.ask(STANDING, number)]
-            watched = Watched(number, plan.rows, standing, self.words.reported)
+            self.begin(await self.begun(state, self.ask))
         except Fault as fault:
             log.error("shard %d: %s; it is left alone until its plan changes", number, fault)
             self.refused[number] = state["plan"] if state else -1
             await self.let_go(number)
-            return
         except (ReplayEnded, OSError, asyncio.TimeoutError) as fault:
             why = str(fault) or "it hangs"
             log.warning("shard %d: its replay does not open: %s; tried again", number, why)
             await asyncio.sleep(0.5)
             await self.let_go(number)
-            return
-        self.shards[number] = Shard(state, replay, plan.sites, late, watched)
-        self.opening.discard(number)
-        self.behind.add(number)
+
+    async def begun(self, state: Any, ask: Callable[..., Awaitable[Any]]) -> Shard:
+        """A shard with its replay, which has not read the log. Raises Fault, ReplayEnded and OSError."""
+        number = state["shard"]
+        plan = await Plan.of(ask, number, self.words.known)
+        replay = await Replay.start(self.words.program)
+        try:
+            await asyncio.wait_for(replay.open(plan), OPENING_TIME)
+            late = Late(number, plan.rows, bool(await ask(HAS_ARCHIVED, number)))
+            standing = [row["place"] for row in await ask(STANDING, number)]
+        except BaseException:
+            replay.kill()
+            raise
+        watched = Watched(number, plan.rows, standing, self.words.reported)
+        return Shard(state, replay, plan.sites, late, watched)
+
+    def begin(self, shard: Shard) -> None:
+        """Has the rest of a shard's log read, and what comes answered."""
+        self.shards[shard.number] = shard
+        self.opening.discard(shard.number)
+        self.behind.add(shard.number)
         self.waking.set()
 
     async def let_go(self, number: int) -> None:
@@ -400,11 +389,18 @@ class Session:
             for number in woken.keys() - self.shards.keys():
                 del woken[number]
         self.behind.intersection_update(self.shards)
-        numbers = self.behind.union(*self.woken.values())
+        numbers = self.behind.union(*map(self.to_number, INBOXES))
         ready = [self.shards[number] for number in numbers]
-        ready = [shard for shard in ready if not shard.is_answering]
-        opening = [shard for shard in ready if not shard.is_loaded][:OPENING]
-        return [shard for shard in ready if shard.is_loaded][: AT_ONCE - OPENING] + opening
+        ready = [shard for shard in ready if not (shard.is_answering or shard.is_passing)]
+        opening = [shard for shard in ready if shard.is_opening][:OPENING]
+        return [shard for shard in ready if not shard.is_opening][: AT_ONCE - OPENING] + opening
+
+    def to_number(self, channel: str) -> set[int]:
+        """Shards with lines in an inbox that may get their places. What operators and feeds sent waits for a replay
+        that begins anew: no station waits for it, and after a closing an operator's answer is another one.
+        """
+        waiting = self.passing.renewed if channel == "wake_kept" else set[int]()
+        return self.woken[channel].keys() - waiting
 
     async def read(self) -> None:
         """Gives lines of woken shards their places, has them answered, and sends the answers, round by round."""
@@ -430,18 +426,20 @@ class Session:
 
     async def hand_over(self, shards: list[Shard]) -> None:
         """Reads what is new in these shards, and has it answered; slow ones are answered while the next are read."""
+        for shard in shards:
+            shard.is_answering = True
         rows = await self.read_behind([shard for shard in shards if not shard.is_loaded])
         for channel in INBOXES:
             had = {row["shard"] for row in rows}
-            rows += await self.number(
-                channel, [one for one in shards if one.is_loaded and one.number not in had]
-            )
-        new = set[asyncio.Task[Answers | None]]()
-        for row in rows:
-            shard = self.shards.get(row["shard"])
-            if shard and shard in shards:
-                shard.is_answering = True
+            ready = [one for one in shards if one.is_loaded and one.number not in had]
+            rows += await self.number(channel, ready)
+        new, found = set[asyncio.Task[Answers | None]](), {row["shard"]: row for row in rows}
+        for shard in shards:
+            row = found.get(shard.number)
+            if row and self.shards.get(shard.number) is shard:
                 new.add(self.spawn(self.answer(shard, row)))
+            else:
+                shard.is_answering = False
         if new:
             self.answering.update(new)
             for task in (await asyncio.wait(new, timeout=SLOW))[1]:
@@ -460,8 +458,8 @@ class Session:
 
     async def number(self, channel: str, shards: list[Shard]) -> list[Any]:
         """Gives lines that came to these shards their places in the log, and gives them as they are there."""
-        woken = self.woken[channel]
-        shards = [shard for shard in shards if shard.number in woken]
+        woken, numbers = self.woken[channel], self.to_number(channel)
+        shards = [shard for shard in shards if shard.number in numbers]
         if not shards:
             return []
         firsts = {shard.number: woken.pop(shard.number) for shard in shards}
@@ -503,6 +501,8 @@ class Session:
 
     def loaded(self, shard: Shard) -> None:
         """The shard's log was read to its end; what is in its inboxes comes next."""
+        if self.shards.get(shard.number) is not shard:
+            return
         self.behind.discard(shard.number)
         shard.is_loaded, shard.read = True, shard.last
         took = asyncio.get_running_loop().time() - shard.began
@@ -515,29 +515,35 @@ class Session:
         try:
             answers, is_live = await self.replayed(shard, row)
         except (ReplayEnded, OSError, asyncio.TimeoutError) as fault:
-            why = str(fault) or "its replay hangs"
             self.seen.counts["replays_ended"] += 1
+            why = str(fault) or "its replay hangs"
             log.warning("shard %d: %s; it begins anew", shard.number, why)
             self.reopen(shard)
             return None
-        if any(answer == b"fault UnknownStation" for answer in answers) and await self.is_replanned(
-            shard
-        ):
-            self.reopen(shard)
+        front, withheld = row["silent"], set[int]()
+        if UNKNOWN in answers[front:] and await self.is_replanned(shard):
+            # Their stations are new: a replay with the next plan answers these lines.
+            pairs = zip(row["places"][front:], answers[front:])
+            withheld = {place for place, answer in pairs if answer == UNKNOWN}
+            shard.withheld = min(shard.withheld, *withheld)
+            self.passing.renew(shard)
+        if shard.replay.is_killed:
             return None
         shard.read, shard.changed = row["place"], shard.changed or is_live
         shard.lines += row["rows"]
         said = [answer.decode("utf-8", "replace") for answer in answers]
         texts = row["text"].split("\n")
         for number, (place, text) in enumerate(zip(row["places"], texts)):
-            shard.watched.take(place, text, said[number])
+            if place not in withheld:
+                shard.watched.take(place, text, said[number])
+            if number % TURN == TURN - 1:
+                await asyncio.sleep(0)
         self.weigh(shard, len(row["text"].encode()) + 1)
-        front = row["silent"]
-        parts = zip(row["gateways"][front:], row["tokens"][front:], said[front:])
+        columns = (row[name][front:] for name in ("places", "gateways", "tokens"))
         answered = [
             (gateway, f"{token} {answer}")
-            for gateway, token, answer in parts
-            if gateway and token is not None
+            for place, gateway, token, answer in zip(*columns, said[front:])
+            if gateway and token is not None and place not in withheld
         ]
         return shard, answered
 
@@ -556,7 +562,7 @@ class Session:
         if had < most <= shard.bytes:
             self.spawn(self.compact(shard.number))
         elif read < most <= shard.handed and shard.bytes < half and shard.is_loaded:
-            self.reopen(shard)
+            self.passing.renew(shard)
 
     async def compact(self, number: int) -> None:
         """Compacts a shard in a process of its own. Its plan then changes, and its replay begins anew."""
@@ -615,39 +621,36 @@ class Session:
     async def tell(self, answered: list[Answers]) -> None:
         """Sends answers to the gateways that wait for them."""
         places = [shard.read for shard, _ in answered]
-        channels, payloads = payloads_of([answer for _, answers in answered for answer in answers])
-        if channels and self.is_queue_slow:
-            await self.keep_untold(channels, payloads)
-        elif channels:
-            await self.notify(channels, payloads)
+        await self.send([answer for _, answers in answered for answer in answers])
         self.seen.counts["answers"] += sum(len(answers) for _, answers in answered)
         now = time.monotonic()
         for (shard, _), place in zip(answered, places):
-            shard.told, shard.answered = max(shard.told, place), now
-            shard.is_answering = False
+            shard.answered_to(place)
+            shard.answered, shard.is_answering = now, False
             if not shard.is_loaded and shard.read >= shard.last:
                 self.loaded(shard)
 
-    async def notify(self, channels: list[str], payloads: list[str]) -> None:
-        """Sends these payloads; one that can't be sent costs no other."""
+    async def send(self, answers: list[tuple[str, str]]) -> None:
+        """Sends answers by notifications, and where the queue of these is slow by a table, too."""
+        channels, payloads = payloads_of(answers)
+        if channels and self.is_queue_slow:
+            await self.ask(KEEP_UNTOLD, channels, payloads)
+        if channels:
+            await self.notify(channels, payloads, self.is_queue_slow)
+
+    async def notify(self, channels: list[str], payloads: list[str], are_kept: bool) -> None:
+        """Sends these payloads, by a table if the queue is full; one that can't be sent costs no other."""
         try:
             await self.ask(TELL, channels, payloads)
         except asyncpg.ProgramLimitExceededError:
-            await self.keep_untold(channels, payloads)
+            if not are_kept:
+                await self.ask(KEEP_UNTOLD, channels, payloads)
         except UNTOLD as fault:
             if len(channels) == 1:
                 log.warning("answers can't be sent on the channel %r: %s", channels[0], fault)
                 return
             for channel, payload in zip(channels, payloads):
-                await self.notify([channel], [payload])
-
-    async def keep_untold(self, channels: list[str], payloads: list[str]) -> None:
-        """Leaves payloads where gateways look for them. Whoever else listens gets them, if the queue has room."""
-        await self.ask(KEEP_UNTOLD, channels, payloads)
-        for channel, payload in zip(channels, payloads):
-            if not channel.startswith("gateway_"):
-                with suppress(*UNTOLD):
-                    await self.ask(TELL, [channel], [payload])
+                await self.notify([channel], [payload], are_kept)
 
     async def note(self) -> None:
         """Notes again and again up to which places answers were given, and what was refused."""
