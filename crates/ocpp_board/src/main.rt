@@ -17,31 +17,43 @@ mod run;
 mod serving;
 mod station_words;
 
-use crate::process::Process;
-use crate::run::{Streams, StreamsOf, refuse_unread, run};
-use gathered_input::gathered;
+use crate::run::{Streams, refuse_unread, run};
+use gathered_input::{Readiness, gathered};
+use server_parts::Host;
+use std::io::{Read, Write};
 use std::process::ExitCode;
+use std::random::RandomSource;
 use std::rt::Env;
 use std::{env, io};
 
 fn main(rt: HostRuntime) -> ExitCode {
-    let streams = Streams {
-        input: gathered(&rt, rt.stdin()),
-        output: rt.stdout(),
-        console: rt.stderr(),
-        errors: rt.stderr(),
-        lines: rt.stderr(),
-    };
-    ExitCode::from(run_words::<(HostRuntime, _, _, _, _, _)>(&rt, streams))
+    let input = gathered(&rt, rt.stdin());
+    let (console, errors, lines) = (rt.stderr(), rt.stderr(), rt.stderr());
+    ExitCode::from(run_words(&rt, input, rt.stdout(), console, errors, lines))
 }
 
 // Runs the program with the words of the process, and gives its exit status.
-fn run_words<P: Process>(rt: &P::Runtime, streams: StreamsOf<P>) -> u8
-where
-    P::Runtime: Env,
-{
+fn run_words<
+    X: AllocGlobal + Env + Host + RandomSource,
+    R: Read + Readiness + Drop,
+    W: Write + Send + Drop,
+    C: Write + Drop,
+    E: Write + Drop,
+    L: Write + Send + Drop,
+>(rt: &X, input: R, output: W, console: C, errors: E, lines: L) -> u8 {
+    let streams = Streams {
+        input,
+        output,
+        console,
+        errors,
+        lines,
+    };
     match program_words(rt) {
-        Ok(words) => run::<P, _>(rt, words.as_slice(), streams).ended.status,
+        Ok(words) => {
+            run::<(X, R, W, C, E, L), _>(rt, words.as_slice(), streams)
+                .ended
+                .status
+        }
         Err(error) => refuse_unread(streams, error.kind()).status,
     }
 }
