@@ -16,8 +16,9 @@ use Rattle.event_chain.specs.Chains.{Chained, stored}
 use Rattle.event_chain.specs.declared.around.Sides.{Sides}
 use Rattle.station_ledger.specs.declared.by_moment.ByMoment.{ByMoment}
 use Rattle.station_ledger.specs.declared.sums.Sums.{Sums}
+use Rattle.station_ledger.specs.declared.by_moment.Way.TheVariants.{Coming, Going}
 use Rattle.station_ledger.specs.ByMoment.{AreByMoment}
-use Rattle.station_ledger.specs.Exchange.{IsComing, IsGoing}
+use Rattle.station_ledger.specs.Exchange.{IsMove}
 use Rattle.station_ledger.specs.Sides.{sides_across, sides_between}
 use Rattle.station_ledger.specs.Spent.{most_at}
 use Rattle.station_ledger.specs.Sums.{AreAllowed, AreGrowing, AreQuarterRows, AreShrinking, order_in, order_of}
@@ -67,27 +68,29 @@ rows_by {limits = limits} {es = es} sums is h = subst (λ o. AreQuarterRows (ord
 
 module _ {es : List Entry} {chains : Chained} {key : KeyName} {place : ByDirection Sides} {sums : Sums} {b : ByMoment} (is : sums.by_moment ≡ Some b) (after : AreAllowed (order_in sums) chains.limits (stored chains)) where
   -- an event comes to readings by moment
-  pub comes_in_time : {names : Bool} → AreGrowing es chains key place names sums → IsComing es chains key b sums.period sums.quarters
+  pub comes_in_time : {names : Bool} → AreGrowing es chains key place names sums → IsMove Coming es (stored chains) chains key b sums.period sums.quarters
   comes_in_time h = record {
     event = h.come.event;
     one = h.come.one;
+    now_are = refl;
     readings = h.come.readings;
     few = h.come.few;
-    before = allowed_by sums is h.allowed;
-    after = allowed_by sums is after;
+    small = allowed_by sums is h.allowed;
+    large = allowed_by sums is after;
     timed = subst (λ o. IfSome o (AreByMoment chains.limits es)) is h.summed.timed;
     rows = rows_by sums is h.summed.by_quarter;
   }
 
   -- an event goes from them
-  pub goes_in_time : AreShrinking es chains key place sums → IsGoing es chains key b sums.period sums.quarters
+  pub goes_in_time : AreShrinking es chains key place sums → IsMove Going (stored chains) es chains key b sums.period sums.quarters
   goes_in_time h = record {
     event = h.go.event;
     one = left_keys (stored chains) es key h.go.event h.go.one;
+    now_are = refl;
     readings = h.go.readings;
     few = h.go.few;
-    before = allowed_by sums is h.allowed;
-    after = allowed_by sums is after;
+    small = allowed_by sums is after;
+    large = allowed_by sums is h.allowed;
     timed = subst (λ o. IfSome o (AreByMoment chains.limits es)) is h.summed.timed;
     rows = rows_by sums is h.summed.by_quarter;
   }

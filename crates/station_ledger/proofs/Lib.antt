@@ -24,9 +24,8 @@ pub mod MomentLists
 pub mod MomentWalks
 pub mod MomentRuns
 pub mod MomentIndexes
-pub mod MomentComing
-pub mod MomentGoing
 pub mod MomentEvents
 pub mod MomentSides
 pub mod MomentMoves
+pub mod MomentTurning
 pub mod MomentListed

@@ -3,16 +3,17 @@ use Rattle.std.proofs.Common.{◌≡◌, ℕ, ◌+◌, ◌*◌, ◌<◌, ◌≤�
 use Rattle.std.specs.List.{AllByRecursion}
 use Rattle.std.proofs.lemmas.Bool.{cases_lt, cases_eq, lt-ltb, le-ltb}
 use Rattle.std.proofs.lemmas.List.{append-nil, length-map}
-use Rattle.energy_flow.specs.Flow.{CanPlus, Energy, plus}
+use Rattle.energy_flow.specs.Flow.{CanPlus, Energy, no_energy, plus}
 use Rattle.ledger_model.specs.Periods.{Periods}
 use Rattle.ledger_model.specs.Board.{Flowed}
-use Rattle.ledger_model.specs.Deltas.{across, pairs_between, first_reading, last_reading}
+use Rattle.ledger_model.specs.Deltas.{pairs_between, first_reading, last_reading}
 use Rattle.ledger_model.specs.declared.reading.Direction.{Direction}
 use Rattle.ledger_model.specs.Energy.{Pair, energy_over}
 use Rattle.ledger_model.specs.Event.{MeterReading}
 use Rattle.ledger_model.specs.InTime.{put_in_time, runs}
 use Rattle.ledger_model.specs.Ranges.{greatest_reading, most_event_readings, most_readings}
-use Rattle.ledger_model.proofs.Callers.{AreForeign, AreOwn, few_across, few_between}
+use Rattle.ledger_model.proofs.Callers.{AreForeign, AreOwn, few_between}
+use Rattle.event_chain.specs.declared.around.Sides.{Sides}
 use Rattle.quarter_table.specs.Pairs.{rows_of, rows_with}
 use Rattle.quarter_table.specs.Table.{Table}
 use Rattle.quarter_table.proofs.Several.{made_with}
@@ -22,9 +23,11 @@ use Rattle.reading_index.specs.Timed.{Timed, first_of, from_on, in_front, last_o
 use Rattle.station_ledger.specs.ByMoment.{bare, bare_one, beyond, fits, fitting, put_each}
 use Rattle.station_ledger.specs.Quarters.{HasRoom, HoldsPairs, IsWith, IsWithout, IsWork, quartered}
 use Rattle.station_ledger.specs.declared.by_moment.Moved.{Moved}
-use Rattle.station_ledger.specs.Runs.{own_timed, pairs_among, AreApart, AreExchanged, AreFew, AreSwapped}
+use Rattle.station_ledger.specs.declared.by_moment.Way.{Way}
+use Rattle.station_ledger.specs.declared.by_moment.Way.TheVariants.{Coming, Going}
+use Rattle.station_ledger.specs.Runs.{came_of, gap_of, gone_of, own_timed, pairs_among, run_pairs, AreApart, AreExchanged, AreFew, AreSwapped, HasRoomWithout}
 use Rattle.station_ledger.proofs.MomentRanks.{at, filter-ranked, length-put, parted}
-use Rattle.station_ledger.proofs.MomentWalks.{AreInFront, AreOver, FirstFails, LastFails, few_more, fitting-beyond, fitting-front, followed_fewer, first_bare, foreign_first, foreign_last, foreign_parts, has_room, in_front-append, in_front-under, last-append, last_bare, last_behind, moved_in, one_run_more, own_parts, put_each-append, put_each-before, put_each-row, put_each-under, ranked-apart, three_down, three_up, with_run, without_run}
+use Rattle.station_ledger.proofs.MomentWalks.{AreInFront, AreOver, FirstFails, LastFails, few_more, fitting-beyond, fitting-front, followed_fewer, first_bare, foreign_first, foreign_last, foreign_parts, has_room, in_front-append, in_front-under, last-append, last_bare, last_behind, moved_in, one_run_more, own_parts, put_each-append, put_each-before, put_each-row, put_each-under, ranked-apart, three_down, three_up, with_run}
 use Rattle.station_ledger.proofs.Rows.{rows_less}
 use Rattle.station_ledger.proofs.Walks.{first_and_rest}
 
@@ -110,86 +113,101 @@ fits-first x (u ∷ us) h = lt-ltb x.0 u.0 h.0
 pairs-length : (t : Timed) (ts : List Timed) → length (pairs_among (t ∷ ts)) ≡ length ts
 pairs-length t ts = followed_fewer t.1 (bare ts) ∙ length-map ts (λ (u : Timed). u.1)
 
-pairs-less : (ts : List Timed) → length (pairs_among ts) ≤ length ts
-pairs-less [] = omega arith
-pairs-less (t ∷ ts) = let n = pairs-length t ts in omega (arith, n)
+-- Fewer than readings, if there may be a reading.
+pairs-fewer : (ts : List Timed) (n : ℕ) → length ts ≤ n → 1 ≤ n → length (pairs_among ts) + 1 ≤ n
+pairs-fewer [] n le some = omega (arith, some)
+pairs-fewer (t ∷ ts) n le some = let one = pairs-length t ts in omega (arith, one, le)
 
--- A run among others: what is in front of it and behind it, without and with it.
-pub record IsRun (seq : ℕ) (before after : Option MeterReading) (run without with_it : List Timed) : Type 0 where
+-- How many readings go and come.
+pub length-parts : (way : Way) (ts : List Timed) → length (gone_of way ts) + length (came_of way ts) ≡ length ts
+length-parts Coming ts = omega arith
+length-parts Going ts = omega arith
+
+-- A run among others, which comes or goes: what is in front of it and behind it, now and next.
+pub record IsRun (way : Way) (seq : ℕ) (before after : Option MeterReading) (run now next : List Timed) : Type 0 where
   pub front : List Timed
   pub back : List Timed
   pub first : Timed
   pub more : List Timed
   pub run_is : run ≡ first ∷ more
-  pub without_is : without ≡ front ++ back
-  pub with_is : with_it ≡ front ++ (run ++ back)
+  pub now_is : now ≡ front ++ (gone_of way run ++ back)
+  pub next_is : next ≡ front ++ (came_of way run ++ back)
   pub before_is : before ≡ last_reading (bare front)
   pub after_is : after ≡ first_reading (bare back)
   pub last_fails : LastFails (own_timed seq) front
   pub first_fails : FirstFails (own_timed seq) back
   pub own : AreOwn (own_timed seq) run
 
-module _ {seq : ℕ} {before after : Option MeterReading} {run without with_it : List Timed} (r : IsRun seq before after run without with_it) where
+module _ {way : Way} {seq : ℕ} {before after : Option MeterReading} {run now next : List Timed} (r : IsRun way seq before after run now next) where
   abbrev pub fa : List Pair
   fa = pairs_among r.front
 
   abbrev pub fb : List Pair
   fb = pairs_among r.back
 
-  -- the pairs without the run, and with it
-  pub less_pairs : pairs_among without ≡ fa ++ (across before after ++ fb)
-  less_pairs = ap pairs_among r.without_is ∙ without_run r.front r.back ∙ sym (λ i. fa ++ (across (r.before_is i) (r.after_is i) ++ fb))
+  -- the pairs that some readings make in the gap
+  abbrev pub made : List Timed → List Pair
+  made ts = pairs_between before (bare ts) after
 
-  pub more_pairs : pairs_among with_it ≡ fa ++ (pairs_between before (bare run) after ++ fb)
-  more_pairs = ap pairs_among r.with_is ∙ with_run r.front run r.back ∙ sym (λ i. fa ++ (pairs_between (r.before_is i) (bare run) (r.after_is i) ++ fb))
+  pub run_some : 1 ≤ length run
+  run_some = let n = ap length r.run_is in omega (arith, n)
 
-  pub one_more : runs (own_timed seq) with_it ≡ runs (own_timed seq) without + 1
-  one_more =
+  -- there is one run more with it
+  pub one_run : runs (own_timed seq) (r.front ++ (run ++ r.back)) ≡ runs (own_timed seq) (r.front ++ r.back) + 1
+  one_run =
       let mine : AreOwn (own_timed seq) (r.first ∷ r.more) = subst (AreOwn (own_timed seq)) r.run_is r.own in
-      ap (runs (own_timed seq)) (r.with_is ∙ ap (λ l. r.front ++ (l ++ r.back)) r.run_is) ∙ one_run_more (own_timed seq) r.front r.first r.more r.back r.last_fails mine r.first_fails ∙ ap (λ l. runs (own_timed seq) l + 1) (sym r.without_is)
+      ap (λ l. runs (own_timed seq) (r.front ++ (l ++ r.back))) r.run_is ∙ one_run_more (own_timed seq) r.front r.first r.more r.back r.last_fails mine r.first_fails
 
-  -- how many pairs there are
-  three : (x : List Pair) → length (fa ++ (x ++ fb)) ≡ length (fa ++ fb) + length x
-  three x = let a = length-append fa (x ++ fb) in let b = length-append x fb in let e = length-append fa fb in omega (arith, a, b, e)
+  -- how many readings go and come
+  pub gone_few : length (gone_of way run) ≤ length run
+  gone_few = let n = length-parts way run in omega (arith, n)
 
-  pub run_few : length (pairs_between before (bare run) after) ≤ length run + 1
-  run_few = let few = few_between before (bare run) after in let n = length-map run (λ (t : Timed). t.1) in omega (arith, few, n)
+  pub came_few : length (came_of way run) ≤ length run
+  came_few = let n = length-parts way run in omega (arith, n)
 
-  pub with_few : length (fa ++ fb) + length (pairs_between before (bare run) after) + 1 ≤ length with_it
-  with_few =
-      let n = three (pairs_between before (bare run) after) in
-      let long = ap length more_pairs in
-      let some : length (pairs_among with_it) + 1 ≤ length with_it = subst (λ l. length (pairs_among l) + 1 ≤ length l) (sym (r.with_is ∙ ap (λ l. r.front ++ (l ++ r.back)) r.run_is)) (some_pairs r.front) in
-      omega (arith, n, long, some)
-    where
-      some_pairs : (front : List Timed) → length (pairs_among (front ++ ((r.first ∷ r.more) ++ r.back))) + 1 ≤ length (front ++ ((r.first ∷ r.more) ++ r.back))
-      some_pairs [] = let n = pairs-length r.first (r.more ++ r.back) in omega (arith, n)
-      some_pairs (t ∷ ts) = let n = pairs-length t (ts ++ ((r.first ∷ r.more) ++ r.back)) in omega (arith, n)
+  pub made_few : (ts : List Timed) → length (made ts) ≤ length ts + 1
+  made_few ts = let few = few_between before (bare ts) after in let n = length-map ts (λ (t : Timed). t.1) in omega (arith, few, n)
 
-  pub without_few : length (fa ++ fb) + length (across before after) ≤ length without
-  without_few = let n = three (across before after) in let long = ap length less_pairs in let few = pairs-less without in omega (arith, n, long, few)
+  -- all pairs, with some readings there
+  module _ {all : List Timed} (ts : List Timed) (is : all ≡ r.front ++ (ts ++ r.back)) where
+    pub all_pairs : pairs_among all ≡ fa ++ (made ts ++ fb)
+    all_pairs = ap pairs_among is ∙ with_run r.front ts r.back ∙ sym (λ i. fa ++ (pairs_between (r.before_is i) (bare ts) (r.after_is i) ++ fb))
+
+    pub all_up : (energy_over (pairs_among all)).up ≡ (energy_over (fa ++ fb)).up + (energy_over (made ts)).up
+    all_up = let a = ap (λ ps. (energy_over ps).up) all_pairs in let b = three_up fa (made ts) fb in let e = three_up fa [] fb in omega (arith, a, b, e)
+
+    pub all_down : (energy_over (pairs_among all)).down ≡ (energy_over (fa ++ fb)).down + (energy_over (made ts)).down
+    all_down = let a = ap (λ ps. (energy_over ps).down) all_pairs in let b = three_down fa (made ts) fb in let e = three_down fa [] fb in omega (arith, a, b, e)
+
+  -- no more of them than the run makes
+  pub all_few : (ts : List Timed) → length ts ≤ length run → length (fa ++ fb) + length (made ts) + 1 ≤ length (r.front ++ r.back) + length run
+  all_few ts le =
+      let long = ap length (all_pairs ts refl) in
+      let a = length-append fa (made ts ++ fb) in let b = length-append (made ts) fb in let e = length-append fa fb in
+      let c = length-append r.front (ts ++ r.back) in let f = length-append ts r.back in let g = length-append r.front r.back in
+      let few = pairs-fewer (r.front ++ (ts ++ r.back)) (length (r.front ++ r.back) + length run) (omega (arith, c, f, g, le)) (omega (arith, run_some)) in
+      omega (arith, long, a, b, e, few)
 
   module _ (period : Periods) (d : Direction) (rest : List Flowed) where
     abbrev pub beside : List Flowed
     beside = quartered period d (fa ++ fb) ++ rest
 
-    pub without_rows : rows_of (quartered period d (pairs_among without) ++ rest) ≡ rows_of (quartered period d (across before after) ++ beside)
-    without_rows = ap (λ ps. rows_of (quartered period d ps ++ rest)) less_pairs ∙ moved_in period d fa (across before after) fb rest
+    pub all_rows : {all : List Timed} (ts : List Timed) → all ≡ r.front ++ (ts ++ r.back) → rows_of (quartered period d (pairs_among all) ++ rest) ≡ rows_of (quartered period d (made ts) ++ beside)
+    all_rows ts is = ap (λ ps. rows_of (quartered period d ps ++ rest)) (all_pairs ts is) ∙ moved_in period d fa (made ts) fb rest
 
-    pub with_rows : rows_of (quartered period d (pairs_among with_it) ++ rest) ≡ rows_of (quartered period d (pairs_between before (bare run) after) ++ beside)
-    with_rows = ap (λ ps. rows_of (quartered period d ps ++ rest)) more_pairs ∙ moved_in period d fa (pairs_between before (bare run) after) fb rest
+-- So many runs were moved so far, by the runs that are there now, and by all of them.
+abbrev pub AreTurns : Way → ℕ → ℕ → ℕ → Type 0
+AreTurns Coming turns now total = turns ≤ now
+AreTurns Going turns now total = turns + now ≤ total
 
-  pub up_without : (energy_over (pairs_among without)).up ≡ (energy_over (fa ++ fb)).up + (energy_over (across before after)).up
-  up_without = let a = ap (λ ps. (energy_over ps).up) less_pairs in let b = three_up fa (across before after) fb in let e = three_up fa [] fb in omega (arith, a, b, e)
+pub turn_counted : (way : Way) {seq : ℕ} {before after : Option MeterReading} {run now next : List Timed} (r : IsRun way seq before after run now next) (turns total : ℕ) → AreTurns way turns (runs (own_timed seq) now) total → AreTurns way (turns + 1) (runs (own_timed seq) next) total
+turn_counted Coming {seq = seq} r turns total h = let a = ap (runs (own_timed seq)) r.now_is in let b = ap (runs (own_timed seq)) r.next_is in omega (arith, h, a, b, one_run r)
+turn_counted Going {seq = seq} r turns total h = let a = ap (runs (own_timed seq)) r.now_is in let b = ap (runs (own_timed seq)) r.next_is in omega (arith, h, a, b, one_run r)
 
-  pub down_without : (energy_over (pairs_among without)).down ≡ (energy_over (fa ++ fb)).down + (energy_over (across before after)).down
-  down_without = let a = ap (λ ps. (energy_over ps).down) less_pairs in let b = three_down fa (across before after) fb in let e = three_down fa [] fb in omega (arith, a, b, e)
-
-  pub up_with : (energy_over (pairs_among with_it)).up ≡ (energy_over (fa ++ fb)).up + (energy_over (pairs_between before (bare run) after)).up
-  up_with = let a = ap (λ ps. (energy_over ps).up) more_pairs in let b = three_up fa (pairs_between before (bare run) after) fb in let e = three_up fa [] fb in omega (arith, a, b, e)
-
-  pub down_with : (energy_over (pairs_among with_it)).down ≡ (energy_over (fa ++ fb)).down + (energy_over (pairs_between before (bare run) after)).down
-  down_with = let a = ap (λ ps. (energy_over ps).down) more_pairs in let b = three_down fa (pairs_between before (bare run) after) fb in let e = three_down fa [] fb in omega (arith, a, b, e)
+-- Of the readings that were moved, and those that are left: the ones that are there.
+abbrev pub still : Way → List Timed → List Timed → List Timed
+still Coming done left = done
+still Going done left = left
 
 -- What is between an event's readings that came and those that are left: a reading of another.
 pub record AreParted (done left others : List Timed) : Type 0 where
@@ -278,15 +296,15 @@ module _ (seq : ℕ) (others done left : List Timed) (x : Timed) (xs : List Time
       })
 
   -- a run that comes, where those before it came
-  pub coming_run : (done ≡ []) ⊎ ((left ≡ []) ⊎ AreParted done left others) → IsRun seq (bare_one (last_of F)) (bare_one (first_of B)) run (put_each done others) (put_each (done ++ run) others)
+  pub coming_run : (done ≡ []) ⊎ ((left ≡ []) ⊎ AreParted done left others) → IsRun Coming seq (bare_one (last_of F)) (bare_one (first_of B)) run (put_each done others) (put_each (done ++ run) others)
   coming_run gap = record {
     front = put_each done F;
     back = B;
     first = x;
     more = fitting (first_of B) xs;
     run_is = run_first;
-    without_is = there;
-    with_is = put_each-append done run others ∙ ap (put_each run) there ∙ put_each-under run (put_each done F) B (over-under x.0 (put_each done F) run (under-put_each x.0 done F done_under F_under) from_run.0) ∙ ap (λ l. put_each done F ++ l) (put_each-row run B run_rising run_in_front);
+    now_is = there;
+    next_is = put_each-append done run others ∙ ap (put_each run) there ∙ put_each-under run (put_each done F) B (over-under x.0 (put_each done F) run (under-put_each x.0 done F done_under F_under) from_run.0) ∙ ap (λ l. put_each done F ++ l) (put_each-row run B run_rising run_in_front);
     before_is = ap bare_one (sym ends.0) ∙ last_bare (put_each done F);
     after_is = first_bare B;
     last_fails = ends.1;
@@ -324,19 +342,19 @@ module _ (seq : ℕ) (others done left : List Timed) (x : Timed) (xs : List Time
             with_it (d ∷ ds) h k = ((h.0, above_less d.0 p.y.0 (in_front x.0 p.back) (let a = h.0 in omega (arith, a)) k), with_it ds h.1 k)
 
   -- a run that goes, where those behind it are still there
-  pub going_run : IsRun seq (bare_one (last_of F)) (bare_one (first_of B)) run (put_each rest others) (put_each left others)
+  pub going_run : IsRun Going seq (bare_one (last_of F)) (bare_one (first_of B)) run (put_each left others) (put_each rest others)
   going_run = record {
     front = F;
     back = put_each rest B;
     first = x;
     more = fitting (first_of B) xs;
     run_is = run_first;
-    without_is = ap (put_each rest) others_are ∙ put_each-under rest F B (over-under x.0 F rest F_under from_run.1);
-    with_is =
+    now_is =
         ap (λ l. put_each l others) (sym left_parts) ∙ put_each-append run rest others
         ∙ ap (put_each rest) (ap (put_each run) others_are ∙ put_each-under run F B (over-under x.0 F run F_under from_run.0) ∙ ap (λ l. F ++ l) (put_each-row run B run_rising run_in_front))
         ∙ put_each-under rest F (run ++ B) (over-under x.0 F rest F_under from_run.1)
         ∙ ap (λ l. F ++ l) (put_each-under rest run B (over_run run rest (subst AreRising (sym left_parts) left_rising)));
+    next_is = ap (put_each rest) others_are ∙ put_each-under rest F B (over-under x.0 F rest F_under from_run.1);
     before_is = last_bare F;
     after_is = ap bare_one (sym (begins B refl).0) ∙ first_bare (put_each rest B);
     last_fails = foreign_last (own_timed seq) F parts_foreign.0;
@@ -368,27 +386,25 @@ module _ (seq : ℕ) (others done left : List Timed) (x : Timed) (xs : List Time
         over_one y [] h = tt
         over_one y (u ∷ us) h = ((h.0, tt), over_one y us h.1)
 
--- What holds of two readings holds of equal ones.
-pub at_both : (P : Option MeterReading → Option MeterReading → Type 0) {r s b a : Option MeterReading} → r ≡ b → s ≡ a → P r s → P b a
-at_both P {r = r} {s = s} {b = b} {a = a} e f h = subst (λ x. P x a) e (subst (P r) f h)
+  -- a run that comes or goes
+  pub next_run : (way : Way) → (done ≡ []) ⊎ ((left ≡ []) ⊎ AreParted done left others) → IsRun way seq (bare_one (last_of F)) (bare_one (first_of B)) run (put_each (still way done left) others) (put_each (still way (done ++ run) rest) others)
+  next_run Coming gap = coming_run gap
+  next_run Going gap = going_run
 
--- A run's pairs in the periods: what is there, and where there is room.
-module _ (period : Periods) (d : Direction) {seq : ℕ} {before after : Option MeterReading} {run without with_it : List Timed} (r : IsRun seq before after run without with_it) (rest : List Flowed) (t : Table) where
-  module _ (rows : t.rows ≡ rows_of (quartered period d (pairs_among without) ++ rest)) where
-    pub gap_held : HoldsPairs period d (across before after) t
-    gap_held = (beside r period d rest, rows ∙ without_rows r period d rest)
+-- What holds of a gap and two runs holds of equal ones.
+pub at_turn : (P : Sides → List Timed → List Timed → Type 0) {g h : Sides} {a b x y : List Timed} → g ≡ h → a ≡ b → x ≡ y → P g a x → P h b y
+at_turn P {g = g} {h = h} {a = a} {b = b} {x = x} {y = y} e f k holds = subst (P h b) k (subst (λ l. P h l x) f (subst (λ s. P s a x) e holds))
 
-    pub gap_left : {left : Table} → IsWithout (quartered period d (across before after)) t left → left.rows ≡ rows_of (beside r period d rest)
-    gap_left taken = rows_less (beside r period d rest) (rows ∙ without_rows r period d rest) taken
+-- A run's pairs in the periods: those that go are there, and those that come are put beside the others.
+module _ (period : Periods) (d : Direction) {way : Way} {seq : ℕ} {before after : Option MeterReading} {run now next : List Timed} (r : IsRun way seq before after run now next) (rest : List Flowed) (t : Table) where
+  module _ (rows : t.rows ≡ rows_of (quartered period d (pairs_among now) ++ rest)) where
+    pub gone_held : HoldsPairs period d (made r (gone_of way run)) t
+    gone_held = (beside r period d rest, rows ∙ all_rows r period d rest (gone_of way run) r.now_is)
 
-  module _ (rows : t.rows ≡ rows_of (quartered period d (pairs_among with_it) ++ rest)) where
-    pub run_held : HoldsPairs period d (pairs_between before (bare run) after) t
-    run_held = (beside r period d rest, rows ∙ with_rows r period d rest)
+    pub gone_left : {left : Table} → IsWithout (quartered period d (made r (gone_of way run))) t left → left.rows ≡ rows_of (beside r period d rest)
+    gone_left taken = rows_less (beside r period d rest) (rows ∙ all_rows r period d rest (gone_of way run) r.now_is) taken
 
-    pub run_left : {left : Table} → IsWithout (quartered period d (pairs_between before (bare run) after)) t left → left.rows ≡ rows_of (beside r period d rest)
-    run_left taken = rows_less (beside r period d rest) (rows ∙ with_rows r period d rest) taken
-
-  pub put_back : {next : Table} (ps : List Pair) → t.rows ≡ rows_of (beside r period d rest) → IsWith (quartered period d ps) t next → next.rows ≡ rows_of (quartered period d ps ++ beside r period d rest)
+  pub put_back : {then : Table} (ps : List Pair) → t.rows ≡ rows_of (beside r period d rest) → IsWith (quartered period d ps) t then → then.rows ≡ rows_of (quartered period d ps ++ beside r period d rest)
   put_back ps rows put = put.rows ∙ ap (rows_with (quartered period d ps)) rows ∙ made_with (quartered period d ps) (beside r period d rest)
 
 -- The state of the walk over an event's readings: the pairs of the owner that are in the periods
@@ -402,64 +418,44 @@ pub record IsMoving (period : Periods) (d : Direction) (all left from now : List
   pub more_up : more.up + greatest_reading * (2 * length left) ≤ greatest_reading * (2 * length all)
   pub more_down : more.down + greatest_reading * (2 * length left) ≤ greatest_reading * (2 * length all)
 
-pub run_some : {seq : ℕ} {before after : Option MeterReading} {run without with_it : List Timed} → IsRun seq before after run without with_it → 1 ≤ length run
-run_some r = let n = ap length r.run_is in omega (arith, n)
-
 -- What pairs that went and came cost.
 pub spent_swap : {period : Periods} {d : Direction} {gone came : List Pair} {t next : Table} {w v : ℕ} {m : Moved} → AreSwapped period d gone came t next w v m → (v ≤ w + length gone + length came) × (w ≤ v)
 spent_swap s = (omega (arith, s.taken.work.bound, s.added.work.bound), omega (arith, s.taken.work.grows, s.added.work.grows))
 
 -- A run came, or went, and so much is left.
-module _ {seq : ℕ} {period : Periods} {d : Direction} {before after : Option MeterReading} {run without with_it : List Timed} (r : IsRun seq before after run without with_it) {all left beyond from : List Timed} {rest : List Flowed} {t next : Table} {less more : Energy} {w v : ℕ} {m : Moved} (long : length left ≡ length run + length beyond) where
-  pub run_in : IsMoving period d all left from without rest t less more → AreSwapped period d (across before after) (pairs_between before (bare run) after) t next w v m → IsMoving period d all beyond from with_it rest next (plus less m.less) (plus more m.more)
-  run_in h s = record {
-    rows = put_back period d r rest s.left (pairs_between before (bare run) after) (gap_left period d r rest t h.rows s.taken.quarters) s.added.quarters ∙ sym (with_rows r period d rest);
-    up = omega (arith, h.up, up_without r, up_with r, ap (λ (e : Energy). e.up) s.taken.sum.is, ap (λ (e : Energy). e.up) s.added.sum.is);
-    down = omega (arith, h.down, down_without r, down_with r, ap (λ (e : Energy). e.down) s.taken.sum.is, ap (λ (e : Energy). e.down) s.added.sum.is);
-    less_up = omega (arith, h.less_up, s.taken.sum.up, few_across before after, long, run_some r);
-    less_down = omega (arith, h.less_down, s.taken.sum.down, few_across before after, long, run_some r);
-    more_up = omega (arith, h.more_up, s.added.sum.up, run_few r, long, run_some r);
-    more_down = omega (arith, h.more_down, s.added.sum.down, run_few r, long, run_some r);
+module _ {way : Way} {seq : ℕ} {period : Periods} {d : Direction} {before after : Option MeterReading} {run now next : List Timed} (r : IsRun way seq before after run now next) {all left beyond from : List Timed} {rest : List Flowed} {t then : Table} {less more : Energy} {w v : ℕ} {m : Moved} (long : length left ≡ length run + length beyond) where
+  pub run_moved : IsMoving period d all left from now rest t less more → AreSwapped period d (made r (gone_of way run)) (made r (came_of way run)) t then w v m → IsMoving period d all beyond from next rest then (plus less m.less) (plus more m.more)
+  run_moved h s = record {
+    rows = put_back period d r rest s.left (made r (came_of way run)) (gone_left period d r rest t h.rows s.taken.quarters) s.added.quarters ∙ sym (all_rows r period d rest (came_of way run) r.next_is);
+    up = omega (arith, h.up, all_up r (gone_of way run) r.now_is, all_up r (came_of way run) r.next_is, ap (λ (e : Energy). e.up) s.taken.sum.is, ap (λ (e : Energy). e.up) s.added.sum.is);
+    down = omega (arith, h.down, all_down r (gone_of way run) r.now_is, all_down r (came_of way run) r.next_is, ap (λ (e : Energy). e.down) s.taken.sum.is, ap (λ (e : Energy). e.down) s.added.sum.is);
+    less_up = omega (arith, h.less_up, s.taken.sum.up, made_few r (gone_of way run), gone_few r, long, run_some r);
+    less_down = omega (arith, h.less_down, s.taken.sum.down, made_few r (gone_of way run), gone_few r, long, run_some r);
+    more_up = omega (arith, h.more_up, s.added.sum.up, made_few r (came_of way run), came_few r, long, run_some r);
+    more_down = omega (arith, h.more_down, s.added.sum.down, made_few r (came_of way run), came_few r, long, run_some r);
   }
 
-  pub run_out : IsMoving period d all left from with_it rest t less more → AreSwapped period d (pairs_between before (bare run) after) (across before after) t next w v m → IsMoving period d all beyond from without rest next (plus less m.less) (plus more m.more)
-  run_out h s = record {
-    rows = put_back period d r rest s.left (across before after) (run_left period d r rest t h.rows s.taken.quarters) s.added.quarters ∙ sym (without_rows r period d rest);
-    up = omega (arith, h.up, up_without r, up_with r, ap (λ (e : Energy). e.up) s.taken.sum.is, ap (λ (e : Energy). e.up) s.added.sum.is);
-    down = omega (arith, h.down, down_without r, down_with r, ap (λ (e : Energy). e.down) s.taken.sum.is, ap (λ (e : Energy). e.down) s.added.sum.is);
-    less_up = omega (arith, h.less_up, s.taken.sum.up, run_few r, long, run_some r);
-    less_down = omega (arith, h.less_down, s.taken.sum.down, run_few r, long, run_some r);
-    more_up = omega (arith, h.more_up, s.added.sum.up, few_across before after, long, run_some r);
-    more_down = omega (arith, h.more_down, s.added.sum.down, few_across before after, long, run_some r);
-  }
+-- There is room for the pairs that come.
+module _ {o seq : ℕ} {period : Periods} {d : Direction} {all others : List Timed} {ps : List Pair} {base : Table} {rest : List Flowed} (a : AreApart o seq period d all others ps base rest) {way : Way} {before after : Option MeterReading} {run now next : List Timed} (r : IsRun way seq before after run now next) {from left : List Timed} {t : Table} {less more : Energy} (same : ps ≡ pairs_among from) (cap : t.capacity ≡ base.capacity) (h : IsMoving period d all left from now rest t less more) where
+  few_now : AreFew (most_readings + 2 * most_event_readings) d (energy_over (fa r ++ fb r)) rest
+  few_now =
+      let few : AreFew most_readings d (energy_over (pairs_among from)) rest = subst (λ qs. AreFew most_readings d (energy_over qs) rest) same a.few in
+      few_more most_readings (2 * most_event_readings) d (energy_over (pairs_among from)) (energy_over (fa r ++ fb r)) rest few
+      (omega (arith, h.up, h.more_up, all_up r (gone_of way run) r.now_is, a.small)) (omega (arith, h.down, h.more_down, all_down r (gone_of way run) r.now_is, a.small))
 
--- There is room for a run's pairs, and for the pair across its gap.
-module _ {o seq : ℕ} {period : Periods} {d : Direction} {all others : List Timed} {ps : List Pair} {base : Table} {rest : List Flowed} (a : AreApart o seq period d all others ps base rest) {before after : Option MeterReading} {run without with_it : List Timed} (r : IsRun seq before after run without with_it) {from left : List Timed} {t : Table} {less more : Energy} (same : ps ≡ pairs_among from) (cap : t.capacity ≡ base.capacity) where
-  module _ {now : List Timed} (h : IsMoving period d all left from now rest t less more) (fewer_up : (energy_over (fa r ++ fb r)).up ≤ (energy_over (pairs_among now)).up) (fewer_down : (energy_over (fa r ++ fb r)).down ≤ (energy_over (pairs_among now)).down) where
-    few_now : AreFew (most_readings + 2 * most_event_readings) d (energy_over (fa r ++ fb r)) rest
-    few_now =
-        let few : AreFew most_readings d (energy_over (pairs_among from)) rest = subst (λ qs. AreFew most_readings d (energy_over qs) rest) same a.few in
-        few_more most_readings (2 * most_event_readings) d (energy_over (pairs_among from)) (energy_over (fa r ++ fb r)) rest few
-        (omega (arith, h.up, h.more_up, fewer_up, a.small)) (omega (arith, h.down, h.more_down, fewer_down, a.small))
-
-    pub room_beside : {next : Table} (n : ℕ) → next.rows ≡ rows_of (beside r period d rest) → next.capacity ≡ t.capacity → length (fa r ++ fb r) + n + 1 ≤ length others + length all → n ≤ most_event_readings + 1 → HasRoom n next
-    room_beside n rows next_cap room small =
-        has_room period d (fa r ++ fb r) rest n (most_readings + 2 * most_event_readings) _ rows (omega (arith, room, a.room, cap, next_cap)) (omega (arith, a.few_rows, cap, next_cap)) few_now (omega (arith, small))
+  pub room_beside : {then : Table} (n : ℕ) → then.rows ≡ rows_of (beside r period d rest) → then.capacity ≡ t.capacity → length (fa r ++ fb r) + n + 1 ≤ length others + length all → n ≤ most_event_readings + 1 → HasRoom n then
+  room_beside n rows then_cap room small =
+      has_room period d (fa r ++ fb r) rest n (most_readings + 2 * most_event_readings) _ rows (omega (arith, room, a.room, cap, then_cap)) (omega (arith, a.few_rows, cap, then_cap)) few_now (omega (arith, small))
 
 -- What is known of an event's readings while some are left.
-pub record IsComing (seq : ℕ) (period : Periods) (d : Direction) (all left others : List Timed) (rest : List Flowed) (t : Table) (start w : ℕ) (less more : Energy) : Type 0 where
+pub record IsTurning (way : Way) (seq : ℕ) (period : Periods) (d : Direction) (all left others : List Timed) (rest : List Flowed) (t : Table) (start w : ℕ) (less more : Energy) : Type 0 where
   pub done : List Timed
   pub split : all ≡ done ++ left
   pub gap : (done ≡ []) ⊎ ((left ≡ []) ⊎ AreParted done left others)
-  pub moving : IsMoving period d all left others (put_each done others) rest t less more
-  pub spent : w + length left ≤ start + length all + 2 * runs (own_timed seq) (put_each done others)
-  pub grows : start ≤ w
-
-pub record IsGoing (seq : ℕ) (period : Periods) (d : Direction) (all left others : List Timed) (rest : List Flowed) (t : Table) (start w : ℕ) (less more : Energy) : Type 0 where
-  pub done : List Timed
-  pub split : all ≡ done ++ left
-  pub moving : IsMoving period d all left (put_each all others) (put_each left others) rest t less more
-  pub spent : w + length left + 2 * runs (own_timed seq) (put_each left others) ≤ start + length all + 2 * runs (own_timed seq) (put_each all others)
+  pub moving : IsMoving period d all left (put_each (gone_of way all) others) (put_each (still way done left) others) rest t less more
+  pub turns : ℕ
+  pub counted : AreTurns way turns (runs (own_timed seq) (put_each (still way done left) others)) (runs (own_timed seq) (put_each all others))
+  pub spent : w + length left ≤ start + length all + 2 * turns
   pub grows : start ≤ w
 
 -- What is so of all is so of one among them.
@@ -496,20 +492,15 @@ module _ {others left run next_left : List Timed} {before behind : Option Timed}
       pub next_split : all ≡ (done ++ run) ++ next_left
       next_split = split ∙ ap (λ l. done ++ l) (sym (fitting-beyond behind left) ∙ sym (λ i. turn.run_is i ++ turn.next_is i)) ∙ sym (append_assoc done run next_left)
 
-      pub run_comes : (done ≡ []) ⊎ ((left ≡ []) ⊎ AreParted done left others) → IsRun seq (bare_one before) (bare_one behind) run (put_each done others) (put_each (done ++ run) others)
-      run_comes gap =
-          subst (λ l. IsRun seq (bare_one before) (bare_one behind) l (put_each done others) (put_each (done ++ l) others)) (sym turn.run_is)
-          (subst (λ b. IsRun seq (bare_one before) (bare_one b) (fitting b left) (put_each done others) (put_each (done ++ fitting b left) others)) (sym turn.behind_is)
-          (subst (λ b. IsRun seq (bare_one b) (bare_one (first_of (from_on turn.x.0 others))) (fitting (first_of (from_on turn.x.0 others)) left) (put_each done others) (put_each (done ++ fitting (first_of (from_on turn.x.0 others)) left) others)) (sym turn.before_is)
-          (coming_run seq others done left turn.x turn.xs turn.left_is mine up a.foreign a.sorted gap)))
-
-      pub run_goes : IsRun seq (bare_one before) (bare_one behind) run (put_each next_left others) (put_each left others)
-      run_goes =
-          subst (λ l. IsRun seq (bare_one before) (bare_one behind) run (put_each l others) (put_each left others)) (sym turn.next_is)
-          (subst (λ l. IsRun seq (bare_one before) (bare_one behind) l (put_each (beyond behind left) others) (put_each left others)) (sym turn.run_is)
-          (subst (λ b. IsRun seq (bare_one before) (bare_one b) (fitting b left) (put_each (beyond b left) others) (put_each left others)) (sym turn.behind_is)
-          (subst (λ b. IsRun seq (bare_one b) (bare_one (first_of (from_on turn.x.0 others))) (fitting (first_of (from_on turn.x.0 others)) left) (put_each (beyond (first_of (from_on turn.x.0 others)) left) others) (put_each left others)) (sym turn.before_is)
-          (going_run seq others done left turn.x turn.xs turn.left_is mine up a.foreign a.sorted))))
+      pub run_turns : (way : Way) → (done ≡ []) ⊎ ((left ≡ []) ⊎ AreParted done left others) → IsRun way seq (bare_one before) (bare_one behind) run (put_each (still way done left) others) (put_each (still way (done ++ run) next_left) others)
+      run_turns way gap =
+          let Q : Option Timed → Option Timed → List Timed → List Timed → Type 0 = λ b e r n. IsRun way seq (bare_one b) (bare_one e) r (put_each (still way done left) others) (put_each (still way (done ++ r) n) others) in
+          let first = first_of (from_on turn.x.0 others) in
+          subst (Q before behind run) (sym turn.next_is)
+          (subst (λ r. Q before behind r (beyond behind left)) (sym turn.run_is)
+          (subst (λ e. Q before e (fitting e left) (beyond e left)) (sym turn.behind_is)
+          (subst (λ b. Q b first (fitting first left) (beyond first left)) (sym turn.before_is)
+          (next_run seq others done left turn.x turn.xs turn.left_is mine up a.foreign a.sorted way gap))))
 
       next_gap : (next_left ≡ []) ⊎ AreParted (done ++ run) next_left others
       next_gap =
@@ -522,86 +513,61 @@ module _ {others left run next_left : List Timed} {before behind : Option Timed}
       run_small : length run ≤ length all
       run_small = omega (arith, all_long, long_left)
 
-    module _ {t : Table} {start w : ℕ} {less more : Energy} (cap : t.capacity ≡ base.capacity) (same : ps ≡ pairs_among others) (h : IsComing seq period d all left others rest t start w less more) where
-      the_run : IsRun seq (bare_one before) (bare_one behind) run (put_each h.done others) (put_each (h.done ++ run) others)
-      the_run = run_comes h.done h.split h.gap
+    module _ {way : Way} {t : Table} {start w : ℕ} {less more : Energy} (cap : t.capacity ≡ base.capacity) (same : ps ≡ pairs_among (put_each (gone_of way all) others)) (h : IsTurning way seq period d all left others rest t start w less more) where
+      abbrev gap : Sides
+      gap = gap_of before behind
 
-      pub coming_smaller : length next_left < length left
-      coming_smaller = omega (arith, long_left, run_some the_run)
+      the_run : IsRun way seq (bare_one before) (bare_one behind) run (put_each (still way h.done left) others) (put_each (still way (h.done ++ run) next_left) others)
+      the_run = run_turns h.done h.split way h.gap
 
-      pub coming_held : HoldsPairs period d (across (bare_one before) (bare_one behind)) t
-      coming_held = gap_held period d the_run rest t h.moving.rows
+      gone_small : length (run_pairs gap (gone_of way run)) ≤ length all + 1
+      gone_small = omega (arith, made_few the_run (gone_of way run), gone_few the_run, run_small h.done h.split)
 
-      pub coming_room : (gone : Table) → IsWithout (quartered period d (across (bare_one before) (bare_one behind))) t gone → HasRoom (length (pairs_between (bare_one before) (bare run) (bare_one behind))) gone
-      coming_room gone taken =
-          let few = with_few the_run in
-          let n = length-put_each (h.done ++ run) others in
-          let m = length-append h.done run in
-          let k = run_few the_run in
-          room_beside a the_run same cap h.moving (omega (arith, up_without the_run)) (omega (arith, down_without the_run)) (length (pairs_between (bare_one before) (bare run) (bare_one behind))) (gap_left period d the_run rest t h.moving.rows taken) taken.capacity
-          (omega (arith, few, n, m, all_long h.done h.split, long_left)) (omega (arith, k, run_small h.done h.split, a.small))
+      came_small : length (run_pairs gap (came_of way run)) ≤ length all + 1
+      came_small = omega (arith, made_few the_run (came_of way run), came_few the_run, run_small h.done h.split)
 
-      pub coming_less : {next : Table} {v : ℕ} {m : Moved} → AreSwapped period d (across (bare_one before) (bare_one behind)) (pairs_between (bare_one before) (bare run) (bare_one behind)) t next w v m → CanPlus less m.less
-      coming_less {m = m} s = little less m.less (omega (arith, h.moving.less_up, a.small)) (omega (arith, h.moving.less_down, a.small))
-          (omega (arith, s.taken.sum.up, few_across (bare_one before) (bare_one behind))) (omega (arith, s.taken.sum.down, few_across (bare_one before) (bare_one behind)))
+      pub turn_smaller : length next_left < length left
+      turn_smaller = omega (arith, long_left, run_some the_run)
 
-      pub coming_more : {next : Table} {v : ℕ} {m : Moved} → AreSwapped period d (across (bare_one before) (bare_one behind)) (pairs_between (bare_one before) (bare run) (bare_one behind)) t next w v m → CanPlus more m.more
-      coming_more {m = m} s =
-          let k = run_few the_run in let n = run_small h.done h.split in
-          little more m.more (omega (arith, h.moving.more_up, a.small)) (omega (arith, h.moving.more_down, a.small)) (omega (arith, s.added.sum.up, k, n, a.small)) (omega (arith, s.added.sum.down, k, n, a.small))
+      pub turn_held : HoldsPairs period d (run_pairs gap (gone_of way run)) t
+      turn_held = gone_held period d the_run rest t h.moving.rows
 
-      pub coming_next : {next : Table} {v : ℕ} {m : Moved} → AreSwapped period d (across (bare_one before) (bare_one behind)) (pairs_between (bare_one before) (bare run) (bare_one behind)) t next w v m → IsComing seq period d all next_left others rest next start v (plus less m.less) (plus more m.more)
-      coming_next s =
-          let cost = spent_swap s in
-          record {
-            done = h.done ++ run;
-            split = next_split h.done h.split;
-            gap = inr (next_gap h.done h.split);
-            moving = run_in the_run long_left h.moving s;
-            spent = omega (arith, h.spent, cost.0, few_across (bare_one before) (bare_one behind), run_few the_run, long_left, one_more the_run);
-            grows = omega (arith, h.grows, cost.1);
-          }
+      pub turn_few : length (run_pairs gap (gone_of way run)) ≤ most_readings
+      turn_few = omega (arith, gone_small, a.small)
 
-    module _ {t : Table} {start w : ℕ} {less more : Energy} (cap : t.capacity ≡ base.capacity) (same : ps ≡ pairs_among (put_each all others)) (h : IsGoing seq period d all left others rest t start w less more) where
-      that_run : IsRun seq (bare_one before) (bare_one behind) run (put_each next_left others) (put_each left others)
-      that_run = run_goes h.done h.split
+      pub turn_room : HasRoomWithout period d (run_pairs gap (gone_of way run)) (length (run_pairs gap (came_of way run))) t
+      turn_room gone taken =
+          room_beside a the_run same cap h.moving (length (run_pairs gap (came_of way run))) (gone_left period d the_run rest t h.moving.rows taken) taken.capacity
+          (let few = all_few the_run (came_of way run) (came_few the_run) in let n = whole way the_run in omega (arith, few, n, all_long h.done h.split, long_left)) (omega (arith, came_small, a.small))
+        where
+          whole : (way : Way) (r : IsRun way seq (bare_one before) (bare_one behind) run (put_each (still way h.done left) others) (put_each (still way (h.done ++ run) next_left) others)) → length (r.front ++ r.back) + length run ≤ length others + length h.done + length left
+          whole Coming r =
+              let e = ap length r.now_is in let n = length-put_each h.done others in
+              omega (arith, e, n, long_left)
+          whole Going r =
+              let e = ap length r.next_is in let n = length-put_each next_left others in
+              omega (arith, e, n, long_left)
 
-      pub going_smaller : length next_left < length left
-      going_smaller = omega (arith, long_left, run_some that_run)
+      module _ {then : Table} {v : ℕ} {m : Moved} (s : AreSwapped period d (run_pairs gap (gone_of way run)) (run_pairs gap (came_of way run)) t then w v m) where
+        pub turn_less : CanPlus less m.less
+        turn_less = little less m.less (omega (arith, h.moving.less_up, a.small)) (omega (arith, h.moving.less_down, a.small)) (omega (arith, s.taken.sum.up, gone_small, a.small)) (omega (arith, s.taken.sum.down, gone_small, a.small))
 
-      pub going_held : HoldsPairs period d (pairs_between (bare_one before) (bare run) (bare_one behind)) t
-      going_held = run_held period d that_run rest t h.moving.rows
+        pub turn_more : CanPlus more m.more
+        turn_more = little more m.more (omega (arith, h.moving.more_up, a.small)) (omega (arith, h.moving.more_down, a.small)) (omega (arith, s.added.sum.up, came_small, a.small)) (omega (arith, s.added.sum.down, came_small, a.small))
 
-      pub going_few : length (pairs_between (bare_one before) (bare run) (bare_one behind)) ≤ most_readings
-      going_few = let k = run_few that_run in omega (arith, k, run_small h.done h.split, a.small)
-
-      pub going_room : (gone : Table) → IsWithout (quartered period d (pairs_between (bare_one before) (bare run) (bare_one behind))) t gone → HasRoom (length (across (bare_one before) (bare_one behind))) gone
-      going_room gone taken =
-          let few = without_few that_run in
-          let n = length-put_each next_left others in
-          let k = few_across (bare_one before) (bare_one behind) in
-          room_beside a that_run same cap h.moving (omega (arith, up_with that_run)) (omega (arith, down_with that_run)) (length (across (bare_one before) (bare_one behind))) (run_left period d that_run rest t h.moving.rows taken) taken.capacity
-          (omega (arith, few, n, all_long h.done h.split, long_left, run_some that_run)) (omega (arith, k))
-
-      pub going_less : {next : Table} {v : ℕ} {m : Moved} → AreSwapped period d (pairs_between (bare_one before) (bare run) (bare_one behind)) (across (bare_one before) (bare_one behind)) t next w v m → CanPlus less m.less
-      going_less {m = m} s =
-          let k = run_few that_run in let n = run_small h.done h.split in
-          little less m.less (omega (arith, h.moving.less_up, a.small)) (omega (arith, h.moving.less_down, a.small)) (omega (arith, s.taken.sum.up, k, n, a.small)) (omega (arith, s.taken.sum.down, k, n, a.small))
-
-      pub going_more : {next : Table} {v : ℕ} {m : Moved} → AreSwapped period d (pairs_between (bare_one before) (bare run) (bare_one behind)) (across (bare_one before) (bare_one behind)) t next w v m → CanPlus more m.more
-      going_more {m = m} s = little more m.more (omega (arith, h.moving.more_up, a.small)) (omega (arith, h.moving.more_down, a.small))
-          (omega (arith, s.added.sum.up, few_across (bare_one before) (bare_one behind))) (omega (arith, s.added.sum.down, few_across (bare_one before) (bare_one behind)))
-
-      pub going_next : {next : Table} {v : ℕ} {m : Moved} → AreSwapped period d (pairs_between (bare_one before) (bare run) (bare_one behind)) (across (bare_one before) (bare_one behind)) t next w v m → IsGoing seq period d all next_left others rest next start v (plus less m.less) (plus more m.more)
-      going_next s =
-          let cost = spent_swap s in
-          record {
-            done = h.done ++ run;
-            split = next_split h.done h.split;
-            moving = run_out that_run long_left h.moving s;
-            spent = omega (arith, h.spent, cost.0, few_across (bare_one before) (bare_one behind), run_few that_run, long_left, one_more that_run);
-            grows = omega (arith, h.grows, cost.1);
-          }
+        pub turn_next : IsTurning way seq period d all next_left others rest then start v (plus less m.less) (plus more m.more)
+        turn_next =
+            let cost = spent_swap s in
+            record {
+              done = h.done ++ run;
+              split = next_split h.done h.split;
+              gap = inr (next_gap h.done h.split);
+              moving = run_moved the_run long_left h.moving s;
+              turns = h.turns + 1;
+              counted = turn_counted way the_run h.turns _ h.counted;
+              spent = omega (arith, h.spent, cost.0, made_few the_run (gone_of way run), made_few the_run (came_of way run), length-parts way run, long_left);
+              grows = omega (arith, h.grows, cost.1);
+            }
 
 -- The turn that a look into the index finds.
 pub turn_of : (o count : ℕ) (entries : List Timed) {all left run next_left : List Timed} {x : Timed} {before behind : Option Timed} (done : List Timed) → AllByRecursion (λ r. owner_of r.0 ≡ o) all → all ≡ done ++ left → 1 ≤ length left → x ≡ get_or left 0 x
@@ -625,34 +591,60 @@ pub none_left : {X : Type 0} (xs : List X) → length xs < 1 → xs ≡ []
 none_left [] h = refl
 none_left (x ∷ xs) h = absurd (omega (arith, h))
 
--- The energies by other names.
-pub moved_on_coming : {seq : ℕ} {period : Periods} {d : Direction} {all left others : List Timed} {rest : List Flowed} {t : Table} {start w : ℕ} {less more l m : Energy} → l ≡ less → m ≡ more → IsComing seq period d all left others rest t start w less more → IsComing seq period d all left others rest t start w l m
-moved_on_coming {seq} {period} {d} {all} {left} {others} {rest} {t} {start} {w} {less} {more} {l} {m} e f h = subst (λ x. IsComing seq period d all left others rest t start w x m) (sym e) (subst (IsComing seq period d all left others rest t start w less) (sym f) h)
+-- At first all are there that go, and none that come.
+all_there : (way : Way) (all : List Timed) → gone_of way all ≡ still way [] all
+all_there Coming all = refl
+all_there Going all = refl
 
-pub moved_on_going : {seq : ℕ} {period : Periods} {d : Direction} {all left others : List Timed} {rest : List Flowed} {t : Table} {start w : ℕ} {less more l m : Energy} → l ≡ less → m ≡ more → IsGoing seq period d all left others rest t start w less more → IsGoing seq period d all left others rest t start w l m
-moved_on_going {seq} {period} {d} {all} {left} {others} {rest} {t} {start} {w} {less} {more} {l} {m} e f h = subst (λ x. IsGoing seq period d all left others rest t start w x m) (sym e) (subst (IsGoing seq period d all left others rest t start w less) (sym f) h)
+no_turns : (way : Way) (seq : ℕ) (all others : List Timed) → AreTurns way 0 (runs (own_timed seq) (put_each (still way [] all) others)) (runs (own_timed seq) (put_each all others))
+no_turns Coming seq all others = omega arith
+no_turns Going seq all others = omega arith
+
+pub turning_start : (way : Way) {o seq : ℕ} {period : Periods} {d : Direction} {all others : List Timed} {base : Table} {rest : List Flowed} {w : ℕ} {less more : Energy} → less ≡ no_energy → more ≡ no_energy → AreApart o seq period d all others (pairs_among (put_each (gone_of way all) others)) base rest → IsTurning way seq period d all all others rest base w w less more
+turning_start way {seq = seq} {period = period} {d = d} {all = all} {others = others} {base = base} {rest = rest} {less = less} {more = more} no_less no_more a = record {
+  done = [];
+  split = refl;
+  gap = inl refl;
+  moving = subst (λ l. IsMoving period d all all (put_each (gone_of way all) others) (put_each l others) rest base less more) (all_there way all) (record {
+    rows = a.rows;
+    up = omega (arith, ap (λ (e : Energy). e.up) no_less, ap (λ (e : Energy). e.up) no_more);
+    down = omega (arith, ap (λ (e : Energy). e.down) no_less, ap (λ (e : Energy). e.down) no_more);
+    less_up = omega (arith, ap (λ (e : Energy). e.up) no_less);
+    less_down = omega (arith, ap (λ (e : Energy). e.down) no_less);
+    more_up = omega (arith, ap (λ (e : Energy). e.up) no_more);
+    more_down = omega (arith, ap (λ (e : Energy). e.down) no_more);
+  });
+  turns = 0;
+  counted = no_turns way seq all others;
+  spent = omega arith;
+  grows = omega arith;
+}
+
+-- The energies by other names.
+pub turning_by : {way : Way} {seq : ℕ} {period : Periods} {d : Direction} {all left others : List Timed} {rest : List Flowed} {t : Table} {start w : ℕ} {less more l m : Energy} → l ≡ less → m ≡ more → IsTurning way seq period d all left others rest t start w less more → IsTurning way seq period d all left others rest t start w l m
+turning_by {way} {seq} {period} {d} {all} {left} {others} {rest} {t} {start} {w} {less} {more} {l} {m} e f h = subst (λ x. IsTurning way seq period d all left others rest t start w x m) (sym e) (subst (IsTurning way seq period d all left others rest t start w less) (sym f) h)
+
+-- At the end all are there that come, and none that go.
+all_moved : (way : Way) (all done left : List Timed) → all ≡ done ++ left → left ≡ [] → still way done left ≡ came_of way all
+all_moved Coming all done left split none = sym (append-nil done) ∙ ap (λ l. done ++ l) (sym none) ∙ sym split
+all_moved Going all done left split none = none
+
+all_turns : (way : Way) (turns now total : ℕ) (is : AreTurns way turns now total) → (way ≡ Coming → now ≡ total) → turns ≤ total
+all_turns Coming turns now total is all = let e = all refl in omega (arith, is, e)
+all_turns Going turns now total is all = omega (arith, is)
 
 -- What occurs once all runs came, or went.
-module _ {o seq : ℕ} {period : Periods} {d : Direction} {all others : List Timed} {ps : List Pair} {base : Table} {rest : List Flowed} (a : AreApart o seq period d all others ps base rest) {left : List Timed} {t : Table} {start w : ℕ} {less more : Energy} where
-  module _ (h : IsComing seq period d all left others rest t start w less more) (none : left ≡ []) where
-    all_done : h.done ≡ all
-    all_done = sym (append-nil h.done) ∙ ap (λ l. h.done ++ l) (sym none) ∙ sym h.split
+module _ {o seq : ℕ} {period : Periods} {d : Direction} {all others : List Timed} {ps : List Pair} {base : Table} {rest : List Flowed} (a : AreApart o seq period d all others ps base rest) {way : Way} {left : List Timed} {t : Table} {start w : ℕ} {less more : Energy} (h : IsTurning way seq period d all left others rest t start w less more) (none : left ≡ []) where
+  then : still way h.done left ≡ came_of way all
+  then = all_moved way all h.done left h.split none
 
-    pub coming_end : AreExchanged period d (pairs_among others) (pairs_among (put_each all others)) rest t (record { less = less; more = more })
-    coming_end =
-        let P : List Timed → Type 0 = λ now. IsMoving period d all left others now rest t less more in
-        let m : IsMoving period d all left others (put_each all others) rest t less more = subst (λ l. P (put_each l others)) all_done h.moving in
-        record { rows = m.rows; up = m.up; down = m.down; more_up = omega (arith, m.more_up, a.small); more_down = omega (arith, m.more_down, a.small) }
+  pub turning_end : AreExchanged period d (pairs_among (put_each (gone_of way all) others)) (pairs_among (put_each (came_of way all) others)) rest t (record { less = less; more = more })
+  turning_end =
+      let m : IsMoving period d all left (put_each (gone_of way all) others) (put_each (came_of way all) others) rest t less more = subst (λ l. IsMoving period d all left (put_each (gone_of way all) others) (put_each l others) rest t less more) then h.moving in
+      record { rows = m.rows; up = m.up; down = m.down; more_up = omega (arith, m.more_up, a.small); more_down = omega (arith, m.more_down, a.small) }
 
-    pub coming_work : IsWork (length all + 2 * runs (own_timed seq) (put_each all others)) start w
-    coming_work = record { bound = omega (arith, h.spent, ap (λ l. runs (own_timed seq) (put_each l others)) all_done); grows = h.grows }
-
-  module _ (h : IsGoing seq period d all left others rest t start w less more) (none : left ≡ []) where
-    pub going_end : AreExchanged period d (pairs_among (put_each all others)) (pairs_among others) rest t (record { less = less; more = more })
-    going_end =
-        let P : List Timed → Type 0 = λ now. IsMoving period d all left (put_each all others) now rest t less more in
-        let m : IsMoving period d all left (put_each all others) others rest t less more = subst (λ l. P (put_each l others)) none h.moving in
-        record { rows = m.rows; up = m.up; down = m.down; more_up = omega (arith, m.more_up, a.small); more_down = omega (arith, m.more_down, a.small) }
-
-    pub going_work : IsWork (length all + 2 * runs (own_timed seq) (put_each all others)) start w
-    going_work = record { bound = omega (arith, h.spent); grows = h.grows }
+  pub turning_work : IsWork (length all + 2 * runs (own_timed seq) (put_each all others)) start w
+  turning_work =
+      let total = runs (own_timed seq) (put_each all others) in
+      let few : h.turns ≤ total = all_turns way h.turns _ total h.counted (λ comes. ap (λ l. runs (own_timed seq) (put_each l others)) (then ∙ ap (λ x. came_of x all) comes)) in
+      record { bound = omega (arith, h.spent, few); grows = h.grows }

@@ -33,7 +33,9 @@ use Rattle.station_ledger.specs.declared.by_moment.Moved.{Moved}
 use Rattle.station_ledger.specs.ByMoment.{put_each, ranked, timed_of}
 use Rattle.station_ledger.specs.Moved.{IsExchanged}
 use Rattle.station_ledger.specs.Quarters.{both_quartered, quartered}
-use Rattle.station_ledger.specs.Runs.{AreApart, AreExchanged, AreFew, own_timed, pairs_among}
+use Rattle.station_ledger.specs.declared.by_moment.Way.{Way}
+use Rattle.station_ledger.specs.declared.by_moment.Way.TheVariants.{Coming, Going}
+use Rattle.station_ledger.specs.Runs.{AreApart, AreExchanged, AreFew, by_way, came_of, gone_of, own_timed, pairs_among}
 use Rattle.station_ledger.specs.Spent.{most_by_moment, most_in_runs}
 use Rattle.station_ledger.specs.Sums.{AreAllowed}
 use Rattle.station_ledger.proofs.Bounded.{few_down, few_pairs, few_up}
@@ -224,6 +226,31 @@ module _ (slot : ℕ) (limits : Bounds) (less more : List Entry) (e : Entry) (on
   side_more : (d : Direction) → IsSide d (all d more)
   side_more d = record { count = omega arith; sum = record { up = omega (arith, few_up Moment d limits more large, large.most_readings_within); down = omega (arith, few_down Moment d limits more large, large.most_readings_within) } }
 
+  -- before the readings come or go, and then
+  was_split : (way : Way) (d : Direction) → IsSplit (all d (by_way way less more)) (pairs_among (put_each (gone_of way (its d)) (standing d))) (others d)
+  was_split Coming d = split_less d
+  was_split Going d = split_more d
+
+  will_split : (way : Way) (d : Direction) → IsSplit (all d (by_way way more less)) (pairs_among (put_each (came_of way (its d)) (standing d))) (others d)
+  will_split Coming d = split_more d
+  will_split Going d = split_less d
+
+  was_side : (way : Way) (d : Direction) → IsSide d (all d (by_way way less more))
+  was_side Coming d = side_less d
+  was_side Going d = side_more d
+
+  will_side : (way : Way) (d : Direction) → IsSide d (all d (by_way way more less))
+  will_side Coming d = side_more d
+  will_side Going d = side_less d
+
+  pairs_was : (way : Way) (d : Direction) → pairs_among (put_each (gone_of way (its d)) (standing d)) ≡ pairs_by Moment d e.0.tx (by_way way less more)
+  pairs_was Coming d = pairs_standing d
+  pairs_was Going d = pairs_together d
+
+  pairs_will : (way : Way) (d : Direction) → pairs_among (put_each (came_of way (its d)) (standing d)) ≡ pairs_by Moment d e.0.tx (by_way way more less)
+  pairs_will Coming d = pairs_together d
+  pairs_will Going d = pairs_standing d
+
   module _ (period : Periods) where
     apart_with : (d : Direction) (P : Direction → List Pair) (t : Table) (mine : List Pair) → t.rows ≡ rows_of (both_quartered period P) → t.capacity ≡ limits.readings → IsSplit (P d) mine (others d) → IsSide d (P d) → IsSide (other d) (P (other d))
         → AreApart (owner slot d) e.0.seq period d (its d) (standing d) mine t (rest_of period d (P (other d)) (others d))
@@ -247,76 +274,50 @@ module _ (slot : ℕ) (limits : Bounds) (less more : List Entry) (e : Entry) (on
               beyond.sum;
         }
 
-    -- before its readings of a direction come
-    pub apart_coming : (d : Direction) (P : Direction → List Pair) (t : Table) → t.rows ≡ rows_of (both_quartered period P) → t.capacity ≡ limits.readings → P d ≡ all d less → (P (other d) ≡ all (other d) less) ⊎ (P (other d) ≡ all (other d) more)
-        → AreApart (owner slot d) e.0.seq period d (its d) (standing d) (pairs_among (standing d)) t (rest_of period d (P (other d)) (others d))
-    apart_coming d P t rows room here there =
-        apart_with d P t (pairs_among (standing d)) rows room (λ f. ap (sum_by f) here ∙ split_less d f) (subst (IsSide d) (sym here) (side_less d))
-        (either_way (IsSide (other d)) (P (other d)) (all (other d) less) (all (other d) more) (side_less (other d)) (side_more (other d)) there)
+    module _ (way : Way) where
+      -- the events before, and those then
+      abbrev pub was : List Entry
+      was = by_way way less more
 
-    -- before they go
-    pub apart_going : (d : Direction) (P : Direction → List Pair) (t : Table) → t.rows ≡ rows_of (both_quartered period P) → t.capacity ≡ limits.readings → P d ≡ all d more → (P (other d) ≡ all (other d) more) ⊎ (P (other d) ≡ all (other d) less)
-        → AreApart (owner slot d) e.0.seq period d (its d) (standing d) (pairs_among (together d)) t (rest_of period d (P (other d)) (others d))
-    apart_going d P t rows room here there =
-        apart_with d P t (pairs_among (together d)) rows room (λ f. ap (sum_by f) here ∙ split_more d f) (subst (IsSide d) (sym here) (side_more d))
-        (either_way (IsSide (other d)) (P (other d)) (all (other d) more) (all (other d) less) (side_more (other d)) (side_less (other d)) there)
+      abbrev pub will : List Entry
+      will = by_way way more less
 
-    -- the rows once they came
-    pub rows_come : (d : Direction) (P Q : Direction → List Pair) (next : Table) (m : Moved) → Q d ≡ all d more → Q (other d) ≡ P (other d)
-        → AreExchanged period d (pairs_among (standing d)) (pairs_among (together d)) (rest_of period d (P (other d)) (others d)) next m → next.rows ≡ rows_of (both_quartered period Q)
-    rows_come d P Q next m here there x =
-        x.rows ∙ ap (λ ps. rows_of (quartered period d (pairs_among (together d)) ++ rest_of period d ps (others d))) (sym there)
-        ∙ sym (both_alike period d Q (pairs_among (together d)) (others d) (λ f. ap (sum_by f) here ∙ split_more d f))
+      -- the pairs that are in the periods before its readings of a direction come or go
+      pub apart_moving : (d : Direction) (P : Direction → List Pair) (t : Table) → t.rows ≡ rows_of (both_quartered period P) → t.capacity ≡ limits.readings → P d ≡ all d was → (P (other d) ≡ all (other d) was) ⊎ (P (other d) ≡ all (other d) will)
+          → AreApart (owner slot d) e.0.seq period d (its d) (standing d) (pairs_among (put_each (gone_of way (its d)) (standing d))) t (rest_of period d (P (other d)) (others d))
+      apart_moving d P t rows room here there =
+          apart_with d P t (pairs_among (put_each (gone_of way (its d)) (standing d))) rows room (λ f. ap (sum_by f) here ∙ was_split way d f) (subst (IsSide d) (sym here) (was_side way d))
+          (either_way (IsSide (other d)) (P (other d)) (all (other d) was) (all (other d) will) (was_side way (other d)) (will_side way (other d)) there)
 
-    -- and once they went
-    pub rows_go : (d : Direction) (P Q : Direction → List Pair) (next : Table) (m : Moved) → Q d ≡ all d less → Q (other d) ≡ P (other d)
-        → AreExchanged period d (pairs_among (together d)) (pairs_among (standing d)) (rest_of period d (P (other d)) (others d)) next m → next.rows ≡ rows_of (both_quartered period Q)
-    rows_go d P Q next m here there x =
-        x.rows ∙ ap (λ ps. rows_of (quartered period d (pairs_among (standing d)) ++ rest_of period d ps (others d))) (sym there)
-        ∙ sym (both_alike period d Q (pairs_among (standing d)) (others d) (λ f. ap (sum_by f) here ∙ split_less d f))
+      -- the rows once they came or went
+      pub rows_moved : (d : Direction) (P Q : Direction → List Pair) (next : Table) (m : Moved) → Q d ≡ all d will → Q (other d) ≡ P (other d)
+          → AreExchanged period d (pairs_among (put_each (gone_of way (its d)) (standing d))) (pairs_among (put_each (came_of way (its d)) (standing d))) (rest_of period d (P (other d)) (others d)) next m → next.rows ≡ rows_of (both_quartered period Q)
+      rows_moved d P Q next m here there x =
+          let came = pairs_among (put_each (came_of way (its d)) (standing d)) in
+          x.rows ∙ ap (λ ps. rows_of (quartered period d came ++ rest_of period d ps (others d))) (sym there)
+          ∙ sym (both_alike period d Q came (others d) (λ f. ap (sum_by f) here ∙ will_split way d f))
 
-    -- what came and went of the energies
-    pub sums_come : (d : Direction) (m : Moved) (rest : List Flowed) (next : Table) → AreExchanged period d (pairs_among (standing d)) (pairs_among (together d)) rest next m
-        → (plus (energy_by Moment d more) m.less ≡ plus (energy_by Moment d less) m.more) × (plus (energy_of_by Moment d e.0.tx more) m.less ≡ plus (energy_of_by Moment d e.0.tx less) m.more)
-    sums_come d m rest next x =
-        let rise : Pair → ℕ = λ p. (difference p).up in let fall : Pair → ℕ = λ p. (difference p).down in
-        let up : (energy_by Moment d more).up + m.less.up ≡ (energy_by Moment d less).up + m.more.up = omega (arith, x.up, split_less d rise, split_more d rise) in
-        let down : (energy_by Moment d more).down + m.less.down ≡ (energy_by Moment d less).down + m.more.down = omega (arith, x.down, split_less d fall, split_more d fall) in
-        let own_up : (energy_of_by Moment d e.0.tx more).up + m.less.up ≡ (energy_of_by Moment d e.0.tx less).up + m.more.up = omega (arith, x.up, ap (sum_by rise) (pairs_standing d), ap (sum_by rise) (pairs_together d)) in
-        let own_down : (energy_of_by Moment d e.0.tx more).down + m.less.down ≡ (energy_of_by Moment d e.0.tx less).down + m.more.down = omega (arith, x.down, ap (sum_by fall) (pairs_standing d), ap (sum_by fall) (pairs_together d)) in
-        ((λ i. record { up = up i; down = down i }), (λ i. record { up = own_up i; down = own_down i }))
+      -- what came and went of the energies
+      sums_moved : (d : Direction) (m : Moved) (rest : List Flowed) (next : Table) → AreExchanged period d (pairs_among (put_each (gone_of way (its d)) (standing d))) (pairs_among (put_each (came_of way (its d)) (standing d))) rest next m
+          → (plus (energy_by Moment d will) m.less ≡ plus (energy_by Moment d was) m.more) × (plus (energy_of_by Moment d e.0.tx will) m.less ≡ plus (energy_of_by Moment d e.0.tx was) m.more)
+      sums_moved d m rest next x =
+          let rise : Pair → ℕ = λ p. (difference p).up in let fall : Pair → ℕ = λ p. (difference p).down in
+          let up : (energy_by Moment d will).up + m.less.up ≡ (energy_by Moment d was).up + m.more.up = omega (arith, x.up, was_split way d rise, will_split way d rise) in
+          let down : (energy_by Moment d will).down + m.less.down ≡ (energy_by Moment d was).down + m.more.down = omega (arith, x.down, was_split way d fall, will_split way d fall) in
+          let own_up : (energy_of_by Moment d e.0.tx will).up + m.less.up ≡ (energy_of_by Moment d e.0.tx was).up + m.more.up = omega (arith, x.up, ap (sum_by rise) (pairs_was way d), ap (sum_by rise) (pairs_will way d)) in
+          let own_down : (energy_of_by Moment d e.0.tx will).down + m.less.down ≡ (energy_of_by Moment d e.0.tx was).down + m.more.down = omega (arith, x.down, ap (sum_by fall) (pairs_was way d), ap (sum_by fall) (pairs_will way d)) in
+          ((λ i. record { up = up i; down = down i }), (λ i. record { up = own_up i; down = own_down i }))
 
-    pub sums_go : (d : Direction) (m : Moved) (rest : List Flowed) (next : Table) → AreExchanged period d (pairs_among (together d)) (pairs_among (standing d)) rest next m
-        → (plus (energy_by Moment d less) m.less ≡ plus (energy_by Moment d more) m.more) × (plus (energy_of_by Moment d e.0.tx less) m.less ≡ plus (energy_of_by Moment d e.0.tx more) m.more)
-    sums_go d m rest next x =
-        let rise : Pair → ℕ = λ p. (difference p).up in let fall : Pair → ℕ = λ p. (difference p).down in
-        let up : (energy_by Moment d less).up + m.less.up ≡ (energy_by Moment d more).up + m.more.up = omega (arith, x.up, split_less d rise, split_more d rise) in
-        let down : (energy_by Moment d less).down + m.less.down ≡ (energy_by Moment d more).down + m.more.down = omega (arith, x.down, split_less d fall, split_more d fall) in
-        let own_up : (energy_of_by Moment d e.0.tx less).up + m.less.up ≡ (energy_of_by Moment d e.0.tx more).up + m.more.up = omega (arith, x.up, ap (sum_by rise) (pairs_standing d), ap (sum_by rise) (pairs_together d)) in
-        let own_down : (energy_of_by Moment d e.0.tx less).down + m.less.down ≡ (energy_of_by Moment d e.0.tx more).down + m.more.down = omega (arith, x.down, ap (sum_by fall) (pairs_standing d), ap (sum_by fall) (pairs_together d)) in
-        ((λ i. record { up = up i; down = down i }), (λ i. record { up = own_up i; down = own_down i }))
-
-    pub exchanged_come : (mi me : Moved) (import_rest export_rest : List Flowed) (import_next export_next : Table) → AreExchanged period Import (pairs_among (standing Import)) (pairs_among (together Import)) import_rest import_next mi
-        → AreExchanged period Export (pairs_among (standing Export)) (pairs_among (together Export)) export_rest export_next me → IsExchanged Moment e.0.tx less more (record { import = mi.less; export = me.less }) (record { import = mi.more; export = me.more })
-    exchanged_come mi me import_rest export_rest import_next export_next x y =
-        let a = sums_come Import mi import_rest import_next x in let b = sums_come Export me export_rest export_next y in
-        record {
-          station = each_way (λ d. plus (energy_by Moment d more) (in_direction d (record { import = mi.less; export = me.less })) ≡ plus (energy_by Moment d less) (in_direction d (record { import = mi.more; export = me.more }))) a.0 b.0;
-          own = each_way (λ d. plus (energy_of_by Moment d e.0.tx more) (in_direction d (record { import = mi.less; export = me.less })) ≡ plus (energy_of_by Moment d e.0.tx less) (in_direction d (record { import = mi.more; export = me.more }))) a.1 b.1;
-          up_few = each_way (λ d. (in_direction d (record { import = mi.more; export = me.more })).up ≤ greatest_reading * most_readings) (omega (arith, x.more_up)) (omega (arith, y.more_up));
-          down_few = each_way (λ d. (in_direction d (record { import = mi.more; export = me.more })).down ≤ greatest_reading * most_readings) (omega (arith, x.more_down)) (omega (arith, y.more_down));
-        }
-
-    pub exchanged_go : (mi me : Moved) (import_rest export_rest : List Flowed) (import_next export_next : Table) → AreExchanged period Import (pairs_among (together Import)) (pairs_among (standing Import)) import_rest import_next mi
-        → AreExchanged period Export (pairs_among (together Export)) (pairs_among (standing Export)) export_rest export_next me → IsExchanged Moment e.0.tx more less (record { import = mi.less; export = me.less }) (record { import = mi.more; export = me.more })
-    exchanged_go mi me import_rest export_rest import_next export_next x y =
-        let a = sums_go Import mi import_rest import_next x in let b = sums_go Export me export_rest export_next y in
-        record {
-          station = each_way (λ d. plus (energy_by Moment d less) (in_direction d (record { import = mi.less; export = me.less })) ≡ plus (energy_by Moment d more) (in_direction d (record { import = mi.more; export = me.more }))) a.0 b.0;
-          own = each_way (λ d. plus (energy_of_by Moment d e.0.tx less) (in_direction d (record { import = mi.less; export = me.less })) ≡ plus (energy_of_by Moment d e.0.tx more) (in_direction d (record { import = mi.more; export = me.more }))) a.1 b.1;
-          up_few = each_way (λ d. (in_direction d (record { import = mi.more; export = me.more })).up ≤ greatest_reading * most_readings) (omega (arith, x.more_up)) (omega (arith, y.more_up));
-          down_few = each_way (λ d. (in_direction d (record { import = mi.more; export = me.more })).down ≤ greatest_reading * most_readings) (omega (arith, x.more_down)) (omega (arith, y.more_down));
-        }
+      pub exchanged_both : (mi me : Moved) (import_rest export_rest : List Flowed) (import_next export_next : Table) → AreExchanged period Import (pairs_among (put_each (gone_of way (its Import)) (standing Import))) (pairs_among (put_each (came_of way (its Import)) (standing Import))) import_rest import_next mi
+          → AreExchanged period Export (pairs_among (put_each (gone_of way (its Export)) (standing Export))) (pairs_among (put_each (came_of way (its Export)) (standing Export))) export_rest export_next me → IsExchanged Moment e.0.tx was will (record { import = mi.less; export = me.less }) (record { import = mi.more; export = me.more })
+      exchanged_both mi me import_rest export_rest import_next export_next x y =
+          let a = sums_moved Import mi import_rest import_next x in let b = sums_moved Export me export_rest export_next y in
+          record {
+            station = each_way (λ d. plus (energy_by Moment d will) (in_direction d (record { import = mi.less; export = me.less })) ≡ plus (energy_by Moment d was) (in_direction d (record { import = mi.more; export = me.more }))) a.0 b.0;
+            own = each_way (λ d. plus (energy_of_by Moment d e.0.tx will) (in_direction d (record { import = mi.less; export = me.less })) ≡ plus (energy_of_by Moment d e.0.tx was) (in_direction d (record { import = mi.more; export = me.more }))) a.1 b.1;
+            up_few = each_way (λ d. (in_direction d (record { import = mi.more; export = me.more })).up ≤ greatest_reading * most_readings) (omega (arith, x.more_up)) (omega (arith, y.more_up));
+            down_few = each_way (λ d. (in_direction d (record { import = mi.more; export = me.more })).down ≤ greatest_reading * most_readings) (omega (arith, x.more_down)) (omega (arith, y.more_down));
+          }
 
   -- the work of a direction, by the runs of the order
   pub spent_runs : (d : Direction) → length (its d) + 2 * runs (own_timed e.0.seq) (together d) ≤ most_by_moment d e.0 more

@@ -8,7 +8,7 @@ use Rattle.std.proofs.lemmas.List.Sums.{sum_by-append}
 use Rattle.energy_flow.specs.Flow.{Energy}
 use Rattle.ledger_model.specs.Periods.{Periods}
 use Rattle.ledger_model.specs.Board.{Flowed}
-use Rattle.ledger_model.specs.Deltas.{across, pairs_between, first_reading, last_reading}
+use Rattle.ledger_model.specs.Deltas.{pairs_between, first_reading, last_reading}
 use Rattle.ledger_model.specs.Energy.{Flows, Pair, energy_over, followed}
 use Rattle.ledger_model.specs.declared.reading.Direction.{Direction}
 use Rattle.ledger_model.specs.declared.reading.Direction.TheVariants.{Import, Export}
@@ -33,9 +33,6 @@ pub with_run : (front run back : List Timed) → followed (bare (front ++ (run +
 with_run front run back =
     ap followed (map-append (λ (t : Timed). t.1) front (run ++ back) ∙ ap (λ rs. bare front ++ rs) (map-append (λ (t : Timed). t.1) run back))
     ∙ followed_cut (bare front) (bare run) (bare back)
-
-pub without_run : (front back : List Timed) → followed (bare (front ++ back)) ≡ followed (bare front) ++ (across (last_reading (bare front)) (first_reading (bare back)) ++ followed (bare back))
-without_run front back = with_run front [] back
 
 -- Rows of pairs, with some between others.
 pub moved_in : (period : Periods) (d : Direction) (a x b : List Pair) (rest : List Flowed) → rows_of (quartered period d (a ++ (x ++ b)) ++ rest) ≡ rows_of (quartered period d x ++ (quartered period d (a ++ b) ++ rest))

@@ -1,10 +1,10 @@
 -- An event's readings among the others of its transaction, run by run.
-use Rattle.std.specs.Prelude.{◌≡◌, ◌==◌, ℕ, ◌+◌, ◌*◌, ◌^◌, ◌<◌, ◌≤◌, Bool, List, ◌++◌, Option, length}
+use Rattle.std.specs.Prelude.{◌≡◌, ◌==◌, ℕ, ◌+◌, ◌*◌, ◌≤◌, Bool, List, [], ◌++◌, Option, length}
 use Rattle.std.specs.List.{AllByRecursion}
 use Rattle.energy_flow.specs.Flow.{Energy}
 use Rattle.ledger_model.specs.Periods.{Periods}
 use Rattle.ledger_model.specs.Board.{Flowed}
-use Rattle.ledger_model.specs.Deltas.{across, pairs_between}
+use Rattle.ledger_model.specs.Deltas.{pairs_between}
 use Rattle.ledger_model.specs.declared.reading.Direction.{Direction}
 use Rattle.ledger_model.specs.Energy.{Pair, energy_over, flows_toward, followed}
 use Rattle.ledger_model.specs.InTime.{runs}
@@ -12,13 +12,14 @@ use Rattle.ledger_model.specs.Ranges.{greatest_reading, most_event_readings, mos
 use Rattle.ledger_model.proofs.RunLemmas.{AreForeign, AreOwn}
 use Rattle.quarter_table.specs.Pairs.{rows_of, total}
 use Rattle.quarter_table.specs.Table.{Table}
-use Rattle.event_chain.specs.Chains.{Chained}
-use Rattle.ledger_model.specs.Key.{KeyName}
+use Rattle.event_chain.specs.declared.around.Sides.{Sides}
 use Rattle.reading_index.specs.Ranks.{number_of, owner, owner_of}
 use Rattle.reading_index.specs.Timed.{Timed, TimedReadings, AreRising, owned}
 use Rattle.station_ledger.specs.declared.by_moment.Moved.{Moved}
-use Rattle.station_ledger.specs.ByMoment.{bare, bare_one, listed_of, put_each, take_each, ArePuttable}
-use Rattle.station_ledger.specs.Quarters.{HasRoom, IsAdded, IsTaken, IsWithout, IsWork, quartered, readings_at}
+use Rattle.station_ledger.specs.declared.by_moment.Way.{Way}
+use Rattle.station_ledger.specs.declared.by_moment.Way.TheVariants.{Coming, Going}
+use Rattle.station_ledger.specs.ByMoment.{bare, bare_one, put_each, take_each, ArePuttable}
+use Rattle.station_ledger.specs.Quarters.{HasRoom, IsAdded, IsTaken, IsWithout, IsWork, quartered}
 
 -- Whether a reading belongs to the event of this number.
 abbrev pub own_timed : ℕ → Timed → Bool
@@ -65,13 +66,28 @@ pub record AreSwapped (period : Periods) (d : Direction) (gone came : List Pair)
   pub taken : IsTaken period d gone old left before meanwhile m.less
   pub added : IsAdded period d came left new meanwhile after m.more
 
--- The pair across a gap between two readings, if both are there.
-abbrev pub gap_pairs : Option Timed → Option Timed → List Pair
-gap_pairs before behind = across (bare_one before) (bare_one behind)
+-- The gap between two readings, without their ranks.
+abbrev pub gap_of : Option Timed → Option Timed → Sides
+gap_of before behind = record { before = bare_one before; behind = bare_one behind }
 
--- The pairs that a run of readings makes in a gap.
-abbrev pub run_pairs : Option Timed → List Timed → Option Timed → List Pair
-run_pairs before run behind = pairs_between (bare_one before) (bare run) (bare_one behind)
+-- The pairs that a run of readings makes in a gap; of no reading, the pair across it.
+abbrev pub run_pairs : Sides → List Timed → List Pair
+run_pairs gap run = pairs_between gap.before (bare run) gap.behind
+
+-- One of two: the first if readings come, the second if they go.
+abbrev pub by_way : {X : Type 0} → Way → X → X → X
+by_way Coming a b = a
+by_way Going a b = b
+
+-- Of an event's readings, or a run of them, those that go.
+abbrev pub gone_of : Way → List Timed → List Timed
+gone_of Coming ts = []
+gone_of Going ts = ts
+
+-- And those that come.
+abbrev pub came_of : Way → List Timed → List Timed
+came_of Coming ts = ts
+came_of Going ts = []
 
 -- After these pairs of a direction are taken out, the table has room for so many.
 abbrev pub HasRoomWithout : Periods → Direction → List Pair → ℕ → Table → Type 0
@@ -81,86 +97,56 @@ HasRoomWithout period d gone more t = (left : Table) → IsWithout (quartered pe
 abbrev pub with_readings : ℕ → List Timed → TimedReadings → List Timed
 with_readings o readings index = put_each readings (owned o index.entries)
 
--- An event's readings are not among their owner's in an index; the rows have the pairs that the owner's make, and the
--- rest.
-abbrev pub AreToCome : ℕ → ℕ → Periods → Direction → List Timed → TimedReadings → Table → List Flowed → Type 0
-AreToCome o seq period d readings index t rest = AreApart o seq period d readings (owned o index.entries) (pairs_among (owned o index.entries)) t rest
+-- The readings of an owner in an index, with those of an event that go, and with those that come.
+abbrev pub readings_then : Way → ℕ → List Timed → TimedReadings → List Timed
+readings_then way o readings index = with_readings o (gone_of way readings) index
 
--- An event's readings are not among their owner's in an index; the rows have the pairs that the
--- owner's make with them, and the rest.
-abbrev pub AreToGo : ℕ → ℕ → Periods → Direction → List Timed → TimedReadings → Table → List Flowed → Type 0
-AreToGo o seq period d readings index t rest = AreApart o seq period d readings (owned o index.entries) (pairs_among (with_readings o readings index)) t rest
+abbrev pub readings_next : Way → ℕ → List Timed → TimedReadings → List Timed
+readings_next way o readings index = with_readings o (came_of way readings) index
 
--- The pairs that an owner's readings make with an event's came in place of those without them, with
--- at most one difference for each reading of the event and two for each run of them.
-pub record HaveCome (o seq : ℕ) (period : Periods) (d : Direction) (readings : List Timed) (index : TimedReadings) (rest : List Flowed) (next : Table) (w v : ℕ) (m : Moved) : Type 0 where
-  pub moved : AreExchanged period d (pairs_among (owned o index.entries)) (pairs_among (with_readings o readings index)) rest next m
+-- An event's readings are not among their owner's in an index; the rows have the pairs that the owner's make, with the
+-- event's if they go, and the rest.
+abbrev pub AreToMove : Way → ℕ → ℕ → Periods → Direction → List Timed → TimedReadings → Table → List Flowed → Type 0
+AreToMove way o seq period d readings index t rest = AreApart o seq period d readings (owned o index.entries) (pairs_among (readings_then way o readings index)) t rest
+
+-- The pairs that an owner's readings make with an event's came in place of those without them, or the other way round,
+-- with at most one difference for each reading of the event and two for each run of them.
+pub record HaveMoved (way : Way) (o seq : ℕ) (period : Periods) (d : Direction) (readings : List Timed) (index : TimedReadings) (rest : List Flowed) (next : Table) (w v : ℕ) (m : Moved) : Type 0 where
+  pub moved : AreExchanged period d (pairs_among (readings_then way o readings index)) (pairs_among (readings_next way o readings index)) rest next m
   pub work : IsWork (length readings + 2 * runs (own_timed seq) (with_readings o readings index)) w v
 
--- They went, and those without them came.
-pub record HaveGone (o seq : ℕ) (period : Periods) (d : Direction) (readings : List Timed) (index : TimedReadings) (rest : List Flowed) (next : Table) (w v : ℕ) (m : Moved) : Type 0 where
-  pub moved : AreExchanged period d (pairs_among (with_readings o readings index)) (pairs_among (owned o index.entries)) rest next m
-  pub work : IsWork (length readings + 2 * runs (own_timed seq) (with_readings o readings index)) w v
-
--- For any event with these readings, and any rest: if they can come, they have come.
-abbrev pub TheyCome : Periods → Direction → List Timed → TimedReadings → Table → Table → ℕ → ℕ → Moved → Type 0
-TheyCome period d readings index t u w v m = (o seq : ℕ) (rest : List Flowed) → AreToCome o seq period d readings index t rest → HaveCome o seq period d readings index rest u w v m
-
--- For any event with these readings, and any rest: if they can go, they have gone.
-abbrev pub TheyGo : Periods → Direction → List Timed → TimedReadings → Table → Table → ℕ → ℕ → Moved → Type 0
-TheyGo period d readings index t u w v m = (o seq : ℕ) (rest : List Flowed) → AreToGo o seq period d readings index t rest → HaveGone o seq period d readings index rest u w v m
+-- For any event with these readings, and any rest: if they can come or go, they have.
+abbrev pub TheyMove : Way → Periods → Direction → List Timed → TimedReadings → Table → Table → ℕ → ℕ → Moved → Type 0
+TheyMove way period d readings index t u w v m = (o seq : ℕ) (rest : List Flowed) → AreToMove way o seq period d readings index t rest → HaveMoved way o seq period d readings index rest u w v m
 
 -- The readings of a transaction's slot and a direction.
 abbrev pub side : ℕ → Direction → TimedReadings → List Timed
 side slot d index = owned (owner slot d) index.entries
 
--- The readings of a transaction's slot and a direction, with those of an event.
-abbrev pub with_listed : ℕ → Direction → Chained → KeyName → TimedReadings → List Timed
-with_listed slot d chains key index = put_each (listed_of slot d chains key) (side slot d index)
+-- Readings are put into a list, or taken out of it.
+abbrev pub moved_each : Way → List Timed → List Timed → List Timed
+moved_each Coming xs ts = put_each xs ts
+moved_each Going xs ts = take_each xs ts
 
--- An index without them.
-abbrev pub without_listed : ℕ → Direction → Chained → KeyName → TimedReadings → TimedReadings
-without_listed slot d chains key index = record index { entries = take_each (listed_of slot d chains key) index.entries }
+abbrev pub moved_index : Way → List Timed → TimedReadings → TimedReadings
+moved_index way xs index = record index { entries = moved_each way xs index.entries }
 
--- An event's readings of a direction are not in a side; the rows have these pairs of the side, and the rest.
-abbrev pub IsSide : ℕ → Periods → Direction → Chained → KeyName → List Timed → List Pair → Table → List Flowed → Type 0
-IsSide slot period d chains key others ps t rest = AreApart (owner slot d) key.seq period d (listed_of slot d chains key) others ps t rest
+-- There is a place for readings that come.
+abbrev pub HavePlace : Way → List Timed → TimedReadings → Type 0
+HavePlace Coming xs index = (length index.entries + length xs ≤ index.capacity) × ArePuttable xs index.entries
+HavePlace Going xs index = Unit {0}
 
--- The most differences that they evaluate: one for each reading, and two for each run that they
--- form.
-abbrev pub most_listed : ℕ → Direction → Chained → KeyName → TimedReadings → ℕ
-most_listed slot d chains key index = length (listed_of slot d chains key) + 2 * runs (own_timed key.seq) (with_listed slot d chains key index)
+-- An event's readings of a direction can be moved, and their pairs: put into an index, or taken out of it.
+pub record CanMove (way : Way) (period : Periods) (d : Direction) (readings : List Timed) (index : TimedReadings) (t : Table) : Type 0 where
+  pub o : ℕ
+  pub seq : ℕ
+  pub rest : List Flowed
+  pub apart : AreToMove way o seq period d readings (by_way way index (moved_index way readings index)) t rest
+  pub place : HavePlace way readings index
 
--- The readings of a direction of the event of a key were put in under a slot, and their pairs.
-pub record ArePutIn (slot : ℕ) (period : Periods) (d : Direction) (chains : Chained) (key : KeyName) (index next : TimedReadings) (t u : Table) (w v : ℕ) (m : Moved) : Type 0 where
-  pub entries : next.entries ≡ put_each (listed_of slot d chains key) index.entries
+-- They were moved, and their pairs.
+pub record AreMoved (way : Way) (period : Periods) (d : Direction) (readings : List Timed) (index next : TimedReadings) (t u : Table) (w v : ℕ) (m : Moved) : Type 0 where
+  pub entries : next.entries ≡ moved_each way readings index.entries
   pub capacity : next.capacity ≡ index.capacity
   pub room : u.capacity ≡ t.capacity
-  pub moved : (rest : List Flowed) → IsSide slot period d chains key (side slot d index) (pairs_among (side slot d index)) t rest → AreExchanged period d (pairs_among (side slot d index)) (pairs_among (with_listed slot d chains key index)) rest u m
-  pub work : (rest : List Flowed) → IsSide slot period d chains key (side slot d index) (pairs_among (side slot d index)) t rest → IsWork (most_listed slot d chains key index) w v
-
--- They were taken out, and their pairs.
-pub record AreTakenOut (slot : ℕ) (period : Periods) (d : Direction) (chains : Chained) (key : KeyName) (index next : TimedReadings) (t u : Table) (w v : ℕ) (m : Moved) : Type 0 where
-  pub entries : next.entries ≡ take_each (listed_of slot d chains key) index.entries
-  pub capacity : next.capacity ≡ index.capacity
-  pub room : u.capacity ≡ t.capacity
-  pub moved : (rest : List Flowed) → IsSide slot period d chains key (side slot d next) (pairs_among (with_listed slot d chains key next)) t rest → AreExchanged period d (pairs_among (with_listed slot d chains key next)) (pairs_among (side slot d next)) rest u m
-  pub work : (rest : List Flowed) → IsSide slot period d chains key (side slot d next) (pairs_among (with_listed slot d chains key next)) t rest → IsWork (most_listed slot d chains key next) w v
-
--- The readings of a direction of the event of a key can be listed.
-pub record CanList (slot : ℕ) (d : Direction) (chains : Chained) (key : KeyName) (room : ℕ) : Type 0 where
-  pub slot_small : slot < 2 ^ 24
-  pub few : length (readings_at d chains key) ≤ most_event_readings
-  pub list_room : most_event_readings ≤ room
-
--- They can be put in.
-pub record CanPutIn (slot : ℕ) (period : Periods) (d : Direction) (chains : Chained) (key : KeyName) (index : TimedReadings) (t : Table) : Type 0 where
-  pub rest : List Flowed
-  pub apart : IsSide slot period d chains key (side slot d index) (pairs_among (side slot d index)) t rest
-  pub room : length index.entries + length (listed_of slot d chains key) ≤ index.capacity
-  pub puttable : ArePuttable (listed_of slot d chains key) index.entries
-
--- They can be taken out.
-pub record CanTakeOut (slot : ℕ) (period : Periods) (d : Direction) (chains : Chained) (key : KeyName) (index : TimedReadings) (t : Table) : Type 0 where
-  pub rest : List Flowed
-  pub apart : let next = without_listed slot d chains key index in IsSide slot period d chains key (side slot d next) (pairs_among (with_listed slot d chains key next)) t rest
+  pub moved : TheyMove way period d readings (by_way way index next) t u w v m

@@ -1,25 +1,26 @@
 //! The live readings of a station by moment, and how one event changes their pairs.
-ghost use Rattle.std.specs.Prelude.{◌≡◌, ◌≤◌, ◌<◌, ◌+◌, ◌*◌, ◌^◌, ℕ, List, [], None, IfOk, drop, length, take, vec_capacity, vec_len};
+ghost use Rattle.std.specs.Prelude.{◌≡◌, ◌≢◌, ◌≤◌, ◌<◌, ◌+◌, ◌*◌, ◌^◌, ℕ, List, [], None, IfOk, drop, length, take, vec_capacity, vec_len};
 ghost use Rattle.event_chain.specs.Chains.{stored};
-ghost use Rattle.event_chain.specs.Table.{row_of, AreSlotted};
+ghost use Rattle.event_chain.specs.Table.{row_of, without_row, AreSlotted};
 ghost use Rattle.ledger_model.specs.Board.{Flowed};
-ghost use Rattle.ledger_model.specs.Content.{Entry};
+ghost use Rattle.ledger_model.specs.Content.{Entry, live_of};
 ghost use Rattle.ledger_model.specs.Deltas.{across, pairs_between};
 ghost use Rattle.ledger_model.specs.InTime.{put_in_time};
 ghost use Rattle.ledger_model.specs.Ranges.{most_event_readings, most_readings};
 ghost use Rattle.ledger_model.specs.declared.order.Order.TheVariants.{Moment};
 ghost use Rattle.reading_index.specs.Timed.{from_on, in_front, AreRising};
 ghost use Rattle.station_ledger.specs.ByMoment.{bare, bare_one, beyond, fits, fitting, listed_of, put_each, take_each, IsSlotGiven, AreByMoment, ArePuttable};
-ghost use Rattle.station_ledger.specs.Exchange.{IsComing, IsGoing};
+ghost use Rattle.station_ledger.specs.declared.by_moment.Way.TheVariants.{Coming};
+ghost use Rattle.station_ledger.specs.Exchange.{IsMove};
 ghost use Rattle.station_ledger.specs.Moved.{IsExchanged};
 ghost use Rattle.station_ledger.specs.Quarters.{HasRoom, HoldsPairs, IsAdded, IsTaken, IsWork, readings_at};
-ghost use Rattle.station_ledger.specs.Runs.{gap_pairs, run_pairs, ArePutIn, AreSwapped, AreTakenOut, AreToCome, AreToGo, CanList, CanPutIn, CanTakeOut, HasRoomWithout, TheyCome, TheyGo};
+ghost use Rattle.station_ledger.specs.Runs.{by_way, came_of, gap_of, gone_of, run_pairs, AreMoved, AreSwapped, AreToMove, CanMove, HasRoomWithout, TheyMove};
 ghost use Rattle.station_ledger.specs.Spent.{most_in_runs};
 ghost use Rattle.station_ledger.specs.Sums.{AreQuarterRows};
 
 use crate::pairs::{Energies, add_across, take_across};
 use energy_flow::{Flow, Work};
-use event_chain::{Chains, TransactionTable};
+use event_chain::{Chains, Sides, TransactionTable};
 use ledger_model::{
     ByDirection, Direction, Key, Limits, MAX_EVENT_READINGS, Periods, Reading, TxId,
 };
@@ -206,6 +207,13 @@ pub(crate) fn list(
     }
 }
 
+// Whether an event's readings come or go.
+#[derive(Clone, Copy)]
+pub(crate) enum Way {
+    Coming,
+    Going,
+}
+
 // The energies of a direction's pairs that went, and of those that came.
 #[derive(Clone, Copy)]
 pub(crate) struct Moved {
@@ -213,87 +221,64 @@ pub(crate) struct Moved {
     pub(crate) more: Flow,
 }
 
-// Takes out the pair across a gap, and adds those that a run of readings makes in it.
-fn fill_gap(
-    quarters: &mut QuarterTable,
-    period: Periods,
-    direction: Direction,
-    before: &Option<KeyedReading>,
-    run: &[KeyedReading],
-    behind: &Option<KeyedReading>,
-    work: &mut Work,
-) -> Moved
-    requires holds { HoldsPairs period direction (gap_pairs before.now behind.now) quarters.old }
-    requires room { HasRoomWithout period direction (gap_pairs before.now behind.now) (length (run_pairs before.now run.now behind.now)) quarters.old }
-    ensures { AreSwapped period direction (gap_pairs before.now behind.now) (run_pairs before.now run.now behind.now) quarters.old quarters.new work.old work.new result }
+// The readings of two entries.
+fn gap_of(before: &Option<KeyedReading>, behind: &Option<KeyedReading>) -> Sides
+    ensures { result ≡ gap_of before.now behind.now }
 {
-    let less = take_across(
-        quarters,
-        period,
-        direction,
-        reading_of(before),
-        reading_of(behind),
-        work,
-    );
-    let more = add_row(
-        quarters,
-        period,
-        direction,
-        reading_of(before),
-        run,
-        reading_of(behind),
-        work,
-    );
-    Moved { less, more }
+    Sides {
+        before: reading_of(before),
+        behind: reading_of(behind),
+    }
 }
 
-// Takes out the pairs that a run of readings makes in a gap, and adds the one across it.
-fn clear_gap(
+// Takes out the pairs that a run of readings makes in a gap, and adds those that another run makes there.
+fn replace_run(
     quarters: &mut QuarterTable,
     period: Periods,
     direction: Direction,
-    before: &Option<KeyedReading>,
-    run: &[KeyedReading],
-    behind: &Option<KeyedReading>,
+    gap: &Sides,
+    gone: &[KeyedReading],
+    came: &[KeyedReading],
     work: &mut Work,
 ) -> Moved
-    requires holds { HoldsPairs period direction (run_pairs before.now run.now behind.now) quarters.old }
-    requires few { length (run_pairs before.now run.now behind.now) ≤ most_readings }
-    requires room { HasRoomWithout period direction (run_pairs before.now run.now behind.now) (length (gap_pairs before.now behind.now)) quarters.old }
-    ensures { AreSwapped period direction (run_pairs before.now run.now behind.now) (gap_pairs before.now behind.now) quarters.old quarters.new work.old work.new result }
+    requires holds { HoldsPairs period direction (run_pairs gap.now gone.now) quarters.old }
+    requires few { length (run_pairs gap.now gone.now) ≤ most_readings }
+    requires room { HasRoomWithout period direction (run_pairs gap.now gone.now) (length (run_pairs gap.now came.now)) quarters.old }
+    ensures { AreSwapped period direction (run_pairs gap.now gone.now) (run_pairs gap.now came.now) quarters.old quarters.new work.old work.new result }
 {
     let less = take_row(
-        quarters,
-        period,
-        direction,
-        reading_of(before),
-        run,
-        reading_of(behind),
-        work,
+        quarters, period, direction, gap.before, gone, gap.behind, work,
     );
-    let more = add_across(
-        quarters,
-        period,
-        direction,
-        reading_of(before),
-        reading_of(behind),
-        work,
+    let more = add_row(
+        quarters, period, direction, gap.before, came, gap.behind, work,
     );
     Moved { less, more }
 }
 
-// Takes out the pairs across the places of an event's readings, and adds the pairs that the readings make
-// there. The readings are not in the index.
-fn come(
+// Of an event's readings, or a run of them, those that go, and those that come.
+fn parts(way: Way, readings: &[KeyedReading]) -> (&[KeyedReading], &[KeyedReading])
+    ensures gone { result.0.now ≡ gone_of way readings.now }
+    ensures came { result.1.now ≡ came_of way readings.now }
+{
+    match way {
+        Way::Coming => (&[], readings),
+        Way::Going => (readings, &[]),
+    }
+}
+
+// Replaces the pairs at the places of an event's readings: those that the readings make there come or go,
+// and those across the places go or come. The readings are not in the index.
+fn replace_runs(
     index: &ReadingIndex,
     quarters: &mut QuarterTable,
     period: Periods,
     direction: Direction,
     readings: &[KeyedReading],
+    way: Way,
     work: &mut Work,
 ) -> Moved
-    requires { (o : ℕ) × (seq : ℕ) × (rest : List Flowed) × AreToCome o seq period direction readings.now index.now quarters.old rest }
-    ensures moved { TheyCome period direction readings.now index.now quarters.old quarters.new work.old work.new result }
+    requires { (o : ℕ) × (seq : ℕ) × (rest : List Flowed) × AreToMove way o seq period direction readings.now index.now quarters.old rest }
+    ensures moved { TheyMove way period direction readings.now index.now quarters.old quarters.new work.old work.new result }
     ensures capacity { quarters.new.capacity ≡ quarters.old.capacity }
 {
     let mut less = Flow::zero();
@@ -304,87 +289,14 @@ fn come(
         let (before, behind) = index.around(key);
         let count = count_in_front(left, &behind);
         let (run, beyond) = left.split_at(count);
-        let moved = fill_gap(quarters, period, direction, &before, run, &behind, work);
+        let (gone, came) = parts(way, run);
+        let gap = gap_of(&before, &behind);
+        let moved = replace_run(quarters, period, direction, &gap, gone, came, work);
         less = less.plus(moved.less);
         more = more.plus(moved.more);
         left = beyond;
     }
     Moved { less, more }
-}
-
-// Takes out the pairs that an event's readings made, and adds those across their places. The readings are
-// no longer in the index.
-fn go(
-    index: &ReadingIndex,
-    quarters: &mut QuarterTable,
-    period: Periods,
-    direction: Direction,
-    readings: &[KeyedReading],
-    work: &mut Work,
-) -> Moved
-    requires { (o : ℕ) × (seq : ℕ) × (rest : List Flowed) × AreToGo o seq period direction readings.now index.now quarters.old rest }
-    ensures moved { TheyGo period direction readings.now index.now quarters.old quarters.new work.old work.new result }
-    ensures capacity { quarters.new.capacity ≡ quarters.old.capacity }
-{
-    let mut less = Flow::zero();
-    let mut more = Flow::zero();
-    let mut left = readings;
-    while let [first, ..] = left {
-        let (key, _) = *first;
-        let (before, behind) = index.around(key);
-        let count = count_in_front(left, &behind);
-        let (run, beyond) = left.split_at(count);
-        let moved = clear_gap(quarters, period, direction, &before, run, &behind, work);
-        less = less.plus(moved.less);
-        more = more.plus(moved.more);
-        left = beyond;
-    }
-    Moved { less, more }
-}
-
-// Puts in the readings of a direction of the event of a key under a slot, and their pairs.
-fn put_side(
-    chains: &Chains,
-    index: &mut ReadingIndex,
-    listed: &mut Vec<KeyedReading>,
-    quarters: &mut QuarterTable,
-    period: Periods,
-    slot: u32,
-    direction: Direction,
-    key: &Key,
-    work: &mut Work,
-) -> Moved
-    requires list { CanList slot direction chains.now key.now (vec_capacity listed.old) }
-    requires put { CanPutIn slot period direction chains.now key.now index.old quarters.old }
-    ensures put { ArePutIn slot period direction chains.now key.now index.old index.new quarters.old quarters.new work.old work.new result }
-    ensures room { most_event_readings ≤ vec_capacity listed.new }
-{
-    list(listed, chains, key, slot, direction);
-    let moved = come(index, quarters, period, direction, listed, work);
-    put_all(index, listed);
-    moved
-}
-
-// Takes them out, and their pairs.
-fn take_side(
-    chains: &Chains,
-    index: &mut ReadingIndex,
-    listed: &mut Vec<KeyedReading>,
-    quarters: &mut QuarterTable,
-    period: Periods,
-    slot: u32,
-    direction: Direction,
-    key: &Key,
-    work: &mut Work,
-) -> Moved
-    requires list { CanList slot direction chains.now key.now (vec_capacity listed.old) }
-    requires take { CanTakeOut slot period direction chains.now key.now index.old quarters.old }
-    ensures taken { AreTakenOut slot period direction chains.now key.now index.old index.new quarters.old quarters.new work.old work.new result }
-    ensures room { most_event_readings ≤ vec_capacity listed.new }
-{
-    list(listed, chains, key, slot, direction);
-    take_all(index, listed);
-    go(index, quarters, period, direction, listed, work)
 }
 
 // The slot of a transaction; if it has none, it gets one.
@@ -445,88 +357,83 @@ impl ByMoment {
     }
 }
 
-// Puts in the readings, and their pairs, of a live event that the chains already have.
-pub(crate) fn put_event(
-    chains: &Chains,
+// Puts the listed readings of a direction into the index, or takes them out of it, and replaces the pairs.
+fn move_listed(
     by_moment: &mut ByMoment,
     quarters: &mut QuarterTable,
     period: Periods,
-    key: &Key,
+    direction: Direction,
+    way: Way,
     work: &mut Work,
-) -> Exchange
-    requires { (es : List Entry) × IsComing es chains.now key.now by_moment.old period quarters.old }
-    ensures exchanged { (es : List Entry) → IsComing es chains.now key.now by_moment.old period quarters.old → IsExchanged Moment key.now.tx es (stored chains.now) result.less result.more }
-    ensures rows { AreQuarterRows Moment chains.now.limits (stored chains.now) period quarters.new }
-    ensures timed { AreByMoment chains.now.limits (stored chains.now) by_moment.new }
-    ensures work { IsWork (most_in_runs key.now (stored chains.now)) work.old work.new }
+) -> Moved
+    requires { CanMove way period direction by_moment.old.listed.items by_moment.old.index quarters.old }
+    ensures moved { AreMoved way period direction by_moment.old.listed.items by_moment.old.index by_moment.new.index quarters.old quarters.new work.old work.new result }
+    ensures slots { by_moment.new.slots ≡ by_moment.old.slots }
+    ensures room { vec_capacity by_moment.new.listed ≡ vec_capacity by_moment.old.listed }
 {
-    let slot = slot_of(&mut by_moment.slots, key.tx());
-    let import = put_side(
-        chains,
-        &mut by_moment.index,
-        &mut by_moment.listed,
-        quarters,
-        period,
-        slot,
-        Direction::Import,
-        key,
-        work,
-    );
-    let export = put_side(
-        chains,
-        &mut by_moment.index,
-        &mut by_moment.listed,
-        quarters,
-        period,
-        slot,
-        Direction::Export,
-        key,
-        work,
-    );
-    exchange_of(import, export)
+    let listed = &by_moment.listed;
+    let index = &mut by_moment.index;
+    match way {
+        Way::Coming => {
+            let moved = replace_runs(
+                index,
+                quarters,
+                period,
+                direction,
+                listed,
+                Way::Coming,
+                work,
+            );
+            put_all(index, listed);
+            moved
+        }
+        Way::Going => {
+            take_all(index, listed);
+            replace_runs(index, quarters, period, direction, listed, Way::Going, work)
+        }
+    }
 }
 
-// Takes out the readings, and their pairs, of a live event that the chains no longer have.
-pub(crate) fn take_event(
+// Takes the slot back from a transaction whose last live event went.
+fn free_slot(slots: &mut TransactionTable, chains: &Chains, tx: &TxId, way: Way)
+    requires there { row_of tx.now slots.old.rows ≢ None }
+    requires lives { way ≡ Coming → length (live_of tx.now (stored chains.now)) ≡ 0 → ⊥ }
+    ensures kept { (length (live_of tx.now (stored chains.now)) ≡ 0 → ⊥) → slots.new ≡ slots.old }
+    ensures rows { length (live_of tx.now (stored chains.now)) ≡ 0 → slots.new.rows ≡ without_row tx.now slots.old.rows }
+    ensures capacity { slots.new.capacity ≡ slots.old.capacity }
+{
+    match way {
+        Way::Coming => (),
+        Way::Going => {
+            if chains.live_count(tx) == 0 {
+                slots.remove(tx);
+            }
+        }
+    }
+}
+
+// Moves the readings, and their pairs, of a live event that came to the chains, or went from them.
+pub(crate) fn move_event(
     chains: &Chains,
     by_moment: &mut ByMoment,
     quarters: &mut QuarterTable,
     period: Periods,
     key: &Key,
+    way: Way,
     work: &mut Work,
 ) -> Exchange
-    requires { (es : List Entry) × IsGoing es chains.now key.now by_moment.old period quarters.old }
-    ensures exchanged { (es : List Entry) → IsGoing es chains.now key.now by_moment.old period quarters.old → IsExchanged Moment key.now.tx es (stored chains.now) result.less result.more }
+    requires { (less : List Entry) × (more : List Entry) × IsMove way less more chains.now key.now by_moment.old period quarters.old }
+    ensures exchanged { (less more : List Entry) → IsMove way less more chains.now key.now by_moment.old period quarters.old → IsExchanged Moment key.now.tx (by_way way less more) (stored chains.now) result.less result.more }
     ensures rows { AreQuarterRows Moment chains.now.limits (stored chains.now) period quarters.new }
     ensures timed { AreByMoment chains.now.limits (stored chains.now) by_moment.new }
-    ensures work { (es : List Entry) → IsGoing es chains.now key.now by_moment.old period quarters.old → IsWork (most_in_runs key.now es) work.old work.new }
+    ensures work { (less more : List Entry) → IsMove way less more chains.now key.now by_moment.old period quarters.old → IsWork (most_in_runs key.now more) work.old work.new }
 {
     let tx = key.tx();
     let slot = slot_of(&mut by_moment.slots, tx);
-    let import = take_side(
-        chains,
-        &mut by_moment.index,
-        &mut by_moment.listed,
-        quarters,
-        period,
-        slot,
-        Direction::Import,
-        key,
-        work,
-    );
-    let export = take_side(
-        chains,
-        &mut by_moment.index,
-        &mut by_moment.listed,
-        quarters,
-        period,
-        slot,
-        Direction::Export,
-        key,
-        work,
-    );
-    if chains.live_count(tx) == 0 {
-        by_moment.slots.remove(tx);
-    }
+    list(&mut by_moment.listed, chains, key, slot, Direction::Import);
+    let import = move_listed(by_moment, quarters, period, Direction::Import, way, work);
+    list(&mut by_moment.listed, chains, key, slot, Direction::Export);
+    let export = move_listed(by_moment, quarters, period, Direction::Export, way, work);
+    free_slot(&mut by_moment.slots, chains, tx, way);
     exchange_of(import, export)
 }

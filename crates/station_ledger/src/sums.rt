@@ -17,7 +17,7 @@ ghost use Rattle.station_ledger.specs.ByMoment.{AreByMoment};
 ghost use Rattle.station_ledger.specs.Spent.{most_less, most_more};
 ghost use Rattle.station_ledger.specs.Sums.{keep, order_in, order_of, AreSummed, AreAllowed, AreGrowing, ArePairsMoved, AreQuarterRows, AreShrinking, CanReplace, IsReplaced};
 
-use crate::by_moment::{self, ByMoment, Exchange, put_event};
+use crate::by_moment::{ByMoment, Exchange, Way, move_event};
 use crate::pairs::{Energies, add_gap, add_own, take_gap, take_own};
 use crate::standing::{Standing, standing_after, standing_of};
 use crate::totals::{Change, EvseSum, move_at_evses, move_in_figures};
@@ -199,7 +199,15 @@ fn add_pairs_of(
 {
     let period = sums.period;
     match &mut sums.by_moment {
-        Some(by_moment) => put_event(chains, by_moment, &mut sums.quarters, period, key, work),
+        Some(by_moment) => move_event(
+            chains,
+            by_moment,
+            &mut sums.quarters,
+            period,
+            key,
+            Way::Coming,
+            work,
+        ),
         None => {
             let less = take_gap(&mut sums.quarters, period, place, work);
             let more = add_own(&mut sums.quarters, period, place, chains, key, own, work);
@@ -226,12 +234,13 @@ fn take_pairs_of(
 {
     let period = sums.period;
     match &mut sums.by_moment {
-        Some(by_moment) => by_moment::take_event(
+        Some(by_moment) => move_event(
             chains,
             by_moment,
             &mut sums.quarters,
             period,
             key,
+            Way::Going,
             work,
         ),
         None => {

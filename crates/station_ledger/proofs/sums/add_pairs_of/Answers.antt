@@ -8,13 +8,19 @@ use Rattle.station_ledger.proofs.Exchanges.{rows_by, comes_in_time, comes_in_tur
 use Rattle.station_ledger.proofs.Settled.{gone_held, came_room, table_filled, exchanged}
 use Rattle.station_ledger.proofs.sums.add_pairs_of.Goals as goal
 
-pub put_event-requires : goal.put_event-requires
-put_event-requires c = let h = c.requires.to_come in (h.0, comes_in_time c.in-Some.is c.requires.within h.1.1)
+pub move_event-requires : goal.move_event-requires
+move_event-requires c = let h = c.requires.to_come in (h.0, stored c.args.chains.now, comes_in_time c.in-Some.is c.requires.within h.1.1)
 
 pub returns-in-Some-clause-exchanged : goal.returns-in-Some-clause-exchanged
 returns-in-Some-clause-exchanged c es names h =
-    subst (λ b. IsExchanged (order_of b) c.args.key.now.tx es (stored c.args.chains.now) c.put_event.result.less c.put_event.result.more) (sym c.in-Some.is)
-    (c.put_event.ensures.exchanged es (comes_in_time c.in-Some.is c.requires.within h))
+    subst (λ b. IsExchanged (order_of b) c.args.key.now.tx es (stored c.args.chains.now) c.move_event.result.less c.move_event.result.more) (sym c.in-Some.is)
+    (c.move_event.ensures.exchanged es (stored c.args.chains.now) (comes_in_time c.in-Some.is c.requires.within h))
+
+pub returns-in-Some-clause-work : goal.returns-in-Some-clause-work
+returns-in-Some-clause-work c =
+    let h = c.requires.to_come in
+    subst (λ b. IsWork (most_more (order_of b) c.args.chains.now c.args.key.now) c.args.work.now c.move_event.new.work) (sym c.in-Some.is)
+    (c.move_event.ensures.work h.0 (stored c.args.chains.now) (comes_in_time c.in-Some.is c.requires.within h.1.1))
 
 pub take_gap-less-requires : goal.take_gap-less-requires
 take_gap-less-requires c = let h = c.requires.to_come.1.1 in gone_held (comes_in_turn c.in-None.is c.requires.within h) (rows_by c.args.sums.now c.in-None.is h.summed.by_quarter)

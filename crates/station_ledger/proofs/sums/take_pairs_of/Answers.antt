@@ -9,18 +9,18 @@ use Rattle.station_ledger.proofs.Exchanges.{rows_by, goes_in_time, goes_in_turn}
 use Rattle.station_ledger.proofs.Settled.{gone_held, came_room, table_filled, exchanged}
 use Rattle.station_ledger.proofs.sums.take_pairs_of.Goals as goal
 
-pub take_event-requires : goal.take_event-requires
-take_event-requires c = let h = c.requires.to_go in (h.0, goes_in_time c.in-Some.is c.requires.within h.1)
+pub move_event-requires : goal.move_event-requires
+move_event-requires c = let h = c.requires.to_go in (stored c.args.chains.now, h.0, goes_in_time c.in-Some.is c.requires.within h.1)
 
 pub returns-in-Some-clause-exchanged : goal.returns-in-Some-clause-exchanged
 returns-in-Some-clause-exchanged c es h =
-    subst (λ b. IsExchanged (order_of b) c.args.key.now.tx es (stored c.args.chains.now) c.take_event.result.less c.take_event.result.more) (sym c.in-Some.is)
-    (c.take_event.ensures.exchanged es (goes_in_time c.in-Some.is c.requires.within h))
+    subst (λ b. IsExchanged (order_of b) c.args.key.now.tx es (stored c.args.chains.now) c.move_event.result.less c.move_event.result.more) (sym c.in-Some.is)
+    (c.move_event.ensures.exchanged (stored c.args.chains.now) es (goes_in_time c.in-Some.is c.requires.within h))
 
 pub returns-in-Some-clause-work : goal.returns-in-Some-clause-work
 returns-in-Some-clause-work c es h =
-    subst (λ b. IsWork (most_less (order_of b) c.args.chains.now c.args.key.now es) c.args.work.now c.take_event.new.work) (sym c.in-Some.is)
-    (c.take_event.ensures.work es (goes_in_time c.in-Some.is c.requires.within h))
+    subst (λ b. IsWork (most_less (order_of b) c.args.chains.now c.args.key.now es) c.args.work.now c.move_event.new.work) (sym c.in-Some.is)
+    (c.move_event.ensures.work (stored c.args.chains.now) es (goes_in_time c.in-Some.is c.requires.within h))
 
 pub take_own-less-requires-clause-few : goal.take_own-less-requires-clause-few
 take_own-less-requires-clause-few c = let ch = goes_in_turn c.in-None.is c.requires.within c.requires.to_go.1 in omega (arith, ch.few_gone Import, ch.few_gone Export)

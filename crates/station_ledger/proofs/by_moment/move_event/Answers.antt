@@ -1,0 +1,81 @@
+use Rattle.std.proofs.Common.{◌≡◌, ◌<◌, ◌≤◌, Some, None, length, refl, sym, ap, subst, ◌∙◌, ⊎_elim}
+use Rattle.std.proofs.lemmas.Bool.{cases_eq}
+use Rattle.energy_flow.specs.Flow.{Energy}
+use Rattle.event_chain.specs.Chains.{stored}
+use Rattle.event_chain.specs.Table.{Table, row_of, without_row}
+use Rattle.ledger_model.specs.Content.{live_of}
+use Rattle.ledger_model.specs.Ranges.{most_event_readings}
+use Rattle.ledger_model.specs.declared.by_direction.ByDirection.{ByDirection}
+use Rattle.ledger_model.specs.declared.order.Order.TheVariants.{Moment}
+use Rattle.ledger_model.specs.declared.reading.Direction.TheVariants.{Import, Export}
+use Rattle.station_ledger.specs.declared.by_moment.ByMoment.{ByMoment}
+use Rattle.station_ledger.specs.ByMoment.{AreByMoment, IsSlotGiven}
+use Rattle.station_ledger.specs.Moved.{IsExchanged}
+use Rattle.station_ledger.specs.Runs.{by_way}
+use Rattle.station_ledger.proofs.MomentTurning.{all_then, few_readings, first_move, room_for_slot, rows_then, second_move, some_live, timed_goes, timed_stays, work_then}
+use Rattle.station_ledger.proofs.by_moment.move_event.Goals as goal
+
+pub slot_of-slot-requires : goal.slot_of-slot-requires
+slot_of-slot-requires c =
+    let rows = c.args.by_moment.now.slots.rows in
+    subst (λ tx. row_of tx rows ≡ None → length rows < c.args.by_moment.now.slots.capacity) (sym c.tx-tx.ensures) (room_for_slot c.args.way c.requires.2)
+
+pub list-requires-clause-few : goal.list-requires-clause-few
+list-requires-clause-few c =
+    let given = subst (λ tx. IsSlotGiven tx c.args.by_moment.now.slots c.slot_of-slot.new.slots c.slot_of-slot.result) c.tx-tx.ensures c.slot_of-slot.ensures.given in
+    few_readings c.requires.2 given Import
+
+pub move_listed-import-requires : goal.move_listed-import-requires
+move_listed-import-requires c =
+    let given = subst (λ tx. IsSlotGiven tx c.args.by_moment.now.slots c.slot_of-slot.new.slots c.slot_of-slot.result) c.tx-tx.ensures c.slot_of-slot.ensures.given in
+    first_move c.requires.2 given c.list.ensures.items
+
+pub list-requires-2-clause-few : goal.list-requires-2-clause-few
+list-requires-2-clause-few c =
+    let given = subst (λ tx. IsSlotGiven tx c.args.by_moment.now.slots c.slot_of-slot.new.slots c.slot_of-slot.result) c.tx-tx.ensures c.slot_of-slot.ensures.given in
+    few_readings c.requires.2 given Export
+
+pub move_listed-export-requires : goal.move_listed-export-requires
+move_listed-export-requires c =
+    let given = subst (λ tx. IsSlotGiven tx c.args.by_moment.now.slots c.slot_of-slot.new.slots c.slot_of-slot.result) c.tx-tx.ensures c.slot_of-slot.ensures.given in
+    second_move c.requires.2 given c.list.ensures.items c.move_listed-import.ensures.moved c.list-2.ensures.items
+
+pub free_slot-requires-clause-there : goal.free_slot-requires-clause-there
+free_slot-requires-clause-there c = λ none.
+    let slots = c.move_listed-export.ensures.slots ∙ c.move_listed-import.ensures.slots in
+    let some : Some c.slot_of-slot.ensures.given.row ≡ None = sym c.slot_of-slot.ensures.given.there ∙ sym (ap (λ (s : Table). row_of c.tx-tx.result.now s.rows) slots) ∙ none in
+    cc
+
+pub free_slot-requires-clause-lives : goal.free_slot-requires-clause-lives
+free_slot-requires-clause-lives c = λ comes none. some_live c.requires.2 comes (sym (ap (λ tx. length (live_of tx (stored c.args.chains.now))) c.tx-tx.ensures) ∙ none)
+
+pub returns-clause-exchanged : goal.returns-clause-exchanged
+returns-clause-exchanged c less more is =
+    let given = subst (λ tx. IsSlotGiven tx c.args.by_moment.now.slots c.slot_of-slot.new.slots c.slot_of-slot.result) c.tx-tx.ensures c.slot_of-slot.ensures.given in
+    let all = all_then is given c.list.ensures.items c.move_listed-import.ensures.moved c.list-2.ensures.items c.move_listed-export.ensures.moved in
+    subst (λ (m : ByDirection Energy). IsExchanged Moment c.args.key.now.tx (by_way c.args.way less more) (stored c.args.chains.now) c.exchange_of.result.less m) (sym c.exchange_of.ensures.more)
+    (subst (λ (m : ByDirection Energy). IsExchanged Moment c.args.key.now.tx (by_way c.args.way less more) (stored c.args.chains.now) m (record { import = c.move_listed-import.result.more; export = c.move_listed-export.result.more })) (sym c.exchange_of.ensures.less) all)
+
+pub returns-clause-rows : goal.returns-clause-rows
+returns-clause-rows c =
+    let given = subst (λ tx. IsSlotGiven tx c.args.by_moment.now.slots c.slot_of-slot.new.slots c.slot_of-slot.result) c.tx-tx.ensures c.slot_of-slot.ensures.given in
+    rows_then c.requires.2 given c.list.ensures.items c.move_listed-import.ensures.moved c.list-2.ensures.items c.move_listed-export.ensures.moved
+
+pub returns-clause-timed : goal.returns-clause-timed
+returns-clause-timed c =
+    let given = subst (λ tx. IsSlotGiven tx c.args.by_moment.now.slots c.slot_of-slot.new.slots c.slot_of-slot.result) c.tx-tx.ensures c.slot_of-slot.ensures.given in
+    let slots = c.move_listed-export.ensures.slots ∙ c.move_listed-import.ensures.slots in
+    let after : ByMoment = record { slots = c.free_slot.new.slots; index = c.move_listed-export.new.by_moment.index; listed = c.move_listed-export.new.by_moment.listed } in
+    let room = subst (λ n. most_event_readings ≤ n) (sym c.move_listed-export.ensures.room) c.list-2.ensures.room in
+    let counted = ap (λ tx. length (live_of tx (stored c.args.chains.now))) c.tx-tx.ensures in
+    ⊎_elim {C = AreByMoment c.args.chains.now.limits (stored c.args.chains.now) after}
+    (λ none.
+    timed_goes c.requires.2 given c.list.ensures.items c.move_listed-import.ensures.moved c.list-2.ensures.items c.move_listed-export.ensures.moved after c.slot_of-slot.ensures.slotted.apart c.slot_of-slot.ensures.slotted.rising
+    (c.free_slot.ensures.rows (counted ∙ none) ∙ (λ i. without_row (c.tx-tx.ensures i) (slots i).rows)) (c.free_slot.ensures.capacity ∙ ap (λ (s : Table). s.capacity) slots) refl room none)
+    (λ some. timed_stays c.requires.2 given c.list.ensures.items c.move_listed-import.ensures.moved c.list-2.ensures.items c.move_listed-export.ensures.moved after c.slot_of-slot.ensures.slotted.apart (c.free_slot.ensures.kept (λ none. some (sym counted ∙ none)) ∙ slots) refl room some)
+    (cases_eq (length (live_of c.args.key.now.tx (stored c.args.chains.now))) 0)
+
+pub returns-clause-work : goal.returns-clause-work
+returns-clause-work c less more is =
+    let given = subst (λ tx. IsSlotGiven tx c.args.by_moment.now.slots c.slot_of-slot.new.slots c.slot_of-slot.result) c.tx-tx.ensures c.slot_of-slot.ensures.given in
+    work_then is given c.list.ensures.items c.move_listed-import.ensures.moved c.list-2.ensures.items c.move_listed-export.ensures.moved
