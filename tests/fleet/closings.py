@@ -11,11 +11,15 @@ from pathlib import Path
 from typing import Any
 from zoneinfo import ZoneInfo
 
+import asyncpg
+
 from ocpp_board.fleet.database import connect
-from tests.fleet.fleet import PATIENCE, ended
+from tests.fleet.fleet import PATIENCE, ended, tool
 from tests.fleet.trials import Trial, event
 
 ZONE = ZoneInfo("Europe/Berlin")
+# The first line of a board.
+HEAD = "select split_part(text, E'\\n', 1) from own_board where shard = $1 and site = $2"
 # The channel on which answers are notified here.
 CHANNEL = "closings"
 BLOCKED = """
@@ -116,6 +120,49 @@ class ClosingTrial(Trial):
         return await ended(
             self.fleet.start(*self.command(day, **more), stdout=-1, stderr=subprocess.STDOUT)
         )
+
+    async def closes_only_so(
+        self, column: str, words: tuple[str, str, str], refusal: str, *wanted: str
+    ) -> None:
+        """A word that is none, and a closing by another word than before, which has to report what is wanted. `column` is
+        one of own_site; `words` are the site's own, another one, and the one that is none, which gets this refusal.
+        """
+        own, other, none = words
+        begin = f"update own_site set {column} = $1 where site = 'north'"
+        try:
+            await self.owner.execute(begin, none)
+            self.check(False, f"{column}: {none} is taken")
+        except asyncpg.PostgresError as fault:
+            self.check(refusal in str(fault), str(fault))
+        await self.owner.execute(begin, other)
+        taken = await self.until(HEAD, "board north period=900", 0, "north")
+        self.check(taken, f"{column}: {other} is taken while all runs")
+        status, said = await self.close_day("2026-03-03")
+        self.check(
+            status == 2 and all(part in said for part in wanted),
+            f"a site that is reckoned in another way than it was closed: {said}",
+        )
+        await self.owner.execute(begin, own)
+
+    async def second_cell(self) -> str:
+        """A second cell, which the first one sees. Its owner's login."""
+        database = self.fleet.databases[0]
+        database.fill(2, "second")
+        seen = f"2::smallint, '127.0.0.1', '{database.port}', 'second', '{self.fleet.password}'"
+        await self.owner.execute(f"call see_cell({seen})")
+        return self.fleet.dsn("owner", database="second")
+
+    async def moved(self) -> None:
+        """Moves the second shard there."""
+        command = self.fleet.moving("second", 1)
+        status, said = await ended(self.fleet.start(*command, stdout=-1, stderr=-2))
+        self.check(status == 0, f"a move: {said}")
+
+    async def close_there(self, login: str, day: str) -> tuple[int, str]:
+        """Closes a day in the cell of this login."""
+        owner = ("--db", login, "--program", self.fleet.program, "--site", self.SITE)
+        close = [*tool("close-day"), *owner, "--archive", str(self.archives), "--day", day]
+        return await ended(self.fleet.start(*close, stdout=-1, stderr=-2))
 
     @asynccontextmanager
     async def held(self, table: str, mode: str, login: str = "") -> AsyncIterator[None]:

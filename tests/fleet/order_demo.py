@@ -14,13 +14,12 @@ import sys
 from datetime import datetime
 from typing import Any
 
-import asyncpg
 
 from ocpp_board.fleet.database import connect
 from ocpp_board.fleet.figures import joined
 from ocpp_board.fleet.findings import REMEDY
 from ocpp_board.fleet.plans import Reckoning
-from tests.fleet.closings import ClosingTrial, local, session
+from tests.fleet.closings import HEAD, ClosingTrial, local, session
 from tests.fleet.fleet import ended, tool
 from tests.fleet.trials import parsed, parser_of, tried
 
@@ -28,7 +27,6 @@ from tests.fleet.trials import parsed, parser_of, tried
 BOARD = "select starts, up, down from own_board_period where station = $1 order by 1"
 SETTLED = "select starts, up, down from settled_period where station = $1 order by 1"
 ENERGY = "select starts, up_kwh, down_kwh from energy where station = $1 order by 1"
-HEAD = "select split_part(text, E'\\n', 1) from own_board where shard = $1 and site = $2"
 WRITTEN = "select min(b.plan - s.plan) from own_board b join own_shard s using (shard)"
 
 
@@ -170,22 +168,13 @@ class Demo(ClosingTrial):
 
     async def another_order(self) -> None:
         """Words that are none, and a closing by another order than before."""
-        begin = "update own_site set reading_order = $1 where site = 'north'"
-        try:
-            await self.owner.execute(begin, "time")
-            self.check(False, "readings by moment are taken")
-        except asyncpg.PostgresError as fault:
-            self.check("an order of readings is sequence or moment" in str(fault), str(fault))
-        await self.owner.execute(begin, "sequence")
-        taken = await self.until(HEAD, "board north period=900", 0, "north")
-        self.check(taken, "another order is taken while all runs")
-        status, said = await self.close_day("2026-03-03")
-        wanted = "by periods of 900 seconds, readings by moment and settling by later, and its plan has periods of "
-        self.check(
-            status == 2 and wanted + "900 seconds, readings by sequence and" in said,
-            f"a site that is read in another way than it was closed: {said}",
+        await self.closes_only_so(
+            "reading_order",
+            ("moment", "sequence", "time"),
+            "an order of readings is sequence or moment",
+            "by periods of 900 seconds, readings by moment and settling by later, and its plan has periods of "
+            "900 seconds, readings by sequence and",
         )
-        await self.owner.execute(begin, "moment")
 
     async def compaction(self) -> None:
         again = await self.owner.fetch("select line from own_log where shard = 1")
@@ -205,17 +194,9 @@ class Demo(ClosingTrial):
         status, said = await self.close_day("2026-03-04")
         # The begin that is listed again has a period of its own, of no energy.
         self.check(status == 0 and "9 rows" in said, f"a shard that moves: {said.splitlines()[-1]}")
-        database = self.fleet.databases[0]
-        database.fill(2, "second")
-        login = self.fleet.dsn("owner", database="second")
-        port, password = database.port, self.fleet.password
-        await self.owner.execute(
-            f"call see_cell(2::smallint, '127.0.0.1', '{port}', 'second', '{password}')"
-        )
+        login = await self.second_cell()
         await self.owner.execute(DEED)
-        command = self.fleet.moving("second", 1)
-        status, said = await ended(self.fleet.start(*command, stdout=-1, stderr=-2))
-        self.check(status == 0, f"a move: {said}")
+        await self.moved()
         second = await connect(login)
         rows = await second.fetch(
             "select reading_order from own_site union all select reading_order from own_closing"
@@ -241,9 +222,7 @@ class Demo(ClosingTrial):
             "select count(*) from board where cell = 2 and text like '% voided=2 %'", 1
         )
         await self.alike("boards of the other cell", BOARD, "D", "F", session=second)
-        owner = ("--db", login, "--program", self.fleet.program, "--site", "north")
-        close = [*tool("close-day"), *owner, "--archive", str(self.archives), "--day", "2026-03-05"]
-        status, said = await ended(self.fleet.start(*close, stdout=-1, stderr=-2))
+        status, said = await self.close_there(login, "2026-03-05")
         self.check(
             status == 0 and "settled up to 2026-03-05, 0 rows" in said, f"a closing there: {said}"
         )

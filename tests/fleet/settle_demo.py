@@ -2,7 +2,7 @@
 
     tests/one fleet.settle_demo ocpp_board
 
-It starts PostgreSQL 15 in a temporary folder and a worker, and plays two sites, a station of each of which reads its
+It starts PostgreSQL 15 in a temporary folder and a worker, and plays two sites, each with a station that reads its
 register on the quarter hour. One site settles by `closing`, so its energy is in the quarters in which it flowed: on
 boards, in rows, in what is settled and archived, after a void of what was archived, a move to another cell and a
 closing there. The other settles by `later`, so its energy is a quarter later. A site that was closed by one rule is not
@@ -12,13 +12,10 @@ closed by the other. The status is 1 where something is not as it must be.
 import sys
 from typing import Any
 
-import asyncpg
-
 from ocpp_board.fleet.database import connect
 from ocpp_board.fleet.figures import joined
 from ocpp_board.fleet.plans import Reckoning
-from tests.fleet.closings import ClosingTrial, local, session
-from tests.fleet.fleet import ended, tool
+from tests.fleet.closings import HEAD, ClosingTrial, local, session
 from tests.fleet.trials import parsed, parser_of, tried
 
 # The quarters in which a station has energy, in the zone, with how much: on the board, with archives, and settled.
@@ -27,7 +24,6 @@ QUARTERS = (
     "where station = $1 and up > 0 order by 1"
 )
 BOARD, SETTLED = QUARTERS.format("own_board_period"), QUARTERS.format("settled_period")
-HEAD = "select split_part(text, E'\\n', 1) from own_board where shard = $1 and site = $2"
 WRITTEN = "select min(b.plan - s.plan) from own_board b join own_shard s using (shard)"
 RULES = "select settle from own_site union all select settle from own_closing"
 
@@ -94,35 +90,19 @@ class Demo(ClosingTrial):
 
     async def another_rule(self) -> None:
         """A word that is none, and a closing by another rule than before."""
-        begin = "update own_site set settle = $1 where site = 'north'"
-        try:
-            await self.owner.execute(begin, "even")
-            self.check(False, "a rule that is none is taken")
-        except asyncpg.PostgresError as fault:
-            self.check("a rule of settling is later or closing" in str(fault), str(fault))
-        await self.owner.execute(begin, "later")
-        taken = await self.until(HEAD, "board north period=900", 0, "north")
-        self.check(taken, "another rule is taken while all runs")
-        status, said = await self.close_day("2026-03-03")
-        self.check(
-            status == 2 and "was closed by" in said and "settling by closing, and its plan" in said,
-            f"a site that settles in another way than it was closed: {said}",
+        await self.closes_only_so(
+            "settle",
+            ("closing", "later", "even"),
+            "a rule of settling is later or closing",
+            "was closed by",
+            "settling by closing, and its plan",
         )
-        await self.owner.execute(begin, "closing")
 
     async def moving(self) -> None:
         """A shard that moves, and goes on there."""
         await self.came(*session("C", "TX-3", local("2026-03-04 08:00"), 5))
-        database = self.fleet.databases[0]
-        database.fill(2, "second")
-        login = self.fleet.dsn("owner", database="second")
-        port, password = database.port, self.fleet.password
-        await self.owner.execute(
-            f"call see_cell(2::smallint, '127.0.0.1', '{port}', 'second', '{password}')"
-        )
-        command = self.fleet.moving("second", 1)
-        status, said = await ended(self.fleet.start(*command, stdout=-1, stderr=-2))
-        self.check(status == 0, f"a move: {said}")
+        login = await self.second_cell()
+        await self.moved()
         second = await connect(login)
         rules = [row["settle"] for row in await second.fetch(RULES)]
         self.check(
@@ -132,9 +112,7 @@ class Demo(ClosingTrial):
         rule = await self.owner.fetchval("select settle from site where cell = 2")
         self.check(rule == "closing", f"the first cell sees it there: {rule}")
         self.fleet.worker("--boards", 0.2, dsn=self.fleet.dsn("ledger_worker", database="second"))
-        owner = ("--db", login, "--program", self.fleet.program, "--site", "north")
-        close = [*tool("close-day"), *owner, "--archive", str(self.archives), "--day", "2026-03-05"]
-        status, said = await ended(self.fleet.start(*close, stdout=-1, stderr=-2))
+        status, said = await self.close_there(login, "2026-03-05")
         self.check(status == 0, f"a closing there: {said}")
         rows = [*quarters(1, 32, 4), *quarters(2, 32, 4), *quarters(4, 32, 4)]
         await self.has("settled there", SETTLED, {"C": rows}, second)

@@ -47,7 +47,7 @@ TELL_PLAN = "select tell('plan', $1)"
 
 
 class Shard:
-    """A shard that this worker holds, or of which it reads the log before it does."""
+    """A shard that this worker holds, or whose log it reads before it does."""
 
     def __init__(
         self, row: Any, replay: Replay, sites: list[str], late: Late, watched: Watched
