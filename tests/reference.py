@@ -11,14 +11,14 @@ import json
 import sys
 from collections.abc import Iterable, Iterator
 from dataclasses import dataclass, field
-from datetime import UTC, datetime
+from datetime import UTC, datetime, timedelta
 from decimal import Decimal
 from typing import Any, NamedTuple
 
 IMPORT, EXPORT = "Energy.Active.Import.Register", "Energy.Active.Export.Register"
 PERIODS, ORDERS = ("300", "900", "1800", "3600"), ("sequence", "moment")
-RULES = ("later", "closing")
-FIRST = datetime(2000, 1, 1, tzinfo=UTC)
+RULES = ("later", "closing", "even")
+EPOCH, FIRST, DAY = datetime(1970, 1, 1, tzinfo=UTC), datetime(2000, 1, 1, tzinfo=UTC), timedelta(days=1)
 FLOW = ("up", "down", "export_up", "export_down")
 COUNTS = ("events", "voided", "transactions", "complete", "missing")
 
@@ -63,11 +63,16 @@ def event_of(payload: dict[str, Any]) -> Event:
 
 
 class Pair(NamedTuple):
-    """A reading's difference from the one before it, and when the later one was taken."""
+    """A reading's difference from the one before it, and when both were taken."""
 
+    since: datetime
     at: datetime
     difference: int
     is_export: bool
+
+    def part(self, difference: int) -> "Pair":
+        """A part of it."""
+        return self._replace(difference=difference)
 
 
 class Whole(dict[str, int]):
@@ -96,7 +101,7 @@ class Site:
 
     seconds: int = 900
     is_by_moment: bool = False
-    is_closing: bool = False
+    rule: str = "later"
     stations: list[str] = field(default_factory=list)
 
 
@@ -132,7 +137,7 @@ class Station:
                 # Python's sort keeps equals in their order.
                 readings.sort(key=lambda one: one.at)
             found += [
-                Pair(after.at, after.mwh - before.mwh, is_export)
+                Pair(before.at, after.at, after.mwh - before.mwh, is_export)
                 for before, after in zip(readings, readings[1:])
             ]
         return found
@@ -174,11 +179,29 @@ class Station:
         """The station's energy by the beginnings of periods, in seconds since 1970."""
         found: dict[int, list[Pair]] = {}
         for pair in self.all_pairs():
-            second = int(pair.at.timestamp())
-            start = second - second % self.site.seconds
-            is_closed = self.site.is_closing and pair.at > FIRST and pair.at.timestamp() == start
-            found.setdefault(start - self.site.seconds * is_closed, []).append(pair)
+            is_shared = pair.since < pair.at <= pair.since + DAY and self.site.rule == "even"
+            for start, part in self.shares(pair) if is_shared else [(self.period(pair.at), pair)]:
+                found.setdefault(start, []).append(part)
         return {start: energy(pairs) for start, pairs in found.items()}
+
+    def period(self, at: datetime) -> int:
+        """The period that a moment lies in, or that it closes, by its beginning."""
+        start = (at - EPOCH) // timedelta(seconds=self.site.seconds) * self.site.seconds
+        is_closed = at > FIRST and at == EPOCH + timedelta(seconds=start)
+        return start - self.site.seconds * (is_closed and self.site.rule != "later")
+
+    def shares(self, pair: Pair) -> Iterator[tuple[int, Pair]]:
+        """What of a difference belongs to each period between its readings, by time in whole seconds."""
+        second = timedelta(seconds=1)
+        first, last = (pair.since - EPOCH) // second, (pair.at - EPOCH) // second
+        start, shared = first - first % self.site.seconds, 0
+        sign = 1 if pair.difference > 0 else -1
+        while EPOCH + timedelta(seconds=start + self.site.seconds) < pair.at:
+            gone = start + self.site.seconds - first
+            level = abs(pair.difference) * gone // (last - first)
+            yield start, pair.part(sign * (level - shared))
+            start, shared = start + self.site.seconds, level
+        yield start, pair.part(pair.difference - sign * shared)
 
     def lines(self) -> Iterator[str]:
         """The station's lines of a board."""
@@ -246,7 +269,7 @@ class Replay:
         """The lines of a site's board."""
         site = self.sites[name]
         order = " order=moment" if site.is_by_moment else ""
-        settle = " settle=closing" if site.is_closing else ""
+        settle = f" settle={site.rule}" if site.rule != "later" else ""
         yield f"board {name} period={site.seconds}{order}{settle}"
         total, periods = Whole(), dict[int, Whole]()
         for station in (self.stations[one] for one in site.stations):
@@ -280,7 +303,7 @@ class Replay:
         elif site and kind == "order":
             site.is_by_moment = words[1] == "moment"
         elif site:
-            site.is_closing = words[1] == "closing"
+            site.rule = words[1]
         return None
 
     def answer(self, line: str) -> Iterator[str]:

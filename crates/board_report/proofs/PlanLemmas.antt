@@ -10,11 +10,13 @@ use Rattle.ledger_model.specs.declared.reading.Direction.TheVariants.{Import, Ex
 use Rattle.ledger_model.specs.Board.{Board, Flowed, board_by, flows_under}
 use Rattle.ledger_model.specs.BoardLaws.{AreRising, IsIn}
 use Rattle.ledger_model.specs.Content.{Entry}
-use Rattle.ledger_model.specs.Energy.{Flows, flows_in_by, Pair, difference, all_pairs_by, quarter_of, quarters_by, energy_by, energy_in_by}
+use Rattle.ledger_model.specs.Energy.{Flows, flows_in_by, all_pairs_by, parts_of_both, parts_over, quarters_by, energy_by, energy_in_by}
 use Rattle.ledger_model.specs.Limits.{Bounds}
 use Rattle.ledger_model.specs.Ranges.{most_plan_readings, greatest_reading}
 use Rattle.ledger_model.proofs.Callers.{sum_by-filter_cons, rising-AreRising}
 use Rattle.board_report.specs.Plans.{IsBoardWithin, AreBoardsWithin}
+use Rattle.ledger_model.specs.Parts.{Part as Share}
+use Rattle.ledger_model.proofs.PartLemmas.{parts_down, parts_up}
 use Rattle.board_report.specs.Sums.{station_quarters, QuartersFit}
 use Rattle.board_report.proofs.SumLemmas.{Part, up, down, export_up, export_down, part_none, under-own, under-other, above_first}
 
@@ -46,8 +48,8 @@ module _ (p : Part) (e : ℕ → Flows) where
       omega (arith, other, rest))
       (cases_eq k q)
 
--- some pairs have no more than all
-sum-filter : (f : Pair → ℕ) (p : Pair → Bool) (xs : List Pair) → sum_by f (filter p xs) ≤ sum_by f xs
+-- some elements have no more than all
+sum-filter : {X : Type 0} (f : X → ℕ) (p : X → Bool) (xs : List X) → sum_by f (filter p xs) ≤ sum_by f xs
 sum-filter f p [] = omega arith
 sum-filter f p (x ∷ xs) = omega (arith, sum_by-filter_cons f p x xs, sum_by-cons f x xs, sum-filter f p xs, part (p x) (f x))
   where
@@ -56,15 +58,19 @@ sum-filter f p (x ∷ xs) = omega (arith, sum_by-filter_cons f p x xs, sum_by-co
     part false n = omega arith
 
 in_quarter_up : (order : Order) (d : Direction) (period : Periods) (q : ℕ) (es : List Entry) → (energy_in_by order d period q es).up ≤ (energy_by order d es).up
-in_quarter_up order d period q es = sum-filter (λ p. (difference p).up) (λ p. eqb (quarter_of period p) q) (all_pairs_by order d es)
+in_quarter_up order d period q es =
+    let few = sum-filter (λ (t : Share). t.1.up) (λ t. eqb t.0 q) (parts_over period (all_pairs_by order d es)) in
+    omega (arith, few, parts_up period (all_pairs_by order d es))
 
 in_quarter_down : (order : Order) (d : Direction) (period : Periods) (q : ℕ) (es : List Entry) → (energy_in_by order d period q es).down ≤ (energy_by order d es).down
-in_quarter_down order d period q es = sum-filter (λ p. (difference p).down) (λ p. eqb (quarter_of period p) q) (all_pairs_by order d es)
+in_quarter_down order d period q es =
+    let few = sum-filter (λ (t : Share). t.1.down) (λ t. eqb t.0 q) (parts_over period (all_pairs_by order d es)) in
+    omega (arith, few, parts_down period (all_pairs_by order d es))
 
--- a board shows no more for a period than the period's pairs add up to
+-- a board shows no more for a period than the period's parts add up to
 under-board : (p : Part) (order : Order) (period : Periods) (q : ℕ) (es : List Entry) → p.measure (flows_under q (board_by order period es).quarters) ≤ p.measure (flows_in_by order period q es)
 under-board p order period q es =
-    under-rising p (λ quarter. flows_in_by order period quarter es) q (quarters_by order period es) (rising-AreRising (map (quarter_of period) (all_pairs_by order Import es ++ all_pairs_by order Export es)))
+    under-rising p (λ quarter. flows_in_by order period quarter es) q (quarters_by order period es) (rising-AreRising (map (λ t. t.0) (parts_of_both order period es)))
 
 -- in each direction, up and down
 record EachPart (P : Part → Type 0) : Type 0 where

@@ -5,7 +5,7 @@ use Rattle.std.specs.Fmt.{decimal}
 use Rattle.energy_flow.specs.Flow.{Energy}
 use Rattle.ledger_model.specs.Periods.{Periods}
 use Rattle.ledger_model.specs.declared.settle.Settle.{Settle}
-use Rattle.ledger_model.specs.declared.settle.Settle.TheVariants.{Later, Closing}
+use Rattle.ledger_model.specs.declared.settle.Settle.TheVariants.{Later, Closing, Even}
 use Rattle.ledger_model.specs.declared.figures.Figures.{Figures}
 use Rattle.ledger_model.specs.declared.order.Order.{Order}
 use Rattle.ledger_model.specs.declared.order.Order.TheVariants.{Sequence, Moment}
@@ -97,10 +97,12 @@ abbrev pub order_field : Order → List ℕ
 order_field Sequence = []
 order_field Moment = codes " order=moment"
 
--- ` settle=closing` if differences count in the period that their later reading closes
+-- ` settle=closing` if differences count in the period that their later reading closes, ` settle=even` if they are
+-- shared by time
 abbrev pub settle_field : Settle → List ℕ
 settle_field Later = []
 settle_field Closing = codes " settle=closing"
+settle_field Even = codes " settle=even"
 
 -- `board <name> period=<seconds>`, the order of readings if it is not by sequence, and the rule of
 -- settling if it is not by the later reading

@@ -231,13 +231,14 @@ fn order_field(order: Order) -> &'static str
 }
 
 // Nothing if differences count in the period of their later reading, ` settle=closing` if they count in the
-// period that it closes.
+// period that it closes, ` settle=even` if they are shared by time.
 fn settle_field(settle: Settle) -> &'static str
     ensures { result.now ≡ settle_field settle }
 {
     match settle {
         Settle::Later => "",
         Settle::Closing => " settle=closing",
+        Settle::Even => " settle=even",
     }
 }
 

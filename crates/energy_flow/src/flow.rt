@@ -3,6 +3,7 @@ ghost use Rattle.energy_flow.specs.Flow.{no_energy, plus, minus, net, difference
 ghost use Rattle.energy_flow.specs.Work.{counted};
 
 use crate::Work;
+use std::alloc::Global;
 use std::fmt;
 use std::marker::Model;
 
@@ -29,6 +30,16 @@ impl Flow {
         ensures { result ≡ no_energy }
     {
         Flow { up: 0, down: 0 }
+    }
+
+    /// The rise or the fall from one number of milliwatt-hours to another.
+    pub fn between(earlier: u64, later: u64) -> Self
+        ensures { result ≡ difference_of earlier later }
+    {
+        Flow {
+            up: later.saturating_sub(earlier),
+            down: earlier.saturating_sub(later),
+        }
     }
 
     /// The rises, in milliwatt-hours.
@@ -90,7 +101,7 @@ impl Flow {
 }
 
 /// What an energy register showed, in milliwatt-hours. Two levels can be compared for equality;
-/// only [`difference`] looks into them.
+/// without an allocator only [`difference`] looks into them.
 #[derive(Clone, Copy, PartialEq, Eq)]
 pub struct Level {
     mwh: u64,
@@ -113,6 +124,14 @@ impl Level {
     {
         Level { mwh }
     }
+
+    /// What the register showed, in milliwatt-hours. It asks for the allocator, which it does not use: a board has one,
+    /// and a change has none, so a change can compare levels by [`difference`] alone.
+    pub fn shown(self, _alloc: Global) -> u64
+        ensures { result ≡ self }
+    {
+        self.mwh
+    }
 }
 
 // Prints a fixed word, since printing the number would be another look into it.
@@ -130,10 +149,7 @@ pub fn difference(earlier: Level, later: Level, work: &mut Work) -> Flow
     ensures grows { work.old ≤ work.new }
 {
     work.add_one();
-    Flow {
-        up: later.mwh.saturating_sub(earlier.mwh),
-        down: earlier.mwh.saturating_sub(later.mwh),
-    }
+    Flow::between(earlier.mwh, later.mwh)
 }
 
 #[cfg(test)]

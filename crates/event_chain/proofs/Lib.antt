@@ -4,7 +4,7 @@ mod LinksEnds
 mod LinksLists
 mod LinksWritten
 mod TableKept
-mod Decided
+pub mod Decided
 mod Flats
 mod Sums
 mod Named

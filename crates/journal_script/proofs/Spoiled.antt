@@ -14,7 +14,7 @@ use Rattle.std.proofs.lemmas.Slice.Eq.{bytes_eq-Decides}
 use Rattle.ledger_model.specs.declared.order.Order.{Order}
 use Rattle.ledger_model.specs.declared.order.Order.TheVariants.{Sequence, Moment}
 use Rattle.ledger_model.specs.declared.settle.Settle.{Settle}
-use Rattle.ledger_model.specs.declared.settle.Settle.TheVariants.{Later, Closing}
+use Rattle.ledger_model.specs.declared.settle.Settle.TheVariants.{Later, Closing, Even}
 use Rattle.ledger_model.specs.Name.{is_name, is_name_character}
 use Rattle.ledger_model.specs.Ranges.{most_name_characters}
 use Rattle.ledger_model.specs.World.{Station}
@@ -189,7 +189,7 @@ idle_station [] there = tt
 idle_station (a ∷ []) there = tt
 idle_station (a ∷ b ∷ d ∷ line) there = tt
 
-module _ (c : ℕ) (no_space : (32 == c) ≡ false) (no_digit : is_ascii_digit c ≡ false) (no_e : (101 == c) ≡ false) (no_t : (116 == c) ≡ false) (no_r : (114 == c) ≡ false) (no_g : (103 == c) ≡ false) (no_text : (front : List ℕ) → (fault : JsonFault) × (marked_reading (front ++ c ∷ []) ≡ Err fault)) where
+module _ (c : ℕ) (no_space : (32 == c) ≡ false) (no_digit : is_ascii_digit c ≡ false) (no_e : (101 == c) ≡ false) (no_t : (116 == c) ≡ false) (no_r : (114 == c) ≡ false) (no_g : (103 == c) ≡ false) (no_n : (110 == c) ≡ false) (no_text : (front : List ℕ) → (fault : JsonFault) × (marked_reading (front ++ c ∷ []) ≡ Err fault)) where
   not_empty : {P : Type 0} → 32 ≡ c → P
   not_empty e = absurd (true≢false (ap (λ x. 32 == x) e ∙ no_space))
 
@@ -215,14 +215,18 @@ module _ (c : ℕ) (no_space : (32 == c) ≡ false) (no_digit : is_ascii_digit c
       moment : Option Order
       moment = cond (bytes_eq text (codes "moment")) (Some Moment) None
 
-  -- no word of another last letter than `r` and `g` names a rule
+  -- no word of another last letter than `r`, `g` and `n` names a rule
   no_settle : (text : List ℕ) → last 32 text ≡ c → settle_word text ≡ None
   no_settle text h =
       ap (λ b. cond b (Some Later) closing) (other text h (codes "later") no_r (bytes_eq text (codes "later")) refl)
-      ∙ ap (λ b. cond b (Some Closing) None) (other text h (codes "closing") no_g (bytes_eq text (codes "closing")) refl)
+      ∙ ap (λ b. cond b (Some Closing) even) (other text h (codes "closing") no_g (bytes_eq text (codes "closing")) refl)
+      ∙ ap (λ b. cond b (Some Even) None) (other text h (codes "even") no_n (bytes_eq text (codes "even")) refl)
     where
+      even : Option Settle
+      even = cond (bytes_eq text (codes "even")) (Some Even) None
+
       closing : Option Settle
-      closing = cond (bytes_eq text (codes "closing")) (Some Closing) None
+      closing = cond (bytes_eq text (codes "closing")) (Some Closing) even
 
   idle_text : (name text : List ℕ) → last 32 text ≡ c → Idle (sends name text)
   idle_text name [] h = not_empty h
@@ -345,6 +349,6 @@ stays_step s (asks_board _) idle = (refl, record { sites = refl; periods = refl;
 -- a line with a `#`, which ends with it or with the run's comment, changes nothing that is shown
 pub spoiled : (s : Script) (most : ℕ) (front back : List ℕ) → (last 35 back ≡ 35) ⊎ (last 35 back ≡ 115) → Stays s (line_step s (ended most (front ++ 35 ∷ back))).0
 spoiled s most front back (inl hash) =
-    stays_step s (line_meaning (ended most (front ++ 35 ∷ back))) (idle_line 35 refl refl refl refl refl refl hash_not_read most (front ++ 35 ∷ back) refl (last_behind 32 front 35 back ∙ hash) (marked_behind front back))
+    stays_step s (line_meaning (ended most (front ++ 35 ∷ back))) (idle_line 35 refl refl refl refl refl refl refl hash_not_read most (front ++ 35 ∷ back) refl (last_behind 32 front 35 back ∙ hash) (marked_behind front back))
 spoiled s most front back (inr letter) =
-    stays_step s (line_meaning (ended most (front ++ 35 ∷ back))) (idle_line 115 refl refl refl refl refl refl s_not_read most (front ++ 35 ∷ back) refl (last_behind 32 front 35 back ∙ letter) (marked_behind front back))
+    stays_step s (line_meaning (ended most (front ++ 35 ∷ back))) (idle_line 115 refl refl refl refl refl refl refl s_not_read most (front ++ 35 ∷ back) refl (last_behind 32 front 35 back ∙ letter) (marked_behind front back))

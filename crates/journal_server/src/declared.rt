@@ -97,10 +97,12 @@ fn put_order(head: &mut Vec<u8>, site: &SitePlan) -> Result<(), AllocError> {
 
 // The line of a site's rule of settling, where it is not the one that a script takes for undeclared ones.
 fn put_settle(head: &mut Vec<u8>, site: &SitePlan) -> Result<(), AllocError> {
-    if site.period.rule() == Settle::Closing {
-        head.extend_from_slice(b"settle")?;
-        put_name(head, &site.name)?;
-        head.extend_from_slice(b" closing\n")?;
-    }
-    Ok(())
+    let word: &[u8] = match site.period.rule() {
+        Settle::Later => return Ok(()),
+        Settle::Closing => b" closing\n",
+        Settle::Even => b" even\n",
+    };
+    head.extend_from_slice(b"settle")?;
+    put_name(head, &site.name)?;
+    head.extend_from_slice(word)
 }

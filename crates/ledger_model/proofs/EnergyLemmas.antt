@@ -10,10 +10,12 @@ use Rattle.ledger_model.specs.declared.order.Order.{Order}
 use Rattle.ledger_model.specs.declared.reading.Direction.{Direction}
 use Rattle.ledger_model.specs.declared.reading.Direction.TheVariants.{Import, Export}
 use Rattle.ledger_model.specs.Content.{Entry, live, transactions_of}
-use Rattle.ledger_model.specs.Energy.{Flows, Pair, all_pairs_by, difference, flows_in_by, no_flows, plus_flows, pairs_by, energy_by, energy_of_by, energy_in_by, quarter_of, quarters_by}
+use Rattle.ledger_model.specs.Energy.{Flows, Pair, all_pairs_by, difference, flows_in_by, no_flows, plus_flows, pairs_by, energy_by, energy_of_by, energy_in_by, parts_of_both, parts_over, quarters_by}
+use Rattle.ledger_model.specs.Parts.{Part}
 use Rattle.ledger_model.specs.Evse.{evse_of, evses, energy_at_by, transactions_at}
 use Rattle.ledger_model.specs.Board.{Flowed, board_by, flows_under}
 use Rattle.ledger_model.specs.BoardLaws.{AreRising, IsIn, sum_of_energies}
+use Rattle.ledger_model.proofs.PartLemmas.{parts_down, parts_up}
 use Rattle.ledger_model.proofs.SumLemmas.{among_back, among_front, sum_by_among, sum_by_rising, sum_by-flat_map, sum_by-same, sum_by-map, sum_by-times, times, times-among_sum, rising-AreRising, rising-IsIn}
 
 sum_of-up : {X : Type 0} (e : X → Energy) (xs : List X) → (sum_of_energies (map e xs)).up ≡ sum_by (λ x. (e x).up) xs
@@ -27,15 +29,23 @@ sum_of-down e (x ∷ xs) = ap (λ n. (e x).down + n) (sum_of-down e xs) ∙ sym 
 pub same_energy : (a b : Energy) → a.up ≡ b.up → a.down ≡ b.down → a ≡ b
 same_energy a b up down = λ i. record { up = up i; down = down i }
 
--- the periods of one direction's pairs are among those of both
-shown_pairs : (order : Order) (d : Direction) (period : Periods) (es : List Entry) (n : ℕ) → IsIn n (map (quarter_of period) (all_pairs_by order d es)) → IsIn n (map (quarter_of period) (all_pairs_by order Import es ++ all_pairs_by order Export es))
-shown_pairs order Import period es n there = among_front (quarter_of period) (all_pairs_by order Import es) (all_pairs_by order Export es) n there
-shown_pairs order Export period es n there = among_back (quarter_of period) (all_pairs_by order Import es) (all_pairs_by order Export es) n there
+-- the period of a part
+abbrev own : Part → ℕ
+own t = t.0
+
+-- the parts in one direction
+abbrev sides : Order → Direction → Periods → List Entry → List Part
+sides order d period es = parts_over period (all_pairs_by order d es)
+
+-- their periods are among those of both
+shown_parts : (order : Order) (d : Direction) (period : Periods) (es : List Entry) (n : ℕ) → IsIn n (map own (sides order d period es)) → IsIn n (map own (parts_of_both order period es))
+shown_parts order Import period es n there = among_front own (sides order Import period es) (sides order Export period es) n there
+shown_parts order Export period es n there = among_back own (sides order Import period es) (sides order Export period es) n there
 
 pub by_quarter : (order : Order) (d : Direction) (period : Periods) (es : List Entry) → energy_by order d es ≡ sum_of_energies (map (λ quarter. energy_in_by order d period quarter es) (quarters_by order period es))
 by_quarter order d period es = same_energy _ _
-    (sym (sum_of-up (λ quarter. energy_in_by order d period quarter es) (quarters_by order period es) ∙ sum_by_among (λ p. (difference p).up) (quarter_of period) (all_pairs_by order d es) (all_pairs_by order Import es ++ all_pairs_by order Export es) (shown_pairs order d period es)))
-    (sym (sum_of-down (λ quarter. energy_in_by order d period quarter es) (quarters_by order period es) ∙ sum_by_among (λ p. (difference p).down) (quarter_of period) (all_pairs_by order d es) (all_pairs_by order Import es ++ all_pairs_by order Export es) (shown_pairs order d period es)))
+    (sym (sum_of-up (λ quarter. energy_in_by order d period quarter es) (quarters_by order period es) ∙ sum_by_among (λ (t : Part). t.1.up) own (sides order d period es) (parts_of_both order period es) (shown_parts order d period es) ∙ parts_up period (all_pairs_by order d es)))
+    (sym (sum_of-down (λ quarter. energy_in_by order d period quarter es) (quarters_by order period es) ∙ sum_by_among (λ (t : Part). t.1.down) own (sides order d period es) (parts_of_both order period es) (shown_parts order d period es) ∙ parts_down period (all_pairs_by order d es)))
 
 -- a sum over the pairs of each EVSE's transactions
 evse_sum : (order : Order) (d : Direction) (f : Pair → ℕ) (es : List Entry) → sum_by (λ evse. sum_by f (flat_map (λ tx. pairs_by order d tx es) (transactions_at evse es))) (evses es) ≡ sum_by f (all_pairs_by order d es)
@@ -78,17 +88,17 @@ module _ (measure : Flows → ℕ) (none : measure no_flows ≡ 0) (both : (a b 
       step false e rest = omega arith
 
   -- a period that is not shown has no energy, and one that is shown has its own
-  station_part : (order : Order) (d : Direction) (f : Pair → ℕ) (period : Periods) (es : List Entry) → ((q : ℕ) → measure (flows_in_by order period q es) ≡ sum_by f (filter (λ p. eqb (quarter_of period p) q) (all_pairs_by order d es)))
+  station_part : (order : Order) (d : Direction) (f : Part → ℕ) (period : Periods) (es : List Entry) → ((q : ℕ) → measure (flows_in_by order period q es) ≡ sum_by f (filter (λ t. eqb t.0 q) (sides order d period es)))
       → (q : ℕ) → sum_by (λ line. cond (eqb line.0 q) (measure line.1) 0) (board_by order period es).quarters ≡ measure (flows_in_by order period q es)
   station_part order d f period es part q =
       sum_by-map (λ (line : Flowed). cond (eqb line.0 q) (measure line.1) 0) (λ k. (k, flows_in_by order period k es)) (quarters_by order period es)
       ∙ lines_sum (λ k. measure (flows_in_by order period k es)) q (quarters_by order period es)
       ∙ ap (λ n. times q (quarters_by order period es) * n) (part q)
-      ∙ times-among_sum f (quarter_of period) q (all_pairs_by order d es) (all_pairs_by order Import es ++ all_pairs_by order Export es) (shown_pairs order d period es)
+      ∙ times-among_sum f own q (sides order d period es) (parts_of_both order period es) (shown_parts order d period es)
       ∙ sym (part q)
 
   -- over the lines of stations it is the sum over the stations
-  site_part : (order : Order) (d : Direction) (f : Pair → ℕ) (period : Periods) (quarter : ℕ) (stations : List (List Entry)) → ((es : List Entry) (q : ℕ) → measure (flows_in_by order period q es) ≡ sum_by f (filter (λ p. eqb (quarter_of period p) q) (all_pairs_by order d es)))
+  site_part : (order : Order) (d : Direction) (f : Part → ℕ) (period : Periods) (quarter : ℕ) (stations : List (List Entry)) → ((es : List Entry) (q : ℕ) → measure (flows_in_by order period q es) ≡ sum_by f (filter (λ t. eqb t.0 q) (sides order d period es)))
       → measure (flows_under quarter (flat_map (λ es. (board_by order period es).quarters) stations)) ≡ sum_by (λ es. measure (flows_in_by order period quarter es)) stations
   site_part order d f period quarter stations part =
       under-part quarter (flat_map (λ es. (board_by order period es).quarters) stations)
@@ -100,21 +110,21 @@ pub site_quarter : (order : Order) (period : Periods) (quarter : ℕ) (stations 
 site_quarter order period quarter stations =
     let all = flows_under quarter (flat_map (λ es. (board_by order period es).quarters) stations) in
     let imported : all.flow ≡ sum_of_energies (map (energy_in_by order Import period quarter) stations) = same_energy _ _
-    (site_part (λ f. f.flow.up) refl (λ a b. refl) order Import (λ p. (difference p).up) period quarter stations (λ es q. refl) ∙ sym (sum_of-up (energy_in_by order Import period quarter) stations))
-    (site_part (λ f. f.flow.down) refl (λ a b. refl) order Import (λ p. (difference p).down) period quarter stations (λ es q. refl) ∙ sym (sum_of-down (energy_in_by order Import period quarter) stations)) in
+    (site_part (λ f. f.flow.up) refl (λ a b. refl) order Import (λ t. t.1.up) period quarter stations (λ es q. refl) ∙ sym (sum_of-up (energy_in_by order Import period quarter) stations))
+    (site_part (λ f. f.flow.down) refl (λ a b. refl) order Import (λ t. t.1.down) period quarter stations (λ es q. refl) ∙ sym (sum_of-down (energy_in_by order Import period quarter) stations)) in
     let exported : all.export ≡ sum_of_energies (map (energy_in_by order Export period quarter) stations) = same_energy _ _
-    (site_part (λ f. f.export.up) refl (λ a b. refl) order Export (λ p. (difference p).up) period quarter stations (λ es q. refl) ∙ sym (sum_of-up (energy_in_by order Export period quarter) stations))
-    (site_part (λ f. f.export.down) refl (λ a b. refl) order Export (λ p. (difference p).down) period quarter stations (λ es q. refl) ∙ sym (sum_of-down (energy_in_by order Export period quarter) stations)) in
+    (site_part (λ f. f.export.up) refl (λ a b. refl) order Export (λ t. t.1.up) period quarter stations (λ es q. refl) ∙ sym (sum_of-up (energy_in_by order Export period quarter) stations))
+    (site_part (λ f. f.export.down) refl (λ a b. refl) order Export (λ t. t.1.down) period quarter stations (λ es q. refl) ∙ sym (sum_of-down (energy_in_by order Export period quarter) stations)) in
     λ i. record { flow = imported i; export = exported i }
 
-pub quarters_shown : (order : Order) (period : Periods) (es : List Entry) (quarter : ℕ) → IsIn quarter (quarters_by order period es) ↔ IsIn quarter (map (quarter_of period) (all_pairs_by order Import es ++ all_pairs_by order Export es))
-quarters_shown order period es quarter = rising-IsIn quarter (map (quarter_of period) (all_pairs_by order Import es ++ all_pairs_by order Export es))
+pub quarters_shown : (order : Order) (period : Periods) (es : List Entry) (quarter : ℕ) → IsIn quarter (quarters_by order period es) ↔ IsIn quarter (map own (parts_of_both order period es))
+quarters_shown order period es quarter = rising-IsIn quarter (map own (parts_of_both order period es))
 
 pub evses_shown : (es : List Entry) (evse : ℕ) → IsIn evse (evses es) ↔ IsIn evse (map (λ tx. evse_of tx es) (transactions_of (live es)))
 evses_shown es evse = rising-IsIn evse (map (λ tx. evse_of tx es) (transactions_of (live es)))
 
 pub quarters_rise : (order : Order) (period : Periods) (es : List Entry) → AreRising (quarters_by order period es)
-quarters_rise order period es = rising-AreRising (map (quarter_of period) (all_pairs_by order Import es ++ all_pairs_by order Export es))
+quarters_rise order period es = rising-AreRising (map own (parts_of_both order period es))
 
 pub evses_rise : (es : List Entry) → AreRising (evses es)
 evses_rise es = rising-AreRising (map (λ tx. evse_of tx es) (transactions_of (live es)))

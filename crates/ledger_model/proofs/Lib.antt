@@ -17,6 +17,7 @@ pub mod GapLemmas
 pub mod NumberLemmas
 pub mod CompleteLemmas
 pub mod SumLemmas
+pub mod PartLemmas
 pub mod EnergyLemmas
 pub mod FigureLemmas
 pub mod PostLemmas

@@ -13,7 +13,7 @@ use Rattle.ledger_model.specs.Event.{MeterReading, toward}
 use Rattle.ledger_model.specs.Board.{Board, Shown, board_by, figures_by, last_or_zero}
 use Rattle.ledger_model.specs.Complete.{starts_and_ends}
 use Rattle.ledger_model.specs.Content.{Entry, live, transactions_of}
-use Rattle.ledger_model.specs.Energy.{Pair, energy_over, followed, quarter_of, readings_by, readings_of, rising}
+use Rattle.ledger_model.specs.Energy.{Pair, energy_over, energy_within, followed, parts_over, readings_by, readings_of, rising}
 use Rattle.ledger_model.specs.Evse.{first_or_zero}
 use Rattle.ledger_model.specs.Gaps.{gaps, missing}
 use Rattle.ledger_model.specs.InTime.{in_order, AreInTime}
@@ -46,7 +46,7 @@ abbrev at_evse : Readings → Direction → ℕ → List Entry → Energy
 at_evse rs d at l = energy_over (pairs_over rs d (filter (λ tx. evse tx l == at) (transactions_of l)))
 
 abbrev in_quarter : Readings → Direction → Periods → ℕ → List Entry → Energy
-in_quarter rs d period quarter l = energy_over (filter (λ p. quarter_of period p == quarter) (pairs_over rs d (transactions_of l)))
+in_quarter rs d period quarter l = energy_within period quarter (pairs_over rs d (transactions_of l))
 
 abbrev shown_of : Readings → List Entry → List ℕ → Shown
 shown_of rs l tx = record {
@@ -78,7 +78,7 @@ of_live rs period voided l = record {
     export_down = (energy_over (pairs_over rs Export (transactions_of l))).down;
   };
   evses = map (λ at. (at, record { flow = at_evse rs Import at l; export = at_evse rs Export at l })) (rising (map (λ tx. evse tx l) (transactions_of l)));
-  quarters = map (λ quarter. (quarter, record { flow = in_quarter rs Import period quarter l; export = in_quarter rs Export period quarter l })) (rising (map (quarter_of period) (pairs_over rs Import (transactions_of l) ++ pairs_over rs Export (transactions_of l))));
+  quarters = map (λ quarter. (quarter, record { flow = in_quarter rs Import period quarter l; export = in_quarter rs Export period quarter l })) (rising (map (λ t. t.0) (parts_over period (pairs_over rs Import (transactions_of l)) ++ parts_over period (pairs_over rs Export (transactions_of l)))));
   transactions = map (shown_of rs l) (transactions_of l);
 }
 

@@ -15,7 +15,8 @@ use Rattle.ledger_model.specs.Key.{KeyName, key_cmp}
 use Rattle.ledger_model.specs.Content.{Entry, Stored, live, transactions_of, has_transaction}
 use Rattle.ledger_model.specs.Entries.{IsRising, entries_after, entries_without, entries_marked_at}
 use Rattle.ledger_model.specs.declared.order.Order.{Order}
-use Rattle.ledger_model.specs.Energy.{Pair, difference, energy, energy_in, energy_of, energy_of_by, energy_over, pairs, quarter_of}
+use Rattle.ledger_model.specs.Energy.{Pair, difference, energy, energy_in, energy_of, energy_of_by, energy_over, energy_within, pairs, parts_of, parts_over}
+use Rattle.ledger_model.specs.Parts.{Part}
 use Rattle.ledger_model.specs.Evse.{evse_of, energy_at_by}
 use Rattle.ledger_model.specs.Gaps.{missing, numbers_of}
 use Rattle.ledger_model.specs.Complete.{is_complete, starts_and_ends}
@@ -26,6 +27,8 @@ use Rattle.ledger_model.proofs.Transactions.{transactions_added}
 use Rattle.ledger_model.proofs.FigureBounds.{live_and_voided}
 use Rattle.ledger_model.proofs.OneMore.{live_else, by_transaction_sums, station_moved, transaction_moved, passed_sum, taken}
 use Rattle.ledger_model.proofs.OrderLemmas.{evse_sums}
+use Rattle.ledger_model.proofs.SumLemmas.{sum_by-flat_map}
+use Rattle.ledger_model.specs.DeltaLaws.{count_in}
 use Rattle.ledger_model.proofs.OneMoreByCommand.{delivered_more, restored_more, voided_less, erased_same, kept_below}
 
 -- One event more is live.
@@ -73,25 +76,34 @@ pub energy_of_more : (d : Direction) (es more front : List Entry) (e : Entry) (b
 energy_of_more d es more front e back one =
     same_energy (plus (energy_of d e.0.tx more) (energy_over (gone_by d front e back))) (plus (energy_of d e.0.tx es) (energy_over (came_by d front e back))) (transaction_moved d (λ p. (difference p).up) es more front e back one) (transaction_moved d (λ p. (difference p).down) es more front e back one)
 
--- A sum over the pairs of a period.
-quarter_sums : (d : Direction) (f : Pair → ℕ) (period : Periods) (q : ℕ) (es more front : List Entry) (e : Entry) (back : List Entry) → IsOneMore es more front e back
-    → sum_by f (filter (λ p. quarter_of period p == q) (pairs d more)) + sum_by f (filter (λ p. quarter_of period p == q) (gone_by d front e back)) ≡ sum_by f (filter (λ p. quarter_of period p == q) (pairs d es)) + sum_by f (filter (λ p. quarter_of period p == q) (came_by d front e back))
+-- A sum over the parts of differences.
+part_sums : (d : Direction) (f : Part → ℕ) (period : Periods) (es more front : List Entry) (e : Entry) (back : List Entry) → IsOneMore es more front e back
+    → sum_by f (parts_over period (pairs d more)) + sum_by f (parts_over period (gone_by d front e back)) ≡ sum_by f (parts_over period (pairs d es)) + sum_by f (parts_over period (came_by d front e back))
+part_sums d f period es more front e back one =
+    let all = station_moved d (λ p. sum_by f (parts_of period p)) es more front e back one in
+    let over = sum_by-flat_map f (parts_of period) in
+    omega (arith, all, over (pairs d more), over (gone_by d front e back), over (pairs d es), over (came_by d front e back))
+
+-- A sum over those of a period.
+quarter_sums : (d : Direction) (f : Part → ℕ) (period : Periods) (q : ℕ) (es more front : List Entry) (e : Entry) (back : List Entry) → IsOneMore es more front e back
+    → sum_by f (filter (λ t. t.0 == q) (parts_over period (pairs d more))) + sum_by f (filter (λ t. t.0 == q) (parts_over period (gone_by d front e back))) ≡ sum_by f (filter (λ t. t.0 == q) (parts_over period (pairs d es))) + sum_by f (filter (λ t. t.0 == q) (parts_over period (came_by d front e back)))
 quarter_sums d f period q es more front e back one =
-    let test = λ (p : Pair). quarter_of period p == q in
-    let all = station_moved d (λ p. taken (test p) (f p)) es more front e back one in
-    omega (arith, all, passed_sum f test (pairs d more), passed_sum f test (gone_by d front e back), passed_sum f test (pairs d es), passed_sum f test (came_by d front e back))
+    let test = λ (t : Part). t.0 == q in
+    let all = part_sums d (λ t. taken (test t) (f t)) period es more front e back one in
+    let passed = λ (ps : List Pair). passed_sum f test (parts_over period ps) in
+    omega (arith, all, passed (pairs d more), passed (gone_by d front e back), passed (pairs d es), passed (came_by d front e back))
 
 -- The energy of a period.
 pub energy_in_more : (d : Direction) (period : Periods) (q : ℕ) (es more front : List Entry) (e : Entry) (back : List Entry) → IsOneMore es more front e back
-    → plus (energy_in d period q more) (energy_over (filter (λ p. quarter_of period p == q) (gone_by d front e back))) ≡ plus (energy_in d period q es) (energy_over (filter (λ p. quarter_of period p == q) (came_by d front e back)))
+    → plus (energy_in d period q more) (energy_within period q (gone_by d front e back)) ≡ plus (energy_in d period q es) (energy_within period q (came_by d front e back))
 energy_in_more d period q es more front e back one =
-    let test = λ (p : Pair). quarter_of period p == q in
-    same_energy (plus (energy_in d period q more) (energy_over (filter test (gone_by d front e back)))) (plus (energy_in d period q es) (energy_over (filter test (came_by d front e back)))) (quarter_sums d (λ p. (difference p).up) period q es more front e back one) (quarter_sums d (λ p. (difference p).down) period q es more front e back one)
+    same_energy (plus (energy_in d period q more) (energy_within period q (gone_by d front e back))) (plus (energy_in d period q es) (energy_within period q (came_by d front e back)))
+    (quarter_sums d (λ t. t.1.up) period q es more front e back one) (quarter_sums d (λ t. t.1.down) period q es more front e back one)
 
--- How many pairs a period has.
-pub pairs_in_more : (d : Direction) (period : Periods) (q : ℕ) (es more front : List Entry) (e : Entry) (back : List Entry) → IsOneMore es more front e back
-    → count_by (λ p. quarter_of period p == q) (pairs d more) + count_by (λ p. quarter_of period p == q) (gone_by d front e back) ≡ count_by (λ p. quarter_of period p == q) (pairs d es) + count_by (λ p. quarter_of period p == q) (came_by d front e back)
-pairs_in_more d period q es more front e back one = station_moved d (λ p. cond (quarter_of period p == q) 1 0) es more front e back one
+-- How many parts a period has.
+pub parts_in_more : (d : Direction) (period : Periods) (q : ℕ) (es more front : List Entry) (e : Entry) (back : List Entry) → IsOneMore es more front e back
+    → count_in period q (pairs d more) + count_in period q (gone_by d front e back) ≡ count_in period q (pairs d es) + count_in period q (came_by d front e back)
+parts_in_more d period q es more front e back one = part_sums d (λ t. cond (t.0 == q) 1 0) period es more front e back one
 
 if_up : (b : Bool) (flow : Energy) → (flow_if b flow).up ≡ taken b flow.up
 if_up true flow = refl

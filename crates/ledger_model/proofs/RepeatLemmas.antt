@@ -1,7 +1,8 @@
 -- Readings that repeat others, by moment.
-use Rattle.std.proofs.Common.{◌≡◌, ℕ, ◌+◌, ◌-◌, ◌<◌, ◌≤◌, ◌⊎◌, inl, inr, Bool, true, false, cond, List, [], ◌∷◌, ◌++◌, Option, Some, None, refl, sym, ap, subst, ◌∙◌, ⊎_elim, bytes_eq, eqb, map, arith, append_assoc}
+use Rattle.std.proofs.Common.{◌≡◌, ℕ, ◌+◌, ◌-◌, ◌<◌, ◌≤◌, ◌⊎◌, inl, inr, Bool, true, false, cond, List, [], ◌∷◌, ◌++◌, Option, Some, None, refl, sym, ap, subst, ◌∙◌, ⊎_elim, bytes_eq, eqb, map, arith, append_assoc, ◌&&◌}
+use Rattle.std.specs.Prelude.{nat_le, nat_lt}
 use Rattle.std.specs.List.{filter, filter_map, cons_option, flat_map, sum_by, AllByRecursion}
-use Rattle.std.proofs.lemmas.Bool.{cases_Bool, cases_eq, eq-eqb, ne_eqb}
+use Rattle.std.proofs.lemmas.Bool.{cases_Bool, cases_eq, eq-eqb, ltb-true, ne_eqb}
 use Rattle.std.proofs.lemmas.Grind.{flat_map-append}
 use Rattle.std.proofs.lemmas.List.Elements.{filter-append, recursion_from_All}
 use Rattle.std.proofs.lemmas.List.Sums.{sum_by-cons}
@@ -11,12 +12,16 @@ use Rattle.ledger_model.specs.declared.reading.Direction.{Direction}
 use Rattle.ledger_model.specs.declared.reading.Direction.TheVariants.{Import, Export}
 use Rattle.ledger_model.specs.Content.{Entry, distinct, live, transactions_of}
 use Rattle.ledger_model.specs.Deltas.{across, first_reading, last_reading, pairs_between}
-use Rattle.ledger_model.specs.Energy.{Pair, energy_by, energy_in_by, energy_of_by, energy_over, followed, pairs_by, quarter_of, readings_by, readings_of}
+use Rattle.ledger_model.specs.Energy.{Pair, energy_by, energy_in_by, energy_of_by, energy_over, energy_within, followed, pairs_by, parts_of, parts_over, readings_by, readings_of}
 use Rattle.ledger_model.specs.Event.{MeterReading, same_direction, toward}
 use Rattle.ledger_model.specs.Evse.{energy_at_by, evse_of, first_or_zero, transactions_at}
 use Rattle.ledger_model.specs.InTime.{AreInTime, in_time}
 use Rattle.ledger_model.specs.Key.{KeyName}
-use Rattle.ledger_model.specs.Settling.{settled_at}
+use Rattle.ledger_model.specs.Parts.{Part, longest_share, parts_by, shares, whole}
+use Rattle.ledger_model.specs.Settling.{settled_by}
+use Rattle.ledger_model.specs.declared.settle.Settle.{Settle}
+use Rattle.ledger_model.specs.declared.settle.Settle.TheVariants.{Later, Closing, Even}
+use Rattle.energy_flow.specs.Flow.{difference_of}
 use Rattle.ledger_model.specs.ReadingOrder.{taken_when, IsOneReadingMore, IsRepeat}
 use Rattle.ledger_model.proofs.EnergyLemmas.{same_energy}
 use Rattle.ledger_model.proofs.InTimeLemmas.{AreFrom, AreUpTo, IsPutIn, in_time-rises, of_moment, one_put_in, rest_from, tail_rises}
@@ -95,29 +100,32 @@ front_all : (P : MeterReading → Type 0) (xs ys : List MeterReading) → AllByR
 front_all P [] ys all = (tt, all)
 front_all P (x ∷ xs) ys all = ((all.0, (front_all P xs ys all.1).0), (front_all P xs ys all.1).1)
 
--- A measure of a pair that depends on its levels and its later moment, and is nothing where the levels are one.
-module _ (g : ℕ → ℕ → ℕ → ℕ) (none : (v m : ℕ) → g v v m ≡ 0) where
+-- A measure of a pair that depends on its levels and moments, and is nothing where both levels are one and both moments,
+-- too.
+module _ (g : ℕ → ℕ → ℕ → ℕ → ℕ) (none : (v m : ℕ) → g v v m m ≡ 0) where
   abbrev measure : Pair → ℕ
-  measure p = g p.0.mwh p.1.mwh p.1.moment
+  measure p = g p.0.mwh p.1.mwh p.0.moment p.1.moment
 
   one_pair : (p : Pair) → sum_by measure (p ∷ []) ≡ measure p + 0
   one_pair p = sum_by-cons measure p []
 
   -- the reading behind one of the same level adds nothing, and the pair behind it is that behind the other
-  behind_equal : (s r : MeterReading) (b : Option MeterReading) → s.mwh ≡ r.mwh → sum_by measure (pairs_between (Some s) (r ∷ []) b) ≡ sum_by measure (across (Some s) b)
-  behind_equal s r None level = one_pair (s, r) ∙ ap (λ v. g v r.mwh r.moment + 0) level ∙ ap (λ n. n + 0) (none r.mwh r.moment)
-  behind_equal s r (Some t) level =
+  behind_equal : (s r : MeterReading) (b : Option MeterReading) → s.mwh ≡ r.mwh → s.moment ≡ r.moment → sum_by measure (pairs_between (Some s) (r ∷ []) b) ≡ sum_by measure (across (Some s) b)
+  behind_equal s r None level moment = one_pair (s, r) ∙ (λ i. g (level i) r.mwh (moment i) r.moment + 0) ∙ ap (λ n. n + 0) (none r.mwh r.moment)
+  behind_equal s r (Some t) level moment =
       let whole = sum_by-cons measure (s, r) ((r, t) ∷ []) in
-      let zero : g s.mwh r.mwh r.moment ≡ 0 = ap (λ v. g v r.mwh r.moment) level ∙ none r.mwh r.moment in
-      let same : g r.mwh t.mwh t.moment ≡ g s.mwh t.mwh t.moment = ap (λ v. g v t.mwh t.moment) (sym level) in
+      let both : g s.mwh r.mwh s.moment r.moment ≡ g r.mwh r.mwh r.moment r.moment = (λ i. g (level i) r.mwh (moment i) r.moment) in
+      let zero : g s.mwh r.mwh s.moment r.moment ≡ 0 = both ∙ none r.mwh r.moment in
+      let front : g s.mwh t.mwh s.moment t.moment ≡ g r.mwh t.mwh r.moment t.moment = (λ i. g (level i) t.mwh (moment i) t.moment) in let same = sym front in
       omega (arith, whole, zero, same, one_pair (r, t), one_pair (s, t))
 
   front_equal : (l : Option MeterReading) (r t : MeterReading) → t.mwh ≡ r.mwh → t.moment ≡ r.moment → sum_by measure (pairs_between l (r ∷ []) (Some t)) ≡ sum_by measure (across l (Some t))
-  front_equal None r t level moment = one_pair (r, t) ∙ ap (λ v. g r.mwh v t.moment + 0) level ∙ ap (λ n. n + 0) (none r.mwh t.moment)
+  front_equal None r t level moment = one_pair (r, t) ∙ (λ i. g r.mwh (level i) r.moment (moment i) + 0) ∙ ap (λ n. n + 0) (none r.mwh r.moment)
   front_equal (Some s) r t level moment =
       let whole = sum_by-cons measure (s, r) ((r, t) ∷ []) in
-      let zero : g r.mwh t.mwh t.moment ≡ 0 = ap (λ v. g r.mwh v t.moment) level ∙ none r.mwh t.moment in
-      let back : g s.mwh t.mwh t.moment ≡ g s.mwh r.mwh r.moment = (λ i. g s.mwh (level i) (moment i)) in let same = sym back in
+      let both : g r.mwh t.mwh r.moment t.moment ≡ g r.mwh r.mwh r.moment r.moment = (λ i. g r.mwh (level i) r.moment (moment i)) in
+      let zero : g r.mwh t.mwh r.moment t.moment ≡ 0 = both ∙ none r.mwh r.moment in
+      let back : g s.mwh t.mwh s.moment t.moment ≡ g s.mwh r.mwh s.moment r.moment = (λ i. g s.mwh (level i) s.moment (moment i)) in let same = sym back in
       omega (arith, whole, zero, same, one_pair (r, t), one_pair (s, t))
 
   put_in_sums : (r : MeterReading) (front back : List MeterReading) → sum_by measure (pairs_between (last_reading front) (r ∷ []) (first_reading back)) ≡ sum_by measure (across (last_reading front) (first_reading back)) → sum_by measure (followed (front ++ r ∷ back)) ≡ sum_by measure (followed (front ++ back))
@@ -140,7 +148,7 @@ module _ (g : ℕ → ℕ → ℕ → ℕ) (none : (v m : ℕ) → g v v m ≡ 0
       (λ (some : of_moment taken_when r.moment put.front ≡ [] → ⊥).
       let last : IsLast P r.moment put.front = last_in P r.moment put.front (front_rises put.front put.back rises) put.early some all.0 in
       (λ i. sum_by measure (pairs_between (last.is i) (r ∷ []) (first_reading put.back)))
-      ∙ behind_equal last.s r (first_reading put.back) (last.so last.moment)
+      ∙ behind_equal last.s r (first_reading put.back) (last.so last.moment) last.moment
       ∙ sym (ap (λ o. sum_by measure (across o (first_reading put.back))) last.is))
       (none_or_some (of_moment taken_when r.moment put.front)))
       ∙ ap (λ rs. sum_by measure (followed rs)) (sym put.less_is)
@@ -244,7 +252,7 @@ module _ (es more : List Entry) (key : KeyName) (r : MeterReading) (one : IsOneR
 
   module _ (repeat : IsRepeat r (readings_by Moment r.direction key.tx es)) where
     -- Each sum over a transaction's pairs stays.
-    pub sums_stay : (g : ℕ → ℕ → ℕ → ℕ) (none : (v m : ℕ) → g v v m ≡ 0) (d : Direction) (tx : List ℕ) → sum_by (measure g none) (pairs_by Moment d tx more) ≡ sum_by (measure g none) (pairs_by Moment d tx es)
+    pub sums_stay : (g : ℕ → ℕ → ℕ → ℕ → ℕ) (none : (v m : ℕ) → g v v m m ≡ 0) (d : Direction) (tx : List ℕ) → sum_by (measure g none) (pairs_by Moment d tx more) ≡ sum_by (measure g none) (pairs_by Moment d tx es)
     sums_stay g none d tx = ⊎_elim
         (λ (is : bytes_eq tx key.tx ≡ true). ⊎_elim
         (λ (way : d ≡ r.direction).
@@ -259,7 +267,7 @@ module _ (es more : List Entry) (key : KeyName) (r : MeterReading) (one : IsOneR
         (cases_Bool (bytes_eq tx key.tx))
 
     -- And each over those of several transactions.
-    all_stay : (g : ℕ → ℕ → ℕ → ℕ) (none : (v m : ℕ) → g v v m ≡ 0) (d : Direction) (txs : List (List ℕ)) → sum_by (measure g none) (flat_map (λ tx. pairs_by Moment d tx more) txs) ≡ sum_by (measure g none) (flat_map (λ tx. pairs_by Moment d tx es) txs)
+    all_stay : (g : ℕ → ℕ → ℕ → ℕ → ℕ) (none : (v m : ℕ) → g v v m m ≡ 0) (d : Direction) (txs : List (List ℕ)) → sum_by (measure g none) (flat_map (λ tx. pairs_by Moment d tx more) txs) ≡ sum_by (measure g none) (flat_map (λ tx. pairs_by Moment d tx es) txs)
     all_stay g none d txs =
         sum_by-flat_map (measure g none) (λ tx. pairs_by Moment d tx more) txs
         ∙ sum_by-same _ _ (sums_stay g none d) txs
@@ -269,30 +277,52 @@ module _ (es more : List Entry) (key : KeyName) (r : MeterReading) (one : IsOneR
     nothing v m = omega arith
 
     pub transaction_stays : (d : Direction) (tx : List ℕ) → energy_of_by Moment d tx more ≡ energy_of_by Moment d tx es
-    transaction_stays d tx = same_energy _ _ (sums_stay (λ a b m. b - a) nothing d tx) (sums_stay (λ a b m. a - b) nothing d tx)
+    transaction_stays d tx = same_energy _ _ (sums_stay (λ a b m n. b - a) nothing d tx) (sums_stay (λ a b m n. a - b) nothing d tx)
 
     pub evse_energy_stays : (d : Direction) (evse : ℕ) → energy_at_by Moment d evse more ≡ energy_at_by Moment d evse es
     evse_energy_stays d evse =
         (λ i. energy_over (flat_map (λ tx. pairs_by Moment d tx more) (filter (λ tx. eqb (evses_stay tx i) evse) (transactions_stay i))))
-        ∙ same_energy _ _ (all_stay (λ a b m. b - a) nothing d (transactions_at evse es)) (all_stay (λ a b m. a - b) nothing d (transactions_at evse es))
+        ∙ same_energy _ _ (all_stay (λ a b m n. b - a) nothing d (transactions_at evse es)) (all_stay (λ a b m n. a - b) nothing d (transactions_at evse es))
 
     pub station_stays : (d : Direction) → energy_by Moment d more ≡ energy_by Moment d es
     station_stays d =
         (λ i. energy_over (flat_map (λ tx. pairs_by Moment d tx more) (transactions_stay i)))
-        ∙ same_energy _ _ (all_stay (λ a b m. b - a) nothing d (transactions_of (live es))) (all_stay (λ a b m. a - b) nothing d (transactions_of (live es)))
+        ∙ same_energy _ _ (all_stay (λ a b m n. b - a) nothing d (transactions_of (live es))) (all_stay (λ a b m n. a - b) nothing d (transactions_of (live es)))
 
-    in_quarter : (period : Periods) (q : ℕ) (f : ℕ → ℕ → ℕ) → ((v : ℕ) → f v v ≡ 0) → (d : Direction) (txs : List (List ℕ))
-        → sum_by (λ (p : Pair). f p.0.mwh p.1.mwh) (filter (λ p. eqb (quarter_of period p) q) (flat_map (λ tx. pairs_by Moment d tx more) txs)) ≡ sum_by (λ (p : Pair). f p.0.mwh p.1.mwh) (filter (λ p. eqb (quarter_of period p) q) (flat_map (λ tx. pairs_by Moment d tx es) txs))
-    in_quarter period q f same d txs =
-        passed_sum (λ (p : Pair). f p.0.mwh p.1.mwh) (λ p. eqb (quarter_of period p) q) (flat_map (λ tx. pairs_by Moment d tx more) txs)
-        ∙ all_stay (λ a b m. taken (eqb (settled_at period m) q) (f a b)) (λ v m. ap (taken (eqb (settled_at period m) q)) (same v) ∙ none_taken (eqb (settled_at period m) q)) d txs
-        ∙ sym (passed_sum (λ (p : Pair). f p.0.mwh p.1.mwh) (λ p. eqb (quarter_of period p) q) (flat_map (λ tx. pairs_by Moment d tx es) txs))
+    -- What the parts of a difference in a period add up to.
+    abbrev part_sum : (Part → ℕ) → Periods → ℕ → ℕ → ℕ → ℕ → ℕ → ℕ
+    part_sum f period q a b m n = sum_by (λ t. taken (eqb t.0 q) (f t)) (parts_by period.rule period.length (record { since = m; until = n; earlier = a; later = b }))
+
+    in_quarter : (f : Part → ℕ) (period : Periods) (q : ℕ) → ((v m : ℕ) → part_sum f period q v v m m ≡ 0) → (d : Direction) (txs : List (List ℕ))
+        → sum_by f (filter (λ t. eqb t.0 q) (parts_over period (flat_map (λ tx. pairs_by Moment d tx more) txs))) ≡ sum_by f (filter (λ t. eqb t.0 q) (parts_over period (flat_map (λ tx. pairs_by Moment d tx es) txs)))
+    in_quarter f period q none d txs = passed (flat_map (λ tx. pairs_by Moment d tx more) txs) ∙ all_stay (part_sum f period q) none d txs ∙ sym (passed (flat_map (λ tx. pairs_by Moment d tx es) txs))
       where
-        none_taken : (b : Bool) → taken b 0 ≡ 0
-        none_taken true = refl
-        none_taken false = refl
+        passed : (ps : List Pair) → sum_by f (filter (λ t. eqb t.0 q) (parts_over period ps)) ≡ sum_by (measure (part_sum f period q) none) ps
+        passed ps = passed_sum f (λ (t : Part). eqb t.0 q) (parts_over period ps) ∙ sum_by-flat_map (λ (t : Part). taken (eqb t.0 q) (f t)) (parts_of period) ps
+
+    none_taken : (b : Bool) (n : ℕ) → n ≡ 0 → taken b n + 0 ≡ 0
+    none_taken true n is = ap (λ m. m + 0) is
+    none_taken false n is = refl
+
+    -- Two readings of one moment and one level are parted into nothing.
+    no_part : (f : Part → ℕ) → ((q v : ℕ) → f (q, difference_of v v) ≡ 0) → (period : Periods) (q v m : ℕ) → part_sum f period q v v m m ≡ 0
+    no_part f same period q v m = by_rule period.rule
+      where
+        undivided : (rule : Settle) → sum_by (λ (t : Part). taken (eqb t.0 q) (f t)) (whole rule period.length (record { since = m; until = m; earlier = v; later = v })) ≡ 0
+        undivided rule = sum_by-cons (λ (t : Part). taken (eqb t.0 q) (f t)) (settled_by rule period.length m, difference_of v v) [] ∙ none_taken (eqb (settled_by rule period.length m) q) (f (settled_by rule period.length m, difference_of v v)) (same (settled_by rule period.length m) v)
+
+        not_shared : (b : Bool) → nat_lt m m ≡ b → b ≡ false
+        not_shared true is = absurd (let lt : m < m = ltb-true m m is in omega (arith, lt))
+        not_shared false is = refl
+
+        by_rule : (rule : Settle) → sum_by (λ (t : Part). taken (eqb t.0 q) (f t)) (parts_by rule period.length (record { since = m; until = m; earlier = v; later = v })) ≡ 0
+        by_rule Later = undivided Later
+        by_rule Closing = undivided Closing
+        by_rule Even =
+            ap (λ b. sum_by (λ (t : Part). taken (eqb t.0 q) (f t)) (cond (b && nat_le (m - m) longest_share) (shares period.length (record { since = m; until = m; earlier = v; later = v })) (whole Even period.length (record { since = m; until = m; earlier = v; later = v })))) (not_shared (nat_lt m m) refl)
+            ∙ undivided Even
 
     pub quarter_stays : (d : Direction) (period : Periods) (q : ℕ) → energy_in_by Moment d period q more ≡ energy_in_by Moment d period q es
     quarter_stays d period q =
-        (λ i. energy_over (filter (λ p. eqb (quarter_of period p) q) (flat_map (λ tx. pairs_by Moment d tx more) (transactions_stay i))))
-        ∙ same_energy _ _ (in_quarter period q (λ a b. b - a) (λ v. nothing v v) d (transactions_of (live es))) (in_quarter period q (λ a b. a - b) (λ v. nothing v v) d (transactions_of (live es)))
+        (λ i. energy_within period q (flat_map (λ tx. pairs_by Moment d tx more) (transactions_stay i)))
+        ∙ same_energy _ _ (in_quarter (λ t. t.1.up) period q (no_part (λ t. t.1.up) (λ q v. nothing v v) period q) d (transactions_of (live es))) (in_quarter (λ t. t.1.down) period q (no_part (λ t. t.1.down) (λ q v. nothing v v) period q) d (transactions_of (live es)))

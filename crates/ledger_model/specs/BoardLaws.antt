@@ -9,7 +9,7 @@ use Rattle.ledger_model.specs.declared.order.Order.{Order}
 use Rattle.ledger_model.specs.declared.reading.Direction.TheVariants.{Import, Export}
 use Rattle.ledger_model.specs.Board.{Board, Flowed, board_by}
 use Rattle.ledger_model.specs.Content.{Entry}
-use Rattle.ledger_model.specs.Energy.{Flows, Pair, all_pairs_by, energy_in_by}
+use Rattle.ledger_model.specs.Energy.{Flows, energy_in_by}
 use Rattle.ledger_model.specs.Gaps.{Gap}
 
 -- Rising numbers: each is below the next.
@@ -58,11 +58,6 @@ pub record AreComplete (kinds : List Kind) (missing : ℕ) : Type 0 where
 abbrev pub sum_of_energies : List Energy → Energy
 sum_of_energies [] = no_energy
 sum_of_energies (e ∷ es) = plus e (sum_of_energies es)
-
--- The pairs of a station in both directions, with the readings of each transaction in the given
--- order.
-abbrev pub pairs_of_both : Order → List Entry → List Pair
-pairs_of_both order es = all_pairs_by order Import es ++ all_pairs_by order Export es
 
 -- The periods of several stations' boards, one board after the other.
 abbrev pub quarters_over : Order → Periods → List (List Entry) → List Flowed

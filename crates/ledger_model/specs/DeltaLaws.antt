@@ -9,7 +9,7 @@ use Rattle.ledger_model.specs.declared.reading.Direction.{Direction}
 use Rattle.ledger_model.specs.Complete.{is_complete}
 use Rattle.ledger_model.specs.Content.{Entry, Stored, has_transaction, live, transactions_of}
 use Rattle.ledger_model.specs.Deltas.{across, before_key, behind_key, came_by, first_reading, flow_if, gone_by, kept_by, last_reading, own_readings, pairs_between, pairs_kept, pairs_less, pairs_more, IsOneMore}
-use Rattle.ledger_model.specs.Energy.{Pair, energy, energy_in, energy_of, energy_of_by, energy_over, followed, pairs, pairs_of, quarter_of}
+use Rattle.ledger_model.specs.Energy.{Pair, energy, energy_in, energy_of, energy_of_by, energy_over, energy_within, followed, pairs, pairs_of, parts_over}
 use Rattle.ledger_model.specs.Entries.{entries_after, IsRising}
 use Rattle.ledger_model.specs.Event.{EventContent, MeterReading}
 use Rattle.ledger_model.specs.Evse.{energy_at_by, evse_of, transactions_at}
@@ -63,24 +63,20 @@ pub record PairsMove (d : Direction) (es more front : List Entry) (e : Entry) (b
   pub less_kept : (f : Pair → ℕ) → sum_by f (pairs d es) ≡ sum_by f (gone_by d front e back ++ kept_by d es front e back)
   pub more_kept : (f : Pair → ℕ) → sum_by f (pairs d more) ≡ sum_by f (came_by d front e back ++ kept_by d es front e back)
 
--- Those of these pairs that belong to a period.
-abbrev pub pairs_in : Periods → ℕ → List Pair → List Pair
-pairs_in period quarter ps = filter (λ p. quarter_of period p == quarter) ps
-
--- How many of these pairs belong to a period.
+-- How many parts of the differences of these pairs belong to a period.
 abbrev pub count_in : Periods → ℕ → List Pair → ℕ
-count_in period quarter ps = count_by (λ p. quarter_of period p == quarter) ps
+count_in period quarter ps = count_by (λ t. t.0 == quarter) (parts_over period ps)
 
 -- With one more live event, the energies in a direction of the station, of the event's transaction
--- and of each period lose the pair that goes and gain the pairs that come; so does the number of a
--- period's pairs. The transaction's old energy is taken from the EVSE where it was, and its new
+-- and of each period lose the pair that goes and gain the pairs that come, or their parts in the
+-- period; so does the number of a period's parts. The transaction's old energy is taken from the EVSE where it was, and its new
 -- energy is added to the EVSE where it is.
 pub record EnergiesMove (d : Direction) (es more front : List Entry) (e : Entry) (back : List Entry) : Type 0 where
   pub station : plus (energy d more) (energy_over (gone_by d front e back)) ≡ plus (energy d es) (energy_over (came_by d front e back))
   pub transaction : plus (energy_of d e.0.tx more) (energy_over (gone_by d front e back)) ≡ plus (energy_of d e.0.tx es) (energy_over (came_by d front e back))
   pub quarter : (period : Periods) (q : ℕ)
-      → plus (energy_in d period q more) (energy_over (pairs_in period q (gone_by d front e back)))
-      ≡ plus (energy_in d period q es) (energy_over (pairs_in period q (came_by d front e back)))
+      → plus (energy_in d period q more) (energy_within period q (gone_by d front e back))
+      ≡ plus (energy_in d period q es) (energy_within period q (came_by d front e back))
   pub quarter_pairs : (period : Periods) (q : ℕ)
       → count_in period q (pairs d more) + count_in period q (gone_by d front e back)
       ≡ count_in period q (pairs d es) + count_in period q (came_by d front e back)

@@ -8,6 +8,7 @@ use Rattle.ledger_model.specs.declared.order.Order.{Order}
 use Rattle.ledger_model.specs.declared.order.Order.TheVariants.{Sequence}
 use Rattle.ledger_model.specs.Event.{MeterReading, toward}
 use Rattle.ledger_model.specs.InTime.{in_order}
+use Rattle.ledger_model.specs.Parts.{Change, Part, energy_of_parts, parts_by}
 use Rattle.ledger_model.specs.Settling.{settled_at}
 use Rattle.ledger_model.specs.Content.{Entry, live, live_of, transactions_of}
 
@@ -70,15 +71,31 @@ energy_by order d es = energy_over (all_pairs_by order d es)
 abbrev pub energy : Direction → List Entry → Energy
 energy d es = energy_by Sequence d es
 
--- The period of a pair, by the settlement periods of a site: the one that their rule gives for the
--- later reading.
+-- The period in which the whole of a pair counts, by the settlement periods of a site: the one that their rule gives
+-- for the later reading.
 abbrev pub quarter_of : Periods → Pair → ℕ
 quarter_of period p = settled_at period p.1.moment
+
+-- What the readings of a pair show.
+abbrev pub change_of : Pair → Change
+change_of p = record { since = p.0.moment; until = p.1.moment; earlier = p.0.mwh; later = p.1.mwh }
+
+-- The parts of a pair's difference, by the settlement periods of a site.
+abbrev pub parts_of : Periods → Pair → List Part
+parts_of period p = parts_by period.rule period.length (change_of p)
+
+-- The parts of the differences of pairs.
+abbrev pub parts_over : Periods → List Pair → List Part
+parts_over period ps = flat_map (parts_of period) ps
+
+-- The energy of a period over pairs: that of their parts which belong to it.
+abbrev pub energy_within : Periods → ℕ → List Pair → Energy
+energy_within period quarter ps = energy_of_parts (filter (λ t. t.0 == quarter) (parts_over period ps))
 
 -- The energy of a period of a station in one direction, with the readings of each transaction in the
 -- given order.
 abbrev pub energy_in_by : Order → Direction → Periods → ℕ → List Entry → Energy
-energy_in_by order d period quarter es = energy_over (filter (λ p. quarter_of period p == quarter) (all_pairs_by order d es))
+energy_in_by order d period quarter es = energy_within period quarter (all_pairs_by order d es)
 
 -- The energy of a period of a station in one direction, by sequence.
 abbrev pub energy_in : Direction → Periods → ℕ → List Entry → Energy
@@ -120,7 +137,11 @@ abbrev pub rising : List ℕ → List ℕ
 rising [] = []
 rising (n ∷ ns) = put_in n (rising ns)
 
--- The periods that a station shows, with its readings in the given order: each that has a pair of
--- either direction, even one of difference zero.
+-- The parts of a station's differences of both directions, with its readings in the given order.
+abbrev pub parts_of_both : Order → Periods → List Entry → List Part
+parts_of_both order period es = parts_over period (all_pairs_by order Import es) ++ parts_over period (all_pairs_by order Export es)
+
+-- The periods that a station shows, with its readings in the given order: each that has a part of a difference in
+-- either direction, even one of no energy.
 abbrev pub quarters_by : Order → Periods → List Entry → List ℕ
-quarters_by order period es = rising (map (quarter_of period) (all_pairs_by order Import es ++ all_pairs_by order Export es))
+quarters_by order period es = rising (map (λ t. t.0) (parts_of_both order period es))

@@ -3,6 +3,7 @@ pub mod Moment
 pub mod Quarter
 pub mod Periods
 pub mod Settling
+pub mod Parts
 pub mod TxId
 pub mod Name
 pub mod Key

@@ -2,7 +2,7 @@
 use Rattle.std.specs.Prelude.{ℕ, ◌-◌, max}
 use Rattle.ledger_model.specs.Periods.{Periods}
 use Rattle.ledger_model.specs.declared.settle.Settle.{Settle}
-use Rattle.ledger_model.specs.declared.settle.Settle.TheVariants.{Later, Closing}
+use Rattle.ledger_model.specs.declared.settle.Settle.TheVariants.{Later, Closing, Even}
 use Rattle.ledger_model.specs.Moment.{first_moment}
 use Rattle.ledger_model.specs.Quarter.{default_period, quarter_at}
 
@@ -12,10 +12,11 @@ abbrev pub closed_at : ℕ → ℕ → ℕ
 closed_at period nanos = quarter_at period (max (nanos - 1) first_moment)
 
 -- The settlement period of so many seconds in which a difference counts by this rule, if its later
--- reading was taken at this moment.
+-- reading was taken at this moment. What counts by Even are the shares of a difference.
 abbrev pub settled_by : Settle → ℕ → ℕ → ℕ
 settled_by Later period nanos = quarter_at period nanos
 settled_by Closing period nanos = closed_at period nanos
+settled_by Even period nanos = closed_at period nanos
 
 -- The settlement period of a site in which a difference counts, if its later reading was taken at this
 -- moment.

@@ -8,6 +8,10 @@ pub enum Settle {
     /// The period that the later reading closes. A reading at 10:15:00 closes the quarter of an hour that
     /// began at 10:00:00, so its difference counts there.
     Closing,
+    /// Shared by time: the difference of two readings that lie at most a day apart belongs to the periods between
+    /// them, to each by the time that lies in it, as if the register had risen or fallen evenly. Any other difference
+    /// counts as by `Closing`.
+    Even,
 }
 
 impl Default for Settle {

@@ -18,7 +18,7 @@ const PERIODS: [&str; 4] = ["300", "900", "1800", "3600"];
 const ORDERS: [&str; 2] = ["sequence", "moment"];
 
 // The rules by which differences may count in settlement periods.
-const RULES: [&str; 2] = ["later", "closing"];
+const RULES: [&str; 3] = ["later", "closing", "even"];
 
 // What help calls the four limits.
 const LIMITS: [&str; 4] = ["TRANSACTIONS", "EVENTS", "READINGS", "CHANGES"];
@@ -41,9 +41,10 @@ A script has one line for each step, and each answer is one line, or a board:
                              numbers of their events, or `moment`, by their own moments;
                              `sequence` if there is no such line; writes nothing
   settle <site> <word>       in which period the difference of two readings counts: `later`, in
-                             that of the later reading, or `closing`, in the one that it closes
-                             (10:15:00 closes 10:00 to 10:15); `later` if there is no such line;
-                             writes nothing
+                             that of the later reading, `closing`, in the one that it closes
+                             (10:15:00 closes 10:00 to 10:15), or `even`, in each period between
+                             them by its share of the time, where they lie at most a day apart;
+                             `later` if there is no such line; writes nothing
   now <time>                 sets the moment, as 2026-03-01T10:00:00Z; writes nothing
   msg <station> <text>       an OCPP-J message of the station; writes the reply, or `silent`
   void, restore or erase, with <station> <transaction id> <seqNo>

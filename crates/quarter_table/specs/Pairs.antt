@@ -9,7 +9,8 @@ use Rattle.ledger_model.specs.declared.reading.Direction.TheVariants.{Import, Ex
 use Rattle.ledger_model.specs.Board.{Flowed}
 use Rattle.ledger_model.specs.Content.{Entry}
 use Rattle.ledger_model.specs.Deltas.{came_by, gone_by}
-use Rattle.ledger_model.specs.Energy.{Flows, Pair, all_pairs_by, difference, flows_toward, quarter_of, rising}
+use Rattle.ledger_model.specs.Energy.{Flows, Pair, all_pairs_by, difference, flows_toward, parts_over, quarter_of, rising}
+use Rattle.ledger_model.specs.Parts.{Part}
 use Rattle.quarter_table.specs.declared.row.QuarterRow.{QuarterRow}
 use Rattle.quarter_table.specs.Rows.{row_at, set_row, with_pair, without_pair}
 
@@ -43,6 +44,14 @@ station_flows_by order period es = flows_of period Import (all_pairs_by order Im
 -- The pairs of a station in both directions, by sequence.
 abbrev pub station_flows : Periods → List Entry → List Flowed
 station_flows period es = station_flows_by Sequence period es
+
+-- Parts of differences of one direction, each given by its period and its energy.
+abbrev pub parts_toward : Direction → List Part → List Flowed
+parts_toward d parts = map (λ t. (t.0, flows_toward d t.1)) parts
+
+-- The parts of a station's differences in both directions, with the readings of each transaction in the given order.
+abbrev pub board_flows_by : Order → Periods → List Entry → List Flowed
+board_flows_by order period es = parts_toward Import (parts_over period (all_pairs_by order Import es)) ++ parts_toward Export (parts_over period (all_pairs_by order Export es))
 
 -- The pairs that go with one more live event.
 abbrev pub gone_flows : Periods → List Entry → Entry → List Entry → List Flowed

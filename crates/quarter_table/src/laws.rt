@@ -3,11 +3,12 @@
 ghost use Rattle.std.specs.Prelude.{◌≡◌, ◌≢◌, ◌≤◌, ℕ, List, [], ◌∷◌, ◌++◌, length, map, sum_by};
 ghost use Rattle.ledger_model.specs.Periods.{Periods};
 ghost use Rattle.ledger_model.specs.declared.order.Order.{Order};
+ghost use Rattle.ledger_model.specs.declared.settle.Settle.{Settle};
 ghost use Rattle.ledger_model.specs.Board.{Flowed, board_by};
 ghost use Rattle.ledger_model.specs.Content.{Entry};
 ghost use Rattle.ledger_model.specs.Deltas.{IsOneMore};
 ghost use Rattle.ledger_model.specs.Energy.{Flows};
-ghost use Rattle.quarter_table.specs.Pairs.{total, row_of, rows_of, rows_minus, rows_plus, rows_with, rows_without, station_flows_by, line_of, HasPair, RowsFollow};
+ghost use Rattle.quarter_table.specs.Pairs.{total, row_of, rows_of, rows_minus, rows_plus, rows_with, rows_without, board_flows_by, station_flows_by, line_of, HasPair, RowsFollow};
 ghost use Rattle.quarter_table.specs.Rows.{no_row, row_at, with_pair};
 
 /// After a pair was added or taken out, at any place among the pairs, the rows are those of the
@@ -55,7 +56,9 @@ pub fn rows_follow_events()
     ensures events { (period : Periods) (es more front : List Entry) (e : Entry) (back : List Entry) → IsOneMore es more front e back → RowsFollow period es more front e back }
 {}
 
-/// The rows of a station's pairs are the periods of its board, in either order.
+/// The rows of the parts of a station's differences are the periods of its board, in either order. Where no difference
+/// is shared, these are the rows of its pairs.
 pub fn rows_are_quarters_of_board()
-    ensures { (order : Order) (period : Periods) (es : List Entry) → map line_of (rows_of (station_flows_by order period es)) ≡ (board_by order period es).quarters }
+    ensures board { (order : Order) (period : Periods) (es : List Entry) → map line_of (rows_of (board_flows_by order period es)) ≡ (board_by order period es).quarters }
+    ensures whole { (order : Order) (period : Periods) (es : List Entry) → period.rule ≢ Settle.Even → board_flows_by order period es ≡ station_flows_by order period es }
 {}

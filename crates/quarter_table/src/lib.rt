@@ -26,6 +26,7 @@
 pub mod laws;
 mod place;
 mod row;
+mod shares;
 mod table;
 
 pub use row::QuarterRow;

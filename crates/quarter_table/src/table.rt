@@ -1,13 +1,19 @@
-ghost use Rattle.std.specs.Prelude.{◌≡◌, ◌↔◌, ◌<◌, ◌≤◌, ◌+◌, ◌^◌, [], IfOk, IsTrue, length};
+ghost use Rattle.std.specs.Prelude.{◌≡◌, ◌↔◌, ◌<◌, ◌≤◌, ◌+◌, ◌^◌, [], IfErr, IfOk, IsTrue, length, true};
 ghost use Rattle.energy_flow.specs.Flow.{CanPlus, CanMinus};
-ghost use Rattle.ledger_model.specs.Energy.{flows_toward};
+ghost use Rattle.ledger_model.specs.Energy.{change_of, flows_toward};
+ghost use Rattle.ledger_model.specs.Moment.{IsMoment};
+ghost use Rattle.ledger_model.specs.Parts.{is_shared, parts_by, shares};
+ghost use Rattle.ledger_model.specs.Quarter.{quarter_at};
+ghost use Rattle.ledger_model.specs.declared.settle.Settle.{Settle};
+ghost use Rattle.quarter_table.specs.Pairs.{parts_toward, rows_with};
 ghost use Rattle.quarter_table.specs.Rows.{row_at, with_pair, without_pair, set_row, AreInOrder, HavePairs};
 ghost use Rattle.quarter_table.specs.Table.{table};
 
 use crate::place::place_near;
 use crate::row::QuarterRow;
+use crate::shares::{Change, NANOS_PER_SECOND};
 use energy_flow::Flow;
-use ledger_model::{Direction, Quarter};
+use ledger_model::{Direction, FIRST_MOMENT, Period, Quarter, Reading};
 use std::alloc::{AllocError, Global};
 use std::marker::Model;
 
@@ -125,6 +131,93 @@ impl QuarterTable {
         }
     }
 
+    /// Adds as [`QuarterTable::add`] does, and takes memory for the row if there is no room for one. After an error, that
+    /// there is no memory or that a number or a sum would be out of range, the rows are as they were.
+    pub fn try_add(
+        &mut self,
+        quarter: Quarter,
+        direction: Direction,
+        flow: Flow,
+    ) -> Result<(), AllocError>
+        ensures added { IfOk result (λ _. self.new.rows ≡ set_row (with_pair (flows_toward direction flow) (row_at quarter self.old.rows)) self.old.rows) }
+        ensures kept { IfErr result (λ _. self.new.rows ≡ self.old.rows) }
+    {
+        let row = self.row(quarter);
+        let (imported, exported) = parted(direction, flow);
+        if row.pairs == u32::MAX || !row.flow.can_plus(imported) || !row.export.can_plus(exported) {
+            return Err(AllocError);
+        }
+        self.make_room()?;
+        self.add(quarter, direction, flow);
+        Ok(())
+    }
+
+    /// Adds what two readings of this direction show, shared by time among periods of this length. After an error, that
+    /// there is no memory or that a number or a sum would be out of range, the table has a part of it.
+    pub fn try_share(
+        &mut self,
+        alloc: Global,
+        length: Period,
+        direction: Direction,
+        earlier: Reading,
+        later: Reading,
+    ) -> Result<(), AllocError>
+        ensures { IfOk result (λ _. self.new.rows ≡ rows_with (parts_toward direction (parts_by Settle.Even length (change_of (earlier, later)))) self.old.rows) }
+    {
+        let change = Change::of(alloc, earlier, later);
+        if change.is_shared() {
+            return self.add_shares(length, direction, change);
+        }
+        let before = (change.until - 1).max(FIRST_MOMENT);
+        let quarter = quarter_of(before, length);
+        self.try_add(
+            quarter,
+            direction,
+            Flow::between(change.earlier, change.later),
+        )
+    }
+
+    // Adds the shares of a difference.
+    fn add_shares(
+        &mut self,
+        length: Period,
+        direction: Direction,
+        change: Change,
+    ) -> Result<(), AllocError>
+        requires { is_shared change ≡ true }
+        ensures { IfOk result (λ _. self.new.rows ≡ rows_with (parts_toward direction (shares length change)) self.old.rows) }
+    {
+        let seconds = u64::from(length.seconds());
+        let first = change.since / NANOS_PER_SECOND / seconds;
+        let last = (change.until - 1) / NANOS_PER_SECOND / seconds;
+        let mut level = change.earlier;
+        for number in first..last {
+            let next = change.level_at((number + 1) * seconds);
+            // Periods between two moments are those of moments.
+            let quarter = Quarter::new(number as u32).unwrap();
+            self.try_add(quarter, direction, Flow::between(level, next))?;
+            level = next;
+        }
+        let quarter = quarter_of(change.until - 1, length);
+        self.try_add(quarter, direction, Flow::between(level, change.later))
+    }
+
+    // Makes room for one more row.
+    fn make_room(&mut self) -> Result<(), AllocError>
+        ensures rows { self.new.rows ≡ self.old.rows }
+        ensures room { IfOk result (λ _. length self.new.rows < self.new.capacity) }
+    {
+        if self.room() > 0 {
+            return Ok(());
+        }
+        let Some(capacity) = self.capacity.checked_add(1) else {
+            return Err(AllocError);
+        };
+        self.rows.reserve(1)?;
+        self.capacity = capacity;
+        Ok(())
+    }
+
     /// Takes out a pair of this direction and difference. The period must have a row, and its sum
     /// of the direction must include the difference; if no other pair is left, the sums must be
     /// just that. [`QuarterTable::row`] shows this.
@@ -158,6 +251,15 @@ impl QuarterTable {
             Err(_) => unreachable!(),
         }
     }
+}
+
+// The period that a moment, given by its nanoseconds since 1970, falls into.
+fn quarter_of(nanos: u64, length: Period) -> Quarter
+    requires { IsMoment nanos }
+    ensures { result ≡ quarter_at length nanos }
+{
+    let number = nanos / NANOS_PER_SECOND / u64::from(length.seconds());
+    Quarter::new(number as u32).unwrap()
 }
 
 // What a difference of this direction adds to imports, and what to exports.

@@ -27,7 +27,7 @@ pub fn settled_quarter(moment: Moment, periods: Periods) -> Quarter
 {
     match periods.rule() {
         Settle::Later => quarter(moment, periods.length()),
-        Settle::Closing => quarter(moment_before(moment), periods.length()),
+        Settle::Closing | Settle::Even => quarter(moment_before(moment), periods.length()),
     }
 }
 

@@ -127,21 +127,22 @@ not_yet : (r : ℕ) (b : Bool) (e : Timed) (ts : List Timed) → e.0 < r → fro
 not_yet r true e ts lt = ap (λ b. cond (not b) (e ∷ from_on r ts) (from_on r ts)) (lt-ltb e.0 r lt)
 not_yet r false e ts lt = refl
 
--- The first reading of an owner from a rank on.
-pub first_behind : (r : ℕ) (es : List E) → AreRising es → only_owned (owner_of r) (option_map with_rank (first_of (from r es))) ≡ first_of (from_on r (owned (owner_of r) (map with_rank es)))
-first_behind r [] rising = refl
-first_behind r (e ∷ es) rising =
-    let o = owner_of r in let ts = owned o (map with_rank es) in ⊎_elim
+-- The first reading of an owner from a rank on, which is of no lesser owner.
+pub first_behind : (o r : ℕ) (es : List E) → o ≤ owner_of r → AreRising es → only_owned o (option_map with_rank (first_of (from r es))) ≡ first_of (from_on r (owned o (map with_rank es)))
+first_behind o r [] low rising = refl
+first_behind o r (e ∷ es) low rising =
+    let ts = owned o (map with_rank es) in ⊎_elim
     (λ (lt : e.0 < r).
     ap (λ b. only_owned o (option_map with_rank (first_of (cond b (from r es) (e ∷ es))))) (lt-ltb e.0 r lt)
-    ∙ first_behind r es rising.1
+    ∙ first_behind o r es low rising.1
     ∙ ap first_of (sym (not_yet r (eqb (owner_of e.0) o) (with_rank e) ts lt)))
     (λ (le : r ≤ e.0). ap (λ b. only_owned o (option_map with_rank (first_of (cond b (from r es) (e ∷ es))))) (le-ltb e.0 r le) ∙ ⊎_elim
     (λ (same : owner_of e.0 ≡ o).
     ap (λ b. cond b (Some (with_rank e)) None) (eq-eqb (owner_of e.0) o same)
     ∙ sym (ap (λ b. first_of (from_on r (cond b (with_rank e ∷ ts) ts))) (eq-eqb (owner_of e.0) o same) ∙ ap (λ b. first_of (cond (not b) (with_rank e ∷ from_on r ts) (from_on r ts))) (le-ltb e.0 r le)))
     (λ (apart : owner_of e.0 ≡ o → ⊥).
-    let later : o < owner_of e.0 = strictly (owner_up r e.0 le) apart in
+    let up = owner_up r e.0 le in
+    let later : o < owner_of e.0 = strictly (omega (arith, low, up)) apart in
     ap (λ b. cond b (Some (with_rank e)) None) (ne_eqb (owner_of e.0) o apart)
     ∙ sym (ap (λ b. first_of (from_on r (cond b (with_rank e ∷ ts) ts))) (ne_eqb (owner_of e.0) o apart) ∙ ap (λ l. first_of (from_on r l)) (none_owned o e.0 es later rising.0)))
     (cases_eq (owner_of e.0) o))

@@ -24,6 +24,10 @@ owned owner es = filter (λ e. owner_of e.0 == owner) es
 abbrev pub in_front : ℕ → List Timed → List Timed
 in_front r es = filter (λ e. nat_lt e.0 r) es
 
+-- The readings without their ranks.
+abbrev pub bare : List Timed → List MeterReading
+bare es = map (λ e. e.1) es
+
 -- The readings from a rank on.
 abbrev pub from_on : ℕ → List Timed → List Timed
 from_on r es = filter (λ e. not (nat_lt e.0 r)) es

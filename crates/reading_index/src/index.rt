@@ -1,11 +1,11 @@
-ghost use Rattle.std.specs.Prelude.{◌≡◌, ◌<◌, ◌≤◌, [], false, length, option_map, IfOk};
+ghost use Rattle.std.specs.Prelude.{◌≡◌, ◌<◌, ◌≤◌, ◌^◌, ◌++◌, [], false, length, option_map, IfOk};
 ghost use Rattle.ledger_model.specs.InTime.{put_in_time};
-ghost use Rattle.reading_index.specs.Ranks.{owner_of};
-ghost use Rattle.reading_index.specs.Timed.{first_of, from_on, has_rank, in_front, last_of, only_owned, owned, with_rank, without, AreRising};
+ghost use Rattle.reading_index.specs.Ranks.{owner, owner_of};
+ghost use Rattle.reading_index.specs.Timed.{bare, first_of, from_on, has_rank, in_front, last_of, only_owned, owned, with_rank, without, AreRising};
 
 use crate::MomentKey;
 use key_index::{Entry, Filed, KeyIndex, KeyPlace, Marks};
-use ledger_model::Reading;
+use ledger_model::{Direction, Reading};
 use std::alloc::{AllocError, Global};
 use std::marker::Model;
 
@@ -93,6 +93,33 @@ impl ReadingIndex {
         let before = owned_by(owner, self.index.before(place, key));
         let behind = owned_by(owner, self.index.at_or_after(place, key));
         (before, behind)
+    }
+
+    /// Puts the readings of this slot, below 2^24, and direction behind those of a list, by rising rank. The error says
+    /// that the allocator refused memory; then the list has some of them.
+    pub fn list(
+        &self,
+        slot: u32,
+        direction: Direction,
+        listed: &mut Vec<Reading>,
+    ) -> Result<(), AllocError>
+        requires { slot < 2 ^ 24 }
+        ensures { IfOk result (λ _. listed.new.items ≡ listed.old.items ++ bare (owned (owner slot direction) self.now.entries)) }
+    {
+        let mut from = MomentKey::first(slot, direction);
+        let owner = from.owner();
+        let mut place = self.index.place_near(self.near, from);
+        while let Some(entry) = owned_by(owner, self.index.at_or_after(place, from)) {
+            let (key, reading) = entry;
+            listed.push(reading)?;
+            // No moment is so late that no key is behind it.
+            let Some(next) = key.next() else {
+                return Err(AllocError);
+            };
+            from = next;
+            place = self.index.place_near(place.next(), from);
+        }
+        Ok(())
     }
 
     /// Puts in a reading under its key. The index must have no reading of this key, and must have

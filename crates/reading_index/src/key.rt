@@ -1,4 +1,4 @@
-ghost use Rattle.std.specs.Prelude.{◌≡◌, ◌<◌, ◌/◌, ◌%◌, ◌^◌, nat_lt, refl};
+ghost use Rattle.std.specs.Prelude.{◌≡◌, ◌<◌, ◌+◌, ◌/◌, ◌%◌, ◌^◌, IfSome, nat_lt, refl};
 ghost use Rattle.reading_index.specs.Ranks.{number_of, owner, owner_of, rank};
 
 use key_index::Ranked;
@@ -48,6 +48,27 @@ impl MomentKey {
         let numbered = timed * (1 << 31) + u128::from(number);
         MomentKey {
             joined: numbered * (1 << 10) + u128::from(place),
+        }
+    }
+
+    /// The key in front of all keys of this slot, below 2^24, and direction.
+    pub fn first(slot: u32, direction: Direction) -> Self
+        requires { slot < 2 ^ 24 }
+        ensures { result ≡ rank (owner slot direction) 0 0 0 }
+    {
+        let owner = u128::from(owner_at(slot, direction));
+        MomentKey {
+            joined: owner * (1 << 62) * (1 << 31) * (1 << 10),
+        }
+    }
+
+    // The key behind this one; none behind the last.
+    pub(crate) fn next(self) -> Option<Self>
+        ensures { IfSome result (λ key. key ≡ self + 1) }
+    {
+        match self.joined.checked_add(1) {
+            Some(joined) => Some(MomentKey { joined }),
+            None => None,
         }
     }
 

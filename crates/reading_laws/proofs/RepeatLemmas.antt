@@ -12,7 +12,9 @@ use Rattle.ledger_model.specs.declared.reading.Direction.TheVariants.{Import, Ex
 use Rattle.ledger_model.specs.Content.{Entry, live, live_of, transactions_of}
 use Rattle.ledger_model.specs.Deltas.{before_key, behind_key, flow_if, own_events, own_readings, IsOneMore}
 use Rattle.ledger_model.specs.DeltaLaws.{live_under}
-use Rattle.ledger_model.specs.Energy.{difference, energy_of_by, energy_over, followed, pairs_by, quarter_of, readings_by, readings_of, Pair, all_pairs_by}
+use Rattle.ledger_model.specs.Energy.{difference, energy_of_by, energy_over, energy_within, followed, pairs_by, parts_of, parts_over, readings_by, readings_of, Pair, all_pairs_by}
+use Rattle.ledger_model.specs.Parts.{Part}
+use Rattle.ledger_model.specs.Periods.{Periods}
 use Rattle.ledger_model.specs.Entries.{entries_after}
 use Rattle.ledger_model.specs.Event.{same_direction, toward, EventContent, MeterReading}
 use Rattle.ledger_model.specs.Evse.{energy_at_by, evse_of, first_or_zero}
@@ -176,7 +178,7 @@ same_live : (d : Direction) (es more : List Entry) → live more ≡ live es →
 same_live d es more e = record {
   transaction = λ tx. ap (λ l. energy_over (pairs_among d l tx)) e;
   evse = λ evse. ap (λ l. energy_over (flat_map (pairs_among d l) (filter (λ tx. first_or_zero (filter_map (λ (x : Entry). x.1.event.evse) (own_events tx l)) == evse) (transactions_of l)))) e;
-  quarter = λ period q. ap (λ l. energy_over (filter (λ p. quarter_of period p == q) (flat_map (pairs_among d l) (transactions_of l)))) e;
+  quarter = λ period q. ap (λ l. energy_within period q (flat_map (pairs_among d l) (transactions_of l))) e;
   station = ap (λ l. energy_over (flat_map (pairs_among d l) (transactions_of l))) e;
 }
 
@@ -302,13 +304,16 @@ module _ (es more : List Entry) (e : Entry) (m : IsOneMoreOfRepeats es more e) w
       let many = sum_by-flat_map f (λ tx. pairs_by Moment d tx bare) (transactions_of (live bare)) in
       omega (arith, all, own, less, many)
 
-  passed_stay : (d : Direction) (f : Pair → ℕ) (p : Pair → Bool) → sum_by f (filter p (all_pairs_by Moment d bare)) ≡ sum_by f (filter p (all_pairs_by Moment d es))
-  passed_stay d f p = passed_sum f p (all_pairs_by Moment d bare) ∙ sums_stay d (λ x. taken (p x) (f x)) ∙ sym (passed_sum f p (all_pairs_by Moment d es))
+  parts_stay : (d : Direction) (f : Part → ℕ) (period : Periods) (q : ℕ) → sum_by f (filter (λ t. t.0 == q) (parts_over period (all_pairs_by Moment d bare))) ≡ sum_by f (filter (λ t. t.0 == q) (parts_over period (all_pairs_by Moment d es)))
+  parts_stay d f period q = passed (all_pairs_by Moment d bare) ∙ sums_stay d (λ p. sum_by (λ t. taken (t.0 == q) (f t)) (parts_of period p)) ∙ sym (passed (all_pairs_by Moment d es))
+    where
+      passed : (ps : List Pair) → sum_by f (filter (λ t. t.0 == q) (parts_over period ps)) ≡ sum_by (λ p. sum_by (λ t. taken (t.0 == q) (f t)) (parts_of period p)) ps
+      passed ps = passed_sum f (λ (t : Part). t.0 == q) (parts_over period ps) ∙ sum_by-flat_map (λ (t : Part). taken (t.0 == q) (f t)) (parts_of period) ps
 
   bare_sums : (d : Direction) → HaveSameSums d es bare
   bare_sums d = record {
     transaction = λ tx. ap energy_over (pairs_stay d tx);
-    quarter = λ period q. same_energy _ _ (passed_stay d (λ p. (difference p).up) (λ p. quarter_of period p == q)) (passed_stay d (λ p. (difference p).down) (λ p. quarter_of period p == q));
+    quarter = λ period q. same_energy _ _ (parts_stay d (λ t. t.1.up) period q) (parts_stay d (λ t. t.1.down) period q);
     station = same_energy _ _ (sums_stay d (λ p. (difference p).up)) (sums_stay d (λ p. (difference p).down));
   }
 

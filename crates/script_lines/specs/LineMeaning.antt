@@ -11,7 +11,7 @@ use Rattle.ledger_model.specs.declared.command.Command.TheVariants.{Void, Restor
 use Rattle.ledger_model.specs.declared.order.Order.{Order}
 use Rattle.ledger_model.specs.declared.order.Order.TheVariants.{Sequence, Moment}
 use Rattle.ledger_model.specs.declared.settle.Settle.{Settle}
-use Rattle.ledger_model.specs.declared.settle.Settle.TheVariants.{Later, Closing}
+use Rattle.ledger_model.specs.declared.settle.Settle.TheVariants.{Later, Closing, Even}
 use Rattle.ledger_model.specs.Key.{KeyName}
 use Rattle.ledger_model.specs.Name.{is_name}
 use Rattle.ledger_model.specs.Ranges.{sequence_end}
@@ -87,7 +87,8 @@ abbrev pub settle_word : List ℕ → Option Settle
 settle_word word =
     if bytes_eq word (codes "later") then Some Later
     else (if bytes_eq word (codes "closing") then Some Closing
-    else None)
+    else (if bytes_eq word (codes "even") then Some Even
+    else None))
 
 -- the key of a transaction's id, which is folded, and a sequence number
 abbrev pub key : List ℕ → ℕ → Option KeyName

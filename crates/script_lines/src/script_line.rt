@@ -221,13 +221,14 @@ pub fn order_of(word: &str) -> Option<Order>
     }
 }
 
-/// The rule of settling that a word names: `later` or `closing`.
+/// The rule of settling that a word names: `later`, `closing` or `even`.
 pub fn settle_of(word: &str) -> Option<Settle>
     ensures { result ≡ spec.settle_word word.now }
 {
     match word {
         "later" => Some(Settle::Later),
         "closing" => Some(Settle::Closing),
+        "even" => Some(Settle::Even),
         _ => None,
     }
 }

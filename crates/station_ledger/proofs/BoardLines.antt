@@ -1,18 +1,19 @@
 -- The lines of a board are within what a station's readings can show.
 use Rattle.std.proofs.Common.{◌==◌, ℕ, ◌≤◌, List, [], ◌∷◌, ◌++◌, map, inl, inr, refl, arith}
 use Rattle.std.specs.List.{All}
-use Rattle.std.proofs.lemmas.List.Elements.{All-nil, All-cons, All-append}
+use Rattle.std.proofs.lemmas.List.Elements.{All-nil, All-cons}
 use Rattle.energy_flow.specs.Flow.{Energy}
 use Rattle.ledger_model.specs.Periods.{Periods}
 use Rattle.ledger_model.specs.Board.{Flowed, board_by}
 use Rattle.ledger_model.specs.Content.{Entry}
-use Rattle.ledger_model.specs.Energy.{Flows, Pair, all_pairs_by, flows_in_by, energy_by, energy_in_by, energy_of_by, quarter_of, quarters_by, difference}
+use Rattle.ledger_model.specs.Energy.{Flows, all_pairs_by, flows_in_by, energy_by, energy_in_by, energy_of_by, parts_of_both, parts_over, quarters_by}
+use Rattle.ledger_model.specs.Parts.{Part}
+use Rattle.ledger_model.proofs.PartLemmas.{parts_down, parts_up}
 use Rattle.ledger_model.specs.Evse.{energy_at_by, evses, flows_at_by}
 use Rattle.ledger_model.specs.declared.order.Order.{Order}
 use Rattle.ledger_model.specs.declared.reading.Direction.{Direction}
 use Rattle.ledger_model.specs.declared.reading.Direction.TheVariants.{Import, Export}
 use Rattle.ledger_model.specs.Limits.{Bounds}
-use Rattle.ledger_model.specs.Moment.{IsMoment}
 use Rattle.ledger_model.specs.Quarter.{IsPeriod, IsQuarterOf}
 use Rattle.ledger_model.specs.BoardLaws.{IsIn}
 use Rattle.ledger_model.proofs.Callers.{rising-IsIn}
@@ -35,7 +36,11 @@ module _ (order : Order) (limits : Bounds) (es : List Entry) (within : AreAllowe
   evse_flow d n = small d (energy_at_by order d n es) (evse_up_le order d n es) (evse_down_le order d n es)
 
   quarter_flow : (d : Direction) (period : Periods) (q : ℕ) → IsStationFlow (energy_in_by order d period q es)
-  quarter_flow d period q = small d (energy_in_by order d period q es) (part_le (λ p. (difference p).up) (λ p. quarter_of period p == q) (all_pairs_by order d es)) (part_le (λ p. (difference p).down) (λ p. quarter_of period p == q) (all_pairs_by order d es))
+  quarter_flow d period q =
+      let ts = parts_over period (all_pairs_by order d es) in
+      small d (energy_in_by order d period q es)
+      (let some = part_le (λ (t : Part). t.1.up) (λ t. t.0 == q) ts in let all = parts_up period (all_pairs_by order d es) in omega (arith, some, all))
+      (let some = part_le (λ (t : Part). t.1.down) (λ t. t.0 == q) ts in let all = parts_down period (all_pairs_by order d es) in omega (arith, some, all))
 
   all_lines : (f : ℕ → Flows) (ns : List ℕ) → ((n : ℕ) → AreStationFlows (f n)) → All (λ line. AreStationFlows line.1) (map {B = Flowed} (λ n. (n, f n)) ns)
   all_lines f [] each = All-nil (λ line. AreStationFlows line.1)
@@ -50,5 +55,5 @@ module _ (order : Order) (limits : Bounds) (es : List Entry) (within : AreAllowe
   lines_within period is = record {
     evse_flows = all_lines (λ n. flows_at_by order n es) (evses es) (λ n. record { flow = evse_flow Import n; export = evse_flow Export n });
     quarter_flows = all_lines (λ q. flows_in_by order period q es) (quarters_by order period es) (λ q. record { flow = quarter_flow Import period q; export = quarter_flow Export period q });
-    own_quarters = own_lines (λ q. flows_in_by order period q es) period.length (quarters_by order period es) (λ q h. in_period period (all_pairs_by order Import es ++ all_pairs_by order Export es) q is (All-append (λ (p : Pair). IsMoment p.1.moment) (all_pairs_by order Import es) (all_pairs_by order Export es) (within.in_time Import) (within.in_time Export)) ((rising-IsIn q (map (quarter_of period) (all_pairs_by order Import es ++ all_pairs_by order Export es))).0 h));
+    own_quarters = own_lines (λ q. flows_in_by order period q es) period.length (quarters_by order period es) (λ q h. in_period order period es q within.in_range is ((rising-IsIn q (map (λ (t : Part). t.0) (parts_of_both order period es))).0 h));
   }

@@ -18,6 +18,7 @@ pub mod Numbered
 pub mod EvseLines
 pub mod TransactionLines
 pub mod Timely
+pub mod Sharing
 pub mod BoardLines
 pub mod MomentRanks
 pub mod MomentLists

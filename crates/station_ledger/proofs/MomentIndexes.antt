@@ -8,7 +8,8 @@ use Rattle.reading_index.specs.Timed.{Timed, has_rank, owned, without, AreAbove,
 use Rattle.station_ledger.specs.ByMoment.{ArePuttable, put_each, take_each}
 use Rattle.station_ledger.specs.Runs.{own_timed}
 use Rattle.station_ledger.proofs.MomentLists.{AreApart, behind_apart, each_put_each, foreign_apart, none_has, put_each-put, without_put}
-use Rattle.station_ledger.proofs.MomentRanks.{at, filter-ranked, has_owned, length-without, owned-put, owned-put_else, owned-without, owned-without_else, put-ranked}
+use Rattle.reading_index.proofs.Listed.{filter-ranked}
+use Rattle.station_ledger.proofs.MomentRanks.{at, has_owned, length-without, owned-put, owned-put_else, owned-without, owned-without_else, put-ranked}
 
 -- Readings of one owner.
 abbrev pub AreOf : ℕ → List Timed → Type 0

@@ -62,15 +62,6 @@ put-ranked x (t ∷ ts) up none =
     strictly : {m n : ℕ} → m ≤ n → (n ≡ m → ⊥) → m < n
     strictly {m} {n} le apart = ⊎_elim (λ (same : n ≡ m). absurd (apart same)) (λ (other : n ≡ m → ⊥). omega (arith, le, other)) (cases_eq n m)
 
-behind_passed : (p : Timed → Bool) (n : ℕ) (ts : List Timed) → AreAbove n ts → AreAbove n (filter p ts)
-behind_passed p n [] behind = tt
-behind_passed p n (t ∷ ts) behind = elim (p t) as (λ b. AreAbove n (cond b (t ∷ filter p ts) (filter p ts))) [ true ↦ (behind.0, behind_passed p n ts behind.1) | false ↦ behind_passed p n ts behind.1 ]
-
--- Those that pass a test are by rank, as all are.
-pub filter-ranked : (p : Timed → Bool) (ts : List Timed) → AreRising ts → AreRising (filter p ts)
-filter-ranked p [] up = tt
-filter-ranked p (t ∷ ts) up = elim (p t) as (λ b. AreRising (cond b (t ∷ filter p ts) (filter p ts))) [ true ↦ (behind_passed p t.0 ts up.0, filter-ranked p ts up.1) | false ↦ filter-ranked p ts up.1 ]
-
 -- A rank is looked for among the readings of its owner.
 pub has_owned : (k : ℕ) (ts : List Timed) → has_rank k (owned (owner_of k) ts) ≡ has_rank k ts
 has_owned k [] = refl

@@ -26,7 +26,8 @@ use Rattle.station_ledger.specs.declared.by_moment.Moved.{Moved}
 use Rattle.station_ledger.specs.declared.by_moment.Way.{Way}
 use Rattle.station_ledger.specs.declared.by_moment.Way.TheVariants.{Coming, Going}
 use Rattle.station_ledger.specs.Runs.{came_of, gap_of, gone_of, own_timed, pairs_among, run_pairs, AreApart, AreExchanged, AreFew, AreSwapped, HasRoomWithout}
-use Rattle.station_ledger.proofs.MomentRanks.{at, filter-ranked, length-put, parted}
+use Rattle.reading_index.proofs.Listed.{filter-ranked}
+use Rattle.station_ledger.proofs.MomentRanks.{at, length-put, parted}
 use Rattle.station_ledger.proofs.MomentWalks.{AreInFront, AreOver, FirstFails, LastFails, few_more, fitting-beyond, fitting-front, followed_fewer, first_bare, foreign_first, foreign_last, foreign_parts, has_room, in_front-append, in_front-under, last-append, last_bare, last_behind, moved_in, one_run_more, own_parts, put_each-append, put_each-before, put_each-row, put_each-under, ranked-apart, three_down, three_up, with_run}
 use Rattle.station_ledger.proofs.Rows.{rows_less}
 use Rattle.station_ledger.proofs.Walks.{first_and_rest}

@@ -22,7 +22,7 @@ AreNumbered-filter p (e ∷ es) h =
     let rest = AreNumbered-filter p es h.1 in
     elim (p e) as (λ b. AreNumbered (cond b (e ∷ filter p es) (filter p es))) [ true ↦ (h.0, rest) | false ↦ rest ]
 
-live_numbered : (tx : List ℕ) (es : List Entry) → AreNumbered es → AreNumbered (live_of tx es)
+pub live_numbered : (tx : List ℕ) (es : List Entry) → AreNumbered es → AreNumbered (live_of tx es)
 live_numbered tx es h = AreNumbered-filter (λ e. bytes_eq tx e.0.tx) (live es) (AreNumbered-filter (λ e. not e.1.voided) es h)
 
 lowest_few : (es : List Entry) → AreNumbered es → first_or_zero (map (λ (e : Entry). e.0.seq) es) < sequence_end

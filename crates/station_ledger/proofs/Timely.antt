@@ -1,21 +1,23 @@
 -- Each reading of events in range is at a moment, and so the period of each pair begins at one.
-use Rattle.std.proofs.Common.{◌≡◌, ℕ, suc, ◌-◌, ◌<◌, ◌≤◌, max, not, true, false, cond, nat_lt, List, [], ◌∷◌, ◌++◌, map, sym, subst, arith, ⊎_elim}
+use Rattle.std.proofs.Common.{◌≡◌, ℕ, zero, suc, ◌+◌, ◌-◌, ◌*◌, ◌<◌, ◌≤◌, ◌&&◌, ◌⊎◌, inl, inr, max, not, Bool, true, false, cond, nat_le, nat_lt, List, [], ◌∷◌, ◌++◌, map, refl, sym, ap, ◌∙◌, subst, arith, ⊎_elim}
 use Rattle.std.specs.List.{All, flat_map}
 use Rattle.std.specs.Str.{bytes_eq}
-use Rattle.std.proofs.Math.Nat.{max-eq_left, max-eq_right}
-use Rattle.std.proofs.lemmas.Bool.{cases_lt}
+use Rattle.std.proofs.Math.Nat.{max-eq_left, max-eq_right, mul-le-mul_right}
+use Rattle.std.proofs.lemmas.Bool.{cases_lt, le-ltb}
 use Rattle.std.proofs.lemmas.List.Elements.{All-nil, All-cons, All-append}
 use Rattle.ledger_model.specs.Periods.{Periods}
 use Rattle.ledger_model.specs.BoardLaws.{IsIn}
 use Rattle.ledger_model.specs.Content.{Entry, live, live_of, transactions_of}
-use Rattle.ledger_model.specs.Energy.{Pair, all_pairs_by, followed, pairs_by, quarter_of, readings_of}
+use Rattle.ledger_model.specs.Energy.{Pair, all_pairs_by, change_of, followed, pairs_by, parts_of, parts_of_both, parts_over, readings_of}
+use Rattle.ledger_model.specs.Parts.{Change, Part, is_shared, level_at, longest_share, parts_by, shares, shares_from, whole}
 use Rattle.ledger_model.specs.Event.{MeterReading, IsMeterReading, same_direction, toward}
 use Rattle.ledger_model.specs.InTime.{in_order, in_time, put_in_time}
 use Rattle.ledger_model.specs.declared.order.Order.{Order}
 use Rattle.ledger_model.specs.declared.order.Order.TheVariants.{Sequence, Moment}
 use Rattle.ledger_model.specs.declared.reading.Direction.{Direction}
+use Rattle.ledger_model.specs.declared.reading.Direction.TheVariants.{Import, Export}
 use Rattle.ledger_model.specs.declared.settle.Settle.{Settle}
-use Rattle.ledger_model.specs.declared.settle.Settle.TheVariants.{Later, Closing}
+use Rattle.ledger_model.specs.declared.settle.Settle.TheVariants.{Later, Closing, Even}
 use Rattle.ledger_model.specs.Moment.{IsMoment, first_moment}
 use Rattle.ledger_model.specs.Settling.{settled_by}
 use Rattle.ledger_model.specs.Quarter.{IsPeriod, IsQuarterOf, quarter_at}
@@ -59,20 +61,27 @@ timely-in_order : (order : Order) (rs : List MeterReading) → AreTimely rs → 
 timely-in_order Sequence rs h = h
 timely-in_order Moment rs h = timely-in_time rs h
 
-later_timely : (rs : List MeterReading) → AreTimely rs → All (λ (p : Pair). IsMoment p.1.moment) (followed rs)
-later_timely [] h = All-nil (λ (p : Pair). IsMoment p.1.moment)
-later_timely (r ∷ []) h = All-nil (λ (p : Pair). IsMoment p.1.moment)
-later_timely (r ∷ s ∷ rs) h = All-cons (λ (p : Pair). IsMoment p.1.moment) (r, s) (followed (s ∷ rs)) h.1.0 (later_timely (s ∷ rs) h.1)
+-- both readings of a pair are at moments
+abbrev pub IsTimed : Pair → Type 0
+IsTimed p = IsMoment p.0.moment × IsMoment p.1.moment
 
-of_each : (order : Order) (d : Direction) (es : List Entry) (txs : List (List ℕ)) → AreEntries (live es) → All (λ (p : Pair). IsMoment p.1.moment) (flat_map (λ tx. pairs_by order d tx es) txs)
-of_each order d es [] h = All-nil (λ (p : Pair). IsMoment p.1.moment)
-of_each order d es (tx ∷ txs) h = All-append (λ (p : Pair). IsMoment p.1.moment) (pairs_by order d tx es) (flat_map (λ t. pairs_by order d t es) txs)
-    (later_timely (in_order order (λ s. s.moment) (readings_of d tx es)) (timely-in_order order (readings_of d tx es) (timely-entries d (live_of tx es) (AreEntries-filter (λ e. bytes_eq tx e.0.tx) (live es) h))))
+followed_timely : (rs : List MeterReading) → AreTimely rs → All IsTimed (followed rs)
+followed_timely [] h = All-nil IsTimed
+followed_timely (r ∷ []) h = All-nil IsTimed
+followed_timely (r ∷ s ∷ rs) h = All-cons IsTimed (r, s) (followed (s ∷ rs)) (h.0, h.1.0) (followed_timely (s ∷ rs) h.1)
+
+of_each : (order : Order) (d : Direction) (es : List Entry) (txs : List (List ℕ)) → AreEntries (live es) → All IsTimed (flat_map (λ tx. pairs_by order d tx es) txs)
+of_each order d es [] h = All-nil IsTimed
+of_each order d es (tx ∷ txs) h = All-append IsTimed (pairs_by order d tx es) (flat_map (λ t. pairs_by order d t es) txs)
+    (followed_timely (in_order order (λ s. s.moment) (readings_of d tx es)) (timely-in_order order (readings_of d tx es) (timely-entries d (live_of tx es) (AreEntries-filter (λ e. bytes_eq tx e.0.tx) (live es) h))))
     (of_each order d es txs h)
 
--- each pair's later reading is at a moment
+-- so are those of each pair of events
+pub pairs_timed : (order : Order) (d : Direction) (es : List Entry) → AreEntries es → All IsTimed (all_pairs_by order d es)
+pairs_timed order d es h = of_each order d es (transactions_of (live es)) (AreEntries-filter (λ e. not e.1.voided) es h)
+
 pub pairs_in_time : (order : Order) (d : Direction) (es : List Entry) → AreEntries es → All (λ (p : Pair). IsMoment p.1.moment) (all_pairs_by order d es)
-pairs_in_time order d es h = of_each order d es (transactions_of (live es)) (AreEntries-filter (λ e. not e.1.voided) es h)
+pairs_in_time order d es h = λ k p lt. (pairs_timed order d es h k p lt).1
 
 -- the period of a moment begins at one
 own_quarter : (period moment : ℕ) → IsPeriod period → IsMoment moment → IsQuarterOf period (quarter_at period moment)
@@ -96,10 +105,81 @@ before moment at =
 settled_quarter : (rule : Settle) (period moment : ℕ) → IsPeriod period → IsMoment moment → IsQuarterOf period (settled_by rule period moment)
 settled_quarter Later period moment is at = own_quarter period moment is at
 settled_quarter Closing period moment is at = own_quarter period (max (moment - 1) first_moment) is (before moment at)
+settled_quarter Even period moment is at = own_quarter period (max (moment - 1) first_moment) is (before moment at)
 
--- each quarter of such pairs is one of the periods
-pub in_period : (period : Periods) (ps : List Pair) (q : ℕ) → IsPeriod period.length → All (λ (p : Pair). IsMoment p.1.moment) ps → IsIn q (map (quarter_of period) ps) → IsQuarterOf period.length q
-in_period period [] q is at h = absurd h
-in_period period (p ∷ ps) q is at h =
-    ⊎_elim {C = IsQuarterOf period.length q} (λ (e : q ≡ quarter_of period p). subst (IsQuarterOf period.length) (sym e) (settled_quarter period.rule period.length p.1.moment is (at 0 p (omega arith))))
-    (λ (there : IsIn q (map (quarter_of period) ps)). in_period period ps q is (λ k d lt. at (suc k) d (omega arith)) there) h
+whole_in : (rule : Settle) (length : ℕ) (c : Change) (k : ℕ) → IsPeriod length → IsMoment c.until → IsIn k (map (λ (t : Part). t.0) (whole rule length c)) → IsQuarterOf length k
+whole_in rule length c k is until h = ⊎_elim {C = IsQuarterOf length k} (λ (e : k ≡ settled_by rule length c.until). subst (IsQuarterOf length) (sym e) (settled_quarter rule length c.until is until)) (λ never. absurd never) h
+
+-- a later moment lies in no earlier period
+quarters_rise : (length m n : ℕ) → IsPeriod length → m ≤ n → quarter_at length m ≤ quarter_at length n
+quarters_rise length m n is le =
+    ⊎_elim {C = quarter_at length m ≤ quarter_at length n} (λ (e : length ≡ 300). at 300 e (omega (arith, le)))
+    (λ more. ⊎_elim {C = quarter_at length m ≤ quarter_at length n} (λ (e : length ≡ 900). at 900 e (omega (arith, le)))
+    (λ most. ⊎_elim {C = quarter_at length m ≤ quarter_at length n} (λ (e : length ≡ 1_800). at 1_800 e (omega (arith, le)))
+    (λ (e : length ≡ 3_600). at 3_600 e (omega (arith, le))) most) more) is
+  where
+    at : (k : ℕ) → length ≡ k → quarter_at k m ≤ quarter_at k n → quarter_at length m ≤ quarter_at length n
+    at k e h = subst (λ s. quarter_at s m ≤ quarter_at s n) (sym e) h
+
+-- the shares of a difference are those of the periods in a row
+in_shares : (length : ℕ) (c : Change) (q level n k : ℕ) → IsIn k (map (λ (t : Part). t.0) (shares_from length c q level n)) → (q ≤ k) × (k ≤ q + n)
+in_shares length c q level zero k h = ⊎_elim {C = (q ≤ k) × (k ≤ q + 0)} (λ (e : k ≡ q). (omega (arith, e), omega (arith, e))) (λ never. absurd never) h
+in_shares length c q level (suc n) k h =
+    ⊎_elim {C = (q ≤ k) × (k ≤ q + suc n)} (λ (e : k ≡ q). (omega (arith, e), omega (arith, e)))
+    (λ (there : IsIn k (map (λ (t : Part). t.0) (shares_from length c (q + 1) (level_at c ((q + 1) * length)) n))).
+    let rest = in_shares length c (q + 1) (level_at c ((q + 1) * length)) n k there in let low = rest.0 in let high = rest.1 in (omega (arith, low), omega (arith, high))) h
+
+-- a period between two of moments begins at one
+between : (length low k high : ℕ) → IsQuarterOf length low → IsQuarterOf length high → low ≤ k → k ≤ high → IsQuarterOf length k
+between length low k high lower upper after before =
+    let from : low * length ≤ k * length = mul-le-mul_right length after in
+    let to : k * length ≤ high * length = mul-le-mul_right length before in
+    let low_moment = lower.0 in let high_moment = upper.1 in
+    (omega (arith, from, low_moment), omega (arith, to, high_moment))
+
+rising_moments : (c : Change) → is_shared c ≡ true → c.since < c.until
+rising_moments c shared = ⊎_elim {C = c.since < c.until} (λ (lt : c.since < c.until). lt)
+    (λ (le : c.until ≤ c.since). absurd (never (sym (ap (λ b. b && nat_le (c.until - c.since) longest_share) (le-ltb c.since c.until le)) ∙ shared)))
+    (cases_lt c.since c.until)
+  where
+    never : false ≡ true → ⊥
+    never h = cc
+
+-- each part of a difference between moments belongs to one of the periods
+in_parts : (rule : Settle) (length : ℕ) (c : Change) (k : ℕ) → IsPeriod length → IsMoment c.since → IsMoment c.until → IsIn k (map (λ (t : Part). t.0) (parts_by rule length c)) → IsQuarterOf length k
+in_parts Later length c k is since until h = whole_in Later length c k is until h
+in_parts Closing length c k is since until h = whole_in Closing length c k is until h
+in_parts Even length c k is since until h = shared_in (is_shared c) refl h
+  where
+    shared_in : (b : Bool) → is_shared c ≡ b → IsIn k (map (λ (t : Part). t.0) (cond b (shares length c) (whole Even length c))) → IsQuarterOf length k
+    shared_in false not_so there = whole_in Even length c k is until there
+    shared_in true so there =
+        let up = rising_moments c so in
+        let first = quarter_at length c.since in let last = quarter_at length (c.until - 1) in
+        let own = in_shares length c first c.earlier (last - first) k there in let low = own.0 in let high = own.1 in
+        let ordered : first ≤ last = quarters_rise length c.since (c.until - 1) is (omega (arith, up)) in
+        between length first k last (own_quarter length c.since is since)
+        (own_quarter length (c.until - 1) is (let a = since.0 in let b = until.1 in (omega (arith, a, up), omega (arith, b))))
+        low (omega (arith, high, ordered))
+
+-- a part of several differences is one of the first, or of the others
+either_part : (ts us : List Part) (k : ℕ) → IsIn k (map (λ (t : Part). t.0) (ts ++ us)) → IsIn k (map (λ (t : Part). t.0) ts) ⊎ IsIn k (map (λ (t : Part). t.0) us)
+either_part [] us k h = inr h
+either_part (t ∷ ts) us k h =
+    ⊎_elim {C = IsIn k (map (λ (s : Part). s.0) (t ∷ ts)) ⊎ IsIn k (map (λ (s : Part). s.0) us)} (λ (e : k ≡ t.0). inl (inl e))
+    (λ (there : IsIn k (map (λ (s : Part). s.0) (ts ++ us))).
+    ⊎_elim {C = IsIn k (map (λ (s : Part). s.0) (t ∷ ts)) ⊎ IsIn k (map (λ (s : Part). s.0) us)} (λ one. inl (inr one)) (λ other. inr other) (either_part ts us k there)) h
+
+one_direction : (period : Periods) (ps : List Pair) (k : ℕ) → IsPeriod period.length → All IsTimed ps → IsIn k (map (λ (t : Part). t.0) (parts_over period ps)) → IsQuarterOf period.length k
+one_direction period [] k is at h = absurd h
+one_direction period (p ∷ ps) k is at h =
+    ⊎_elim {C = IsQuarterOf period.length k} (λ (here : IsIn k (map (λ (t : Part). t.0) (parts_of period p))). let own : IsTimed p = at 0 p (omega arith) in in_parts period.rule period.length (change_of p) k is own.0 own.1 here)
+    (λ (there : IsIn k (map (λ (t : Part). t.0) (parts_over period ps))). one_direction period ps k is (λ j d lt. at (suc j) d (omega arith)) there)
+    (either_part (parts_of period p) (parts_over period ps) k h)
+
+-- each period that a station shows begins at a moment
+pub in_period : (order : Order) (period : Periods) (es : List Entry) (k : ℕ) → AreEntries es → IsPeriod period.length → IsIn k (map (λ (t : Part). t.0) (parts_of_both order period es)) → IsQuarterOf period.length k
+in_period order period es k range is h =
+    ⊎_elim {C = IsQuarterOf period.length k} (λ here. one_direction period (all_pairs_by order Import es) k is (pairs_timed order Import es range) here)
+    (λ there. one_direction period (all_pairs_by order Export es) k is (pairs_timed order Export es range) there)
+    (either_part (parts_over period (all_pairs_by order Import es)) (parts_over period (all_pairs_by order Export es)) k h)

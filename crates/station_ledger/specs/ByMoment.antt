@@ -14,6 +14,7 @@ use Rattle.ledger_model.specs.Limits.{Bounds}
 use Rattle.ledger_model.specs.Ranges.{most_event_readings}
 use Rattle.reading_index.specs.Ranks.{owner, rank}
 use Rattle.reading_index.specs.Timed.{Timed, AreRising, has_rank, owned, without}
+pub use Rattle.reading_index.specs.Timed.{bare}
 use Rattle.station_ledger.specs.declared.by_moment.ByMoment.{ByMoment}
 use Rattle.station_ledger.specs.Quarters.{readings_at}
 
@@ -40,10 +41,6 @@ put_each (x ∷ xs) ts = put_each xs (put_in_time (λ t. t.0) x ts)
 abbrev pub take_each : List Timed → List Timed → List Timed
 take_each [] ts = ts
 take_each (x ∷ xs) ts = take_each xs (without x.0 ts)
-
--- The readings without their ranks.
-abbrev pub bare : List Timed → List MeterReading
-bare ts = map (λ t. t.1) ts
 
 -- How many readings the live events have.
 abbrev pub live_readings : List Entry → ℕ

@@ -15,3 +15,4 @@ pub mod Coming
 pub mod New
 pub mod Lines
 pub mod Numbered
+pub mod Shares

@@ -1,5 +1,5 @@
 -- Entries with numbers in range.
-use Rattle.std.specs.Prelude.{◌<◌, ◌≤◌, List, [], ◌∷◌, IfSome}
+use Rattle.std.specs.Prelude.{ℕ, ◌<◌, ◌≤◌, List, [], ◌∷◌, IfSome}
 use Rattle.ledger_model.specs.Content.{Entry}
 use Rattle.ledger_model.specs.Ranges.{greatest_evse, sequence_end}
 
@@ -12,3 +12,8 @@ pub record IsNumbered (e : Entry) : Type 0 where
 abbrev pub AreNumbered : List Entry → Type 0
 AreNumbered [] = Unit {0}
 AreNumbered (e ∷ es) = IsNumbered e × AreNumbered es
+
+-- Numbers of events.
+abbrev pub AreNumbers : List ℕ → Type 0
+AreNumbers [] = Unit {0}
+AreNumbers (n ∷ ns) = (n < sequence_end) × AreNumbers ns

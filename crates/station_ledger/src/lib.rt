@@ -45,6 +45,7 @@ mod ledger;
 mod lines;
 mod moves;
 mod pairs;
+mod shares;
 mod standing;
 mod sums;
 mod totals;

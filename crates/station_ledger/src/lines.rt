@@ -15,11 +15,12 @@ ghost use Rattle.station_ledger.specs.Standing.{standing_by};
 ghost use Rattle.station_ledger.specs.Sums.{AreAllowed, AreEvseSums, AreStanding, AreSummed, order_in};
 
 use crate::board::{EvseLine, QuarterLine, StationBoard, TxLine};
+use crate::shares::shared_rows;
 use crate::sums::Sums;
 use crate::totals::EvseSum;
 use event_chain::Chains;
 use gap_list::Gaps;
-use ledger_model::{EvseId, Figures, GREATEST_EVSE, Listed, TxId};
+use ledger_model::{EvseId, Figures, GREATEST_EVSE, Listed, Settle, TxId};
 use quarter_table::QuarterTable;
 use std::alloc::{AllocError, Global};
 
@@ -108,6 +109,23 @@ pub(crate) fn transaction_lines(
     Ok(lines)
 }
 
+// The lines of the settlement periods by the site's rule: from the rows that are kept, or shared now.
+fn settled_lines(
+    alloc: Global,
+    chains: &Chains,
+    sums: &Sums,
+) -> Result<Vec<QuarterLine>, AllocError>
+    requires within { AreAllowed (order_in sums.now) chains.now.limits (stored chains.now) }
+    requires numbered { AreNumbered (stored chains.now) }
+    requires summed { AreSummed chains.now.limits (stored chains.now) sums.now }
+    ensures { IfOk result (λ lines. lines.items ≡ (board_by (order_in sums.now) sums.now.period (stored chains.now)).quarters) }
+{
+    match sums.period.rule() {
+        Settle::Later | Settle::Closing => quarter_lines(alloc, &sums.quarters),
+        Settle::Even => quarter_lines(alloc, &shared_rows(alloc, chains, sums)?),
+    }
+}
+
 // The board of what is stored, with these figures.
 pub(crate) fn board_of(
     alloc: Global,
@@ -123,7 +141,7 @@ pub(crate) fn board_of(
 {
     let transactions = transaction_lines(alloc, chains, sums)?;
     let evses = evse_lines(alloc, &sums.evses)?;
-    let quarters = quarter_lines(alloc, &sums.quarters)?;
+    let quarters = settled_lines(alloc, chains, sums)?;
     Ok(StationBoard {
         // Settlement periods of one of the four lengths begin at moments.
         period: sums.period.copied(),

@@ -6,11 +6,11 @@ ghost use Rattle.std.specs.Ordering.{nat_cmp};
 ghost use Rattle.std.specs.Cmp.Lexicographic.{slice_cmp};
 ghost use Rattle.ledger_model.specs.Periods.{Periods};
 ghost use Rattle.ledger_model.specs.BoardExamples.{first_run, first_run_board, first_run_site, late_event, late_event_board, void_and_restore, void_and_restore_board, quarter_boundary, closing_periods, quarter_closed, at_first_moment, readings_again_at_end, readings_again_counts, readings_again_quarters, evse_moves, evse_voided, start_voided, widest_gap, widest_gap_counts, exported, in_turn, rise, took, ten};
-ghost use Rattle.ledger_model.specs.BoardLaws.{AreRising, AreGaps, AreComplete, AreSums, IsIn, flows_over, pairs_of_both, quarters_over, sum_of_energies};
+ghost use Rattle.ledger_model.specs.BoardLaws.{AreRising, AreGaps, AreComplete, AreSums, IsIn, flows_over, quarters_over, sum_of_energies};
 ghost use Rattle.ledger_model.specs.Board.{Board, board, board_by, figures, flows_under, last_or_zero, plus_figures, site_board, sum_of_figures};
 ghost use Rattle.ledger_model.specs.Complete.{is_complete, kinds_of};
 ghost use Rattle.ledger_model.specs.Content.{Content, Entry, entries, has_transaction, live, transactions_of};
-ghost use Rattle.ledger_model.specs.Energy.{energy_by, energy_in_by, energy_of_by, flows_toward, quarter_of, quarters_by};
+ghost use Rattle.ledger_model.specs.Energy.{energy_by, energy_in_by, energy_of_by, flows_toward, parts_of_both, quarters_by};
 ghost use Rattle.ledger_model.specs.Evse.{energy_at_by, evse_of, evses, first_or_zero};
 ghost use Rattle.ledger_model.specs.Gaps.{Gap, gaps, missing, numbers_of};
 ghost use Rattle.ledger_model.specs.Settling.{default_periods};
@@ -57,7 +57,7 @@ pub fn energy_by_transaction()
 /// live event, and each such transaction. It shows each once: periods and EVSEs by rising number, transactions in the
 /// order of their ids' bytes.
 pub fn shown_once_and_rising()
-    ensures quarters { (order : Order) (period : Periods) (es : List Entry) (quarter : ℕ) → IsIn quarter (quarters_by order period es) ↔ IsIn quarter (map (quarter_of period) (pairs_of_both order es)) }
+    ensures quarters { (order : Order) (period : Periods) (es : List Entry) (quarter : ℕ) → IsIn quarter (quarters_by order period es) ↔ IsIn quarter (map (λ t. t.0) (parts_of_both order period es)) }
     ensures quarters_rise { (order : Order) (period : Periods) (es : List Entry) → AreRising (quarters_by order period es) }
     ensures evses { (es : List Entry) (evse : ℕ) → IsIn evse (evses es) ↔ IsIn evse (map (λ tx. evse_of tx es) (transactions_of (live es))) }
     ensures evses_rise { (es : List Entry) → AreRising (evses es) }

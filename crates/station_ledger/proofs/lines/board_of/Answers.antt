@@ -1,9 +1,7 @@
-use Rattle.std.proofs.Common.{map, sym, ap, subst, ◌∙◌}
+use Rattle.std.proofs.Common.{sym, subst, ◌∙◌}
 use Rattle.event_chain.specs.Chains.{stored}
 use Rattle.ledger_model.specs.Board.{board_by}
 use Rattle.ledger_model.specs.Quarter.{IsPeriod}
-use Rattle.quarter_table.specs.Pairs.{line_of}
-use Rattle.quarter_table.proofs.Boards.{lines_of_station}
 use Rattle.station_ledger.specs.Lines.{AreStationLines}
 use Rattle.station_ledger.specs.Sums.{AreEvseSums, order_in}
 use Rattle.station_ledger.proofs.BoardLines.{lines_within}
@@ -15,7 +13,7 @@ invariant_of-result c =
     let es = stored c.args.chains.now in let order = order_in c.args.sums.now in
     let sums = subst (AreEvseSums order es) (sym c.deref.ensures.value) c.requires.summed.at_evses in
     let evses = c.of.ensures ∙ c.in_ok-evses.ensures order es c.requires.numbered sums in
-    let quarters = c.of-2.ensures ∙ c.in_ok-quarters.ensures ∙ ap (map line_of) c.requires.summed.by_quarter.rows ∙ lines_of_station order c.args.sums.now.period es in
+    let quarters = c.of-2.ensures ∙ c.in_ok-quarters.ensures in
     let lines = lines_within order c.args.chains.now.limits es c.requires.within c.args.sums.now.period (subst (λ p. IsPeriod p.length) c.copied.ensures.value c.copied.ensures.range) in
     subst (λ p. AreStationLines p c.of.result c.of-2.result) (sym c.copied.ensures.value)
     (subst (λ ls. AreStationLines c.args.sums.now.period ls c.of-2.result) (sym evses) (subst (AreStationLines c.args.sums.now.period (board_by order c.args.sums.now.period es).evses) (sym quarters) lines))
@@ -26,6 +24,6 @@ returns c =
     let es = stored c.args.chains.now in let order = order_in c.args.sums.now in
     let sums = subst (AreEvseSums order es) (sym c.deref.ensures.value) c.requires.summed.at_evses in
     let evses = c.of.ensures ∙ c.in_ok-evses.ensures order es c.requires.numbered sums in
-    let quarters = c.of-2.ensures ∙ c.in_ok-quarters.ensures ∙ ap (map line_of) c.requires.summed.by_quarter.rows ∙ lines_of_station order c.args.sums.now.period es in
+    let quarters = c.of-2.ensures ∙ c.in_ok-quarters.ensures in
     let transactions = c.of-3.ensures ∙ c.in_ok-transactions.ensures in
     λ i. record { period = c.copied.ensures.value i; figures = c.requires.figures i; evses = evses i; quarters = quarters i; transactions = transactions i }

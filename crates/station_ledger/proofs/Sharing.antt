@@ -1,0 +1,180 @@
+-- What a board finds of readings that are shared by time.
+use Rattle.std.proofs.Common.{◌≡◌, ℕ, ◌+◌, ◌==◌, ◌<◌, ◌≤◌, Bool, true, false, cond, T, List, [], ◌∷◌, ◌++◌, Option, None, Some, length, map, append-nil, refl, sym, ap, subst, ◌∙◌, arith, get_or, slice_get, take, drop, not, is_some, append_assoc, ◌⊎◌, ⊎_elim}
+use Rattle.std.specs.List.{AllByRecursion, filter, flat_map}
+use Rattle.std.specs.FinMap as finite
+use Rattle.std.specs.FinMap.{find}
+use Rattle.std.specs.FinMap.Entries.{below_all}
+use Rattle.std.specs.Ordering.{eq_by_cmp}
+use Rattle.std.specs.Prelude.{slice_index}
+use Rattle.std.proofs.lemmas.Bool.{ne_eqb}
+use Rattle.event_chain.specs.Table.{Table, row_of}
+use Rattle.ledger_model.specs.InTime.{in_time}
+use Rattle.ledger_model.specs.Limits.{Bounds}
+use Rattle.ledger_model.specs.declared.order.Order.TheVariants.{Moment}
+use Rattle.ledger_model.specs.declared.reading.Direction.TheVariants.{Import, Export}
+use Rattle.quarter_table.proofs.Several.{made_with}
+use Rattle.station_ledger.specs.ByMoment.{AreSlots}
+use Rattle.std.specs.Str.{bytes_eq}
+use Rattle.std.proofs.lemmas.Grind.{flat_map-append}
+use Rattle.std.proofs.lemmas.List.{flat_map_more, map-append, take_more}
+use Rattle.std.proofs.lemmas.Option.{get_or_from_slice_get, slice_get_within}
+use Rattle.std.proofs.lemmas.Slice.Eq.{bytes_eq-Decides}
+use Rattle.event_chain.specs.Chains.{Chained, stored}
+use Rattle.event_chain.specs.Room.{readings_under}
+use Rattle.event_chain.proofs.Decided.{key_test}
+use Rattle.ledger_model.specs.Content.{Entry, Stored, live, live_of}
+use Rattle.ledger_model.specs.Deltas.{across, pairs_between}
+use Rattle.ledger_model.specs.Energy.{Pair, followed, parts_of, parts_over, readings_by, readings_of}
+use Rattle.ledger_model.specs.Entries.{IsRising}
+use Rattle.ledger_model.specs.Event.{MeterReading, toward}
+use Rattle.ledger_model.specs.Gaps.{numbers_of}
+use Rattle.ledger_model.specs.Key.{KeyName, key_cmp}
+use Rattle.ledger_model.specs.declared.reading.Direction.{Direction}
+use Rattle.ledger_model.proofs.Callers.{find_below, first, second}
+use Rattle.energy_flow.specs.Flow.{Energy}
+use Rattle.ledger_model.specs.Energy.{flows_toward}
+use Rattle.ledger_model.specs.Parts.{Part}
+use Rattle.ledger_model.specs.declared.settle.Settle.{Settle}
+use Rattle.ledger_model.specs.declared.settle.Settle.TheVariants.{Later, Closing, Even}
+use Rattle.quarter_table.specs.declared.row.QuarterRow.{QuarterRow}
+use Rattle.quarter_table.specs.Pairs.{parts_toward, rows_of, rows_with}
+use Rattle.station_ledger.specs.Numbered.{AreNumbered, AreNumbers}
+use Rattle.station_ledger.specs.Quarters.{readings_at}
+use Rattle.station_ledger.specs.Shares.{evenly, with_shares}
+use Rattle.station_ledger.proofs.Numbered.{live_numbered}
+use Rattle.station_ledger.proofs.Walks.{rows_with-append}
+
+-- Shares of more pairs are added behind those of the first.
+pub shares-append : (length : ℕ) (d : Direction) (ps qs : List Pair) (rows : List QuarterRow) → with_shares length d (ps ++ qs) rows ≡ with_shares length d qs (with_shares length d ps rows)
+shares-append length d ps qs rows =
+    ap (λ ts. rows_with (parts_toward d ts) rows) (flat_map-append (parts_of (evenly length)) ps qs)
+    ∙ ap (λ fs. rows_with fs rows) (map-append (λ (t : Part). (t.0, flows_toward d t.1)) (parts_over (evenly length) ps) (parts_over (evenly length) qs))
+    ∙ rows_with-append (parts_toward d (parts_over (evenly length) ps)) (parts_toward d (parts_over (evenly length) qs)) rows
+
+-- The pairs of readings in a row.
+pub followed_between : (rs : List MeterReading) → followed rs ≡ pairs_between None rs None
+followed_between [] = refl
+followed_between (r ∷ []) = refl
+followed_between (r ∷ s ∷ rs) = ap (λ ps. (r, s) ∷ ps) (followed_between (s ∷ rs))
+
+-- No pair is left behind the last reading.
+pub none_left : (last : Option MeterReading) → pairs_between last [] None ≡ []
+none_left None = refl
+none_left (Some r) = refl
+
+-- One step along readings.
+pub stepped : (length : ℕ) (d : Direction) (last : Option MeterReading) (r : MeterReading) (left rest : List MeterReading) (rows next all : List QuarterRow)
+    → left ≡ r ∷ rest → next ≡ with_shares length d (across last (Some r)) rows → with_shares length d (pairs_between last left None) rows ≡ all → with_shares length d (pairs_between (Some r) rest None) next ≡ all
+stepped length d last r left rest rows next all steps added was =
+    ap (with_shares length d (pairs_between (Some r) rest None)) added
+    ∙ sym (shares-append length d (across last (Some r)) (pairs_between (Some r) rest None) rows)
+    ∙ sym (ap (λ rs. with_shares length d (pairs_between last rs None) rows) steps) ∙ was
+
+-- One transaction more.
+pub taken_more : {X : Type 0} (f : List ℕ → List X) (ids : List (List ℕ)) (n : ℕ) (tx : List ℕ) → slice_get ids n ≡ Some tx → flat_map f (take (n + 1) ids) ≡ flat_map f (take n ids) ++ f tx
+taken_more f ids n tx at =
+    ap (flat_map f) (take_more ids n tx (slice_get_within ids n tx at) ∙ ap (λ t. take n ids ++ t ∷ []) (get_or_from_slice_get ids n tx tx at)) ∙ sym (flat_map_more f [] (take n ids) tx)
+
+-- An entry is found under its key.
+abbrev IsFound : List Entry → Entry → Type 0
+IsFound es e = find key_cmp e.0 es ≡ Some e.1
+
+found_behind : (e : Entry) (es fs : List Entry) → T (below_all key_cmp e.0 es) → AllByRecursion (IsFound es) fs → AllByRecursion (IsFound (e ∷ es)) fs
+found_behind e es [] below all = tt
+found_behind e es (f ∷ fs) below all =
+    let there : eq_by_cmp key_cmp f.0 e.0 ≡ false = apart (eq_by_cmp key_cmp f.0 e.0) refl in
+    (ap (λ b. cond b (Some e.1) (find key_cmp f.0 es)) there ∙ all.0, found_behind e es fs below all.1)
+  where
+    never : None ≡ Some f.1 → ⊥
+    never h = cc
+
+    apart : (b : Bool) → eq_by_cmp key_cmp f.0 e.0 ≡ b → b ≡ false
+    apart false is = refl
+    apart true is = absurd (never (sym (find_below e.0 es below) ∙ ap (λ k. find key_cmp k es) (sym ((key_test f.0 e.0).0 is)) ∙ all.0))
+
+pub all_found : (es : List Entry) → IsRising es → AllByRecursion (IsFound es) es
+all_found [] up = tt
+all_found (e ∷ es) up = (ap (λ b. cond b (Some e.1) (find key_cmp e.0 es)) ((key_test e.0 e.0).1 refl), found_behind e es es (first _ _ up) (all_found es (second _ _ up)))
+
+-- Those that pass a test are found, too.
+found_passed : (p : Entry → Bool) (all es : List Entry) → AllByRecursion (IsFound all) es → AllByRecursion (IsFound all) (filter p es)
+found_passed p all [] found = tt
+found_passed p all (e ∷ es) found = elim (p e) as (λ b. AllByRecursion (IsFound all) (cond b (e ∷ filter p es) (filter p es))) [ true ↦ (found.0, found_passed p all es found.1) | false ↦ found_passed p all es found.1 ]
+
+-- The readings under the numbers of a transaction's entries are those of the entries.
+read_each : (d : Direction) (tx : List ℕ) (all es : List Entry) → AllByRecursion (IsFound all) es
+    → flat_map (λ n. readings_under d (find key_cmp (record { tx = tx; seq = n }) all)) (map (λ (e : Entry). e.0.seq) (filter (λ (e : Entry). bytes_eq tx e.0.tx) es)) ≡ flat_map (λ (e : Entry). toward d e.1.event.readings) (filter (λ (e : Entry). bytes_eq tx e.0.tx) es)
+read_each d tx all [] found = refl
+read_each d tx all (e ∷ es) found = step (bytes_eq tx e.0.tx) refl (read_each d tx all es found.1)
+  where
+    own : List Entry
+    own = filter (λ (f : Entry). bytes_eq tx f.0.tx) es
+
+    reads : ℕ → List MeterReading
+    reads n = readings_under d (find key_cmp (record { tx = tx; seq = n }) all)
+
+    step : (b : Bool) → bytes_eq tx e.0.tx ≡ b → flat_map reads (map (λ (f : Entry). f.0.seq) own) ≡ flat_map (λ (f : Entry). toward d f.1.event.readings) own
+        → flat_map reads (map (λ (f : Entry). f.0.seq) (cond b (e ∷ own) own)) ≡ flat_map (λ (f : Entry). toward d f.1.event.readings) (cond b (e ∷ own) own)
+    step false is rest = rest
+    step true is rest =
+        let same : tx ≡ e.0.tx = (bytes_eq-Decides tx e.0.tx).0 is in
+        let here : reads e.0.seq ≡ toward d e.1.event.readings = ap (λ t. readings_under d (find key_cmp (record { tx = t; seq = e.0.seq }) all)) same ∙ ap (readings_under d) found.0 in
+        λ i. here i ++ rest i
+
+-- Along the numbers of a transaction's live events are its readings.
+pub read_along : (d : Direction) (tx : List ℕ) (chains : Chained) → flat_map (λ n. readings_at d chains (record { tx = tx; seq = n })) (numbers_of tx (stored chains)) ≡ readings_of d tx (stored chains)
+read_along d tx chains =
+    let es = stored chains in
+    ap (λ (f : ℕ → List MeterReading). flat_map f (numbers_of tx es)) (λ i n. readings_under d (finite.get-entries chains.events (record { tx = tx; seq = n }) i))
+    ∙ read_each d tx es (live es) (found_passed (λ (e : Entry). not e.1.voided) es es (all_found es (finite.entries_sorted chains.events)))
+
+-- The numbers of entries are those of events.
+numbers_each : (es : List Entry) → AreNumbered es → AreNumbers (map (λ (e : Entry). e.0.seq) es)
+numbers_each [] h = tt
+numbers_each (e ∷ es) h = (h.0.sequence, numbers_each es h.1)
+
+pub walk_numbers : (tx : List ℕ) (es : List Entry) → AreNumbered es → AreNumbers (numbers_of tx es)
+walk_numbers tx es h = numbers_each (live_of tx es) (live_numbered tx es h)
+
+-- A list that is shorter than one element.
+pub empty : {X : Type 0} (xs : List X) → length xs < 1 → xs ≡ []
+empty [] h = refl
+empty (x ∷ xs) h = absurd (omega (arith, h))
+
+-- The next number of a walk, and the rest.
+pub next_number : (was rest : List ℕ) (n : ℕ) → 0 < length was → n ≡ slice_index was 0 → rest ≡ drop 1 was → was ≡ n ∷ rest
+next_number [] rest n some is after = absurd (omega (arith, some))
+next_number (m ∷ was) rest n some is after = λ i. sym is i ∷ sym after i
+
+-- The readings of one number more are listed.
+pub walked : (reads : ℕ → List MeterReading) (was rest : List ℕ) (n : ℕ) (done next all : List MeterReading) → was ≡ n ∷ rest → next ≡ done ++ reads n → done ++ flat_map reads was ≡ all → next ++ flat_map reads rest ≡ all
+walked reads was rest n done next all steps more so_far = ap (λ rs. rs ++ flat_map reads rest) more ∙ append_assoc done (reads n) (flat_map reads rest) ∙ sym (ap (λ ns. done ++ flat_map reads ns) steps) ∙ so_far
+
+-- A transaction without a slot has no reading by moment.
+pub none_in_time : (d : Direction) (tx : List ℕ) (limits : Bounds) (es : List Entry) (slots : Table) → AreSlots limits es slots → row_of tx slots.rows ≡ None → readings_by Moment d tx es ≡ []
+none_in_time d tx limits es slots are none =
+    ap (λ us. in_time (λ (r : MeterReading). r.moment) (flat_map (λ (e : Entry). toward d e.1.event.readings) us)) (none_live (live_of tx es) (sym (ap is_some none) ∙ are.each tx))
+  where
+    none_live : (us : List Entry) → false ≡ not (length us == 0) → us ≡ []
+    none_live [] h = refl
+    none_live (u ∷ us) h = absurd (never (h ∙ ap not (ne_eqb (length (u ∷ us)) 0 (λ same. absurd (omega (arith, same))))))
+      where
+        never : false ≡ true → ⊥
+        never e = cc
+
+-- The rows of both directions, one after the other.
+pub rows_shared : (length : ℕ) (ps qs : List Pair) (rows next : List QuarterRow) → rows ≡ with_shares length Import ps [] → next ≡ with_shares length Export qs rows
+    → next ≡ rows_of (parts_toward Import (parts_over (evenly length) ps) ++ parts_toward Export (parts_over (evenly length) qs))
+rows_shared length ps qs rows next one two =
+    let imported = parts_toward Import (parts_over (evenly length) ps) in let exported = parts_toward Export (parts_over (evenly length) qs) in
+    two ∙ ap (with_shares length Export qs) one ∙ sym (rows_with-append imported exported []) ∙ made_with (imported ++ exported) [] ∙ ap rows_of (append-nil (imported ++ exported))
+
+-- By two of the rules nothing is shared.
+pub not_even : (rule : Settle) → (rule ≡ Later) ⊎ (rule ≡ Closing) → rule ≡ Even → ⊥
+not_even rule one even = ⊎_elim {C = ⊥} (λ (later : rule ≡ Later). apart (sym later ∙ even)) (λ (closing : rule ≡ Closing). other (sym closing ∙ even)) one
+  where
+    apart : Later ≡ Even → ⊥
+    apart h = cc
+
+    other : Closing ≡ Even → ⊥
+    other h = cc

@@ -1,0 +1,17 @@
+-- Rows with the shares of differences.
+use Rattle.std.specs.Prelude.{ℕ, List}
+use Rattle.ledger_model.specs.Periods.{Periods}
+use Rattle.ledger_model.specs.declared.reading.Direction.{Direction}
+use Rattle.ledger_model.specs.declared.settle.Settle.{Settle}
+use Rattle.ledger_model.specs.declared.settle.Settle.TheVariants.{Even}
+use Rattle.ledger_model.specs.Energy.{Pair, parts_over}
+use Rattle.quarter_table.specs.declared.row.QuarterRow.{QuarterRow}
+use Rattle.quarter_table.specs.Pairs.{parts_toward, rows_with}
+
+-- Settlement periods of so many seconds, among which differences are shared.
+abbrev pub evenly : ℕ → Periods
+evenly length = record { length = length; rule = Even }
+
+-- Rows with the shares of pairs of one direction added, in periods of so many seconds.
+abbrev pub with_shares : ℕ → Direction → List Pair → List QuarterRow → List QuarterRow
+with_shares length d ps rows = rows_with (parts_toward d (parts_over (evenly length) ps)) rows
