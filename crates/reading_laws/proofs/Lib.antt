@@ -1,3 +1,4 @@
 pub mod RepeatLemmas
 pub mod RepeatExample
 pub mod StretchLemmas
+pub mod PartLaws
