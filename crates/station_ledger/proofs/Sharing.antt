@@ -1,5 +1,5 @@
 -- What a board finds of readings that are shared by time.
-use Rattle.std.proofs.Common.{◌≡◌, ℕ, ◌+◌, ◌==◌, ◌<◌, ◌≤◌, Bool, true, false, cond, T, List, [], ◌∷◌, ◌++◌, Option, None, Some, length, map, append-nil, refl, sym, ap, subst, ◌∙◌, arith, get_or, slice_get, take, drop, not, is_some, append_assoc, ◌⊎◌, ⊎_elim}
+use Rattle.std.proofs.Common.{◌≡◌, ℕ, ◌+◌, ◌==◌, ◌<◌, Bool, true, false, cond, T, List, [], ◌∷◌, ◌++◌, Option, None, Some, length, map, append-nil, refl, sym, ap, ◌∙◌, arith, slice_get, take, drop, not, is_some, append_assoc, ◌⊎◌, ⊎_elim}
 use Rattle.std.specs.List.{AllByRecursion, filter, flat_map}
 use Rattle.std.specs.FinMap as finite
 use Rattle.std.specs.FinMap.{find}
@@ -22,16 +22,15 @@ use Rattle.std.proofs.lemmas.Slice.Eq.{bytes_eq-Decides}
 use Rattle.event_chain.specs.Chains.{Chained, stored}
 use Rattle.event_chain.specs.Room.{readings_under}
 use Rattle.event_chain.proofs.Decided.{key_test}
-use Rattle.ledger_model.specs.Content.{Entry, Stored, live, live_of}
+use Rattle.ledger_model.specs.Content.{Entry, live, live_of}
 use Rattle.ledger_model.specs.Deltas.{across, pairs_between}
 use Rattle.ledger_model.specs.Energy.{Pair, followed, parts_of, parts_over, readings_by, readings_of}
 use Rattle.ledger_model.specs.Entries.{IsRising}
 use Rattle.ledger_model.specs.Event.{MeterReading, toward}
 use Rattle.ledger_model.specs.Gaps.{numbers_of}
-use Rattle.ledger_model.specs.Key.{KeyName, key_cmp}
+use Rattle.ledger_model.specs.Key.{key_cmp}
 use Rattle.ledger_model.specs.declared.reading.Direction.{Direction}
 use Rattle.ledger_model.proofs.Callers.{find_below, first, second}
-use Rattle.energy_flow.specs.Flow.{Energy}
 use Rattle.ledger_model.specs.Energy.{flows_toward}
 use Rattle.ledger_model.specs.Parts.{Part}
 use Rattle.ledger_model.specs.declared.settle.Settle.{Settle}

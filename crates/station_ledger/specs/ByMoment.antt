@@ -1,5 +1,5 @@
 -- The live readings of a station by moment.
-use Rattle.std.specs.Prelude.{◌≡◌, ◌==◌, ℕ, ◌+◌, ◌≤◌, Bool, true, false, not, is_some, nat_lt, List, [], ◌∷◌, Option, None, Some, if◌then◌else◌, length, map, option_map, sum_by, vec_capacity}
+use Rattle.std.specs.Prelude.{◌≡◌, ◌==◌, ℕ, ◌+◌, ◌≤◌, Bool, true, false, not, is_some, nat_lt, List, [], ◌∷◌, Option, None, Some, if◌then◌else◌, length, option_map, sum_by, vec_capacity}
 use Rattle.std.specs.List.{flat_map}
 use Rattle.std.specs.Str.{bytes_eq}
 use Rattle.event_chain.specs.Chains.{Chained}

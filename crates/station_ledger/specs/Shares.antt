@@ -2,7 +2,6 @@
 use Rattle.std.specs.Prelude.{ℕ, List}
 use Rattle.ledger_model.specs.Periods.{Periods}
 use Rattle.ledger_model.specs.declared.reading.Direction.{Direction}
-use Rattle.ledger_model.specs.declared.settle.Settle.{Settle}
 use Rattle.ledger_model.specs.declared.settle.Settle.TheVariants.{Even}
 use Rattle.ledger_model.specs.Energy.{Pair, parts_over}
 use Rattle.quarter_table.specs.declared.row.QuarterRow.{QuarterRow}

@@ -57,8 +57,8 @@ impl EvseLine {
     }
 }
 
-/// A settlement period of a station that has a pair of readings of either direction, with its
-/// energies.
+/// A settlement period of a station to which a difference of two readings, or a part of one, belongs in either
+/// direction, with its energies.
 #[derive(Clone, Copy, Debug, PartialEq, Eq)]
 pub struct QuarterLine {
     quarter: Quarter,
@@ -268,8 +268,8 @@ impl StationBoard {
         self.evses.as_slice()
     }
 
-    /// The quarters that have a pair of readings, rising, each of the length of the board's periods. None has
-    /// length. None has more energy than the readings of one station can show.
+    /// The settlement periods to which a difference of two readings, or a part of one, belongs, rising, each of the
+    /// length of the board's periods. None has more energy than the readings of one station can show.
     pub fn quarters(&self) -> &[QuarterLine]
         ensures value { result.now ≡ self.now.quarters }
         ensures range { All (λ line. AreStationFlows line.1) result.now }

@@ -1,7 +1,8 @@
 //! One station's transaction ledger, its figures and its board.
 //!
 //! A [`StationLedger`] keeps the transaction events of one station. Each has its key and is voided or
-//! not. The ledger was opened with limits, a length of settlement periods and an order of readings.
+//! not. The ledger was opened with limits, a length of settlement periods, an order of readings and a rule of
+//! settling.
 //! [`StationLedger::apply`] takes one command and answers it: the change is accepted and counted; or an
 //! equal event is there already; or one of eight refusals names the first rule against it. A repeat and a
 //! refusal change nothing. [`StationLedger::energy`] adds up the rises and falls of the import register
@@ -11,7 +12,8 @@
 //! the export register. [`StationLedger::figures`] sums up the station in nine numbers. A
 //! [`StationBoard`] shows the figures, the EVSEs and the periods with their energies, and each
 //! transaction with a live event and its missing numbers. None of these calls is lent a `Work`, so none
-//! compares readings.
+//! compares readings by [`energy_flow::difference`]. The board of a station that settles evenly looks at
+//! levels, which needs the allocator: what two readings show is shared by time when the board is made.
 //!
 //! The crate's contract: contracts see a ledger as its limits, its period, its order and its content, and not how these
 //! are kept. `apply` gives the answer of the ledger's step and leaves the step's content. As many accepted commands as
@@ -27,7 +29,7 @@
 //! direction. By moment, its readings may be in several places among those of other events. Each run of
 //! them takes back the pair across it, and the pairs that they make are added: at most one difference
 //! for each reading and two for each run. In a direction in which the event has no reading nothing is
-//! compared. The sums are kept beside the events and follow those pairs. No figure is computed anew, and
+//! compared. The sums are kept beside the events and follow those pairs. No change computes a figure anew, and
 //! only `open` and `board` ask for memory.
 //!
 //! ```text

@@ -1,8 +1,6 @@
-use Rattle.std.proofs.Common.{◌≡◌, ◌<◌, ◌++◌, ◌∷◌, length, sym, ap, subst, ◌∙◌}
-use Rattle.std.specs.List.{flat_map}
+use Rattle.std.proofs.Common.{◌≡◌, ◌<◌, ◌++◌, ◌∷◌, length, ap, subst, ◌∙◌}
 use Rattle.std.specs.Prelude.{IfSome}
 use Rattle.gap_list.specs.Walk.{left, StandsAt}
-use Rattle.ledger_model.specs.Key.{KeyName}
 use Rattle.station_ledger.specs.Numbered.{AreNumbers}
 use Rattle.station_ledger.specs.Quarters.{readings_at}
 use Rattle.station_ledger.proofs.Sharing.{next_number, walked}

@@ -1,4 +1,4 @@
-use Rattle.std.proofs.Common.{List, sym, ap, ◌∙◌}
+use Rattle.std.proofs.Common.{List, ap, ◌∙◌}
 use Rattle.event_chain.specs.Chains.{stored}
 use Rattle.ledger_model.specs.Energy.{Pair, all_pairs_by}
 use Rattle.ledger_model.specs.declared.reading.Direction.{Direction}

@@ -22,9 +22,10 @@ loop-number-preserved c =
     let quarter : c.unwrap-quarter.result ≡ number = grind (arith) in
     let flow : c.between.result ≡ difference_of level c.level_at-next.result = search in
     let row : Energy → ℕ → List QuarterRow = λ e q. rows_plus (q, flows_toward d e) rows in
-    let added : c.try_add.new.self.rows ≡ row c.between.result c.unwrap-quarter.result = c.in_ok-try_add.ensures.added in
-    (c.loop-number.invariant.0,
-    ap (rows_with (parts_toward d (shares_from c.args.length change (number + 1) c.level_at-next.result more))) (added ∙ (λ i. row (flow i) (quarter i)))
-    ∙ (λ i. rows_with (parts_toward d (shares_from c.args.length change (number + 1) (next i) more)) (row (difference_of level (next i)) number))
-    ∙ ap (λ n. rows_with (parts_toward d (shares_from c.args.length change number level n)) rows) (sym count)
-    ∙ c.loop-number.invariant.1)
+    let added : c.try_add.new.self.rows ≡ row c.between.result c.unwrap-quarter.result = c.in_ok-try_add.ensures.added in (
+      c.loop-number.invariant.0,
+      ap (rows_with (parts_toward d (shares_from c.args.length change (number + 1) c.level_at-next.result more))) (added ∙ (λ i. row (flow i) (quarter i)))
+          ∙ (λ i. rows_with (parts_toward d (shares_from c.args.length change (number + 1) (next i) more)) (row (difference_of level (next i)) number))
+          ∙ ap (λ n. rows_with (parts_toward d (shares_from c.args.length change number level n)) rows) (sym count)
+          ∙ c.loop-number.invariant.1,
+    )

@@ -1,7 +1,7 @@
-use Rattle.std.proofs.Common.{◌≡◌, ◌+◌, ◌<◌, ◌≤◌, ◌++◌, ◌∷◌, append-nil, length, List, Some, None, sym, ap, subst, ◌∙◌, arith}
+use Rattle.std.proofs.Common.{◌≡◌, ◌+◌, ◌<◌, ◌≤◌, ◌++◌, append-nil, length, List, sym, ap, subst, ◌∙◌, arith}
 use Rattle.key_index.specs.Entries.{AreRising}
 use Rattle.reading_index.specs.Ranks.{owner, owner_of}
-use Rattle.reading_index.specs.Timed.{Timed, TimedReadings, bare, first_of, from_on, only_owned, owned, with_rank}
+use Rattle.reading_index.specs.Timed.{Timed, TimedReadings, bare, from_on, owned}
 use Rattle.reading_index.proofs.Ranked.{owner_up, ranked}
 use Rattle.reading_index.proofs.Listed.{IsFirst, all_owned, filter-ranked, first_left, found_left, none_left, one_more, owner_of-first}
 use Rattle.reading_index.proofs.index.ReadingIndex.list.Goals.{After-place_near-place-in-Some}
@@ -10,9 +10,10 @@ use Rattle.reading_index.proofs.index.ReadingIndex.list.Goals as goal
 -- the first key is in front of all of its owner, and is its owner's
 pub loop-entry-init : goal.loop-entry-init
 loop-entry-init c =
-    let o = owner c.args.slot c.args.direction in
-    (ap (λ k. c.args.listed.now.items ++ bare (from_on k (owned o c.args.self.now.entries))) c.first-from.ensures ∙ ap (λ ts. c.args.listed.now.items ++ bare ts) (all_owned o c.args.self.now.entries),
-    subst (λ k. o ≤ owner_of k) (sym c.first-from.ensures) (let is = owner_of-first o in omega (arith, is)))
+    let o = owner c.args.slot c.args.direction in (
+      ap (λ k. c.args.listed.now.items ++ bare (from_on k (owned o c.args.self.now.entries))) c.first-from.ensures ∙ ap (λ ts. c.args.listed.now.items ++ bare ts) (all_owned o c.args.self.now.entries),
+      subst (λ k. o ≤ owner_of k) (sym c.first-from.ensures) (let is = owner_of-first o in omega (arith, is)),
+    )
 
 -- what was found is the owner's first from the key on
 first_is : (c : After-place_near-place-in-Some) → IsFirst c.loop-entry.from c.in-Some.entry (owned (owner c.args.slot c.args.direction) c.args.self.now.entries)
@@ -38,9 +39,10 @@ loop-entry-preserved c =
     let o = owner c.args.slot c.args.direction in let own = owned o c.args.self.now.entries in
     let first = first_is c in let low = c.loop-entry.invariant.1 in
     let next : c.in-Some-next.next ≡ c.in-Some.entry.0 + 1 = c.in-Some-next.ensures in
-    let up = owner_up c.loop-entry.from (c.in-Some.entry.0 + 1) (let l = first.low in omega (arith, l)) in
-    (ap (λ k. c.push.new.self.items ++ bare (from_on k own)) next ∙ one_more c.loop-entry.from c.in-Some.entry c.loop-entry.listed.items c.push.new.self.items _ own first c.in_ok-push.ensures.items c.loop-entry.invariant.0,
-    subst (λ k. o ≤ owner_of k) (sym next) (omega (arith, low, up)))
+    let up = owner_up c.loop-entry.from (c.in-Some.entry.0 + 1) (let l = first.low in omega (arith, l)) in (
+      ap (λ k. c.push.new.self.items ++ bare (from_on k own)) next ∙ one_more c.loop-entry.from c.in-Some.entry c.loop-entry.listed.items c.push.new.self.items _ own first c.in_ok-push.ensures.items c.loop-entry.invariant.0,
+      subst (λ k. o ≤ owner_of k) (sym next) (omega (arith, low, up)),
+    )
 
 pub returns : goal.returns
 returns c =
