@@ -13,6 +13,6 @@ mod parts;
 mod repeats;
 mod stretches;
 
-pub use parts::{boundaries_close_periods, parts_add_up};
+pub use parts::parts_add_up;
 pub use repeats::repeated_readings_change_no_sum;
 pub use stretches::runs_are_maximal_stretches;

@@ -1,11 +1,8 @@
-ghost use Rattle.std.specs.Prelude.{◌≡◌, ◌≢◌, ◌<◌, ◌≤◌, ◌+◌, ◌*◌, ℕ, List};
+ghost use Rattle.std.specs.Prelude.{◌≡◌, ◌≤◌, ℕ, List};
 ghost use Rattle.std.specs.List.{AllByRecursion};
 ghost use Rattle.ledger_model.specs.Energy.{Pair, energy_over, parts_of, parts_over};
-ghost use Rattle.ledger_model.specs.Moment.{first_moment};
 ghost use Rattle.ledger_model.specs.Parts.{energy_of_parts};
 ghost use Rattle.ledger_model.specs.Periods.{Periods};
-ghost use Rattle.ledger_model.specs.Quarter.{IsPeriod, quarter_at};
-ghost use Rattle.ledger_model.specs.Settling.{closed_at};
 
 /// By each rule of settling the parts of differences add up to the differences. A rise has no part that falls, a fall
 /// none that rises.
@@ -13,10 +10,4 @@ pub fn parts_add_up()
     ensures sums { (period : Periods) (ps : List Pair) → energy_of_parts (parts_over period ps) ≡ energy_over ps }
     ensures rises { (period : Periods) (p : Pair) → p.0.mwh ≤ p.1.mwh → AllByRecursion (λ t. t.1.down ≡ 0) (parts_of period p) }
     ensures falls { (period : Periods) (p : Pair) → p.1.mwh ≤ p.0.mwh → AllByRecursion (λ t. t.1.up ≡ 0) (parts_of period p) }
-{}
-
-/// A reading where a period begins closes the period before it, and each other one the period that it lies in.
-pub fn boundaries_close_periods()
-    ensures boundary { (length nanos : ℕ) → IsPeriod length → first_moment < nanos → quarter_at length nanos * length * 1_000_000_000 ≡ nanos → closed_at length nanos + 1 ≡ quarter_at length nanos }
-    ensures inside { (length nanos : ℕ) → IsPeriod length → first_moment < nanos → quarter_at length nanos * length * 1_000_000_000 ≢ nanos → closed_at length nanos ≡ quarter_at length nanos }
 {}
