@@ -18,7 +18,7 @@ from typing import Any
 from tests.reference import EXPORT, IMPORT, replayed
 
 FIRST = datetime(2026, 3, 1, 10, tzinfo=timezone.utc)
-STATIONS = {"A": "north", "B": "south"}
+STATIONS = {"A": "north", "B": "south", "C": "east"}
 # Transactions, numbers of each, minutes in which their readings lie, and readings of an event.
 TRANSACTIONS, NUMBERS, MINUTES, READINGS = 4, 24, 40, 6
 
@@ -74,7 +74,9 @@ def script_of(seed: int, count: int) -> list[str]:
     """A script with so many commands for each station."""
     drawn, sent = Drawn(seed), list[str]()
     lines = [f"station {site} {station}" for station, site in STATIONS.items()]
-    lines += ["order north moment", "settle north closing"]
+    lines += ["order north moment", "settle north closing", "order east moment", "settle east even"]
+    # By turns the third site is by sequence, too.
+    lines += ["order east sequence"] * (seed % 2)
     for number in range(count):
         # Some of what was sent comes again.
         again = sent and drawn.draws.randrange(6) == 0

@@ -18,7 +18,11 @@ from typing import Any, NamedTuple
 IMPORT, EXPORT = "Energy.Active.Import.Register", "Energy.Active.Export.Register"
 PERIODS, ORDERS = ("300", "900", "1800", "3600"), ("sequence", "moment")
 RULES = ("later", "closing", "even")
-EPOCH, FIRST, DAY = datetime(1970, 1, 1, tzinfo=UTC), datetime(2000, 1, 1, tzinfo=UTC), timedelta(days=1)
+EPOCH, FIRST, DAY = (
+    datetime(1970, 1, 1, tzinfo=UTC),
+    datetime(2000, 1, 1, tzinfo=UTC),
+    timedelta(days=1),
+)
 FLOW = ("up", "down", "export_up", "export_down")
 COUNTS = ("events", "voided", "transactions", "complete", "missing")
 

@@ -25,8 +25,8 @@ GREATEST_LIMITS = {"transactions": 4_096, "events": 65_536, "readings": 65_536, 
 PERIODS = (300, 900, 1800, 3600)
 # The orders of a site's readings: by the numbers of their events, or by their own moments.
 ORDERS = ("sequence", "moment")
-# The rules by which a difference counts in a settlement period.
-RULES = ("later", "closing")
+# The rules by which a difference counts in settlement periods.
+RULES = ("later", "closing", "even")
 # Moments of messages are not before the first, and before the second.
 FIRST_MOMENT = datetime(2000, 1, 1, tzinfo=timezone.utc)
 PAST_MOMENTS = datetime(2100, 1, 1, tzinfo=timezone.utc)

@@ -124,8 +124,10 @@ class ClosingTrial(Trial):
     async def closes_only_so(
         self, column: str, words: tuple[str, str, str], refusal: str, *wanted: str
     ) -> None:
-        """A word that is none, and a closing by another word than before, which has to report what is wanted. `column` is
-        one of own_site; `words` are the site's own, another one, and the one that is none, which gets this refusal.
+        """A word that is none, and a closing by another word than before, which has to report what is wanted.
+
+        `column` is one of own_site; `words` are the site's own, another one, and the one that is none, which gets this
+        refusal.
         """
         own, other, none = words
         begin = f"update own_site set {column} = $1 where site = 'north'"

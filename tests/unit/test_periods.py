@@ -91,14 +91,31 @@ def test_energy_is_in_the_periods_of_later_readings() -> None:
 
 def test_a_reading_at_the_end_of_a_period_closes_it() -> None:
     some = events((0, 0), (15, 100), (16, 90), (30, 190), (31, 200))
-    flows = flows_of(some, QUARTER, False, True)
+    flows = flows_of(some, QUARTER, False, "closing")
     assert {(start - TEN) // QUARTER: flow for start, flow in flows.items()} == {
         0: Flow(100_000, 0),
         1: Flow(100_000, 10_000),
         2: Flow(10_000, 0),
     }
-    assert period_of(TEN, QUARTER, True) == TEN - QUARTER
-    assert period_of(FIRST_SECOND, QUARTER, True) == FIRST_SECOND
+    assert period_of(TEN, QUARTER, "closing") == TEN - QUARTER
+    assert period_of(FIRST_SECOND, QUARTER, "closing") == FIRST_SECOND
+
+
+def test_even_shares_are_of_each_period_between_readings() -> None:
+    some = events((5, 1_000), (35, 1_900), (35, 1_901), (20, 1_904))
+    flows = flows_of(some, QUARTER, False, "even")
+    assert {(start - TEN) // QUARTER: flow for start, flow in flows.items()} == {
+        0: Flow(300_000, 0),
+        1: Flow(450_000 + 3_000, 0),
+        2: Flow(150_000 + 1_000, 0),
+    }
+    day = 24 * 60 + 5
+    flows = flows_of(events((5, 0), (day, 96)), QUARTER, False, "even")
+    assert len(flows) == 97
+    assert (flows[TEN], flows[TEN + 86_400]) == (Flow(666, 0), Flow(334, 0))
+    # More than a day, by a second.
+    flows = flows_of(events((5, 0), (day + 1 / 60, 96)), QUARTER, False, "even")
+    assert flows == {TEN + 86_400: Flow(96_000, 0)}
 
 
 @pytest.mark.parametrize(

@@ -32,7 +32,7 @@ NUMBER = r"(0|[1-9][0-9]{0,19})"
 FLOWS = " ".join(f"{name}={NUMBER}" for name in FLOW)
 LINES = {
     "board": re.compile(
-        rf"board ({NAME.pattern}) period=({'|'.join(map(str, PERIODS))})(| order=moment)(| settle=closing)"
+        rf"board ({NAME.pattern}) period=({'|'.join(map(str, PERIODS))})(| order=moment)(?:| settle=(closing|even))"
     ),
     "total": re.compile("total " + " ".join(f"{name}={NUMBER}" for name in COUNTS) + " " + FLOWS),
     "period": re.compile(
@@ -141,8 +141,8 @@ class Session:
 @dataclass
 class Part:
     """What a board says of its site, or of one of its stations. `seconds`: the length of its periods; `is_by_moment`:
-    its readings are in the order of their moments, and else by the numbers of their events; `is_closing`: a difference
-    counts in the period that its later reading closes, and else in the one that this reading lies in.
+    its readings are in the order of their moments, and else by the numbers of their events; `rule`: the rule by
+    which a difference counts in periods.
     """
 
     name: str
@@ -154,7 +154,7 @@ class Part:
     periods: list[Period] = field(default_factory=list)
     sessions: list[Session] = field(default_factory=list)
     is_by_moment: bool = False
-    is_closing: bool = False
+    rule: str = "later"
     # What is doubtful at a station and of no session, if the messages are known.
     findings: list[Finding] = field(default_factory=list)
     # What the messages say of its periods, if they are known.
@@ -316,7 +316,7 @@ class Reader:
         self.where = f"{name} line" if name else "line"
         self.part: Part | None = None
         self.before: str | None = None
-        self.site, self.seconds, self.is_by_moment, self.is_closing = "", 0, False, False
+        self.site, self.seconds, self.is_by_moment, self.rule = "", 0, False, "later"
         self.sessions = Sessions()
         kinds = ("boards", "stations", "periods", "transactions", "outside", "faults", "unread")
         self.counts = dict.fromkeys(kinds, 0)
@@ -359,11 +359,11 @@ class Reader:
 
     def begin_board(self, number: int, site: str, seconds: str, order: str, settle: str) -> None:
         """A board begins; its periods have so many seconds. `order`: what is said of readings by moment, if so;
-        `settle`: the same of readings that close periods."""
+        `settle`: the rule of settling, where it is not `later`."""
         self.break_off(number, "another board begins")
         self.counts["boards"] += 1
         self.site, self.seconds = site, int(seconds)
-        self.is_by_moment, self.is_closing = bool(order), bool(settle)
+        self.is_by_moment, self.rule = bool(order), settle or "later"
         for sink in self.sinks:
             sink.board(self.counts["boards"], site, number)
         self.begin(site, True, "board")
@@ -371,7 +371,7 @@ class Reader:
     def begin(self, name: str, is_site: bool, kind: str) -> None:
         """A part begins."""
         self.part = Part(name, is_site, self.seconds)
-        self.part.is_by_moment, self.part.is_closing = self.is_by_moment, self.is_closing
+        self.part.is_by_moment, self.part.rule = self.is_by_moment, self.rule
         self.before = kind
 
     def leave_part(self, number: int, part: Part) -> None:

@@ -131,20 +131,25 @@ def figures(total: Total | None, has_export: bool) -> Iterator[str]:
     yield "</dl>\n"
 
 
+# What a page says of a rule of settling.
+RULES_SAID = {
+    "later": "",
+    "closing": '<p class="soft">Settled by closing: the energy up to a reading at the end of a period counts in that '
+    "period.</p>\n",
+    "even": '<p class="soft">Settled by even shares: the energy between two readings counts in each period between '
+    "them by its share of the time, where they are at most a day apart.</p>\n",
+}
+
+
 def order_said(site: Part) -> str:
-    """That a site's readings are taken by moment, and that they close periods, where it is so."""
+    """That a site's readings are taken by moment, and that it doesn't settle by `later`, where it is so."""
     said = ""
     if site.is_by_moment:
         said = (
             '<p class="soft">Readings by moment: those of a session are taken in the order of their own times, so that '
             "one which is listed again changes nothing.</p>\n"
         )
-    if site.is_closing:
-        said += (
-            '<p class="soft">Settled by closing: the energy up to a reading at the end of a period counts in that '
-            "period.</p>\n"
-        )
-    return said
+    return said + RULES_SAID[site.rule]
 
 
 def bar_cell(mwh: int, most: int) -> str:

@@ -7,11 +7,13 @@ from itertools import pairwise
 from typing import NamedTuple
 
 from ocpp_board.energies import Flow
-from ocpp_board.messages.transactions import Event, readings_in_order
+from ocpp_board.messages.transactions import Event, Reading, readings_in_order
 
 # 2000-01-01T00:00:00Z, before which no moment is.
 FIRST_SECOND = 946_684_800
 
+# A difference over more seconds, a day, is not shared among periods.
+LONGEST_SHARE = 86_400
 # Seconds by which a reading may lie beside the end of a period that it measures.
 BESIDE = 2
 # Periods of a session that are looked at: more than a year of the shortest ones.
@@ -79,15 +81,34 @@ def together(parts: Iterable[KnownPeriods]) -> KnownPeriods:
     return site
 
 
-def period_of(at: float, seconds: int, is_closing: bool) -> int:
-    """The beginning of the period in which a difference counts whose later reading is of this moment: the period that
-    it lies in, or by closing the one that it closes."""
+def period_of(at: float, seconds: int, rule: str) -> int:
+    """The beginning of the period in which the whole of a difference counts whose later reading is of this moment: by
+    `later` the period that it lies in, else the one that it closes."""
     start = int(at // seconds) * seconds
-    return start - seconds if is_closing and at == start and start > FIRST_SECOND else start
+    is_closed = rule != "later" and at == start and start > FIRST_SECOND
+    return start - seconds if is_closed else start
+
+
+def parts_of(had: Reading, one: Reading, seconds: int, rule: str) -> Iterator[tuple[int, int]]:
+    """The beginnings of the periods to which the difference of two readings belongs, each with its part in mWh: below 0
+    if the register fell."""
+    assert one.at is not None
+    change = one.mwh - had.mwh
+    if rule != "even" or had.at is None or not 0 < one.at - had.at <= LONGEST_SHARE:
+        yield period_of(one.at, seconds, rule), change
+        return
+    begin, end = int(had.at // 1), int(one.at // 1)
+    start, shared = begin - begin % seconds, 0
+    while start + seconds < one.at:
+        gone = abs(change) * (start + seconds - begin) // (end - begin)
+        level = gone if change > 0 else -gone
+        yield start, level - shared
+        start, shared = start + seconds, level
+    yield start, change - shared
 
 
 def flows_of(
-    events: Sequence[Event], seconds: int, is_by_moment: bool, is_closing: bool = False
+    events: Sequence[Event], seconds: int, is_by_moment: bool, rule: str = "later"
 ) -> dict[int, Flow]:
     """The energy of a session by periods of so many seconds, as the ledger has it."""
     sums = dict[int, list[int]]()
@@ -95,8 +116,9 @@ def flows_of(
         for (_, had), (_, one) in pairwise(readings_in_order(events, is_export, is_by_moment)):
             if one.at is None:
                 continue
-            flow = sums.setdefault(period_of(one.at, seconds, is_closing), [0, 0, 0, 0])
-            flow[2 * is_export + (one.mwh < had.mwh)] += abs(one.mwh - had.mwh)
+            for start, mwh in parts_of(had, one, seconds, rule):
+                flow = sums.setdefault(start, [0, 0, 0, 0])
+                flow[2 * is_export + (mwh < 0)] += abs(mwh)
     return {start: Flow(*flow) for start, flow in sums.items()}
 
 

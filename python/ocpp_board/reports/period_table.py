@@ -101,10 +101,9 @@ class PeriodTable:
         doubts: Doubts | None,
     ) -> Iterator[str]:
         """The rows of a site, a station or an EVSE. Without doubts nothing is known of how figures were come by."""
-        rule = "closing" if part.is_closing else "later"
         seconds, last = (
             part.seconds,
-            f"{'by moment' if part.is_by_moment else 'by sequence'},{rule}\n",
+            f"{'by moment' if part.is_by_moment else 'by sequence'},{part.rule}\n",
         )
         none = ",".join(map(str, flow_cells(Flow())))
         sure = "measured,0,no" if doubts is not None else ",,"

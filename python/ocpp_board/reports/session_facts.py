@@ -61,7 +61,7 @@ class SessionFacts:
             session.details = [event.details for event in events]
             session.span, session.holes = span_of(events), list(holes_of(events, session.lost()))
             if part.known:
-                flows = flows_of(events, part.seconds, part.is_by_moment, part.is_closing)
+                flows = flows_of(events, part.seconds, part.is_by_moment, part.rule)
                 doubts = doubts_of(events, part.seconds, session.lost())
                 part.known.add(session.evse, flows, doubts)
             numbers = session.missing, session.gaps
