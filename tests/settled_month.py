@@ -20,13 +20,13 @@ from typing import NamedTuple
 
 BEGIN = datetime(2026, 3, 1, tzinfo=timezone.utc)
 PERIOD, MINUTE = 900, 60
-RULES = ("later", "closing")
-# By station, the shares by `later` and by `closing`, of the month of 31 days and seed 1.
+RULES = ("later", "closing", "even")
+# By station, the shares by each rule, of the month of 31 days and seed 1.
 STORED = {
-    "clock": (15.6, 0.0),
-    "jitter": (27.2, 27.1),
-    "five": (3.0, 3.0),
-    "ends": (95.5, 95.5),
+    "clock": (15.6, 0.0, 0.0),
+    "jitter": (27.2, 27.1, 0.0),
+    "five": (3.0, 3.0, 0.3),
+    "ends": (95.5, 95.5, 12.3),
 }
 
 

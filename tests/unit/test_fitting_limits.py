@@ -9,6 +9,7 @@ import pytest
 from ocpp_board.limits import MOST_READINGS
 from ocpp_board.logs.fitting_limits import fitting, readings_of, said, sent_in
 from ocpp_board.logs.followed import Followed
+from ocpp_board.logs.kept_script import BEGIN
 from ocpp_board.replay.near_limits import Counts
 from tests.unit.test_ledger import feed_of
 
@@ -49,16 +50,16 @@ def test_live_declares_and_reports_them(
 ) -> None:
     feed, ledger, _ = feed_of(stub, tmp_path)
     script = tmp_path / "state/script"
-    assert (
-        "\nlimits 4096 65536 65536 9223372036854775808\nstation north A\n#\n" in script.read_text()
-    )
+    limits = "\nlimits 4096 65536 65536 9223372036854775808\n"
+    declared = "station north A\norder north moment\nsettle north even\n#\n"
+    assert limits + declared in script.read_text()
     assert "each station has room for 4,096 transactions, 65,536 events, 65,536 readings" in (
         capsys.readouterr().err
     )
     feed.kept.lock.close()
     ledger.close()
     feed, ledger, _ = feed_of(stub, tmp_path, "--limits", "1", "2", "3", "4")
-    assert "\nlimits 1 2 3 4\nstation north A\n#\n" in script.read_text()
+    assert f"\nlimits 1 2 3 4\n{declared}" in script.read_text()
     feed.kept.lock.close()
     ledger.close()
 
@@ -136,3 +137,15 @@ def test_what_a_script_has_is_counted(tmp_path: Path) -> None:
     script.write_text(f"# x\nstation n A\n{event}\n{event}\nmsg A [2]\n")
     (found,) = sent_in(script).values()
     assert (found.events, found.readings, found.transactions) == (2, 2, {"t1"})
+
+
+def test_a_site_of_an_earlier_script_keeps_its_order_and_rule(stub: str, tmp_path: Path) -> None:
+    script = tmp_path / "state/script"
+    limits = "limits 4096 65536 65536 9223372036854775808\n"
+    for declared in ("station north A\n", "station north A\nsettle north closing\n"):
+        script.parent.mkdir(exist_ok=True)
+        script.write_text(f"{BEGIN.decode()}{declared}#\n")
+        feed, ledger, _ = feed_of(stub, tmp_path)
+        assert script.read_text() == f"{BEGIN.decode()}{limits}{declared}#\n"
+        feed.kept.lock.close()
+        ledger.close()

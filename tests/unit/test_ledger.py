@@ -100,7 +100,8 @@ def script_of(folder: Path) -> list[str]:
     """The lines of the kept script behind its declarations."""
     text = (folder / "state/script").read_text()
     limits = "limits 4096 65536 65536 9223372036854775808\n"
-    head = f"{BEGIN.decode()}{limits}station north A\n#\n"
+    declared = "station north A\norder north moment\nsettle north even\n#\n"
+    head = f"{BEGIN.decode()}{limits}{declared}"
     assert text.startswith(head)
     return text.removeprefix(head).splitlines()
 

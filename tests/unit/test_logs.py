@@ -248,11 +248,16 @@ def script_of(log: list[str], folder: Path, *words: str) -> tuple[str, dict[str,
     return out.getvalue().decode(), conversion.counts
 
 
+def new(site: str) -> str:
+    """What is declared of a site where no word says otherwise."""
+    return f"order {site} moment\nsettle {site} even\n"
+
+
 def test_stations_are_declared_before_messages(tmp_path: Path) -> None:
     log = [row(), row(station="B", site="south"), row(message='[3,"1",{}]'), "", "no JSON"]
     script, counts = script_of(log, tmp_path, "--period", "south=300", "--limits", *"1234")
     assert script == (
-        "limits 1 2 3 4\nstation north A\nstation south B\nperiod south 300\n"
+        f"limits 1 2 3 4\nstation north A\nstation south B\n{new('north')}period south 300\n{new('south')}"
         f"now 2026-03-01T08:00:00Z\nmsg A {HEARTBEAT}\nmsg B {HEARTBEAT}\n"
         '# untaken {"advice":"look at the line of the log; the options of log-to-script name its '
         'form","what":"not JSON: Expecting value at character 1"}\n'
@@ -311,7 +316,8 @@ def test_no_message_is_left_out_for_its_time(tmp_path: Path) -> None:
     times: list[object] = ["yesterday", None, 7, "1999-01-01T00:00:00Z", "2026-03-01T08:00:00"]
     log = [row(time=time) for time in times] + [row(time="never", message=event)]
     script, counts = script_of(log, tmp_path, "--no-boards")
-    assert script == "station north A\n" + 5 * f"msg A {HEARTBEAT}\n" + f"msg A {event}\n"
+    head = f"station north A\n{new('north')}"
+    assert script == head + 5 * f"msg A {HEARTBEAT}\n" + f"msg A {event}\n"
     assert (counts["messages"], counts["refused"]) == (6, 0)
 
 
@@ -320,7 +326,7 @@ def test_times_of_receipt_stand_in_comments(tmp_path: Path) -> None:
     script, _ = script_of(log, tmp_path, "--no-boards", "--received")
     comment = "# received 2026-03-01T08:00:00Z\n"
     assert script == (
-        f"station north A\nnow 2026-03-01T08:00:00Z\n{comment}msg A {HEARTBEAT}\n"
+        f"station north A\n{new('north')}now 2026-03-01T08:00:00Z\n{comment}msg A {HEARTBEAT}\n"
         f'msg A [2,"1","TransactionEvent",{{}}]\n{comment}msg A {HEARTBEAT}\n'
     )
 
@@ -344,12 +350,17 @@ def test_sites_have_the_orders_that_are_asked_for(tmp_path: Path) -> None:
     def declared(*words: str) -> str:
         return script_of(log, tmp_path, *words)[0].partition("now ")[0].removeprefix(stations)
 
-    assert declared() == ""
-    assert declared("--order", "south=moment") == "order south moment\n"
-    every = "".join(f"order {site} moment\n" for site in ("north", "south", "a=b"))
-    assert declared("--order", "moment") == every
-    assert declared("--order", "moment", "--order", "a=b=sequence", "--period", "north=300") == (
-        "period north 300\n" + every.replace("b moment", "b sequence")
+    assert declared() == "".join(map(new, ("north", "south", "a=b")))
+    later = ("--settle", "later", "--order", "sequence")
+    every = "".join(
+        f"order {site} sequence\nsettle {site} later\n" for site in ("north", "south", "a=b")
+    )
+    assert declared(*later) == every
+    changed = every.replace("order south sequence", "order south moment")
+    assert declared(*later, "--order", "south=moment") == changed
+    first = "".join(map(new, ("north", "south", "a=b"))).replace("a=b moment", "a=b sequence")
+    assert (
+        declared("--order", "a=b=sequence", "--period", "north=300") == f"period north 300\n{first}"
     )
 
 
@@ -398,7 +409,7 @@ def test_a_log_of_many_stations_is_split(tmp_path: Path) -> None:
     stations = "".join(f"station north N{n}\n" for n in range(50))
     messages = "".join(f"msg N{n} {HEARTBEAT}\n" for n in range(50))
     assert north == (
-        f"{stations}period north 300\nnow 2026-03-01T08:00:00Z\n{messages}"
+        f"{stations}period north 300\n{new('north')}now 2026-03-01T08:00:00Z\n{messages}"
         f"now 2026-03-01T09:00:00Z\nmsg N0 {HEARTBEAT}\nboard north\n"
     )
     assert south.count("now ") == 1 and south.endswith("board south\n")

@@ -158,8 +158,8 @@ def test_a_script_has_what_was_taken_and_what_came(
     script, said = capfd.readouterr()
     assert "messages mended: north=no-offset 4, north=text-value 4" in said
     lines = script.splitlines()
-    assert lines[1] == f"# mended no-offset,text-value A {sent(0)}"
-    assert lines[2].startswith("# received ") and '"value": 1000}' in lines[3]
+    assert lines[3] == f"# mended no-offset,text-value A {sent(0)}"
+    assert lines[4].startswith("# received ") and '"value": 1000}' in lines[5]
     # The board counts what was taken, and the table lists what was mended.
     (tmp_path / "script").write_text(script)
     ledger = Ledger(reference, [], lambda _refusal: None)
@@ -176,7 +176,7 @@ def test_a_script_has_what_was_taken_and_what_came(
     assert [(row["transaction"], row["seqNo"]) for row in rows] == [
         ("T1", str(n)) for n in range(4)
     ]
-    assert [int(row["line of the script"]) for row in rows] == [2, 5, 8, 11]
+    assert [int(row["line of the script"]) for row in rows] == [4, 7, 10, 13]
     assert rows[0]["mended"] == "no-offset,text-value" and rows[0]["site"] == "north"
     assert '<a href="x.mended.csv">4 messages were mended' in (tmp_path / "x.html").read_text()
 

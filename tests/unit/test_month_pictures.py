@@ -218,7 +218,6 @@ def test_the_month_of_the_examples_shows_findings_and_doubts(
     kinds = (
         Kind.POWER,
         Kind.RESET,
-        Kind.REPEATED,
         Kind.CLOCK_BACK,
         Kind.NO_READING,
         Kind.NOT_ENDED,

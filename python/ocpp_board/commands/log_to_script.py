@@ -330,6 +330,8 @@ class Conversion:
     def report(self) -> None:
         """What became of the lines."""
         log.info("sites: %d, stations: %d", len(self.plan.sites()), len(self.plan.site_of))
+        if said := self.plan.defaults_said():
+            log.info("%s", said)
         self.reader.report()
 
 

@@ -11,6 +11,7 @@ from typing import IO
 
 from ocpp_board.limits import LONGEST_SCRIPT
 from ocpp_board.logs.followed import Place
+from ocpp_board.logs.script_plan import DEFAULTS, Declared
 from ocpp_board.statuses import Mistaken
 
 log = logging.getLogger(__name__)
@@ -22,6 +23,22 @@ DECLARED = b"#\n"
 BUFFER = 1_048_576
 # Bytes that are looked at for the end of a last line that was cut.
 BLOCK = 65_536
+
+
+def declared_in(path: Path) -> Declared:
+    """What a script that is kept declares of its sites; nothing where there is none. Raises OSError."""
+    declared: Declared = {}
+    if not path.exists():
+        return declared
+    with open(path, encoding="utf-8") as script:
+        for words in map(str.split, iter(script.readline, DECLARED.decode())):
+            if not words:
+                break
+            if words[0] == "station":
+                declared.setdefault(words[1], {})
+            elif words[0] in DEFAULTS:
+                declared[words[1]][words[0]] = words[2]
+    return declared
 
 
 class KeptScript:

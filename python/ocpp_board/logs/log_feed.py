@@ -14,7 +14,7 @@ from ocpp_board.escapes import shown
 from ocpp_board.limits import GREATEST_LIMITS, MOMENT, MOST_READINGS
 from ocpp_board.logs.fitting_limits import fitting, said, sent_in
 from ocpp_board.logs.followed import Followed, Place
-from ocpp_board.logs.kept_script import KeptScript
+from ocpp_board.logs.kept_script import KeptScript, declared_in
 from ocpp_board.logs.log_reader import LogReader, Taken
 from ocpp_board.logs.logforms import Entry, Shape
 from ocpp_board.logs.script_plan import PlanOptions, ScriptPlan
@@ -62,9 +62,12 @@ class LogFeed:
         """Raises OSError, and Mistaken where the stations are none or another process keeps the script."""
         self.options, self.ledger = options, ledger
         plan = ScriptPlan(options.plan)
+        plan.declared = declared_in(options.state / "script")
         self.fit(plan, options.state / "script")
         self.kept = KeptScript(options.state, plan.declarations())
         ledger.script.path = self.kept.path
+        if said_once := plan.defaults_said():
+            log.info("%s", said_once)
         for fault in plan.strangers():
             log.warning("%s; nothing comes of it until that file names the site", fault)
         self.reader = LogReader(options.shape, plan, True, options.is_utc)

@@ -68,6 +68,13 @@ def known(name: str, sites: Iterable[str]) -> str:
     return f"its sites: {', '.join(names[:MOST_SITES])}{more}" if names else "it has no site"
 
 
+# What a script declares of sites by kind of line; nothing is in it that no line declares.
+Declared = dict[str, dict[str, str]]
+# What the tools declare of a site where nobody asks for more: readings that are listed again change nothing, and each
+# period has the energy of its time.
+DEFAULTS = {"order": "moment", "settle": "even"}
+
+
 @dataclass(frozen=True)
 class PlanOptions:
     """What a plan is asked to have: the files of its stations and sites, limits, and by site (or for all that have no
@@ -106,6 +113,8 @@ class ScriptPlan:
         self.site_of: dict[str, str] = {}
         # The limits of stations where none are asked for; without them they are the program's.
         self.limits_of: dict[str, tuple[int, ...]] = {}
+        # What an earlier script declared of its sites, which keep it.
+        self.declared: Declared = {}
         self.map = {station: site for station, site in pairs_of(asked.site_map or "/dev/null")}
         self.is_fixed = asked.stations is not None
         try:
@@ -193,14 +202,31 @@ class ScriptPlan:
         return f"period {site} {seconds}\n".encode() if seconds else b""
 
     def order_line(self, site: str) -> bytes:
-        """The order of a site's readings, where one is asked for."""
-        word = self.asked.order.get(site, self.asked.order.get(""))
-        return f"order {site} {word}\n".encode() if word else b""
+        """The order of a site's readings."""
+        return self.line("order", site, self.asked.order)
 
     def settle_line(self, site: str) -> bytes:
-        """The rule by which a site's differences count in its periods, where one is asked for."""
-        word = self.asked.settle.get(site, self.asked.settle.get(""))
-        return f"settle {site} {word}\n".encode() if word else b""
+        """The rule by which a site's differences count in its periods."""
+        return self.line("settle", site, self.asked.settle)
+
+    def line(self, kind: str, site: str, asked: Mapping[str, str]) -> bytes:
+        """What a site is declared to be: as asked for, else as an earlier script had it, else by the defaults of the
+        tools."""
+        word = asked.get(site, asked.get("")) or self.declared.get(site, DEFAULTS).get(kind)
+        return f"{kind} {site} {word}\n".encode() if word else b""
+
+    def defaults_said(self) -> str:
+        """That sites are declared by the defaults of the tools, where some are; else nothing."""
+        new = [site for site in self.sites() if site not in self.declared]
+        asked = {"order": self.asked.order, "settle": self.asked.settle}
+        kinds = [kind for kind in DEFAULTS if any(not {site, ""} & {*asked[kind]} for site in new)]
+        lines = " and ".join(f"`{kind} .. {DEFAULTS[kind]}`" for kind in kinds)
+        options = " and ".join(f"--{kind}" for kind in kinds)
+        return (
+            f"the script declares {lines} for its sites; {options} would say otherwise"
+            if kinds
+            else ""
+        )
 
     def declarations(self, site_of: dict[str, str] | None = None) -> bytes:
         """The lines in front of the first message, of these stations or of all."""
@@ -283,7 +309,7 @@ def add_plan(parser: argparse.ArgumentParser) -> None:
         default=[],
         metavar="[SITE=]WORD",
         help="the order of a site's readings, or of all sites that are not named so: sequence, the numbers of their "
-        "events, or moment, their own times, for stations that list readings again (default: sequence)",
+        "events, or moment, their own times, for stations that list readings again (default: moment)",
     )
     parser.add_argument(
         "--settle",
@@ -292,8 +318,8 @@ def add_plan(parser: argparse.ArgumentParser) -> None:
         default=[],
         metavar="[SITE=]WORD",
         help="the period in which a difference of a site counts, or of all sites that are not named so: later, that of "
-        "its later reading, or closing, the one that this reading closes, for stations that report on the quarter "
-        "hour (default: later)",
+        "its later reading; closing, the one that this reading closes; or even, each period between its readings by "
+        "its share of the time (default: even)",
     )
     add_mending(parser)
 

@@ -61,6 +61,12 @@ class Kind(Enum):
         "over the log with the option that the detail names: then readings that are listed again change nothing.",
         Effect.WRONG,
     )
+    ON_BOUNDARIES = (
+        "readings where periods begin",
+        "Most readings of the station lie where a period begins, and the site settles by `later`: the energy of each "
+        "period is shown in the next one. Run the tool again over the log with the option that the detail names.",
+        Effect.WRONG,
+    )
     ID_AGAIN = (
         "transaction id used again",
         "Events came under the id after its end. Two sessions are mixed in one, or the second one was refused. Find "
@@ -207,6 +213,13 @@ def order_option(site: str, where: str = "") -> str:
     its place there."""
     line = f"`order {site} moment`{' ' if where else ''}{where}"
     return f"`--order {site}=moment` of log-to-script or live (in a script line {line})"
+
+
+def settle_option(site: str) -> str:
+    """The option of the tools that has a site settle by shares, and the line of a script that does."""
+    return (
+        f"`--settle {site}=even` of log-to-script or live (in a script line `settle {site} even`)"
+    )
 
 
 def powers(events: Sequence[Event], is_by_moment: bool, most_kw: int) -> Iterator[Finding]:

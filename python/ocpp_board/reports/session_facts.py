@@ -8,9 +8,16 @@ from ocpp_board.replay.boards import Part, Session
 from ocpp_board.replay.operators import Operators
 from ocpp_board.replay.refusals import NOT_IN, Refusal
 from ocpp_board.reports.period_doubts import KnownPeriods, doubts_of, flows_of, holes_of, span_of
-from ocpp_board.reports.quality import MOST_KW, Finding, findings_of, in_order, order_option
+from ocpp_board.reports.quality import (
+    MOST_KW,
+    Finding,
+    findings_of,
+    in_order,
+    order_option,
+    settle_option,
+)
 from ocpp_board.reports.session_times import times_of
-from ocpp_board.reports.station_findings import Lived, found_in, outside
+from ocpp_board.reports.station_findings import Lived, found_in, on_boundaries, outside
 
 
 # Who voided an event, where no name was given.
@@ -97,6 +104,8 @@ class SessionFacts:
             if session.tx in more:
                 session.findings = in_order(session.findings + more[session.tx])
         part.findings = outside(self.transactions.outside.of(site, part.name), lived)
+        if part.rule == "later":
+            part.findings += on_boundaries(lived, part.seconds, settle_option(site))
 
     def has_taken(self, refusal: Refusal) -> bool:
         """Whether what could not be taken of a log was taken since: its event, or any message of a station that was in

@@ -11,6 +11,8 @@ from ocpp_board.messages.transactions import Event, moment
 from ocpp_board.reports.quality import LEAST_RESET, Finding, Kind
 from ocpp_board.reports.session_times import SessionTimes
 
+# So many moments of readings, at least, lie where periods begin before that is a finding.
+FEWEST_THERE = 8
 # A rise of a register by fewer mWh is none: readings are rounded.
 LEAST_RISE = 10_000
 
@@ -99,6 +101,22 @@ def one_counter(sessions: Sequence[Lived]) -> Found:
 def is_covered(gaps: Iterable[tuple[int, int]], numbers: set[int]) -> bool:
     """Whether all numbers of these ranges are there. They are not more than the numbers."""
     return all(number in numbers for first, last in gaps for number in range(first, last + 1))
+
+
+def on_boundaries(sessions: Sequence[Lived], seconds: int, option: str) -> list[Finding]:
+    """That most readings of a station lie where a period of so many seconds begins. `option`: what the detail names."""
+    read = {
+        reading.at
+        for one in sessions
+        for event in one.events
+        for reading in event.readings
+        if reading.at is not None
+    }
+    there = [at for at in read if at % seconds < 1]
+    if len(there) < FEWEST_THERE or 2 * len(there) <= len(read):
+        return []
+    said = f"{len(there)} of {len(read)} moments of readings; {option}"
+    return [Finding(Kind.ON_BOUNDARIES, len(there), moment(min(there)), said)]
 
 
 def outside(levels: Mapping[int, Sequence[Level]], sessions: Sequence[Lived]) -> list[Finding]:

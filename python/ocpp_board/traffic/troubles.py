@@ -228,6 +228,15 @@ def outside(tx: str, begin: datetime) -> Session:
     return session
 
 
+def quarter_hours(tx: str, begin: datetime) -> Session:
+    """The register is read where periods begin, in five events."""
+    kinds = ("Started", *3 * ("Updated",), "Ended")
+    return [
+        event(tx, number, kind, begin + number * timedelta(minutes=15), START + number * RISE // 2)
+        for number, kind in enumerate(kinds)
+    ]
+
+
 def one_counter(tx: str, begin: datetime) -> Session:
     """A session of a station that counts with one counter: each second one runs at its other EVSE beside the first."""
     is_second = int(tx[1:]) % 2 == 0
@@ -264,6 +273,7 @@ KINDS: dict[str, Callable[[str, datetime], Session]] = {
     "rose-between": rose_between,
     "outside": outside,
     "one-counter": one_counter,
+    "quarter-hours": quarter_hours,
 }
 # A station that sends and is not declared.
 UNKNOWN = "unknown"
