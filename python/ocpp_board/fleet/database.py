@@ -45,7 +45,7 @@ select pg_is_in_recovery() as is_standby, current_setting('fsync') = 'on' as has
 SECRETS = ("PGPASSWORD", "SOURCE_PASSWORD", "PROXY_SECRET")
 LAST_VERSION = "select max(version) from schema_version"
 # The version of schema.sql, which these tools need.
-VERSION = 7
+VERSION = 8
 # Addresses that once let a session in: if a host refuses one later, the words are not at fault.
 LET_IN = set[str]()
 # Seconds in which a host has to let a session in.

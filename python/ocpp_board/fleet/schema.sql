@@ -20,7 +20,7 @@
 \endif
 \if :{?to}
 \else
-    \set to 7
+    \set to 8
 \endif
 
 begin;
@@ -1811,12 +1811,18 @@ insert into schema_version (version) values (7);
 
 -- Later versions -------------------------------------------------------------------------------------------------------
 
--- Each later version is a file of schema/, which is applied once. Version 8 would be these lines, and `to` above 8:
+-- Each later version is a file of schema/, which is applied once.
+select :to >= 8 and not exists (select from schema_version where version = 8) as is_due \gset
+\if :is_due
+    \ir schema/0008_even.sql
+    insert into schema_version (version) values (8);
+\endif
+-- Version 9 would be these lines, and `to` above 9:
 --
---     select :to >= 8 and not exists (select from schema_version where version = 8) as is_due \gset
+--     select :to >= 9 and not exists (select from schema_version where version = 9) as is_due \gset
 --     \if :is_due
---         \ir schema/0008_name.sql
---         insert into schema_version (version) values (8);
+--         \ir schema/0009_name.sql
+--         insert into schema_version (version) values (9);
 --     \endif
 
 -- Passwords of the roles ----------------------------------------------------------------------------------------------
