@@ -6,6 +6,7 @@ from starlette.schemas import SchemaGenerator
 
 from ocpp_board.energies import FLOW
 from ocpp_board.fleet.states import ENERGIES, EVENTS, SESSIONS
+from ocpp_board.limits import ORDERS, RULES
 
 OPENAPI = "application/vnd.oai.openapi+json"
 INTEGER, TEXT, YES = {"type": "integer"}, {"type": "string"}, {"type": "boolean"}
@@ -59,11 +60,12 @@ SITE: dict[str, Any] = {
     "site": TEXT,
     "zone": TEXT,
     "period": {"type": "integer", "description": "Seconds of a settlement period"},
-    "reading_order": {"type": "string", "enum": ["sequence", "moment"]},
+    "reading_order": {"type": "string", "enum": list(ORDERS)},
     "settle": {
         "type": "string",
-        "enum": ["later", "closing"],
-        "description": "Whether a reading at the end of a period counts in the next one, or closes it",
+        "enum": list(RULES),
+        "description": "The periods that the difference of two readings counts in: later, that of the later reading; "
+        "closing, the one that this reading closes; even, all between them, shared by time",
     },
     "stations": INTEGER,
     **COUNTS,

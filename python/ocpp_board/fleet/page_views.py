@@ -116,7 +116,7 @@ def site_line(site: Site, is_exporting: bool) -> Line:
         text
         for text, is_so in (
             ("readings by moment", site.reckoning.order != DEFAULT_ORDER),
-            ("settled by closing", site.reckoning.settle != DEFAULT_SETTLE),
+            (f"settled by {site.reckoning.settle}", site.reckoning.settle != DEFAULT_SETTLE),
         )
         if is_so
     ]

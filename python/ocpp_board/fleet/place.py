@@ -6,8 +6,9 @@
 
 `--db` is given once for each cell. A station goes to a shard that has its site, the fullest one with room; else to the
 cell with the least load, and there to the fullest shard with room for a site, or to a new shard. Shards are filled with
-56 stations, so that limits can grow. A site that is new in a shard gets the period, the zone and the order of readings
-that it has elsewhere.
+56 stations, so that limits can grow. A site that is new in a shard gets the period, the zone, the order of readings and
+the rule of settling that it has elsewhere. A site that no cell has gets those of --order and --settle, and periods of a
+quarter of an hour; a line says so.
 
 The load of a shard is the lines of its last day. --moves writes the commands that bring cells near to the same load,
 the largest step first, and changes nothing.
@@ -19,7 +20,8 @@ from typing import Any, NamedTuple
 
 from ocpp_board.fleet import parts
 from ocpp_board.fleet.database import Fault, connect
-from ocpp_board.limits import is_name
+from ocpp_board.fleet.plans import NEW_SITE, Reckoning
+from ocpp_board.limits import ORDERS, RULES, is_name
 from ocpp_board.words import parser_of
 
 NAME = "ocpp-board place"
@@ -144,7 +146,9 @@ def propose(words: argparse.Namespace, loads: Sequence[Load]) -> None:
 
 async def place(words: argparse.Namespace, sessions: Sequence[Any], loads: list[Load]) -> None:
     """Places the station."""
-    settings = (900, "UTC", "sequence", "later")
+    pairs = (("order", words.order), ("settle", words.settle))
+    said = {name: word for name, word in pairs if word}
+    zone, reckoning, is_new = "UTC", NEW_SITE._replace(**said), True
     for session in sessions:
         row = await session.fetchrow(SITE, words.site, words.station)
         if row["shard"] is not None:
@@ -152,12 +156,17 @@ async def place(words: argparse.Namespace, sessions: Sequence[Any], loads: list[
                 f"station {words.station} is in shard {row['shard']} of cell {row['cell']} already"
             )
         if row["period"] is not None:
-            settings = (row["period"], row["zone"], row["reading_order"], row["settle"])
+            zone, reckoning, is_new = row["zone"], Reckoning.of(row), False
+    if reckoning._replace(**said) != reckoning:
+        raise Fault(f"site {words.site} has {reckoning.described()} already")
     cell, shard = chosen(len(sessions), loads, words.site)
     await parts.say_why(sessions[cell], words.reason)
+    settings = (reckoning.period, zone, reckoning.order, reckoning.settle)
     await sessions[cell].execute(PLACE, shard, words.site, words.station, *settings)
     number = (await sessions[cell].fetchrow(SITE, words.site, words.station))["cell"]
     print(f"{words.station}: site {words.site}, shard {shard} of cell {number}")
+    if is_new:
+        print(f"site {words.site} is new, with {reckoning.described()}")
 
 
 def name_of(text: str) -> str:
@@ -177,6 +186,12 @@ def main(argv: Sequence[str], prog: str) -> int:
     parser.add_argument("--site", type=name_of, help="the station's site")
     parser.add_argument(
         "--reason", type=parts.reason_of, help="why, in 3 to 500 characters, beside the change"
+    )
+    parser.add_argument(
+        "--order", choices=ORDERS, help=f"of readings of a new site (default: {NEW_SITE.order})"
+    )
+    parser.add_argument(
+        "--settle", choices=RULES, help=f"how a new site settles (default: {NEW_SITE.settle})"
     )
     parser.add_argument("--moves", action="store_true", help="propose moves of shards by load")
     words = parts.parsed(parser, argv)

@@ -47,8 +47,10 @@ class Reckoning(NamedTuple):
         return {name: one for name, one, default in pairs if one != default}
 
 
+# How a site is reckoned that is new in a fleet, if nothing else is said.
+NEW_SITE = Reckoning(DEFAULT_PERIOD, "moment", "even")
 # A site with a further line of each kind, and what of a script is around such a line.
-ODD = Reckoning(300, "moment", "closing")
+ODD = Reckoning(300, "moment", "even")
 FRONT, ASKED = "limits 1 2 4 9\nstation site A\n", "total A"
 
 
