@@ -79,7 +79,10 @@ class ClosingTrial(Trial):
         for shard, site, station in self.STATIONS:
             await self.owner.execute("select add_station($1, $2, $3)", shard, site, station)
             self.homes[station] = shard
-        await self.owner.execute("update own_site set zone = 'Europe/Berlin'")
+        # Each trial says what else of a site is not as scripts have it that declare nothing.
+        await self.owner.execute(
+            "update own_site set zone = 'Europe/Berlin', reading_order = 'sequence', settle = 'later'"
+        )
         await self.owner.add_listener(CHANNEL, self.told)
 
     def told(self, _session: Any, _pid: int, _channel: str, payload: str) -> None:
@@ -160,9 +163,9 @@ class ClosingTrial(Trial):
         status, said = await ended(self.fleet.start(*command, stdout=-1, stderr=-2))
         self.check(status == 0, f"a move: {said}")
 
-    async def close_there(self, login: str, day: str) -> tuple[int, str]:
+    async def close_there(self, login: str, day: str, site: str = "") -> tuple[int, str]:
         """Closes a day in the cell of this login."""
-        owner = ("--db", login, "--program", self.fleet.program, "--site", self.SITE)
+        owner = ("--db", login, "--program", self.fleet.program, "--site", site or self.SITE)
         close = [*tool("close-day"), *owner, "--archive", str(self.archives), "--day", day]
         return await ended(self.fleet.start(*close, stdout=-1, stderr=-2))
 
@@ -196,14 +199,15 @@ class ClosingTrial(Trial):
             process.wait()
         return was_blocked
 
-    async def same(self, text: str, day: str) -> None:
+    async def same(self, text: str, day: str, site: str = "") -> None:
         """Whether boards and archives together are the whole, and what is settled its periods up to the day."""
         end, differ = time.monotonic() + PATIENCE, ["not compared"]
         while differ and time.monotonic() < end:
             differ = []
             for shard in sorted(set(self.homes.values())):
                 differ += await self.fleet.compare_closed(
-                    self.owner, self.archives, shard, self.SITE, self.lines.get(shard, []), day
+                    *(self.owner, self.archives, shard, site or self.SITE),
+                    *(self.lines.get(shard, []), day),
                 )
             if differ:
                 await asyncio.sleep(0.1)
@@ -212,12 +216,12 @@ class ClosingTrial(Trial):
             f"{text}: boards with archives, and what is settled, are as a replay says {differ or ''}",
         )
 
-    async def closed(self, text: str, day: str, *wanted: str) -> None:
+    async def closed(self, text: str, day: str, *wanted: str, site: str = "") -> None:
         """Closes the day, which has to report what is wanted, and compares."""
-        status, said = await self.close_day(day)
+        status, said = await self.close_day(day, site=site)
         missing = [part for part in wanted if part not in said]
         self.check(
             status == 0 and not missing,
             f"{text}: {said}" + (f", and not {missing}" if missing else ""),
         )
-        await self.same(text, day)
+        await self.same(text, day, site)

@@ -351,25 +351,20 @@ class Demo(Trial):
             status, text = await ended(load)
             self.check(status == 0, f"plan: stations that were added while all runs: {text}")
         await self.period(self.shards - 1)
-        await self.by_moment(self.shards - 1)
+        await self.order(self.shards - 1)
 
-    async def by_moment(self, shard: int) -> None:
-        """Readings by moment for a shard's site; a program that knows no orders is not given the shard."""
+    async def order(self, shard: int) -> None:
+        """Readings by sequence for a shard's site, and by moment again."""
         begin = "update own_site set reading_order = $2 where shard = $1"
-        await self.owner.execute(begin, shard, "moment")
-        if "order" in self.fleet.known:
+        for order, word in (("sequence", ""), ("moment", " order=moment")):
+            await self.owner.execute(begin, shard, order)
             differ = await self.fleet.compared(self.owner, shard)
             text = await self.owner.fetchval("select text from own_board where shard = $1", shard)
             head = (text or "").split("\n")[0]
             self.check(
-                not differ and head.endswith(" order=moment"),
-                f"plan: readings by moment: {head} {differ or ''}",
+                not differ and head.endswith(f"{word} settle=even"),
+                f"plan: readings by {order}: {head} {differ or ''}",
             )
-        else:
-            await self.is_told(
-                f"shard {shard}: the program knows no orders of readings", "readings by moment"
-            )
-        await self.owner.execute(begin, shard, "sequence")
 
     async def is_told(self, fault: str, what: str) -> None:
         """Whether a worker reports what the program does not know."""
@@ -400,7 +395,7 @@ class Demo(Trial):
         """
         places = sorted(row["place"] for row in await self.owner.fetch(query, shard))
         self.check(
-            not differ and head.endswith(" period=300") and places == [0, 300, 600],
+            not differ and " period=300 " in head and places == [0, 300, 600],
             f"plan: a period of 300 seconds: {head}, whose rows begin {places} seconds in a quarter {differ or ''}",
         )
 

@@ -1,17 +1,20 @@
-"""Brings a database with data in it to a made-up next version of the schema, and compares it with a new one.
+"""Brings databases with data in them to the schema's version and to a made-up next one, and compares them with new ones.
 
     tests/one fleet.migrate_demo ocpp_board
 
-It starts PostgreSQL 15 in a temporary folder, and makes a database by schema.sql. A copy of schema.sql has one step
-more, by the lines that schema.sql shows for the next version. Run twice, the copy has to apply the step once and change
-no other row, and the schema has to be that of a new database. Tools refuse a database of another version; schema.sql
-refuses one of a later version, and one from before its first. The status is 1 where something is not as it must be.
+It starts PostgreSQL 15 in a temporary folder, and makes a database by schema.sql in its first version. schema.sql has
+to bring it to the last one: a site of the plan keeps its order of readings and its rule of settling. A copy of schema.sql
+has one step more, by the lines that schema.sql shows for the next version. Run twice, the copy has to apply the step once
+and change no other row, and the schema has to be that of a new database. Tools refuse a database of another version;
+schema.sql refuses one of a later version, and one from before its first. The status is 1 where something is not as it
+must be.
 """
 
 import asyncio
 import difflib
 import os
 import re
+import shutil
 import subprocess
 import sys
 from pathlib import Path
@@ -20,6 +23,7 @@ from typing import Any
 import asyncpg
 
 from ocpp_board.fleet.database import VERSION
+from ocpp_board.fleet.plans import NEW_SITE
 from tests.fleet.closings import ClosingTrial, local, session
 from tests.fleet.fleet import BIN, FILL, SCHEMA, ended, tool
 from tests.fleet.trials import parsed, parser_of, tried
@@ -51,6 +55,9 @@ insert into own_made_up select count(*) from own_log;
 alter table station add column made_up integer not null default 8;
 """
 VERSIONS = "select array_agg(version order by version) from schema_version"
+# The version that schema.sql makes before it applies later ones, and how sites are reckoned.
+FIRST = 7
+RULES = "select site, reading_order, settle from own_site order by 1"
 
 
 class Demo(ClosingTrial):
@@ -72,7 +79,7 @@ class Demo(ClosingTrial):
         assert shown
         step = re.sub(r"^--     ", "", shown.group(), flags=re.MULTILINE)
         folder = self.fleet.folder / "next"
-        (folder / "schema").mkdir(parents=True)
+        shutil.copytree(SCHEMA.parent / "schema", folder / "schema")
         (folder / "schema" / f"{VERSION + 1:04}_name.sql").write_text(STEP)
         copy = folder / "schema.sql"
         copy.write_text(
@@ -138,8 +145,44 @@ class Demo(ClosingTrial):
             f"schema.sql refuses it: {made.stderr.strip().splitlines()[:1]}",
         )
 
+    def differs(self, one: str, other: str) -> list[str]:
+        """How the schemas of two databases differ."""
+        lines = difflib.ndiff(self.schema(one), self.schema(other))
+        return [text for text in lines if text[0] in "+-"]
+
+    async def earlier(self) -> None:
+        """A database of the first version comes to the last one, and its sites keep their rules."""
+        database = self.fleet.databases[0]
+        database.psql("postgres", "-c", "create database earlier")
+        database.run_schema("earlier", "-v", "cell=1", "-v", f"to={FIRST}")
+        owner = await asyncpg.connect(self.fleet.dsn("owner", database="earlier"))
+        add, heard = "select add_station($1, $2, $3)", list[str]()
+        owner.add_log_listener(lambda _, message: heard.append(message.message))
+        await owner.execute(add, 0, "north", "A")
+        database.run_schema("earlier")
+        await owner.execute(add, 1, "north", "B")
+        await owner.execute(add, 1, "south", "C")
+        versions = await owner.fetchval(VERSIONS)
+        self.check(
+            versions == [*range(FIRST, VERSION + 1)], f"an earlier version comes to {versions}"
+        )
+        rows = [tuple(row) for row in await owner.fetch(RULES)]
+        self.check(
+            rows == [("north", "sequence", "later")] * 2 + [("south", *NEW_SITE[1:])],
+            f"its site stays as it is in each shard, and a new one is by the new defaults: {rows}",
+        )
+        said = f"periods of {NEW_SITE.period} seconds, readings by {NEW_SITE.order} and settling by"
+        self.check(
+            len(heard) == 1 and heard[0].startswith(f"site south is new, with {said}"),
+            f"add_station says so: {heard}",
+        )
+        differ = self.differs("earlier", "ledger")
+        self.check(not differ, f"its schema is that of a database which is new {differ or ''}")
+        await owner.close()
+
     async def run(self) -> None:
         await self.open_plan()
+        await self.earlier()
         await self.owner.execute(FILL, 0, session("A", "TX-1", local("2026-03-01 08:00"), 4))
         await self.owner.execute(MORE)
         columns = {
@@ -163,22 +206,18 @@ class Demo(ClosingTrial):
         versions = await self.owner.fetchval(VERSIONS)
         counted = await self.owner.fetch("select applied from own_made_up")
         self.check(
-            versions == [VERSION, VERSION + 1] and [row["applied"] for row in counted] == [4],
+            versions == [*range(FIRST, VERSION + 2)] and [row["applied"] for row in counted] == [4],
             f"a step, twice: versions {versions}, applied {len(counted)} time",
         )
         self.check(await self.rows(columns) == before, "all other rows are as before")
         database.fill(1, "fresh", schema)
-        differ = [
-            text
-            for text in difflib.ndiff(self.schema("fresh"), self.schema("ledger"))
-            if text[0] in "+-"
-        ]
+        differ = self.differs("fresh", "ledger")
         self.check(not differ, f"its schema is that of a database which is new {differ or ''}")
         await self.refused(f"has version {VERSION + 1}, and these tools are for version {VERSION}")
         self.schema_refuses(SCHEMA, "of a later version than this file")
         await self.owner.execute("delete from schema_version")
-        await self.owner.execute("insert into schema_version (version) values ($1)", VERSION - 1)
-        await self.refused(f"has version {VERSION - 1}, and these tools are for version {VERSION}")
+        await self.owner.execute("insert into schema_version (version) values ($1)", FIRST - 1)
+        await self.refused(f"has version {FIRST - 1}, and these tools are for version {VERSION}")
         self.schema_refuses(SCHEMA, "from before version")
         await self.owner.close()
 

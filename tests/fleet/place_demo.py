@@ -13,13 +13,16 @@ from typing import Any
 
 from ocpp_board.fleet.database import connect
 from ocpp_board.fleet.place import FILLED
+from ocpp_board.fleet.plans import NEW_SITE
 from tests.fleet.fleet import FILL, REASON, ended, tool
 from tests.fleet.trials import Trial, messages, parsed, parser_of, tried
 
 PLAN = """
-select shard, site, count(*) as stations, min(zone) as zone, min(period) as period
+select shard, site, count(*) as stations, min(zone) as zone, min(period) as period, min(reading_order), min(settle)
 from own_station join own_site using (shard, site) group by 1, 2 order by 1, 2
 """
+# The order of readings and the rule of settling of a new site.
+RULES = NEW_SITE[1:]
 
 
 class Demo(Trial):
@@ -32,9 +35,9 @@ class Demo(Trial):
         ]
         return await ended(self.fleet.start(*tool("place"), *cells, *more, stdout=-1, stderr=-2))
 
-    async def add(self, site: str, station: str) -> str:
+    async def add(self, site: str, station: str, *more: str) -> str:
         """Places a station, and gives what the tool says."""
-        status, said = await self.place("--site", site, "--reason", REASON, station)
+        status, said = await self.place("--site", site, "--reason", REASON, station, *more)
         if status:
             self.check(False, f"{station} of {site}: {status} {said}")
         return said.partition(", ")[2]
@@ -46,23 +49,38 @@ class Demo(Trial):
     async def stations(self, second: Any) -> None:
         """Stations that come."""
         said = await self.add("north", "N-00")
-        self.check(said == "shard 0 of cell 1", f"the first station: {said}")
+        self.check(
+            said == f"shard 0 of cell 1\nsite north is new, with {NEW_SITE.described()}",
+            f"the first station: {said}",
+        )
         await self.owner.execute("update own_site set zone = 'Europe/Berlin', period = 300")
-        said = await self.add("south", "S-00")
-        self.check(said == "shard 1 of cell 2", f"a site goes to the cell with less: {said}")
+        said = await self.add("south", "S-00", "--order", "sequence", "--settle", "closing")
+        self.check(
+            said.startswith("shard 1 of cell 2\n"), f"a site goes to the cell with less: {said}"
+        )
         # As many as a shard is filled with, by the plan's own function.
         for number in range(1, FILLED):
             await self.owner.execute("select add_station(0, 'north', $1)", f"N-{number:02}")
         told = {await self.add("north", f"N-{FILLED + number}") for number in range(2)}
         self.check(told == {"shard 2 of cell 1"}, f"what a shard has no room for: {told}")
         wanted: list[tuple[object, ...]] = [
-            (0, "north", FILLED, "Europe/Berlin", 300),
-            (2, "north", 2, "Europe/Berlin", 300),
+            (0, "north", FILLED, "Europe/Berlin", 300, *RULES),
+            (2, "north", 2, "Europe/Berlin", 300, *RULES),
         ]
         found = await self.plan(self.owner)
         self.check(found == wanted, f"its site is reckoned as before: {found}")
         found = await self.plan(second)
-        self.check(found == [(1, "south", 1, "UTC", 900)], f"the other cell: {found}")
+        self.check(
+            found == [(1, "south", 1, "UTC", 900, "sequence", "closing")],
+            f"the other cell, as the words say: {found}",
+        )
+        status, said = await self.place(
+            *("--site", "south", "--reason", REASON, "S-01", "--settle", "even")
+        )
+        self.check(
+            status == 2 and "settling by closing already" in said,
+            f"a site that is there keeps its rule: {said}",
+        )
         status, said = await self.place("--site", "west", "--reason", REASON, "S-00")
         self.check(
             status == 2 and "is in shard 1 of cell 2 already" in said,

@@ -2,64 +2,107 @@
 
     tests/one fleet.settle_demo ocpp_board
 
-It starts PostgreSQL 15 in a temporary folder and a worker, and plays two sites, each with a station that reads its
-register on the quarter hour. One site settles by `closing`, so its energy is in the quarters in which it flowed: on
-boards, in rows, in what is settled and archived, after a void of what was archived, a move to another cell and a
-closing there. The other settles by `later`, so its energy is a quarter later. A site that was closed by one rule is not
-closed by the other. The status is 1 where something is not as it must be.
+It starts PostgreSQL 15 in a temporary folder and a worker, and plays three sites, one for each rule, whose stations send
+the same. One of their sessions lasts over midnight, and ends once its first day is closed. Their energy has to be in the
+quarters that the rule says: on boards, in rows, in what is settled and archived, after a void of what was archived, a
+move to another cell and a closing there. A site that was closed by one rule is not closed by another. The status is 1
+where something is not as it must be.
 """
 
 import sys
+from collections.abc import Iterable
+from datetime import timedelta
 from typing import Any
 
 from ocpp_board.fleet.database import connect
 from ocpp_board.fleet.figures import joined
 from ocpp_board.fleet.plans import Reckoning
-from tests.fleet.closings import HEAD, ClosingTrial, local, session
+from tests.fleet.closings import HEAD, ClosingTrial, line, local, session
 from tests.fleet.trials import parsed, parser_of, tried
 
 # The quarters in which a station has energy, in the zone, with how much: on the board, with archives, and settled.
 QUARTERS = (
-    "select to_char(starts at time zone 'Europe/Berlin', 'DD HH24:MI'), (up / 1000)::bigint from {} "
+    "select to_char(starts at time zone 'Europe/Berlin', 'YYYY-MM-DD HH24:MI'), (up / 1000)::bigint from {} "
     "where station = $1 and up > 0 order by 1"
 )
 BOARD, SETTLED = QUARTERS.format("own_board_period"), QUARTERS.format("settled_period")
 WRITTEN = "select min(b.plan - s.plan) from own_board b join own_shard s using (shard)"
-RULES = "select settle from own_site union all select settle from own_closing"
+RULES_THERE = "select settle from own_site union select settle from own_closing order by 1"
+RULES = {"north": "closing", "south": "later", "west": "even"}
+STATIONS = {"A": (0, "north"), "B": (0, "south"), "C": (0, "west")}
+STATIONS |= {"D": (1, "north"), "E": (1, "south"), "F": (1, "west")}
+# By rule the Wh of quarters from 23:15 on: of a session with readings at 23:15 and 23:45, with its end at 00:15, and with
+# that and without the reading at 23:45.
+BEGUN = {"later": (0, 0, 600), "closing": (0, 600), "even": (300, 300)}
+ENDED = {"later": (0, 0, 600, 0, 900), "closing": (0, 600, 0, 900), "even": (300, 300, 450, 450)}
+VOIDED = {"later": (0, 0, 0, 0, 1500), "closing": (0, 0, 0, 1500), "even": 4 * (375,)}
+# The same from 08:00 on of a session with five readings on the quarter hour.
+MORNING = {"later": (0, *4 * (250,)), "closing": 4 * (250,), "even": 4 * (250,)}
+Quarters = list[tuple[str, int]]
 
 
-def quarters(day: int, first: int, count: int) -> list[tuple[str, int]]:
-    """So many quarters of an hour of a day, from this one on, each with 250 Wh."""
-    return [(f"{day:02} {n // 4:02}:{n % 4 * 15:02}", 250) for n in range(first, first + count)]
+def quarters(begin: str, energies: Iterable[int]) -> Quarters:
+    """The quarters from this one on that have energy."""
+    starts = (local(begin) + number * timedelta(minutes=15) for number in range(100))
+    return [(f"{at:%Y-%m-%d %H:%M}", wh) for at, wh in zip(starts, energies) if wh]
+
+
+def night(station: str, *numbers: int) -> list[str]:
+    """Events of a session that lasts over midnight."""
+    own = (
+        ("Started", "2026-03-01 23:15", 1000),
+        ("Updated", "2026-03-01 23:45", 1600),
+        ("Ended", "2026-03-02 00:15", 2500),
+    )
+    found = ((number, *own[number]) for number in numbers)
+    return [line(station, "TX-1", number, kind, local(at), wh) for number, kind, at, wh in found]
 
 
 class Demo(ClosingTrial):
-    STATIONS = ((0, "north", "A"), (0, "south", "B"), (1, "north", "C"))
+    STATIONS = tuple((*place, station) for station, place in STATIONS.items())
 
-    async def has(self, text: str, query: str, wanted: dict[str, Any], session: Any = None) -> None:
-        """Whether stations have energy in these quarters."""
+    async def has(
+        self,
+        text: str,
+        query: str,
+        energies: dict[str, tuple[int, ...]],
+        *mornings: str,
+        session: Any = None,
+    ) -> None:
+        """Whether stations have energy in the quarters that their rules say: from 23:15 on, and on these mornings."""
         await self.until(WRITTEN, 0)
-        for station, rows in wanted.items():
-            found = [tuple(row) for row in await (session or self.owner).fetch(query, station)]
-            self.check(rows and found == rows, f"{text}: {station} has {found}")
+        for station, (shard, site) in STATIONS.items():
+            if session and not shard:
+                continue
+            wanted = quarters("2026-03-01 23:15", energies[RULES[site]])
+            for day in mornings:
+                wanted += quarters(f"{day} 08:00", MORNING[RULES[site]])
+            rows = await (session or self.owner).fetch(query, station)
+            found = [tuple(row) for row in rows]
+            self.check(found == wanted, f"{text}, by {RULES[site]}: {station} has {found}")
+
+    async def come_all(self, *texts: str, shard: int | None = None) -> None:
+        """Lines of each station, or those of a shard; `{}` is the station."""
+        for station, place in STATIONS.items():
+            if shard in (None, place[0]):
+                await self.came(*(text.replace("{}", station) for text in texts))
+
+    async def closed_all(self, text: str, day: str, *wanted: str) -> None:
+        """Closes a day of each site."""
+        for site, rule in RULES.items():
+            await self.closed(f"{text}, by {rule}", day, *wanted, site=site)
 
     async def boards(self) -> None:
-        """Two days of each station, with five readings on the quarter hour."""
-        for station in ("A", "B", "C"):
-            await self.came(*session(station, "TX-1", local("2026-03-01 08:00"), 5))
-            await self.came(*session(station, "TX-2", local("2026-03-02 08:00"), 5))
-        by_closing = quarters(1, 32, 4) + quarters(2, 32, 4)
-        by_later = quarters(1, 33, 4) + quarters(2, 33, 4)
-        await self.has("boards", BOARD, {"A": by_closing, "B": by_later, "C": by_closing})
-        heads = [
-            await self.owner.fetchval(HEAD, *place)
-            for place in ((0, "north"), (0, "south"), (1, "north"))
-        ]
-        rule = " settle=closing"
-        self.check(
-            [text.endswith(rule) for text in heads] == [True, False, True],
-            f"boards say how their sites settle: {heads}",
-        )
+        """A day that is closed before its last session ends, and the boards with what comes then."""
+        await self.come_all(*night("{}", 0, 1))
+        await self.closed_all("a first day", "2026-03-01", "0 transactions archived")
+        await self.has("settled before the end", SETTLED, BEGUN)
+        await self.come_all(*night("{}", 2), *session("{}", "TX-2", local("2026-03-02 08:00"), 5))
+        await self.has("boards", BOARD, ENDED, "2026-03-02")
+        for site, rule in RULES.items():
+            head = await self.owner.fetchval(HEAD, 0, site)
+            wanted = "" if rule == "later" else f" settle={rule}"
+            self.check(head == f"board {site} period=900{wanted}", f"the board says: {head}")
         for row in await self.owner.fetch(
             "select * from own_board join own_site using (shard, site)"
         ):
@@ -68,59 +111,59 @@ class Demo(ClosingTrial):
 
     async def closings(self) -> None:
         """Days closed, and what comes later for what they archived."""
-        await self.closed("a first day", "2026-03-01", "0 transactions archived")
-        await self.closed("a second day", "2026-03-02", "1 transactions archived")
-        status, said = await self.close_day("2026-03-02", site="south")
-        self.check(status == 0, f"a site that settles by later: {said}")
-        archive = max(self.archives.glob("north.cell-1.shard-0.*")).read_text()
-        self.check(
-            "\nsettle north closing\n" in archive, "the archive declares how its site settles"
-        )
-        rows = quarters(1, 32, 4) + quarters(2, 32, 4)
-        later = quarters(1, 33, 4) + quarters(2, 33, 4)
-        await self.has("settled", SETTLED, {"A": rows, "B": later, "C": rows})
-        # Without the reading at 08:30 two quarters are one difference, which the reading at 08:45 closes.
-        await self.came("void A TX-1 2")
-        await self.closed("a void of what was archived", "2026-03-02", "; 1 taken")
-        one = [("01 08:00", 250), ("01 08:30", 500), ("01 08:45", 250), *quarters(2, 32, 4)]
-        await self.has("settled without a reading", SETTLED, {"A": one})
-        await self.came("restore A TX-1 2")
-        await self.closed("a restoration of it", "2026-03-02", "; 1 taken")
-        await self.has("settled with it again", SETTLED, {"A": rows})
+        for site, rule in RULES.items():
+            # The end shares energy with the day that is closed.
+            corrected = f", {int(rule == 'even')} of them corrections; 2 transactions archived"
+            await self.closed(f"both days, by {rule}", "2026-03-03", corrected, site=site)
+            archive = max(self.archives.glob(f"{site}.cell-1.shard-0.*")).read_text()
+            self.check(
+                (f"\nsettle {site} {rule}\n" in archive) == (rule != "later"),
+                f"the archive declares how its site settles: {rule}",
+            )
+        await self.has("settled", SETTLED, ENDED, "2026-03-02")
+        await self.come_all("void {} TX-1 1")
+        await self.closed_all("a void of what was archived", "2026-03-03", "; 1 taken")
+        await self.has("settled without a reading", SETTLED, VOIDED, "2026-03-02")
+        await self.come_all("restore {} TX-1 1")
+        await self.closed_all("a restoration of it", "2026-03-03", "; 1 taken")
+        await self.has("settled with it again", SETTLED, ENDED, "2026-03-02")
 
     async def another_rule(self) -> None:
         """A word that is none, and a closing by another rule than before."""
         await self.closes_only_so(
             "settle",
-            ("closing", "later", "even"),
-            "a rule of settling is later or closing",
+            ("closing", "later", "early"),
+            "a rule of settling is later, closing or even",
             "was closed by",
             "settling by closing, and its plan",
         )
 
     async def moving(self) -> None:
         """A shard that moves, and goes on there."""
-        await self.came(*session("C", "TX-3", local("2026-03-04 08:00"), 5))
+        await self.come_all(*session("{}", "TX-3", local("2026-03-04 08:00"), 5), shard=1)
         login = await self.second_cell()
         await self.moved()
         second = await connect(login)
-        rules = [row["settle"] for row in await second.fetch(RULES)]
+        rules = [row["settle"] for row in await second.fetch(RULES_THERE)]
         self.check(
-            len(rules) >= 3 and set(rules) == {"closing"},
+            rules == sorted(RULES.values()),
             f"the plan and the closings are there as they were: {rules}",
         )
-        rule = await self.owner.fetchval("select settle from site where cell = 2")
-        self.check(rule == "closing", f"the first cell sees it there: {rule}")
+        seen = dict(await self.owner.fetch("select site, settle from site where cell = 2"))
+        self.check(seen == RULES, f"the first cell sees them there: {seen}")
         self.fleet.worker("--boards", 0.2, dsn=self.fleet.dsn("ledger_worker", database="second"))
-        status, said = await self.close_there(login, "2026-03-05")
-        self.check(status == 0, f"a closing there: {said}")
-        rows = [*quarters(1, 32, 4), *quarters(2, 32, 4), *quarters(4, 32, 4)]
-        await self.has("settled there", SETTLED, {"C": rows}, second)
+        for site in RULES:
+            status, said = await self.close_there(login, "2026-03-05", site)
+            self.check(status == 0, f"a closing there: {said}")
+        await self.has(
+            "settled there", SETTLED, ENDED, "2026-03-02", "2026-03-04", session=second
+        )
         await second.close()
 
     async def run(self) -> None:
         await self.open()
-        await self.owner.execute("update own_site set settle = 'closing' where site = 'north'")
+        for site, rule in RULES.items():
+            await self.owner.execute("update own_site set settle = $2 where site = $1", site, rule)
         await self.boards()
         await self.closings()
         await self.another_rule()
@@ -133,7 +176,7 @@ def main() -> int:
     demo = Demo(parsed(parser_of(__doc__)))
     if "settle" not in demo.fleet.known:
         demo.close()
-        print("settling: not tried, since the program knows one rule only")
+        print("settling: not tried, since the program lacks the rule even")
         return 0
     return tried("settling", lambda: demo)
 

@@ -580,13 +580,14 @@ def test_a_plan_declares_the_order_of_a_site_by_moment_alone() -> None:
         Plan(rows, sites, frozenset(["period"]))
 
 
-def test_a_plan_declares_the_rule_of_a_site_that_settles_by_closing_alone() -> None:
+@pytest.mark.parametrize("rule", ["closing", "even"])
+def test_a_plan_declares_the_rule_of_a_site_that_settles_by_another_than_later(rule: str) -> None:
     rows, known = [station("A"), station("C", "south")], frozenset(["order", "settle"])
-    sites = {"north": Reckoning(900, "moment", "closing"), "south": Reckoning()}
-    front = b"limits 1 2 4 9\nstation north A\nstation south C\n"
-    assert Plan(rows, sites, known).lines == front + b"order north moment\nsettle north closing\n"
-    assert sites["north"].said() == "period=900 order=moment settle=closing"
-    with pytest.raises(Fault, match="knows no rules of settling, and site north has .* by closing"):
+    sites = {"north": Reckoning(900, "moment", rule), "south": Reckoning()}
+    front = b"limits 1 2 4 9\nstation north A\nstation south C\norder north moment\n"
+    assert Plan(rows, sites, known).lines == front + f"settle north {rule}\n".encode()
+    assert sites["north"].said() == f"period=900 order=moment settle={rule}"
+    with pytest.raises(Fault, match=f"knows no rules of settling, and site north has .* by {rule}"):
         Plan(rows, sites, frozenset(["order"]))
 
 
@@ -602,6 +603,10 @@ def test_lines_are_known_that_a_replay_takes(tmp_path: Path) -> None:
     assert known_lines(str(program)) == {"period", "order"}
     program.write_text(program.read_text().replace(kinds, f"{kinds}|settle"))
     assert known_lines(str(program)) == {"period", "order", "settle"}
+    # One that has the line without the rule even does not know it.
+    a_rule = "case $rest in *even) echo fault BadLine ;; esac"
+    program.write_text(program.read_text().replace("|settle) ;;", f") ;; settle) {a_rule} ;;"))
+    assert known_lines(str(program)) == {"period", "order"}
     # What is no replay knows none.
     assert known_lines("/bin/true") == known_lines("/bin/echo") == set()
     with pytest.raises(Fault, match="No such file"):
@@ -633,8 +638,8 @@ def test_figures_of_two_logs_are_added() -> None:
 
 def test_a_board_joined_of_one_is_that_one() -> None:
     assert joined("north", Reckoning(), [BOARD], {}, {}) == BOARD
-    by_moment = BOARD.replace("=900", "=900 order=moment", 1)
-    assert joined("north", Reckoning(900, "moment"), [by_moment], {}, {}) == by_moment
+    by_moment = BOARD.replace("=900", "=900 order=moment settle=even", 1)
+    assert joined("north", Reckoning(900, "moment", "even"), [by_moment], {}, {}) == by_moment
 
 
 def test_a_board_joined_with_archives_has_their_energy() -> None:

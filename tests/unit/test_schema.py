@@ -8,6 +8,8 @@ import pytest
 pytest.importorskip("asyncpg")
 
 from ocpp_board.fleet.database import VERSION  # noqa: E402
+from ocpp_board.fleet.plans import NEW_SITE  # noqa: E402
+from ocpp_board.limits import RULES  # noqa: E402
 
 FLEET = Path(__file__).resolve().parent.parent.parent / "python/ocpp_board/fleet"
 SCHEMA = (FLEET / "schema.sql").read_text()
@@ -42,6 +44,14 @@ def test_the_schema_shows_the_lines_of_the_next_version() -> None:
 def test_the_last_version_is_that_of_the_tools() -> None:
     assert f"    \\set to {VERSION}\n" in SCHEMA
     assert VERSION == FIRST + len(list((FLEET / "schema").glob("*")))
+
+
+def test_a_new_site_has_the_same_rules_by_the_database_and_by_place() -> None:
+    step = (FLEET / "schema/0008_even.sql").read_text()
+    defaults = re.findall(r"column (\w+) set default '(\w+)'", step)
+    assert defaults == [("reading_order", NEW_SITE.order), ("settle", NEW_SITE.settle)]
+    words = re.search(r"check \(settle in \((.*?)\)\)", step)
+    assert words and tuple(re.findall(r"\w+", words[1])) == RULES
 
 
 def test_no_function_is_defined_twice() -> None:
