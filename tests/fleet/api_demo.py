@@ -87,6 +87,7 @@ class Demo(Trial):
 
     async def open(self) -> None:
         await self.one_cell()
+        await self.usual_sites()
         self.archives = self.fleet.folder / "archives"
         self.archives.mkdir()
         for place in PLACES:

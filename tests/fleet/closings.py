@@ -67,6 +67,10 @@ class ClosingTrial(Trial):
         self.answers: dict[int, str] = {}
         self.homes: dict[str, int] = {}
 
+    async def one_cell(self) -> None:
+        await super().one_cell()
+        await self.usual_sites()
+
     async def open(self) -> None:
         """Starts a database with the stations, and a worker."""
         await self.open_plan()
@@ -79,10 +83,7 @@ class ClosingTrial(Trial):
         for shard, site, station in self.STATIONS:
             await self.owner.execute("select add_station($1, $2, $3)", shard, site, station)
             self.homes[station] = shard
-        # Each trial says what else of a site is not as scripts have it that declare nothing.
-        await self.owner.execute(
-            "update own_site set zone = 'Europe/Berlin', reading_order = 'sequence', settle = 'later'"
-        )
+        await self.owner.execute("update own_site set zone = 'Europe/Berlin'")
         await self.owner.add_listener(CHANNEL, self.told)
 
     def told(self, _session: Any, _pid: int, _channel: str, payload: str) -> None:

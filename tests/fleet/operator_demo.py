@@ -48,6 +48,7 @@ def session(transaction: str, day: str, count: int) -> list[str]:
 class Demo(Trial):
     async def open(self) -> None:
         await self.one_cell()
+        await self.usual_sites()
         for place in PLACES:
             await self.owner.execute("select add_station($1, $2, $3)", *place)
         for station in ("CS-00", "CS-01", "CS-02"):

@@ -81,6 +81,7 @@ class Demo(Trial):
 
     async def open(self) -> None:
         await self.one_cell()
+        await self.usual_sites()
         for shard, site, station in (
             (0, "north", "CS-00"),
             (0, "north", "CS-01"),

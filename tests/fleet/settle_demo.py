@@ -155,9 +155,7 @@ class Demo(ClosingTrial):
         for site in RULES:
             status, said = await self.close_there(login, "2026-03-05", site)
             self.check(status == 0, f"a closing there: {said}")
-        await self.has(
-            "settled there", SETTLED, ENDED, "2026-03-02", "2026-03-04", session=second
-        )
+        await self.has("settled there", SETTLED, ENDED, "2026-03-02", "2026-03-04", session=second)
         await second.close()
 
     async def run(self) -> None:

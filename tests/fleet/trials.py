@@ -28,6 +28,10 @@ FAULTS = (Fault, Unreachable, *LOST, asyncpg.PostgresError, subprocess.Subproces
 SHOWN = 30
 # 2026-03-01T00:00:00Z in seconds since 1970, and events of a transaction.
 BEGIN, EACH = 1_772_323_200, 8
+# Makes new sites as they are in scripts that declare nothing.
+USUAL_SITES = """
+alter table own_site alter reading_order set default 'sequence', alter settle set default 'later'
+"""
 
 
 def event(
@@ -88,6 +92,11 @@ class Trial:
         database.start()
         database.fill(1)
         self.owner = await self.fleet.owner()
+
+    async def usual_sites(self) -> None:
+        """From here on new sites are as in scripts that declare nothing: by sequence and by later. What a trial knows of
+        their periods is for that."""
+        await self.owner.execute(USUAL_SITES)
 
     def close(self) -> None:
         """Ends what was started. Where something was wrong the ends of logs are shown before."""
