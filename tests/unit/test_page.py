@@ -25,7 +25,7 @@ from ocpp_board.fleet.api import (  # noqa: E402
 )
 from ocpp_board.fleet.api_schema import SCHEMAS  # noqa: E402
 from ocpp_board.fleet.billing import Row, month_in, month_of  # noqa: E402
-from ocpp_board.fleet.cells import Late, Wrong, staying  # noqa: E402
+from ocpp_board.fleet.cells import Late, Site, Wrong, staying  # noqa: E402
 from ocpp_board.fleet.close_day import corrections_of  # noqa: E402
 from ocpp_board.fleet.histories import Entry, later, own_lines, without_archived  # noqa: E402
 from ocpp_board.fleet.operators import (  # noqa: E402
@@ -59,12 +59,16 @@ from ocpp_board.fleet.page_views import (  # noqa: E402
     MOST_LINES,
     reading_text,
     shown_of,
+    site_line,
 )
 from ocpp_board.fleet.page_words import Words, meaning_of, reason_of  # noqa: E402
 from ocpp_board.fleet.passwords import FREE, SALT, address_by, hashed  # noqa: E402
+from ocpp_board.fleet.plans import NEW_SITE, Reckoning  # noqa: E402
 from ocpp_board.fleet.set_operator import days_of, operator_of, roles_of, sites_of  # noqa: E402
 from ocpp_board.fleet.site_pages import fragment_of, session_path  # noqa: E402
 from ocpp_board.fleet.states import (  # noqa: E402
+    EVENTS,
+    SESSIONS,
     energy_state,
     figures_said,
     sessions_said,
@@ -337,6 +341,23 @@ def test_what_comes_from_outside_is_no_html() -> None:
 
 def test_a_session_has_a_path_of_its_own() -> None:
     assert session_path("CS:1", 'a/b?c=%41&"#') == "/session/CS%3A1/a%2Fb%3Fc%3D%2541%26%22%23"
+
+
+@pytest.mark.parametrize(
+    "reckoning, said",
+    [
+        (Reckoning(), ""),
+        (Reckoning(900, "sequence", "closing"), "settled by closing"),
+        (NEW_SITE, "readings by moment, settled by even"),
+    ],
+)
+def test_a_site_says_how_it_is_read_and_settles(reckoning: Reckoning, said: str) -> None:
+    site = Site("north")
+    site.reckoning = reckoning
+    site.numbers = dict.fromkeys((*FLOW, *SESSIONS, *EVENTS, "stations"), 0)
+    site.corrected = {f"corrected_{name}": 0 for name in SESSIONS}
+    name = str(site_line(site, False).cells[0])
+    assert said in name and ("by" in name) == bool(said)
 
 
 def test_a_fragment_is_read_as_it_was_written() -> None:

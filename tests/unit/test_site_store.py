@@ -44,8 +44,8 @@ class Cell:
         return []
 
 
-def pages(text: str, place: int = 1, store: SiteStore | None = None) -> SitePages:
-    """A site's pages of this board."""
+def pages(text: str, place: int = 1, store: SiteStore | None = None, **more: str) -> SitePages:
+    """A site's pages of this board. `more`: what is not usual in its row."""
     row = {
         "shard": 1,
         "period": 900,
@@ -54,7 +54,7 @@ def pages(text: str, place: int = 1, store: SiteStore | None = None) -> SitePage
         "zone": "UTC",
         "closing": None,
     }
-    row |= {"place": place, "at": AT, "text": text}
+    row |= {"place": place, "at": AT, "text": text} | more
     rows: Any = [(Cell(), row)]
     return asyncio.run((store or SiteStore()).pages("north", rows, date(2026, 3, 1)))
 
@@ -81,6 +81,12 @@ def test_small_and_large_sites_have_the_same_pages(monkeypatch: pytest.MonkeyPat
     assert found.files["board.periods.csv"].count(b"\n") == 1 + 4 * 96
     monkeypatch.setattr(site_store, "SMALL", len(small) - 1)
     assert unstamped(pages(small)) == unstamped(found) and len(threads) == 1
+
+
+def test_pages_of_a_site_that_settles_by_even_say_so() -> None:
+    found = pages(board(1), reading_order="moment", settle="even")
+    assert b",by moment,even\n" in found.files["board.periods.csv"]
+    assert b"Settled by even" in found.files["board.html"]
 
 
 def test_pages_that_can_not_be_made(monkeypatch: pytest.MonkeyPatch) -> None:
