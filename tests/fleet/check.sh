@@ -1,7 +1,7 @@
 #!/usr/bin/env bash
 # Installs what is missing and runs demo.py here: a fleet on a database of its own, with faults, and each board compared.
 # Beside it order_demo.py, of a site by moment, surplus_demo.py, of what changes nothing and comes without end, and
-# settle_demo.py, of a site that settles by closing. stranger_demo.py measures waits and wants the machine for itself,
+# settle_demo.py, of a site by each rule of settling. stranger_demo.py measures waits and wants the machine for itself,
 # so it is run by hand.
 #     tests/fleet/check.sh PROGRAM [WORD..]      such as crates/ocpp_board/out/ocpp_board; further words are demo.py's
 # Status: 0 where all is right, 1 where something is wrong, 2 for wrong words, and 77 where packages are missing and can't

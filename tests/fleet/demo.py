@@ -351,9 +351,9 @@ class Demo(Trial):
             status, text = await ended(load)
             self.check(status == 0, f"plan: stations that were added while all runs: {text}")
         await self.period(self.shards - 1)
-        await self.order(self.shards - 1)
+        await self.readings(self.shards - 1)
 
-    async def order(self, shard: int) -> None:
+    async def readings(self, shard: int) -> None:
         """Readings by sequence for a shard's site, and by moment again."""
         begin = "update own_site set reading_order = $2 where shard = $1"
         for order, word in (("sequence", ""), ("moment", " order=moment")):

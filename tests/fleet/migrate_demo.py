@@ -1,13 +1,13 @@
-"""Brings databases with data in them to the schema's version and to a made-up next one, and compares them with new ones.
+"""Brings databases with data in them to the schema's version and to a made-up next one, and compares with new ones.
 
     tests/one fleet.migrate_demo ocpp_board
 
 It starts PostgreSQL 15 in a temporary folder, and makes a database by schema.sql in its first version. schema.sql has
-to bring it to the last one: a site of the plan keeps its order of readings and its rule of settling. A copy of schema.sql
-has one step more, by the lines that schema.sql shows for the next version. Run twice, the copy has to apply the step once
-and change no other row, and the schema has to be that of a new database. Tools refuse a database of another version;
-schema.sql refuses one of a later version, and one from before its first. The status is 1 where something is not as it
-must be.
+to bring it to the last one: a site of the plan keeps its order of readings and its rule of settling. A copy of
+schema.sql has one step more, by the lines that schema.sql shows for the next version. Run twice, the copy has to apply
+the step once and change no other row, and the schema has to be that of a new database. Tools refuse a database of
+another version; schema.sql refuses one of a later version, and one from before its first. The status is 1 where
+something is not as it must be.
 """
 
 import asyncio

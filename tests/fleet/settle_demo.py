@@ -2,11 +2,11 @@
 
     tests/one fleet.settle_demo ocpp_board
 
-It starts PostgreSQL 15 in a temporary folder and a worker, and plays three sites, one for each rule, whose stations send
-the same. One of their sessions lasts over midnight, and ends once its first day is closed. Their energy has to be in the
-quarters that the rule says: on boards, in rows, in what is settled and archived, after a void of what was archived, a
-move to another cell and a closing there. A site that was closed by one rule is not closed by another. The status is 1
-where something is not as it must be.
+It starts PostgreSQL 15 in a temporary folder and a worker, and plays three sites, one for each rule, whose stations
+send the same. One of their sessions lasts over midnight, and ends once its first day is closed. Their energy has to be
+in the quarters that the rule says: on boards, in rows, in what is settled and archived, after a void of what was
+archived, a move to another cell and a closing there. A site that was closed by one rule is not closed by another. The
+status is 1 where something is not as it must be.
 """
 
 import sys
@@ -31,8 +31,8 @@ RULES_THERE = "select settle from own_site union select settle from own_closing 
 RULES = {"north": "closing", "south": "later", "west": "even"}
 STATIONS = {"A": (0, "north"), "B": (0, "south"), "C": (0, "west")}
 STATIONS |= {"D": (1, "north"), "E": (1, "south"), "F": (1, "west")}
-# By rule the Wh of quarters from 23:15 on: of a session with readings at 23:15 and 23:45, with its end at 00:15, and with
-# that and without the reading at 23:45.
+# By rule the Wh of quarters from 23:15 on: of a session with readings at 23:15 and 23:45, with its end at 00:15, and
+# with that and without the reading at 23:45.
 BEGUN = {"later": (0, 0, 600), "closing": (0, 600), "even": (300, 300)}
 ENDED = {"later": (0, 0, 600, 0, 900), "closing": (0, 600, 0, 900), "even": (300, 300, 450, 450)}
 VOIDED = {"later": (0, 0, 0, 0, 1500), "closing": (0, 0, 0, 1500), "even": 4 * (375,)}

@@ -94,8 +94,8 @@ class Trial:
         self.owner = await self.fleet.owner()
 
     async def usual_sites(self) -> None:
-        """From here on new sites are as in scripts that declare nothing: by sequence and by later. What a trial knows of
-        their periods is for that."""
+        """From here on new sites are as in scripts that declare nothing, by sequence and by later: some trials know
+        what their periods have to be."""
         await self.owner.execute(USUAL_SITES)
 
     def close(self) -> None:
