@@ -224,7 +224,7 @@ def test_the_month_of_the_examples_shows_findings_and_doubts(
     )
     assert {row["finding"] for row in rows} >= {kind.label for kind in kinds}
     periods = (tmp_path / "month.periods.csv").read_text()
-    assert ",estimated," in periods and ",measured," in periods and ",yes,by sequence" in periods
+    assert ",estimated," in periods and ",measured," in periods and ",yes,by moment,even" in periods
     assert '<td class="doubt">estimated' in (tmp_path / "month.2026-03-02.html").read_text()
 
 
