@@ -2,11 +2,11 @@
 
     tests/one settled_month PROGRAM [--days 31] [--seed 1]
 
-Four stations charge in the same drawn sessions, with a power that changes each minute. They differ in when they read
+Five stations charge in the same drawn sessions, with a power that changes each minute. They differ in when they read
 their registers: at the beginnings of periods (and at begin and end), the same but up to 0.9 seconds beside, each five
-minutes, and at begin and end only. For each station and each rule it prints which share of the energy PROGRAM shows in
-a wrong period, in a hundred. The status is 1 if a share is not as docs/rules.md has it, within a tenth, or if two rules
-show different totals.
+minutes, the same with all readings listed again at the end (at a site by moment), and at begin and end only. For each
+station and each rule it prints which share of the energy PROGRAM shows in a wrong period, in a hundred. The status is 1
+if a share is not as docs/rules.md has it, within a tenth, or if two rules show different totals.
 """
 
 import argparse
@@ -26,8 +26,11 @@ STORED = {
     "clock": (15.6, 0.0, 0.0),
     "jitter": (27.2, 27.1, 0.0),
     "five": (3.0, 3.0, 0.3),
+    "again": (3.0, 3.0, 0.3),
     "ends": (95.5, 95.5, 12.3),
 }
+# The site of a station, where it is not north.
+SITES = {"again": "south"}
 
 
 class Charge(NamedTuple):
@@ -69,7 +72,7 @@ def moments(kind: str, charge: Charge, draws: random.Random) -> list[float]:
         found = [*range(first, charge.end, PERIOD)]
     elif kind == "jitter":
         found = [at + draws.uniform(-0.9, 0.9) for at in range(first, charge.end, PERIOD)]
-    elif kind == "five":
+    elif kind in ("five", "again"):
         found = [*range(charge.begin + 300, charge.end, 300)]
     inside = [at for at in found if charge.begin < at < charge.end]
     return [charge.begin, *inside, charge.end]
@@ -79,22 +82,24 @@ def messages(
     kind: str, number: int, charge: Charge, register: int, draws: random.Random
 ) -> Iterator[str]:
     """The messages of a session of the station of this kind, whose register showed so much at the beginning."""
-    times = moments(kind, charge, draws)
+    times, values = moments(kind, charge, draws), list[str]()
     for seq, at in enumerate(times):
         what = "Started" if seq == 0 else "Ended" if seq == len(times) - 1 else "Updated"
         time = (BEGIN + timedelta(seconds=at)).isoformat(timespec="milliseconds")
-        value = {"timestamp": time, "sampledValue": [{"value": 0}]}
+        mwh = register + charge.level(at)
+        wh = f"{mwh // 1000}.{mwh % 1000:03}"
+        values.append(f'{{"timestamp":"{time}","sampledValue":[{{"value":{wh}}}]}}')
+        sent = values if kind == "again" and what == "Ended" else values[-1:]
         payload = {
             "eventType": what,
             "timestamp": time,
             "triggerReason": "MeterValuePeriodic",
             "seqNo": seq,
             "transactionInfo": {"transactionId": f"T{number}"},
-            "meterValue": [value],
+            "meterValue": [],
         }
-        mwh = register + charge.level(at)
         text = json.dumps([2, "1", "TransactionEvent", payload], separators=(",", ":"))
-        yield f"msg {kind} {text.replace('0}]}]', f'{mwh // 1000}.{mwh % 1000:03}}}]}}]', 1)}"
+        yield f"msg {kind} {text.replace('[]', '[' + ','.join(sent) + ']')}"
 
 
 def truth(charge: Charge, into: dict[int, int]) -> None:
@@ -112,7 +117,9 @@ def shown(text: str) -> dict[str, dict[int, int]]:
     stations, periods = dict[str, dict[int, int]](), dict[int, int]()
     for line in text.splitlines():
         words = line.split(" ")
-        if words[0] == "station":
+        if words[0] == "board":
+            periods = {}
+        elif words[0] == "station":
             periods = stations.setdefault(words[1], {})
         elif words[0] == "period":
             start = datetime.fromisoformat(words[1].replace("Z", "+00:00"))
@@ -146,8 +153,9 @@ def main() -> int:
             registers[kind] += charge.levels[-1]
     shares, totals = dict[str, list[float]](), dict[str, set[int]]()
     for rule in RULES:
-        plan = [f"station north {kind}" for kind in STORED] + [f"settle north {rule}"]
-        script = "".join(f"{line}\n" for line in (*plan, *lines, "board north"))
+        plan = [f"station {SITES.get(kind, 'north')} {kind}" for kind in STORED]
+        plan += [f"settle north {rule}", f"settle south {rule}", "order south moment"]
+        script = "".join(f"{line}\n" for line in (*plan, *lines, "board north", "board south"))
         run = subprocess.run(
             [words.program, "replay"], input=script.encode(), stdout=subprocess.PIPE, check=True
         )
