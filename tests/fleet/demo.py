@@ -8,7 +8,7 @@ It starts PostgreSQL 15 in a temporary folder as a user that is not root, 3 work
 three days fast and 400 days slow, 3 gateways and simulated stations. Each fault comes while stations send; afterwards
 every answered message must be in the log, and every site's board that of a replay of what stations sent. Then it
 compacts and compares again; tries bad input; and removes a row by hand, after which the comparison must fail. It ends
-what it started. The status is 1 where one of these is not as it must be.
+what it started. The status is 1 if one of these is not as it must be.
 
     worker       a worker is killed with -9
     gateway      a gateway is killed with -9

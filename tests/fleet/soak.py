@@ -13,7 +13,7 @@ archives have to be those of a replay from scratch of all that was answered and 
 replay's periods. It prints the memory of each part at the quarters of the run, and waits of all messages and of those
 that no kill and no stop touched: which neither waited nor came while a part was away or within 2 seconds behind, or 10
 behind a kill of the database. With --strangers stations have passwords, and strangers.py plays beside them. The status
-is 1 where something is not as it must be.
+is 1 if something is not as it must be.
 """
 
 import argparse
@@ -407,8 +407,8 @@ class Soak(Trial):
         await closing
         if strangers:
             strangers.send_signal(signal.SIGTERM)
-            found, told = await ended(strangers)
-            self.check(found == 0, f"strangers:\n{told}")
+            found, reported = await ended(strangers)
+            self.check(found == 0, f"strangers:\n{reported}")
         self.none_ended()
         for process in (*self.gateways, *self.workers):
             process.send_signal(signal.SIGCONT)

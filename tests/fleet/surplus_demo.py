@@ -5,7 +5,7 @@
 
 It starts PostgreSQL 15 in a temporary folder and a worker, whose limits are made small. Then come: conflicting events,
 of which the log keeps some and `refusal` counts all; the same in a log that no worker read, which is compacted; a
-station without room; two events of an archived session by turns. Days are closed in between. The status is 1 where
+station without room; two events of an archived session by turns. Days are closed in between. The status is 1 if
 something is not as it must be.
 """
 
@@ -205,7 +205,7 @@ class Demo(ClosingTrial):
         )
 
     async def measured(self, name: str, *more: object) -> tuple[int, str, Memory]:
-        """Runs a tool, and gives its status, what it told, and the memory that it and what it started took at most."""
+        """Runs a tool; gives its status, what it printed, and the memory that it and what it started took at most."""
         role = {"compact": "ledger_compactor", "close-day": "ledger_closer"}[name]
         words = ("--db", self.fleet.dsn(role), "--program", self.fleet.program)
         code = "" if self.words.big else SMALL

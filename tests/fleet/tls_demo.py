@@ -6,7 +6,7 @@ It starts PostgreSQL 15 in a temporary folder, makes certificates by `openssl`, 
 without TLS, while the gateway's certificate is changed, and with certificates of their own, of others and of another
 authority, and such as a revocation list names. Where nginx is installed the same goes by way of it, which hands on
 whose certificate a station has: a station or a stranger beside it that says so by itself is not believed. The status
-is 1 where something is not as it must be.
+is 1 if something is not as it must be.
 """
 
 import argparse
