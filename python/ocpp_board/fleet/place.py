@@ -181,7 +181,7 @@ def main(argv: Sequence[str], prog: str) -> int:
     parser = parser_of(prog, __doc__)
     parts.add_cells(parser)
     parser.add_argument(
-        "station", nargs="?", type=name_of, metavar="STATION", help="which station comes"
+        "station", nargs="?", type=name_of, metavar="STATION", help="the station"
     )
     parser.add_argument("--site", type=name_of, help="the station's site")
     parser.add_argument(

@@ -42,7 +42,7 @@ def main(argv: Sequence[str], prog: str) -> int:
     parts.add_cell(parser, f"the database of the station's cell: {parts.ADDRESS}")
     parser.add_argument("station", metavar="STATION", help="which station")
     parser.add_argument(
-        "--at-once", action="store_true", help="the password that it had is good no longer"
+        "--at-once", action="store_true", help="end the password that it had"
     )
     parts.add_reason(parser)
     words = parts.parsed(parser, argv)
