@@ -533,7 +533,7 @@ class Demo(Trial):
         """Numbers of sessions, energies and events of a station; its sessions are archived, and corrected."""
         sessions, rest = ("transactions", "complete", "missing"), ("events", "voided")
 
-        async def is_told(what: str, numbers: tuple[int, ...], **wanted: str) -> None:
+        async def is_reported(what: str, numbers: tuple[int, ...], **wanted: str) -> None:
             await asyncio.sleep(1)
             whole = self.get("/sites/south/board").json
             for row in (whole, whole["stations"][0]):
@@ -551,20 +551,20 @@ class Demo(Trial):
 
         settled, corrected = dict.fromkeys(sessions, "settled"), "corrected"
         provisional = dict.fromkeys((*sessions, "energy"), "provisional")
-        await is_told("in the log", (1, 1, 0), **provisional)
+        await is_reported("in the log", (1, 1, 0), **provisional)
         await self.close_day("south", "2026-03-02")
-        await is_told("archived", (1, 1, 0), **settled, energy="settled")
+        await is_reported("archived", (1, 1, 0), **settled, energy="settled")
         await self.come("CS-02", ["void CS-02 T-1 1"])
         await self.answered()
         await self.close_day("south", "2026-03-02")
         changed = settled | {"complete": corrected, "missing": corrected, "energy": corrected}
-        await is_told("corrected since", (1, 0, 1), **changed)
+        await is_reported("corrected since", (1, 0, 1), **changed)
         await self.come("CS-02", events("T-7", quarters("2026-03-03", 10, 3)))
         await self.answered()
-        await is_told("with another one in the log", (2, 1, 1), **provisional)
+        await is_reported("with another one in the log", (2, 1, 1), **provisional)
         await self.close_day("south", "2026-03-02")
         await self.close_day("south", "2026-03-04")
-        await is_told("which is archived, too", (2, 1, 1), **changed)
+        await is_reported("which is archived, too", (2, 1, 1), **changed)
 
     # A transaction ----------------------------------------------------------------------------------------------------
 

@@ -100,7 +100,7 @@ class ClosingTrial(Trial):
             self.lines.setdefault(shard, []).append(line)
             self.asked.append(line)
             await self.fleet.come(self.owner, shard, [line], CHANNEL, len(self.asked))
-        await self.fleet.until_told(self.owner)
+        await self.fleet.until_reported(self.owner)
         tokens = range(front + 1, len(self.asked) + 1)
         return [self.answers.get(token, "no answer") for token in tokens]
 

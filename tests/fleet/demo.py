@@ -209,7 +209,7 @@ class Demo(Trial):
 
     async def in_order(self) -> None:
         """Whether places have no gap, and each station's lines are in the order in which it sent them."""
-        await self.fleet.until_told(self.owner)
+        await self.fleet.until_reported(self.owner)
         uneven = await self.owner.fetchval(UNEVEN)
         rows = await self.owner.fetch("select line, min(place) as place from own_log group by line")
         places = {row["line"]: row["place"] for row in rows}
@@ -366,7 +366,7 @@ class Demo(Trial):
                 f"plan: readings by {order}: {head} {differ or ''}",
             )
 
-    async def is_told(self, fault: str, what: str) -> None:
+    async def is_reported(self, fault: str, what: str) -> None:
         """Whether a worker reports what the program does not know."""
         log, end = self.fleet.folder / "parts.log", time.monotonic() + PATIENCE
         while fault not in log.read_text() and time.monotonic() < end:
@@ -382,7 +382,7 @@ class Demo(Trial):
         await self.owner.execute(begin, shard, 300)
         if "period" not in self.fleet.known:
             fault = f"shard {shard}: the program knows no settlement periods"
-            await self.is_told(fault, "a period of 300 seconds")
+            await self.is_reported(fault, "a period of 300 seconds")
             await self.owner.execute(begin, shard, 900)
             return
         differ = await self.fleet.compared(self.owner, shard)
@@ -435,7 +435,7 @@ class Demo(Trial):
         for shard in range(4):
             rows = await self.owner.fetch(query, shard)
             await self.fleet.come(self.owner, shard, [row["line"] for row in rows])
-        await self.fleet.until_told(self.owner)
+        await self.fleet.until_reported(self.owner)
         before = await self.owner.fetchval("select count(*) from own_log")
         command = [
             *tool("compact"),

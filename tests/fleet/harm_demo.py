@@ -153,10 +153,10 @@ class Demo(Trial):
             await self.owner.execute(APPEND, "harm", None)
         await self.owner.execute("select tell('wake_kept', '0:0')")
 
-        async def are_told() -> bool:
+        async def are_reported() -> bool:
             return len(self.answers) == 3
 
-        are_all = await self.until(are_told)
+        are_all = await self.until(are_reported)
         await asyncio.sleep(1)
         after = await self.sessions()
         self.check(

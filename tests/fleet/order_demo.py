@@ -179,7 +179,7 @@ class Demo(ClosingTrial):
     async def compaction(self) -> None:
         again = await self.owner.fetch("select line from own_log where shard = 1")
         await self.fleet.come(self.owner, 1, [row["line"] for row in again])
-        await self.fleet.until_told(self.owner)
+        await self.fleet.until_reported(self.owner)
         command = [*tool("compact"), "--db", self.fleet.dsn("ledger_compactor"), "--shard", 1]
         process = self.fleet.start(*command, "--program", self.fleet.program, stdout=-1, stderr=-2)
         status, said = await ended(process)

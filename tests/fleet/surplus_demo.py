@@ -97,7 +97,7 @@ class Demo(ClosingTrial):
         for at in range(0, len(lines), 20):
             part = list(lines[at : at + 20])
             await self.fleet.come(self.owner, shard, part, "closings", front + at + 1)
-        await self.fleet.until_told(self.owner)
+        await self.fleet.until_reported(self.owner)
         tokens = range(front + 1, len(self.asked) + 1)
         return [self.answers.get(token, "no answer") for token in tokens]
 
@@ -111,8 +111,8 @@ class Demo(ClosingTrial):
         is_small = await self.until(f"select ({BYTES}) < {UNCHANGED + 5_000}", True, 0)
         size = await self.owner.fetchval(BYTES, 0)
         self.check(is_small, f"the log keeps {size:,} bytes of {SIZE * CONFLICTS:,}")
-        is_told = await self.until(REFUSED, CONFLICTS, "A", "ConflictingEvent")
-        self.check(is_told, f"and `refusal` counts {CONFLICTS}")
+        is_reported = await self.until(REFUSED, CONFLICTS, "A", "ConflictingEvent")
+        self.check(is_reported, f"and `refusal` counts {CONFLICTS}")
         answers = await self.together(
             *session("B", "TX-2", local("2026-03-02 08:00"), 3)[:2],
             "void A TX-1 1",

@@ -110,7 +110,7 @@ class Waits(Trial):
                 for number in range(shard, self.shards):
                     lines = await self.fill(number, full, EVENTS[name])
                     record.writelines(f"{line}\n" for line in lines)
-            await self.fleet.until_told(self.owner, 3 * PATIENCE)
+            await self.fleet.until_reported(self.owner, 3 * PATIENCE)
         # One in five is sent twice.
         events = max(2, int(seconds * self.words.rate / self.words.stations / 1.2))
         words = ("--events", events, "--rate", self.words.rate, "--seconds", 3 * seconds + 60)

@@ -239,8 +239,8 @@ class WatchedTrial(Trial):
         self.fleet.databases[0].kill()
         await asyncio.sleep(2)
         status, said = await self.health("worker-1")
-        is_told = status == 503 and '"connected": false' in said
-        self.check(is_told, f"server: /health of a worker: {status} {said.strip()}")
+        is_reported = status == 503 and '"connected": false' in said
+        self.check(is_reported, f"server: /health of a worker: {status} {said.strip()}")
         await asyncio.to_thread(self.fleet.databases[0].start)
         self.owner = await self.fleet.owner()
 

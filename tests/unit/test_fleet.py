@@ -127,7 +127,7 @@ class Ended:
         raise asyncpg.InterfaceError("connection is closed")
 
 
-def test_a_worker_whose_session_is_ended_beats_until_it_is_told() -> None:
+def test_a_worker_whose_session_is_ended_beats_until_it_is_reported() -> None:
     async def beaten() -> None:
         words = argparse.Namespace(
             program="none", hang=1.0, name="worker_1", seen=metrics.WorkerSeen(1.0)
@@ -800,7 +800,7 @@ def test_a_line_lies_before_a_day_with_all_its_moments() -> None:
         '[2,"1","TransactionEvent",{"timestamp":"2026-03-01T10:00:00Z","meterValue":[7]}]',
     ],
 )
-def test_a_line_that_cannot_be_read_is_told(text: str) -> None:
+def test_a_line_that_cannot_be_read_is_reported(text: str) -> None:
     with pytest.raises(Unreadable):
         is_before(f"msg A {text}", datetime(2026, 3, 2, tzinfo=timezone.utc))
 

@@ -168,7 +168,7 @@ def test_an_operators_change_is_kept_and_a_question_is_not(stub: str, tmp_path: 
     ledger.close()
 
 
-def test_a_log_that_is_not_there_is_told(stub: str, tmp_path: Path) -> None:
+def test_a_log_that_is_not_there_is_reported(stub: str, tmp_path: Path) -> None:
     feed, ledger, _ = feed_of(stub, tmp_path)
     with pytest.raises(FileNotFoundError):
         feed.feed()

@@ -390,7 +390,7 @@ def test_a_figure_is_told_by_what_is_settled() -> None:
     assert state_of(False, 1) == "provisional" and state_of(True, 1) == "corrected"
 
 
-def test_each_number_is_told() -> None:
+def test_each_number_is_reported() -> None:
     row = {"transactions": 3, "complete": 2, "missing": 4, "corrected_transactions": 0}
     row |= {"corrected_complete": 0, "corrected_missing": 1}
     archived = {name: row[name] for name in ("transactions", "complete", "missing")}

@@ -316,7 +316,7 @@ def layout(folder: Path, **more: object) -> Layout:
     return Layout(str(folder / "x"), Calendar(), DAY + timedelta(days=2), **more)  # type: ignore[arg-type]
 
 
-def test_data_that_is_too_old_is_told(tmp_path: Path) -> None:
+def test_data_that_is_too_old_is_reported(tmp_path: Path) -> None:
     until = DAY + timedelta(days=1, hours=23)
     assert "older" not in layout(tmp_path, until=until).stamp(None)
     assert "older" not in layout(tmp_path, until=until, oldest=3_600).stamp(None)

@@ -202,7 +202,7 @@ def test_a_change_while_a_password_is_compared_is_not_missed() -> None:
     assert not door.is_known("A", given)
 
 
-def test_a_password_that_is_new_is_told() -> None:
+def test_a_password_that_is_new_is_reported() -> None:
     for cell, verdict in ((Cell(), Verdict.RIGHT), (Cell(False), Verdict.UNSURE)):
         rows = [one._replace(cell=cell, is_news=True) for one in known(RIGHT)]
         assert judged(Passwords(), rows, RIGHT) == [verdict] and cell.seen == ["A"]

@@ -66,7 +66,7 @@ def test_a_moment_is_the_receipt_of_the_message_behind_it_alone(stub: str, tmp_p
     assert received == [AT, None, None, AT, None]
 
 
-def test_a_replay_that_fails_is_told(stub: str, tmp_path: Path) -> None:
+def test_a_replay_that_fails_is_reported(stub: str, tmp_path: Path) -> None:
     with open(script_of(tmp_path, "msg A 1\nfail\n"), "rb") as script:
         with pytest.raises(Mistaken, match="ended with status 1: fault ReadFault"):
             list(answered(stub, script))

@@ -159,7 +159,7 @@ def test_a_zone_stands_beside_utc(tmp_path: Path) -> None:
 
 
 @pytest.mark.parametrize(
-    ("words", "text", "is_told"),
+    ("words", "text", "is_reported"),
     [
         (["--oldest", "60", "--until", "2026-03-01T08:00:00Z"], "older than it should be", True),
         (["--oldest", "86400", "--until", "2026-03-01T08:00:00Z"], "older than it should", False),
@@ -168,10 +168,10 @@ def test_a_zone_stands_beside_utc(tmp_path: Path) -> None:
         ([], "http-equiv", False),
     ],
 )
-def test_what_each_page_tells(words: list[str], text: str, is_told: bool, tmp_path: Path) -> None:
+def test_what_each_page_says(words: list[str], text: str, is_reported: bool, tmp_path: Path) -> None:
     files = run(tmp_path, "--written", "2026-03-01T09:00:00Z", *words)
     for name in ("html", "2026-03-01.html"):
-        assert (text in files[name]) == is_told, name
+        assert (text in files[name]) == is_reported, name
         assert '<time datetime="2026-03-01T09:00:00+00:00">' in files[name]
 
 
