@@ -190,7 +190,7 @@ def test_a_site_that_the_file_of_stations_lacks_is_warned_of(
     assert ledger.counts["accepted"] == 1
 
 
-def test_a_cut_is_told_with_the_last_line_before_it(
+def test_a_cut_is_reported_with_the_last_line_before_it(
     stub: str, tmp_path: Path, capsys: pytest.CaptureFixture[str]
 ) -> None:
     log = tmp_path / "log"

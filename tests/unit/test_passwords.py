@@ -208,7 +208,7 @@ def test_a_password_that_is_new_is_reported() -> None:
         assert judged(Passwords(), rows, RIGHT) == [verdict] and cell.seen == ["A"]
 
 
-def test_with_a_cell_down_nobody_is_told_that_a_password_is_wrong() -> None:
+def test_with_a_cell_down_no_answer_says_that_a_password_is_wrong() -> None:
     for rows in (known(), known(RIGHT)):
         assert judged(Passwords(), rows, WRONG, all_up=False) == [Verdict.UNSURE]
     assert judged(Passwords(), known(RIGHT), RIGHT, all_up=False) == [Verdict.RIGHT]

@@ -313,7 +313,7 @@ def test_by_time_the_first_and_the_last_reading_are_those_of_moments() -> None:
     assert findings(messages, by_sequence=None) == []
 
 
-def test_a_board_by_time_tells_its_sessions_so() -> None:
+def test_a_board_by_moment_has_its_sessions_so() -> None:
     reported = SessionFacts()
     for sent in KINDS["readings-repeated"]("T1", FIRST):
         reported.take(answered(sent))
@@ -409,7 +409,7 @@ def test_events_that_the_board_does_not_count_tell_no_times() -> None:
     assert times_of([]).begun is None
 
 
-def test_an_event_that_was_erased_is_told_by_the_one_that_came_in_its_place() -> None:
+def test_an_event_that_was_erased_is_known_by_the_one_that_came_in_its_place() -> None:
     other = event("T1", 1, "Updated", FIRST + HOUR, 2_000)
     assert taken([*sound("T1", FIRST), other]).events[1].at == (FIRST + HOUR).timestamp()
 

@@ -262,7 +262,7 @@ def test_no_other_action_is_proposed_for_a_valid_one(action: str, cause: str, re
     assert said[1].startswith(remedy)
 
 
-def test_a_station_near_its_limits_is_told_once() -> None:
+def test_a_station_near_its_limits_is_reported_once() -> None:
     reported: list[str] = []
     near = NearLimits({"A": (2, 10, 1_000, 2**63)}, lambda _, said, remedy: reported.append(said))
     event = EVENT.replace("T1", "T{}").replace("{", "{{").replace("}", "}}").replace("{{}}", "{}")

@@ -135,7 +135,7 @@ def test_what_was_fed_back_is_a_negative_net_energy(
         ),
     ],
 )
-def test_a_text_of_another_script_is_told_and_nothing_is_written(
+def test_a_text_of_another_script_is_reported_and_nothing_is_written(
     text: str,
     why: str,
     tmp_path: Path,
@@ -152,7 +152,7 @@ def test_a_text_of_another_script_is_told_and_nothing_is_written(
     assert list(tmp_path.glob("x.*")) == []
 
 
-def test_a_zone_stands_beside_utc(tmp_path: Path) -> None:
+def test_a_zone_is_beside_utc(tmp_path: Path) -> None:
     words = ("--script", str(tmp_path / "script"), "--tz", "Europe/Berlin")
     (row,) = csv.DictReader(run(tmp_path, *words)["transactions.csv"].splitlines())
     assert row["end (Europe/Berlin)"] == "2026-03-01T09:30:00+01:00"
@@ -227,7 +227,7 @@ def followed(folder: Path, monkeypatch: pytest.MonkeyPatch, writings: int) -> st
     return (folder / "x.html").read_text()
 
 
-def test_a_server_that_is_gone_leaves_a_board_that_is_told_to_be_old(
+def test_a_server_that_is_gone_leaves_a_board_that_is_shown_as_old(
     tmp_path: Path, monkeypatch: pytest.MonkeyPatch
 ) -> None:
     text = followed(tmp_path, monkeypatch, 4)
