@@ -4,8 +4,8 @@
         --reason 'a new station' < FILE
 
 It reads the password, 16 to 40 characters, from standard input: one line. The plan keeps a salted hash of it. What the
-station came with last stays good until it comes with the new one, and its connection goes on. With --at-once that ends
-now, for a password that others may know, and so does the connection that came with it.
+station came with last stays good until it comes with the new one, and its connection goes on. With --at-once the old
+password ends now, for one that others may know, and so does the connection that came with it.
 """
 
 import argparse
