@@ -547,7 +547,9 @@ class Demo(Trial):
                     and states.keys() == {*sessions, *rest, *FLOW, "net"}
                 )
                 name = row.get("station", row["site"] if "site" in row else "")
-                self.check(is_right, f"{what}, {name}: {reported}, {[row[key] for key in sessions]}")
+                self.check(
+                    is_right, f"{what}, {name}: {reported}, {[row[key] for key in sessions]}"
+                )
 
         settled, corrected = dict.fromkeys(sessions, "settled"), "corrected"
         provisional = dict.fromkeys((*sessions, "energy"), "provisional")
@@ -588,7 +590,9 @@ class Demo(Trial):
     async def transactions(self, when: str) -> None:
         """The lines of transactions give the same boards and answers by a replay."""
         reported = {
-            self.sent[number]: answer for number, answer in self.reported.items() if number < self.count
+            self.sent[number]: answer
+            for number, answer in self.reported.items()
+            if number < self.count
         }
         for station, name in (
             ("CS-00", "T-1"),
@@ -738,7 +742,9 @@ class Demo(Trial):
             f"endpoints: {len(reported['paths'])}",
         )
         for path, example in paths.items():
-            content = reported["paths"][path]["get"]["responses"]["200"]["content"]["application/json"]
+            content = reported["paths"][path]["get"]["responses"]["200"]["content"][
+                "application/json"
+            ]
             faults = list(differences(self.get(example).json, content["schema"], schemas, ""))
             self.check(not faults, f"{path} is as described {faults[:3] or ''}")
 

@@ -414,7 +414,9 @@ async def years(fleet: Fleet, words: argparse.Namespace) -> int:
             took.append(time.monotonic() - begin)
         reported = ", ".join(f"{1000 * one:.0f}" for one in took)
         slow += sorted(took)[2] > 0.2
-        print(f"{path}: {reported} ms, status {answer.status}, {len(answer.text):,} bytes", flush=True)
+        print(
+            f"{path}: {reported} ms, status {answer.status}, {len(answer.text):,} bytes", flush=True
+        )
     await owner.close()
     return 1 if slow else 0
 

@@ -90,7 +90,9 @@ class Demo(Trial):
             (("revoke", "99"), "no token 99"),
         ):
             status, reported = operator(self.fleet, *words)
-            self.check(status == 2 and part in reported, f"operator {' '.join(words)}: {reported[-90:]}")
+            self.check(
+                status == 2 and part in reported, f"operator {' '.join(words)}: {reported[-90:]}"
+            )
         status, reported = operator(
             self.fleet, "set", "ann", "--roles", "sees", "--all-sites", password="short"
         )
@@ -100,7 +102,10 @@ class Demo(Trial):
         make_operator(self.fleet, "eve", "sees")
         make_operator(self.fleet, "ned", "sees,voids,closes", "north")
         status, reported = operator(self.fleet, "list")
-        self.check("ann  sees,voids,closes  all sites" in reported and "sue" in reported, f"list: {reported}")
+        self.check(
+            "ann  sees,voids,closes  all sites" in reported and "sue" in reported,
+            f"list: {reported}",
+        )
         rows = await self.owner.fetch("select hash, salt from operator")
         salts = {bytes(row["salt"]) for row in rows}
         is_kept = any(PASSWORD.encode() in bytes(row["hash"]) for row in rows)
@@ -123,7 +128,8 @@ class Demo(Trial):
             for name, word in (("ann", "a wrong one"), ("nobody", PASSWORD))
         }
         self.check(
-            len(reported) == 1, f"a wrong password and an unknown name have the same answer: {reported}"
+            len(reported) == 1,
+            f"a wrong password and an unknown name have the same answer: {reported}",
         )
         answer = stranger.login("ann")
         heads = answer.headers["set-cookie"]
@@ -157,7 +163,8 @@ class Demo(Trial):
             f"after five wrong ones the right one is refused by both pages: {statuses}, then 403",
         )
         self.check(
-            {answer.reported for answer in answers} == {one.login("nobody", "a wrong one").reported},
+            {answer.reported for answer in answers}
+            == {one.login("nobody", "a wrong one").reported},
             "nobody learns that it is locked",
         )
         self.check(other.login("sue").status == 303, "another operator signs in meanwhile")

@@ -277,7 +277,9 @@ class Demo(Trial):
         self.shot("site")
         days = ["2026-03-01", "2026-03-02", "2026-03-03"]
         self.check(
-            self.reported().startswith("Energy is provisional. Numbers of sessions are provisional. "),
+            self.reported().startswith(
+                "Energy is provisional. Numbers of sessions are provisional. "
+            ),
             f"no figure is settled yet: {self.reported()}",
         )
         self.follow(By.LINK_TEXT, days[1])
@@ -418,7 +420,9 @@ class Demo(Trial):
         wanted = dict.fromkeys(("CS-00", "CS-01", "CS-02"), "energy settled, sessions provisional")
         self.check(stations == wanted, f"and those of its stations: {stations}")
         self.go("/site/north/board.2026-03-01.html")
-        self.check(self.reported() == "The energy of this day is settled.", f"a day: {self.reported()}")
+        self.check(
+            self.reported() == "The energy of this day is settled.", f"a day: {self.reported()}"
+        )
         self.go("/")
         heads = [one.text for one in self.browser.find_elements(By.CSS_SELECTOR, "thead th")]
         self.check("Sessions are" in heads, f"all sites say how numbers of sessions are: {heads}")

@@ -185,9 +185,13 @@ class Demo(Trial):
             unit = unit_of(timer.with_suffix(".service"))["Unit"]
             reported = re.sub("@.*", "@.service", unit.get("OnFailure", "none"))
             command = (
-                unit_of(folder / reported)["Service"]["ExecStart"] if (folder / reported).exists() else ""
+                unit_of(folder / reported)["Service"]["ExecStart"]
+                if (folder / reported).exists()
+                else ""
             )
-            self.check("logger" in command, f"{timer.stem}, where it fails: {reported}: {command[:60]}")
+            self.check(
+                "logger" in command, f"{timer.stem}, where it fails: {reported}: {command[:60]}"
+            )
 
     def verify(self) -> None:
         for path in sorted((self.root / "etc/systemd/system").iterdir()):

@@ -115,7 +115,10 @@ class Demo(WatchedTrial):
         for name in self.parts:
             _, text = await asyncio.to_thread(asked, self.ports[name], "/metrics")
             reported |= set(re.findall(rf"^# HELP {FRONT}(\w+) ", text, re.MULTILINE))
-        self.check(reported == HELP.keys(), f"all figures are there: {reported ^ HELP.keys() or len(reported)}")
+        self.check(
+            reported == HELP.keys(),
+            f"all figures are there: {reported ^ HELP.keys() or len(reported)}",
+        )
 
     async def common(self) -> None:
         """One server, and the faults that take no other one."""

@@ -334,7 +334,9 @@ def limits_nearly_used(program: str) -> None:
 
         def has_reported(lines: int) -> None:
             deadline = time.monotonic() + LONGEST_WAIT
-            while server.has_reported() != b"".join(reported[:lines]) and time.monotonic() < deadline:
+            while (
+                server.has_reported() != b"".join(reported[:lines]) and time.monotonic() < deadline
+            ):
                 time.sleep(0.01)
             if (found := server.has_reported()) != b"".join(reported[:lines]):
                 raise Differs(f"standard error has {found!r}")

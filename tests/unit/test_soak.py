@@ -34,7 +34,9 @@ def test_percentiles_of_waits() -> None:
     waits = [number / 1000 for number in reversed(range(1000))]
     assert percentile(waits, 0.5) == 0.5 and percentile(waits, 0.99) == 0.99
     assert percentile(waits, 1) == 0.999
-    assert waits_reported(waits) == "500 / 990 / 999 / 999 ms (median, 99th, 99.9th, longest of 1000)"
+    assert (
+        waits_reported(waits) == "500 / 990 / 999 / 999 ms (median, 99th, 99.9th, longest of 1000)"
+    )
     assert waits_reported([]) == "there are none"
 
 

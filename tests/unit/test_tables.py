@@ -168,7 +168,9 @@ def test_a_zone_is_beside_utc(tmp_path: Path) -> None:
         ([], "http-equiv", False),
     ],
 )
-def test_what_each_page_says(words: list[str], text: str, is_reported: bool, tmp_path: Path) -> None:
+def test_what_each_page_says(
+    words: list[str], text: str, is_reported: bool, tmp_path: Path
+) -> None:
     files = run(tmp_path, "--written", "2026-03-01T09:00:00Z", *words)
     for name in ("html", "2026-03-01.html"):
         assert (text in files[name]) == is_reported, name

@@ -41,9 +41,7 @@ def main(argv: Sequence[str], prog: str) -> int:
     parser = parser_of(prog, __doc__)
     parts.add_cell(parser, f"the database of the station's cell: {parts.ADDRESS}")
     parser.add_argument("station", metavar="STATION", help="which station")
-    parser.add_argument(
-        "--at-once", action="store_true", help="end the password that it had"
-    )
+    parser.add_argument("--at-once", action="store_true", help="end the password that it had")
     parts.add_reason(parser)
     words = parts.parsed(parser, argv)
     return parts.done(lambda: run(words))
