@@ -292,7 +292,7 @@ class Demo(Trial):
         )
         path.write_text("another file\n" + path.read_text())
         await self.reported_as(
-            "another file of the same name", 2, "is another file than the one", *words
+            "another file of the same name", 2, "give it a --name of its own", *words
         )
         await self.copied(mixed)
 
