@@ -90,8 +90,8 @@ def parsed(parser: argparse.ArgumentParser, argv: Sequence[str]) -> argparse.Nam
 
 
 def take_credentials() -> None:
-    """Takes the secrets that systemd's LoadCredential= put into a folder for this process. Raises OSError if they can't be
-    read."""
+    """Takes the secrets that systemd's LoadCredential= put into a folder for this process. Raises OSError where that
+    fails."""
     folder = os.environ.get("CREDENTIALS_DIRECTORY")
     for name in SECRETS if folder else ():
         path = Path(folder or "") / f"secret_{name}"
