@@ -1,6 +1,6 @@
 #!/usr/bin/env bash
 # Compares what the program and the tools make of the rows, the words, the scenes and the days of traffic with the texts
-# that are stored here and in examples/. The last line counts what differs; the status is 1 where something does.
+# that are stored here and in examples/. The last line counts what differs; the status is 1 if something does.
 #     tests/compare.sh                    builds the program that replays without its proofs, which takes a minute, and
 #                                         leaves out what needs a built one: the words, the scenes, explain and live
 #     tests/compare.sh PROGRAM            takes a built one, such as crates/ocpp_board/out/ocpp_board

@@ -4,7 +4,7 @@
     tests/one definitions --check     reports names of docs/theorem.md that crates/ lacks
 
 A definition's sentence is the comment above it in its file of specs/. Files that only the proofs of one crate need
-are left out; INNER names them. The status of --check is 1 where a name of the page is none of the code's.
+are left out; INNER names them. The status of --check is 1 if a name of the page is none of the code's.
 """
 
 import argparse

@@ -4,7 +4,7 @@
 
 The same commands go to a station of each site: new events, repeats, late and conflicting ones, several readings of
 one moment, clocks that go back, readings that are listed again, imported and exported, voids, restorations, erasures.
-Behind each command comes the station's total, and each hundred the boards. The status is 1 where a line differs.
+Behind each command comes the station's total, and each hundred the boards. The status is 1 if a line differs.
 """
 
 import argparse

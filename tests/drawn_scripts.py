@@ -5,7 +5,7 @@
 Each script has so many MiB and ends anywhere. It has new events of several stations, repeats, late
 ones and ones with other readings, messages of other actions and with faults, texts of many readings,
 an operator's lines, questions, boards, moments, comments and lines with a fault, with either line
-end. The status is 1 where a text or an exit status differs.
+end. The status is 1 if a text or an exit status differs.
 """
 
 import argparse

@@ -3,7 +3,7 @@
     tests/one links
 
 The pages are README.md, CONTRIBUTING.md, CHANGELOG.md and all others of docs/, python/, packaging/, tests/ and
-examples/ that end with .md. A link to another host is not looked at. The status is 1 where one is dead.
+examples/ that end with .md. A link to another host is not looked at. The status is 1 if one is dead.
 """
 
 import re

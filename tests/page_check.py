@@ -4,7 +4,7 @@
 
 Each page is one file. Its links have to lead to files beside it, and to labels that are there. Letters have a contrast
 of 4.5 to 1 and shapes of 3 to 1, in light and in dark (WCAG 2.1, 1.4.3 and 1.4.11). A picture has a label, and a table
-in the same section. The status is 1 where something was found.
+in the same section. The status is 1 if something was found.
 """
 
 import re

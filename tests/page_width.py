@@ -4,7 +4,7 @@ wider than the screen, tables that are cut, and numbers and dates that break.
     tests/one page_width PAGE..
 
 A table is cut where it scrolls from side to side by itself; on a phone only those of an index are looked at. Where
-there is no Chromium (Debian: apt-get install chromium) nothing is drawn, and the status is 77; it is 1 where something
+there is no Chromium (Debian: apt-get install chromium) nothing is drawn, and the status is 77; it is 1 if something
 was found.
 """
 

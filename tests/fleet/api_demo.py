@@ -5,7 +5,7 @@
 Tokens that are wrong, ended, revoked, of another role or of another site; lists by cursors while rows come in between;
 energies that are provisional, settled and corrected over closings; the lines of a transaction of the log and of an
 archive, whose replay has to show the same board and the same answers; a month for billing against events worked out by
-hand; the description of the API against its answers. The status is 1 where one of these is not as it must be.
+hand; the description of the API against its answers. The status is 1 if one of these is not as it must be.
 """
 
 import asyncio
@@ -94,7 +94,7 @@ class Demo(Trial):
             await self.owner.execute("select add_station($1, $2, $3)", *place)
         await self.owner.execute("update own_site set zone = 'Europe/Berlin' where site = 'north'")
         # What is known of each line, by its token.
-        self.told: dict[int, str] = {}
+        self.reported: dict[int, str] = {}
         self.sent: dict[int, str] = {}
         self.listening = await connect(self.fleet.dsn("owner"))
         await self.listening.add_listener("api_demo", self.heard)
@@ -125,7 +125,7 @@ class Demo(Trial):
         self.count = len(self.sent)
 
     def heard(self, _session: Any, _pid: int, _channel: str, payload: str) -> None:
-        self.told |= dict(answers_in(payload))
+        self.reported |= dict(answers_in(payload))
 
     async def come(self, station: str, texts: list[str]) -> None:
         lines = [text if " " in text.split("[")[0] else f"msg {station} {text}" for text in texts]
@@ -137,9 +137,9 @@ class Demo(Trial):
     async def answered(self) -> None:
         """Waits until all lines have their answers, and the boards are written."""
         end = time.monotonic() + 20
-        while len(self.told) < len(self.sent) and time.monotonic() < end:
+        while len(self.reported) < len(self.sent) and time.monotonic() < end:
             await asyncio.sleep(0.05)
-        self.check(len(self.told) == len(self.sent), f"{len(self.told)} lines are answered")
+        self.check(len(self.reported) == len(self.sent), f"{len(self.reported)} lines are answered")
         await asyncio.sleep(1)
 
     async def close_day(self, site: str, day: str) -> None:
@@ -533,38 +533,40 @@ class Demo(Trial):
         """Numbers of sessions, energies and events of a station; its sessions are archived, and corrected."""
         sessions, rest = ("transactions", "complete", "missing"), ("events", "voided")
 
-        async def is_told(what: str, numbers: tuple[int, ...], **wanted: str) -> None:
+        async def is_reported(what: str, numbers: tuple[int, ...], **wanted: str) -> None:
             await asyncio.sleep(1)
             whole = self.get("/sites/south/board").json
             for row in (whole, whole["stations"][0]):
                 states = row["states"]
-                told = {name: states[name] for name in sessions} | {"energy": states["net"]}
+                reported = {name: states[name] for name in sessions} | {"energy": states["net"]}
                 is_right = (
                     tuple(row[name] for name in sessions) == numbers
-                    and told == wanted
+                    and reported == wanted
                     and {states[name] for name in rest} == {"provisional"}
                     and {states[name] for name in FLOW} == {row["state"]}
                     and states.keys() == {*sessions, *rest, *FLOW, "net"}
                 )
                 name = row.get("station", row["site"] if "site" in row else "")
-                self.check(is_right, f"{what}, {name}: {told}, {[row[key] for key in sessions]}")
+                self.check(
+                    is_right, f"{what}, {name}: {reported}, {[row[key] for key in sessions]}"
+                )
 
         settled, corrected = dict.fromkeys(sessions, "settled"), "corrected"
         provisional = dict.fromkeys((*sessions, "energy"), "provisional")
-        await is_told("in the log", (1, 1, 0), **provisional)
+        await is_reported("in the log", (1, 1, 0), **provisional)
         await self.close_day("south", "2026-03-02")
-        await is_told("archived", (1, 1, 0), **settled, energy="settled")
+        await is_reported("archived", (1, 1, 0), **settled, energy="settled")
         await self.come("CS-02", ["void CS-02 T-1 1"])
         await self.answered()
         await self.close_day("south", "2026-03-02")
         changed = settled | {"complete": corrected, "missing": corrected, "energy": corrected}
-        await is_told("corrected since", (1, 0, 1), **changed)
+        await is_reported("corrected since", (1, 0, 1), **changed)
         await self.come("CS-02", events("T-7", quarters("2026-03-03", 10, 3)))
         await self.answered()
-        await is_told("with another one in the log", (2, 1, 1), **provisional)
+        await is_reported("with another one in the log", (2, 1, 1), **provisional)
         await self.close_day("south", "2026-03-02")
         await self.close_day("south", "2026-03-04")
-        await is_told("which is archived, too", (2, 1, 1), **changed)
+        await is_reported("which is archived, too", (2, 1, 1), **changed)
 
     # A transaction ----------------------------------------------------------------------------------------------------
 
@@ -587,8 +589,10 @@ class Demo(Trial):
 
     async def transactions(self, when: str) -> None:
         """The lines of transactions give the same boards and answers by a replay."""
-        told = {
-            self.sent[number]: answer for number, answer in self.told.items() if number < self.count
+        reported = {
+            self.sent[number]: answer
+            for number, answer in self.reported.items()
+            if number < self.count
         }
         for station, name in (
             ("CS-00", "T-1"),
@@ -609,7 +613,7 @@ class Demo(Trial):
                 f"{when}: {name} of {station} by a replay: {board.split(' complete')[0]}",
             )
             for line, again in zip(one["lines"], answers):
-                was = told.get(line["line"], line["answer"])
+                was = reported.get(line["line"], line["answer"])
                 if line["answer"] != was and not line["answer"].startswith("accepted"):
                     self.check(
                         False, f"{when}: {line['line'][:60]}: {line['answer']}, and was {was}"
@@ -720,7 +724,7 @@ class Demo(Trial):
     async def description(self) -> None:
         """The description has each endpoint, and each answer has what it says."""
         answer = self.client.api("/openapi.json", None)
-        told, schemas = answer.json, answer.json["components"]["schemas"]
+        reported, schemas = answer.json, answer.json["components"]["schemas"]
         self.check(
             answer.headers["content-type"].startswith("application/vnd.oai.openapi"),
             "a type of its own",
@@ -734,11 +738,13 @@ class Demo(Trial):
             "/api/v1/transactions/{transaction}": "/transactions/T-1",
         }
         self.check(
-            set(told["paths"]) == {*paths, "/api/v1/sites/{site}/sessions.csv"},
-            f"endpoints: {len(told['paths'])}",
+            set(reported["paths"]) == {*paths, "/api/v1/sites/{site}/sessions.csv"},
+            f"endpoints: {len(reported['paths'])}",
         )
         for path, example in paths.items():
-            content = told["paths"][path]["get"]["responses"]["200"]["content"]["application/json"]
+            content = reported["paths"][path]["get"]["responses"]["200"]["content"][
+                "application/json"
+            ]
             faults = list(differences(self.get(example).json, content["schema"], schemas, ""))
             self.check(not faults, f"{path} is as described {faults[:3] or ''}")
 

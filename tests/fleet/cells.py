@@ -7,7 +7,7 @@
 
 It needs Debian's packages patroni and etcd-server and those of check.sh, and starts nothing of theirs as a service.
 Afterwards every answered message must be in the log of its cell, and every board that of a replay of what stations
-sent. It ends what it started. The status is 1 where one of these is not as it must be, and 77 where those are
+sent. It ends what it started. The status is 1 if one of these is not as it must be, and 77 if those are
 missing.
 """
 

@@ -4,7 +4,7 @@
 # settle_demo.py, of a site by each rule of settling. stranger_demo.py measures waits and wants the machine for itself,
 # so it is run by hand.
 #     tests/fleet/check.sh PROGRAM [WORD..]      such as crates/ocpp_board/out/ocpp_board; further words are demo.py's
-# Status: 0 where all is right, 1 where something is wrong, 2 for wrong words, and 77 where packages are missing and can't
+# Status: 0 if all is right, 1 if something is wrong, 2 for wrong words, and 77 if packages are missing and can't
 # be installed, so that nothing was tried. Packages that it installs stay; the database and all processes do not.
 set -u
 [ "${1-}" != --help ] && [ "${1-}" != -h ] || { sed -n '2,8s/^# \?//p' "$0"; exit 0; }
@@ -25,19 +25,19 @@ if [ ${#missing[@]} != 0 ]; then
     command -v apt-get > /dev/null || skip "no ${missing[*]}, and there is no apt-get"
     [ "$(id -u)" = 0 ] || skip "no ${missing[*]}, which root can install: apt-get install ${missing[*]}"
     echo "check.sh: installs ${missing[*]}" >&2
-    told=$(mktemp) || exit 1
+    written=$(mktemp) || exit 1
     # While this file is there Debian's package makes no cluster; one that is there already is not touched.
     settings=/etc/postgresql-common/createcluster.d
     leave() {
-        rm -f "$told" "$settings/ocpp_board.conf"
+        rm -f "$written" "$settings/ocpp_board.conf"
         rmdir "$settings" "${settings%/*}" 2> /dev/null
     }
     trap leave EXIT
     mkdir -p "$settings" && echo "create_main_cluster = false" > "$settings/ocpp_board.conf" || exit 1
     options=(-o Acquire::http::Timeout=10 -o Acquire::Retries=0 -o DPkg::Lock::Timeout=60)
     { apt-get "${options[@]}" update && DEBIAN_FRONTEND=noninteractive \
-        apt-get "${options[@]}" install -y --no-install-recommends "${missing[@]}"; } > "$told" 2>&1 < /dev/null ||
-        skip "no ${missing[*]}, and apt-get can't install them: $(grep '^E:' "$told" | head -n 1)"
+        apt-get "${options[@]}" install -y --no-install-recommends "${missing[@]}"; } > "$written" 2>&1 < /dev/null ||
+        skip "no ${missing[*]}, and apt-get can't install them: $(grep '^E:' "$written" | head -n 1)"
     leave
 fi
 # Where memory has room for them the databases lie there: how long a disk takes for a commit, or for a recovery, is not
@@ -45,10 +45,10 @@ fi
 memory=/dev/shm
 room=$(df -k --output=avail $memory 2> /dev/null | tail -n 1)
 [ -n "${TMPDIR-}" ] || [ "${room:-0}" -lt 4194304 ] || export TMPDIR=$memory
-told=$(mktemp) && more=$(mktemp) && others=$(mktemp) || exit 1
-trap 'rm -f "$told" "$more" "$others"' EXIT
+written=$(mktemp) && more=$(mktemp) && others=$(mktemp) || exit 1
+trap 'rm -f "$written" "$more" "$others"' EXIT
 # They begin once the words of demo.py were found to be right. Where it has none, its faults are tried by two fleets.
-{ sleep 2; exec "$here/../one" fleet.order_demo "$1"; } > "$told" 2>&1 &
+{ sleep 2; exec "$here/../one" fleet.order_demo "$1"; } > "$written" 2>&1 &
 beside=($!) half=()
 if [ $# = 1 ]; then
     half=(--half 1)
@@ -68,5 +68,5 @@ status=$?
 for one in "${beside[@]}"; do
     wait "$one" || status=1
 done
-cat "$more" "$told" "$others"
+cat "$more" "$written" "$others"
 exit $status

@@ -8,7 +8,7 @@ and a restoration of one that was, a station that was offline for three days, da
 `ocpp-board close-day` that is killed at each of its steps, whose session is ended, or that waits for another program,
 and bad input. After each closing the live boards and
 the archives together have to be the boards of a replay from scratch, and what is settled the periods of that, up to
-the closed day. The status is 1 where something is not as it must be.
+the closed day. The status is 1 if something is not as it must be.
 """
 
 import asyncio
@@ -86,12 +86,12 @@ class Demo(ClosingTrial):
             "a conflict with an archived event", "2026-03-03", "; 0 taken", "1 refused ones"
         )
         text = "".join(path.read_text() for path in self.archives.iterdir())
-        told = await self.owner.fetchval(
+        reported = await self.owner.fetchval(
             "select sum(times)::bigint from own_refusal where (cause, number) = ('ConflictingEvent', '3')"
         )
         self.check(
-            "#" not in text and "7777" not in text and told == 1,
-            f"a refused line is in no archive, and has its row: {told}",
+            "#" not in text and "7777" not in text and reported == 1,
+            f"a refused line is in no archive, and has its row: {reported}",
         )
         await self.came("void A TX-1 2")
         await self.closed(

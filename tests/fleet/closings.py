@@ -84,9 +84,9 @@ class ClosingTrial(Trial):
             await self.owner.execute("select add_station($1, $2, $3)", shard, site, station)
             self.homes[station] = shard
         await self.owner.execute("update own_site set zone = 'Europe/Berlin'")
-        await self.owner.add_listener(CHANNEL, self.told)
+        await self.owner.add_listener(CHANNEL, self.reported)
 
-    def told(self, _session: Any, _pid: int, _channel: str, payload: str) -> None:
+    def reported(self, _session: Any, _pid: int, _channel: str, payload: str) -> None:
         """A worker notified answers."""
         for text in payload.split("\n"):
             token, _, answer = text.partition(" ")
@@ -100,7 +100,7 @@ class ClosingTrial(Trial):
             self.lines.setdefault(shard, []).append(line)
             self.asked.append(line)
             await self.fleet.come(self.owner, shard, [line], CHANNEL, len(self.asked))
-        await self.fleet.until_told(self.owner)
+        await self.fleet.until_reported(self.owner)
         tokens = range(front + 1, len(self.asked) + 1)
         return [self.answers.get(token, "no answer") for token in tokens]
 

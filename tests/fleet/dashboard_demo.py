@@ -6,7 +6,7 @@
 It needs Debian's packages prometheus, chromium, chromium-driver and python3-selenium besides those of check.sh and of
 the page. Grafana is in no package of Debian, so its panels are drawn by dashboard.py: each expression of each panel has
 to give data, a fault has to be seen in the panels that are for it, and in Chromium no panel may cut its title, its
-legend or its columns off. The status is 1 where one of these is not so, and 77 where packages are missing.
+legend or its columns off. The status is 1 if one of these is not so, and 77 if packages are missing.
 """
 
 import argparse

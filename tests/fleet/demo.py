@@ -8,7 +8,7 @@ It starts PostgreSQL 15 in a temporary folder as a user that is not root, 3 work
 three days fast and 400 days slow, 3 gateways and simulated stations. Each fault comes while stations send; afterwards
 every answered message must be in the log, and every site's board that of a replay of what stations sent. Then it
 compacts and compares again; tries bad input; and removes a row by hand, after which the comparison must fail. It ends
-what it started. The status is 1 where one of these is not as it must be.
+what it started. The status is 1 if one of these is not as it must be.
 
     worker       a worker is killed with -9
     gateway      a gateway is killed with -9
@@ -209,7 +209,7 @@ class Demo(Trial):
 
     async def in_order(self) -> None:
         """Whether places have no gap, and each station's lines are in the order in which it sent them."""
-        await self.fleet.until_told(self.owner)
+        await self.fleet.until_reported(self.owner)
         uneven = await self.owner.fetchval(UNEVEN)
         rows = await self.owner.fetch("select line, min(place) as place from own_log group by line")
         places = {row["line"]: row["place"] for row in rows}
@@ -366,7 +366,7 @@ class Demo(Trial):
                 f"plan: readings by {order}: {head} {differ or ''}",
             )
 
-    async def is_told(self, fault: str, what: str) -> None:
+    async def is_reported(self, fault: str, what: str) -> None:
         """Whether a worker reports what the program does not know."""
         log, end = self.fleet.folder / "parts.log", time.monotonic() + PATIENCE
         while fault not in log.read_text() and time.monotonic() < end:
@@ -382,7 +382,7 @@ class Demo(Trial):
         await self.owner.execute(begin, shard, 300)
         if "period" not in self.fleet.known:
             fault = f"shard {shard}: the program knows no settlement periods"
-            await self.is_told(fault, "a period of 300 seconds")
+            await self.is_reported(fault, "a period of 300 seconds")
             await self.owner.execute(begin, shard, 900)
             return
         differ = await self.fleet.compared(self.owner, shard)
@@ -435,7 +435,7 @@ class Demo(Trial):
         for shard in range(4):
             rows = await self.owner.fetch(query, shard)
             await self.fleet.come(self.owner, shard, [row["line"] for row in rows])
-        await self.fleet.until_told(self.owner)
+        await self.fleet.until_reported(self.owner)
         before = await self.owner.fetchval("select count(*) from own_log")
         command = [
             *tool("compact"),

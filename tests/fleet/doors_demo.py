@@ -6,7 +6,7 @@ It starts PostgreSQL 15 in a temporary folder and a gateway, and has each role t
 only reads, whose password a mapping of another cell has, tries to hold a shard, and notifies what gateways and workers
 do: answers for an event that no worker has read yet, that stations were let in elsewhere, lines and plans. None of
 that may reach a station, end its connection or a worker's sessions. No role may enter another database of the server.
-The status is 1 where something is not as it must be.
+The status is 1 if something is not as it must be.
 """
 
 import argparse
@@ -230,12 +230,12 @@ class Demo(Trial):
             for payload in payloads:
                 await reader.execute("select pg_notify($1, $2)", name, payload)
         await asyncio.sleep(1)
-        told = [
+        reported = [
             line
             for line in self.log.read_text().splitlines()
             if "Traceback" in line or "again" in line
         ]
-        self.check(not told, f"what is forged is no fault of a part: {told[:2]}")
+        self.check(not reported, f"what is forged is no fault of a part: {reported[:2]}")
         station.send(b'[2,"still","Heartbeat",{}]')
         heard = await station.said()
         self.check(

@@ -9,8 +9,8 @@ that are no events, and with what is no message at all. Meanwhile `ocpp-board fe
 again, the broker ends and begins, and the database is killed once. Afterwards every event that was handed over must
 be in the log, and each board that of a replay from scratch. The same with stations of two cells, a shard of which
 moves. Then bad input: no JSON, no queue, wrong passwords, a broker that is not there, another file of the same
-name; each must be told in one line, with its status. The status is 1 where one of these is not as it must be, and
-77 where packages are missing.
+name; each must be reported in one line, with its status. The status is 1 if one of these is not as it must be, and
+77 if packages are missing.
 """
 
 import argparse
@@ -291,8 +291,8 @@ class Demo(Trial):
             f"file: {events} events of the file are {counted} lines of the log: each once",
         )
         path.write_text("another file\n" + path.read_text())
-        await self.told_as(
-            "another file of the same name", 2, "is another file than the one", *words
+        await self.reported_as(
+            "another file of the same name", 2, "give it a --name of its own", *words
         )
         await self.copied(mixed)
 
@@ -323,7 +323,7 @@ class Demo(Trial):
         before = await self.owner.fetch("select distinct line from own_log")
         events = sum(is_event(one) for _, one in mixed)
         for path, form in ((text, ("citrineos", "--copied")), (table, ("citrineos-csv",))):
-            await self.told_as(
+            await self.reported_as(
                 f"COPY as {path.suffix[1:]}",
                 1,
                 f"{events:,} events appended",
@@ -343,8 +343,8 @@ class Demo(Trial):
         url = f"amqp://feed@127.0.0.1:{rabbit.port}/"
         mixed = await self.new_messages()
         words = ("rabbitmq", url, "--queue", "ledger")
-        await self.told_as("no queue", 2, "has no queue 'ledger'", *words)
-        await self.told_as(
+        await self.reported_as("no queue", 2, "has no queue 'ledger'", *words)
+        await self.reported_as(
             "a wrong password of the broker",
             2,
             "does not let feed in",
@@ -414,7 +414,7 @@ class Demo(Trial):
         mixed = await self.new_messages()
         url = f"mqtt://feed@127.0.0.1:{mosquitto.port}"
         words = ("mqtt", url, "--topic", "cs/in/ocpp2.0.1/+", "--name", "feed-1")
-        await self.told_as(
+        await self.reported_as(
             "a wrong password of the broker",
             2,
             "does not let feed in",
@@ -481,7 +481,7 @@ class Demo(Trial):
 
     async def waits(self, name: str, words: tuple[object, ...]) -> None:
         """A broker that is not there is reported once, and waited for."""
-        log = self.fleet.folder / f"{name}.told"
+        log = self.fleet.folder / f"{name}.stderr"
         with open(log, "wb") as file:
             process = self.fleet.start(
                 *(*tool("feed"), "--db", self.fleet.dsn("ledger_feed"), *words),
@@ -499,7 +499,7 @@ class Demo(Trial):
 
     # Bad input --------------------------------------------------------------------------------------------------------
 
-    async def told_as(
+    async def reported_as(
         self, what: str, status: int, text: str, *words: object, **environment: str
     ) -> None:
         process = await asyncio.create_subprocess_exec(
@@ -527,7 +527,7 @@ class Demo(Trial):
             + station.encode()
             + b" \xff\xfe"
         )
-        await self.told_as(
+        await self.reported_as(
             "what is left is counted",
             1,
             f"1 events appended, 0 of them of stations in no plan; left: {len(OTHERS) + 1:,}",
@@ -536,11 +536,11 @@ class Demo(Trial):
             "--form",
             "script",
         )
-        await self.told_as(
+        await self.reported_as(
             "the same file again", 0, "0 events appended", "file", path, "--form", "script"
         )
-        await self.told_as("no such file", 2, "No such file", "file", "/nowhere")
-        await self.told_as(
+        await self.reported_as("no such file", 2, "No such file", "file", "/nowhere")
+        await self.reported_as(
             "a wrong password of the database",
             2,
             "does not let ledger_feed in",
@@ -548,7 +548,7 @@ class Demo(Trial):
             path,
             PGPASSWORD="x",
         )
-        await self.told_as(
+        await self.reported_as(
             "a password in the address",
             2,
             "SOURCE_PASSWORD",
@@ -581,7 +581,7 @@ class Demo(Trial):
         texts = list(dict.fromkeys(messages(1, 5)))
         path.write_text("".join(f"msg LATER {text}\n" for text in texts))
         words = ("file", path, "--form", "script")
-        await self.told_as(
+        await self.reported_as(
             "a station in no plan", 0, f"{len(texts)} of them of stations in no plan", *words
         )
         kept = await self.owner.fetchval("select count(*) from stray")

@@ -468,7 +468,7 @@ class Fleet:
                 found[row["station"], kind, name] = numbers
         return found
 
-    async def until_told(self, owner: Any, seconds: float = PATIENCE) -> None:
+    async def until_reported(self, owner: Any, seconds: float = PATIENCE) -> None:
         """Waits until all lines are answered, for so many seconds at most."""
         end = time.monotonic() + seconds
         while await owner.fetchval(UNTOLD) and time.monotonic() < end:

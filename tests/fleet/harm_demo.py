@@ -9,7 +9,7 @@ strangers by the hundred; connections that never end their handshake; a gateway'
 1972; a station that changes its shard; zones; a snapshot that stays open; a station that sends one event again and
 again, or long ones without end; a synchronous standby that is gone; a server whose file has synchronous_commit off and
 that is killed; a log of more than a replay reads, compacted and closed; channels that PostgreSQL refuses. The status is
-1 where something is not as it must be.
+1 if something is not as it must be.
 """
 
 import argparse
@@ -145,7 +145,7 @@ class Demo(Trial):
         await self.owner.execute(
             'alter table inbox_kept drop constraint "a channel has 1 to 63 bytes"'
         )
-        await self.owner.add_listener("harm", self.told)
+        await self.owner.add_listener("harm", self.reported)
         before = await self.sessions()
         for token in range(1, 4):
             await self.owner.execute(APPEND, "harm", token)
@@ -153,10 +153,10 @@ class Demo(Trial):
             await self.owner.execute(APPEND, "harm", None)
         await self.owner.execute("select tell('wake_kept', '0:0')")
 
-        async def are_told() -> bool:
+        async def are_reported() -> bool:
             return len(self.answers) == 3
 
-        are_all = await self.until(are_told)
+        are_all = await self.until(are_reported)
         await asyncio.sleep(1)
         after = await self.sessions()
         self.check(
@@ -166,7 +166,7 @@ class Demo(Trial):
         )
         await self.answered("after that")
 
-    def told(self, _session: Any, _pid: int, _channel: str, payload: str) -> None:
+    def reported(self, _session: Any, _pid: int, _channel: str, payload: str) -> None:
         """A worker notified answers."""
         for line in payload.split("\n"):
             token, _, answer = line.partition(" ")
@@ -598,8 +598,8 @@ class Demo(Trial):
             return bool(await self.owner.fetchval(COUNT, "FULL") == 200)
 
         self.check(await self.until(is_compacted), "a log that is nearly full is compacted")
-        told = (self.fleet.folder / "parts.log").read_text().count("shard 900: its log has")
-        self.check(told == 2, f"reported at half full and at nine tenths: {told}")
+        reported = (self.fleet.folder / "parts.log").read_text().count("shard 900: its log has")
+        self.check(reported == 2, f"reported at half full and at nine tenths: {reported}")
         self.check(await self.owner.fetchval(board) == before, "its board is as before")
         await self.closed_in_parts(size // 2, lines)
         self.check(await self.owner.fetchval(board) == before, "and so it is then")

@@ -4,7 +4,7 @@
 
 It starts PostgreSQL 15 in a temporary folder and fills a shard of 64 stations with so many closed days. Then a day is
 closed for which nothing came, and one with a session; old years leave, also beside a reader's open transaction; and the
-shard moves to another cell. The status is 1 where something is not as it must be, or takes too long.
+shard moves to another cell. The status is 1 if something is not as it must be, or takes too long.
 """
 
 import asyncio

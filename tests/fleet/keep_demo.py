@@ -7,7 +7,7 @@ which more comes after that, one that goes on, a message that conflicts, texts t
 no plan. Then one token is forgotten, and all that are old; each time no file of the archives and no table may have
 them, and energies, settled periods, answers and a replay of each archive have to be as before. What a station sends
 once more is taken as a repeat. A backup is made while all runs; then rows and archives are deleted, and restored into a
-new server, where boards and a closing have to be as if nothing had happened. The status is 1 where something is not as
+new server, where boards and a closing have to be as if nothing had happened. The status is 1 if something is not as
 it must be.
 """
 
@@ -237,7 +237,7 @@ class Demo(ClosingTrial):
         self.fleet.databases.remove(first)
         copy.start()
         self.owner = await self.fleet.owner(copy.port)
-        await self.owner.add_listener("closings", self.told)
+        await self.owner.add_listener("closings", self.reported)
         await self.owner.execute("delete from own_board")
         await self.owner.execute("select tell('plan', '')")
         await self.until("select count(*) from own_board", 1)

@@ -8,7 +8,7 @@ Where its connection ends it connects to the next gateway and sends again.
 With --password all come with this one, and with --ca by TLS. With --together all are connected, so many at a time,
 before the first one sends; it reports how many connected a second.
 Each message is recorded once its answer is there, as a line of a script. A message's wait is from when it was first
-sent to its answer, whatever happened in between. The status is 1 where an answer was not the one of an event that
+sent to its answer, whatever happened in between. The status is 1 if an answer was not the one of an event that
 is taken, or where not all were answered in time.
 """
 
@@ -118,7 +118,7 @@ class Station:
         words = load.words
         self.load, self.name, self.turn = load, f"CS-{number:05}", number
         self.rest, self.wanted = messages(number, words.events, words.step, words.near), ""
-        # Since when a message waits for its answer on this connection; 0 where none does.
+        # Since when a message waits for its answer on this connection; 0 if none does.
         self.sent = 0.0
         self.pause = words.stations / words.rate if words.rate else 0.0
         # When the message that waits for its answer was first sent, and when the next one is due.

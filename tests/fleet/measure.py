@@ -391,8 +391,8 @@ async def years(fleet: Fleet, words: argparse.Namespace) -> int:
                 rows = len(await owner.fetch(query, timeout=60))
                 took.append(time.monotonic() - begin)
             slow += sorted(took)[2] > 0.2
-            told = ", ".join(f"{1000 * one:.0f}" for one in took)
-            print(f"{name}, a day of {what}: {told} ms, {rows} rows", flush=True)
+            reported = ", ".join(f"{1000 * one:.0f}" for one in took)
+            print(f"{name}, a day of {what}: {reported} ms, {rows} rows", flush=True)
     make_operator(fleet, "ann", "sees")
     token = make_token(fleet, "ann", "sees")
     _, url = start_page(fleet)
@@ -412,9 +412,11 @@ async def years(fleet: Fleet, words: argparse.Namespace) -> int:
             begin = time.monotonic()
             answer = await asyncio.to_thread(client.asked, "GET", path, None, heads)
             took.append(time.monotonic() - begin)
-        told = ", ".join(f"{1000 * one:.0f}" for one in took)
+        reported = ", ".join(f"{1000 * one:.0f}" for one in took)
         slow += sorted(took)[2] > 0.2
-        print(f"{path}: {told} ms, status {answer.status}, {len(answer.text):,} bytes", flush=True)
+        print(
+            f"{path}: {reported} ms, status {answer.status}, {len(answer.text):,} bytes", flush=True
+        )
     await owner.close()
     return 1 if slow else 0
 

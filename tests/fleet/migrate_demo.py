@@ -6,7 +6,7 @@ It starts PostgreSQL 15 in a temporary folder, and makes a database by schema.sq
 to bring it to the last one: a site of the plan keeps its order of readings and its rule of settling. A copy of
 schema.sql has one step more, by the lines that schema.sql shows for the next version. Run twice, the copy has to apply
 the step once and change no other row, and the schema has to be that of a new database. Tools refuse a database of
-another version; schema.sql refuses one of a later version, and one from before its first. The status is 1 where
+another version; schema.sql refuses one of a later version, and one from before its first. The status is 1 if
 something is not as it must be.
 """
 

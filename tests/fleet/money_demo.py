@@ -6,7 +6,7 @@ It starts PostgreSQL 15 in a temporary folder and a worker, and closes days of a
 trouble of its own: one that leaves, one that changes its site, one whose archived transaction comes again, in conflict
 and voided, one at its limit of transactions, and one with numbers of 5,000 digits, and one with times in rare forms. A
 month for billing has the tokens, remote starts and signed values of a session of the log and of an archived one.
-The status is 1 where something is not as it must be.
+The status is 1 if something is not as it must be.
 """
 
 import argparse

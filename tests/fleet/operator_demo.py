@@ -5,7 +5,7 @@
 Operators with roles and sites sign in at two pages of one fleet: wrong and right passwords, accounts that are locked,
 sessions that ended; sites of others; voids without a reason; forms that are forged, old, sent twice; bodies that are
 huge, clients that are slow; who did what, from where and why; closings that are asked for; what roles of the database
-may not. The status is 1 where one of these is not as it must be.
+may not. The status is 1 if one of these is not as it must be.
 """
 
 import asyncio
@@ -89,18 +89,23 @@ class Demo(Trial):
             (("token", "nobody", "--roles", "sees", "--label", "x"), "no operator nobody"),
             (("revoke", "99"), "no token 99"),
         ):
-            status, told = operator(self.fleet, *words)
-            self.check(status == 2 and part in told, f"operator {' '.join(words)}: {told[-90:]}")
-        status, told = operator(
+            status, reported = operator(self.fleet, *words)
+            self.check(
+                status == 2 and part in reported, f"operator {' '.join(words)}: {reported[-90:]}"
+            )
+        status, reported = operator(
             self.fleet, "set", "ann", "--roles", "sees", "--all-sites", password="short"
         )
-        self.check(status == 2 and "12 to 200" in told, f"a short password: {told}")
+        self.check(status == 2 and "12 to 200" in reported, f"a short password: {reported}")
         make_operator(self.fleet, "ann", "sees,voids,closes")
         make_operator(self.fleet, "sue", "sees,voids", "south")
         make_operator(self.fleet, "eve", "sees")
         make_operator(self.fleet, "ned", "sees,voids,closes", "north")
-        status, told = operator(self.fleet, "list")
-        self.check("ann  sees,voids,closes  all sites" in told and "sue" in told, f"list: {told}")
+        status, reported = operator(self.fleet, "list")
+        self.check(
+            "ann  sees,voids,closes  all sites" in reported and "sue" in reported,
+            f"list: {reported}",
+        )
         rows = await self.owner.fetch("select hash, salt from operator")
         salts = {bytes(row["salt"]) for row in rows}
         is_kept = any(PASSWORD.encode() in bytes(row["hash"]) for row in rows)
@@ -118,12 +123,13 @@ class Demo(Trial):
             )
         answer = stranger.post("/operate/do", {"command": "void"})
         self.check(answer.status == 303, f"a stranger's form: {answer.status}")
-        told = {
-            stranger.login(name, word).told
+        reported = {
+            stranger.login(name, word).reported
             for name, word in (("ann", "a wrong one"), ("nobody", PASSWORD))
         }
         self.check(
-            len(told) == 1, f"a wrong password and an unknown name have the same answer: {told}"
+            len(reported) == 1,
+            f"a wrong password and an unknown name have the same answer: {reported}",
         )
         answer = stranger.login("ann")
         heads = answer.headers["set-cookie"]
@@ -157,7 +163,8 @@ class Demo(Trial):
             f"after five wrong ones the right one is refused by both pages: {statuses}, then 403",
         )
         self.check(
-            {answer.told for answer in answers} == {one.login("nobody", "a wrong one").told},
+            {answer.reported for answer in answers}
+            == {one.login("nobody", "a wrong one").reported},
             "nobody learns that it is locked",
         )
         self.check(other.login("sue").status == 303, "another operator signs in meanwhile")
@@ -166,8 +173,8 @@ class Demo(Trial):
         ]
         self.check(elsewhere == [303, 303], f"and eve from another address: {elsewhere}")
         self.check(before.get("/").status == 200, "where she is signed in she stays")
-        status, told = operator(self.fleet, "list")
-        self.check("locked from 127.0.0.1 until" in told, "the list shows who is locked")
+        status, reported = operator(self.fleet, "list")
+        self.check("locked from 127.0.0.1 until" in reported, "the list shows who is locked")
         await self.owner.execute("update sign_in set locked_until = now() where name = 'eve'")
         self.check(one.login("eve").status == 303, "once the lock is over eve signs in")
         await self.owner.execute("delete from sign_in")
@@ -282,7 +289,7 @@ class Demo(Trial):
             alike = seen.text.replace("north", "nowhere").replace("CS-00", "CS-99")
             self.check(
                 seen.status == other.status == 404 and bare(alike) == bare(other.text),
-                f"{path} is as one that is not there: {seen.status} {seen.told}",
+                f"{path} is as one that is not there: {seen.status} {seen.reported}",
             )
         lines = await self.lines()
         seen, other = (
@@ -290,8 +297,8 @@ class Demo(Trial):
         )
         self.check(
             seen.status == other.status == 404
-            and seen.told.replace("CS-00", "CS-99") == other.told,
-            f"a command for another site's station: {seen.status} {seen.told}",
+            and seen.reported.replace("CS-00", "CS-99") == other.reported,
+            f"a command for another site's station: {seen.status} {seen.reported}",
         )
         # A question of her own, turned to another site's station.
         fields = sue.question("void", "CS-02", "T-1", 1, "a test").fields("/operate/do")
@@ -313,7 +320,7 @@ class Demo(Trial):
             eve.get("/closings"),
             eve.post("/closings", {"site": "north", "day": "2026-03-01", "reason": "a test"}),
         ):
-            self.check(answer.status == 403, f"who only sees: {answer.status} {answer.told}")
+            self.check(answer.status == 403, f"who only sees: {answer.status} {answer.reported}")
         ann = Client(self.url)
         ann.login("ann")
         fields = ann.question("void", "CS-00", "T-1", 1, "a test").fields("/operate/do")
@@ -335,8 +342,8 @@ class Demo(Trial):
         for reason in ("", "   ", "\n\t", "x"):
             answer = ann.question("void", "CS-00", "T-1", 1, reason)
             self.check(
-                answer.status == 400 and "a reason is needed" in answer.told,
-                f"a void with the reason {reason!r}: {answer.status} {answer.told}",
+                answer.status == 400 and "a reason is needed" in answer.reported,
+                f"a void with the reason {reason!r}: {answer.status} {answer.reported}",
             )
         fields = ann.question("void", "CS-00", "T-1", 1, "a test").fields("/operate/do")
         answer = ann.post("/operate/do", fields | {"reason": ""})
@@ -344,12 +351,12 @@ class Demo(Trial):
         self.check(await self.lines() == lines, "nothing of these came to the ledger")
         reason = "the <b>meter</b> was read twice"
         answer = ann.operate("void", "CS-00", "T-1", 1, reason)
-        self.check(answer.told.startswith("accepted "), f"with a reason: {answer.told}")
+        self.check(answer.reported.startswith("accepted "), f"with a reason: {answer.reported}")
         answer = ann.operate("restore", "CS-00", "T-1", 1, "it was read once")
-        self.check(answer.told.startswith("accepted "), f"a restoration: {answer.told}")
+        self.check(answer.reported.startswith("accepted "), f"a restoration: {answer.reported}")
         ann.operate("void", "CS-00", "T-1", 2, "another one")
         answer = ann.operate("erase", "CS-00", "T-1", 2, "it is of another session")
-        self.check(answer.told.startswith("accepted "), f"an erasure: {answer.told}")
+        self.check(answer.reported.startswith("accepted "), f"an erasure: {answer.reported}")
         rows = await self.owner.fetch("select * from own_deed order by at")
         self.check(
             [(row["command"], row["number"]) for row in rows]
@@ -410,7 +417,7 @@ class Demo(Trial):
         ):
             answer = ann.post("/operate/do", form)
             self.check(
-                answer.status == 403 and "nothing was done" in answer.told,
+                answer.status == 403 and "nothing was done" in answer.reported,
                 f"{name}: {answer.status}",
             )
         for name, heads in (
@@ -438,8 +445,8 @@ class Demo(Trial):
         pages = [Client(url, ann.cookie) for url in (self.url, self.other)]
         with ThreadPoolExecutor(2) as pool:
             jobs = [pool.submit(one.post, "/operate/do", fields) for one in pages]
-            answers = [job.result().told for job in jobs]
-        answers.append(pages[1].post("/operate/do", fields).told)
+            answers = [job.result().reported for job in jobs]
+        answers.append(pages[1].post("/operate/do", fields).reported)
         self.check(
             await self.lines() == lines + 1
             and len(set(answers)) == 1
@@ -582,7 +589,7 @@ class Demo(Trial):
         ):
             answer = ask(*words)
             self.check(
-                answer.status == status, f"a closing of {words}: {answer.status} {answer.told}"
+                answer.status == status, f"a closing of {words}: {answer.status} {answer.reported}"
             )
         answer = ned.post("/closings", {"site": "north", "day": "2026-03-01", "reason": "a test"})
         self.check(answer.status == 403, f"by a form that the page did not make: {answer.status}")
@@ -709,8 +716,8 @@ class Demo(Trial):
         answer = ann.operate("void", "CS-90", "T-9", 1, "in the second cell")
         rows = [tuple(row) for row in await second.fetch("select operator, reason from own_deed")]
         self.check(
-            answer.told.startswith("accepted ") and rows == [("ann", "in the second cell")],
-            f"who did what lies beside the log of its cell: {answer.told}, {rows}",
+            answer.reported.startswith("accepted ") and rows == [("ann", "in the second cell")],
+            f"who did what lies beside the log of its cell: {answer.reported}, {rows}",
         )
         text = ann.get("/session/CS-90/T-9").text
         self.check("in the second cell" in text, "the session's history is that of its cell")
@@ -744,8 +751,8 @@ class Demo(Trial):
         answer = ann.operate("void", "CS-01", "T-2", 1, "by way of a standby")
         asked = ann.get("/closings").text
         self.check(
-            answer.told.startswith("accepted ") and "the month ends" in asked,
-            f"what changes something is done: {answer.told}",
+            answer.reported.startswith("accepted ") and "the month ends" in asked,
+            f"what changes something is done: {answer.reported}",
         )
         await other.close()
         standby.stop()

@@ -6,7 +6,7 @@ It starts PostgreSQL 15 in a temporary folder and a worker, and plays two sites,
 readings again in the Ended event, beside one that sends the same without that. One site is read by moment, so there
 both have the same energy in each period: on boards, in rows, in what is settled and archived, after voids of what was
 archived, a compaction, a move to another cell and a closing there. The other is read by sequence, so there they have
-not. The status is 1 where something is not as it must be.
+not. The status is 1 if something is not as it must be.
 """
 
 import json
@@ -148,8 +148,8 @@ class Demo(ClosingTrial):
         )
         for day in ("2026-03-01", "2026-03-03"):
             status, said = await self.close_day(day, site="south")
-            told = ("readings repeated at the end", 4, f"{REMEDY} takes them by moment")
-            wanted = [("C", tx, *told) for tx in ("tx-1", "tx-2")]
+            reported = ("readings repeated at the end", 4, f"{REMEDY} takes them by moment")
+            wanted = [("C", tx, *reported) for tx in ("tx-1", "tx-2")]
             found = [tuple(row) for row in await self.owner.fetch(query)]
             self.check(
                 status == 0 and found == wanted, f"what is doubtful, of {day}: {said} {found}"
@@ -179,7 +179,7 @@ class Demo(ClosingTrial):
     async def compaction(self) -> None:
         again = await self.owner.fetch("select line from own_log where shard = 1")
         await self.fleet.come(self.owner, 1, [row["line"] for row in again])
-        await self.fleet.until_told(self.owner)
+        await self.fleet.until_reported(self.owner)
         command = [*tool("compact"), "--db", self.fleet.dsn("ledger_compactor"), "--shard", 1]
         process = self.fleet.start(*command, "--program", self.fleet.program, stdout=-1, stderr=-2)
         status, said = await ended(process)

@@ -30,7 +30,7 @@ class Answer(NamedTuple):
         return json.loads(self.text)
 
     @property
-    def told(self) -> str:
+    def reported(self) -> str:
         """What the page says of a fault, or of what was done."""
         found = re.search(r'id="answer">([^<]*)<', self.text)
         return unescape(found[1]) if found else ""
@@ -140,17 +140,17 @@ def operator(
 def make_operator(fleet: Fleet, name: str, roles: str, *sites: str) -> None:
     """Makes an operator of all sites, or of some. Raises Fault."""
     where = ["--sites", ",".join(sites)] if sites else ["--all-sites"]
-    status, told = operator(fleet, "set", name, "--roles", roles, *where)
+    status, reported = operator(fleet, "set", name, "--roles", roles, *where)
     if status:
-        raise Fault(f"no operator {name}: {told}")
+        raise Fault(f"no operator {name}: {reported}")
 
 
 def make_token(fleet: Fleet, name: str, roles: str, *words: str) -> str:
     """Makes a token. Raises Fault."""
-    status, told = operator(fleet, "token", name, "--roles", roles, "--label", "a test", *words)
+    status, reported = operator(fleet, "token", name, "--roles", roles, "--label", "a test", *words)
     if status:
-        raise Fault(f"no token of {name}: {told}")
-    return told
+        raise Fault(f"no token of {name}: {reported}")
+    return reported
 
 
 def start_page(fleet: Fleet, *more: object, dsns: tuple[str, ...] = ()) -> tuple[Any, str]:

@@ -7,7 +7,7 @@ It needs Debian's packages chromium, chromium-driver and python3-selenium beside
 Stations send events; an operator signs in, looks at all sites, a site, its days, a session and what lacks messages;
 voids, restores and erases an event and sees the board and the history change; asks for a closing. No page may be wider
 than a phone, and labels, links and contrast are as page_check.py wants them. Then a day that is closed, workers that
-are gone, a cell that is down. The status is 1 where one of these is not as it must be, and 77 where packages are
+are gone, a cell that is down. The status is 1 if one of these is not as it must be, and 77 if packages are
 missing. What nobody may do is tried by operator_demo.py.
 """
 
@@ -33,7 +33,7 @@ try:
     from selenium.webdriver.common.by import By
     from selenium.webdriver.support.ui import Select, WebDriverWait
 except ImportError:
-    pass  # Told by main.
+    pass  # Reported by main.
 
 # Pixels of a desk's screen, and of the highest picture.
 WIDE, HIGHEST = 1280, 2400
@@ -215,7 +215,7 @@ class Demo(Trial):
             self.shot(f"{shot}-answer")
         return str(self.browser.find_element(By.ID, "answer").text)
 
-    def told(self) -> str:
+    def reported(self) -> str:
         """What a page says about its figures."""
         return str(self.browser.find_element(By.ID, "about").text)
 
@@ -277,13 +277,15 @@ class Demo(Trial):
         self.shot("site")
         days = ["2026-03-01", "2026-03-02", "2026-03-03"]
         self.check(
-            self.told().startswith("Energy is provisional. Numbers of sessions are provisional. "),
-            f"no figure is settled yet: {self.told()}",
+            self.reported().startswith(
+                "Energy is provisional. Numbers of sessions are provisional. "
+            ),
+            f"no figure is settled yet: {self.reported()}",
         )
         self.follow(By.LINK_TEXT, days[1])
         self.check(
-            self.told() == "The energy of this day is provisional at CS-00, CS-01.",
-            f"nor is a day's: {self.told()}",
+            self.reported() == "The energy of this day is provisional at CS-00, CS-01.",
+            f"nor is a day's: {self.reported()}",
         )
         self.shot("day")
         said = self.text()
@@ -400,12 +402,12 @@ class Demo(Trial):
         )
         self.shot("session-archived")
         self.go("/site/north/")
-        told = self.told()
+        reported = self.reported()
         self.check(
-            told
+            reported
             == "Energy is settled to 2026-03-03. Numbers of sessions are provisional. Events and voided events "
             "are those of the log, and provisional.",
-            f"a site's figures are shown: {told}",
+            f"a site's figures are shown: {reported}",
         )
         cells = {
             row.find_element(By.CSS_SELECTOR, "th a")
@@ -418,7 +420,9 @@ class Demo(Trial):
         wanted = dict.fromkeys(("CS-00", "CS-01", "CS-02"), "energy settled, sessions provisional")
         self.check(stations == wanted, f"and those of its stations: {stations}")
         self.go("/site/north/board.2026-03-01.html")
-        self.check(self.told() == "The energy of this day is settled.", f"a day: {self.told()}")
+        self.check(
+            self.reported() == "The energy of this day is settled.", f"a day: {self.reported()}"
+        )
         self.go("/")
         heads = [one.text for one in self.browser.find_elements(By.CSS_SELECTOR, "thead th")]
         self.check("Sessions are" in heads, f"all sites say how numbers of sessions are: {heads}")
@@ -430,9 +434,9 @@ class Demo(Trial):
         self.check(status == 0, f"ocpp-board close-day once more: {said.splitlines()[:1]}")
         path = "/site/north/board.2026-03-01.html"
         end, wanted_day = time.monotonic() + 10, "The energy of this day is corrected at CS-00."
-        while self.go(path) and self.told() != wanted_day and time.monotonic() < end:
+        while self.go(path) and self.reported() != wanted_day and time.monotonic() < end:
             await asyncio.sleep(0.3)
-        self.check(self.told() == wanted_day, f"a day that was corrected: {self.told()}")
+        self.check(self.reported() == wanted_day, f"a day that was corrected: {self.reported()}")
         self.shot("day-corrected")
 
     def site_kept(self) -> None:
@@ -488,8 +492,8 @@ class Demo(Trial):
         database.kill()
         answer = await asyncio.to_thread(client.get, "/")
         self.check(
-            answer.status == 503 and "the database does not do it" in answer.told,
-            f"the database is down: {answer.status} {answer.told[:60]}",
+            answer.status == 503 and "the database does not do it" in answer.reported,
+            f"the database is down: {answer.status} {answer.reported[:60]}",
         )
         database.start()
         answer = await asyncio.to_thread(client.get, "/")

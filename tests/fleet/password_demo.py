@@ -5,7 +5,7 @@
 It starts PostgreSQL 15 in a temporary folder and a gateway, sets passwords by the tool, and plays stations and
 strangers: with no password, a wrong one, another station's, one that was changed; and with so many wrong ones that
 they are slowed down, which may be so for nobody else. A station that connects again, here or at another gateway, has
-to end its older connection. The status is 1 where something is not as it must be.
+to end its older connection. The status is 1 if something is not as it must be.
 """
 
 import argparse
@@ -310,8 +310,8 @@ class Demo(Trial):
         coded = [base64.b64encode(pair.encode()).decode() for pair in pairs]
         shown = [word for word in [*words, *coded] if word in text]
         self.check(not shown, f"passwords in the log: {shown}")
-        told = f"had {FREE}, and is slowed down"
-        lines = [line for line in text.splitlines() if told in line]
+        reported = f"had {FREE}, and is slowed down"
+        lines = [line for line in text.splitlines() if reported in line]
         self.check(len(lines) == 1, f"who is slowed down: {lines}")
         self.check(
             OPEN not in text, "a gateway that asks for passwords does not say that it is open"

@@ -3,7 +3,7 @@
     tests/one fleet.place_demo ocpp_board
 
 It starts PostgreSQL 15 in a temporary folder with two cells. Stations of sites come, more than a shard takes; then one
-cell gets nearly all lines, and the moves that the tool proposes are made. The status is 1 where something is not as it
+cell gets nearly all lines, and the moves that the tool proposes are made. The status is 1 if something is not as it
 must be.
 """
 
@@ -61,8 +61,8 @@ class Demo(Trial):
         # As many as a shard is filled with, by the plan's own function.
         for number in range(1, FILLED):
             await self.owner.execute("select add_station(0, 'north', $1)", f"N-{number:02}")
-        told = {await self.add("north", f"N-{FILLED + number}") for number in range(2)}
-        self.check(told == {"shard 2 of cell 1"}, f"what a shard has no room for: {told}")
+        reported = {await self.add("north", f"N-{FILLED + number}") for number in range(2)}
+        self.check(reported == {"shard 2 of cell 1"}, f"what a shard has no room for: {reported}")
         wanted: list[tuple[object, ...]] = [
             (0, "north", FILLED, "Europe/Berlin", 300, *RULES),
             (2, "north", 2, "Europe/Berlin", 300, *RULES),

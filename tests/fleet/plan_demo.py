@@ -4,7 +4,7 @@
 
 The plan, passwords of stations, operators and tokens are changed by psql and by the tools, with a reason and without
 one; a shard moves. Without a reason nothing may change. What changed has to be rows, without hashes, which the page
-shows to who sees the site. The status is 1 where one of these is not as it must be.
+shows to who sees the site. The status is 1 if one of these is not as it must be.
 """
 
 import getpass
@@ -64,7 +64,7 @@ class Demo(Trial):
         make_operator(self.fleet, "eve", "sees", "south")
         _, self.url = start_page(self.fleet)
 
-    async def told(self) -> None:
+    async def reported(self) -> None:
         """Changes by psql are rows."""
         before = await self.owner.fetchval(COUNT)
         session = await connect(self.fleet.dsn("owner"))
@@ -246,7 +246,7 @@ class Demo(Trial):
 
     async def run(self) -> None:
         await self.open()
-        for job in (self.told, self.asked, self.tools, self.moved, self.shown):
+        for job in (self.reported, self.asked, self.tools, self.moved, self.shown):
             await job()
         await self.owner.close()
 

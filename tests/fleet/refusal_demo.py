@@ -4,7 +4,7 @@
 
 It starts PostgreSQL 15 in a temporary folder and a worker, and has stations send messages that are refused: no JSON, a
 conflict, one again and again, more than a station may keep. Workers are killed and read the log again, limits rise, a
-day is closed and the shard moves. And a station that comes near its limits is reported once. The status is 1 where
+day is closed and the shard moves. And a station that comes near its limits is reported once. The status is 1 if
 something is not as it must be.
 """
 
@@ -94,8 +94,8 @@ class Demo(ClosingTrial):
         await self.came(*session("C", "TX-2", local("2026-03-01 18:00"), 3)[:1])
         await self.owner.execute("update own_station set readings = 100 where station = 'C'")
         await self.came("void A TX-9 1")
-        told = path.read_text().count(NEAR)
-        self.check(told == 1, f"nine of ten are reported once: {told} times")
+        reported = path.read_text().count(NEAR)
+        self.check(reported == 1, f"nine of ten are reported once: {reported} times")
 
     async def doors(self) -> None:
         """Who may read the rows, and who may not."""

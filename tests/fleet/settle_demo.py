@@ -6,7 +6,7 @@ It starts PostgreSQL 15 in a temporary folder and a worker, and plays three site
 send the same. One of their sessions lasts over midnight, and ends once its first day is closed. Their energy has to be
 in the quarters that the rule says: on boards, in rows, in what is settled and archived, after a void of what was
 archived, a move to another cell and a closing there. A site that was closed by one rule is not closed by another. The
-status is 1 where something is not as it must be.
+status is 1 if something is not as it must be.
 """
 
 import sys

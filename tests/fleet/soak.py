@@ -13,7 +13,7 @@ archives have to be those of a replay from scratch of all that was answered and 
 replay's periods. It prints the memory of each part at the quarters of the run, and waits of all messages and of those
 that no kill and no stop touched: which neither waited nor came while a part was away or within 2 seconds behind, or 10
 behind a kill of the database. With --strangers stations have passwords, and strangers.py plays beside them. The status
-is 1 where something is not as it must be.
+is 1 if something is not as it must be.
 """
 
 import argparse
@@ -91,7 +91,7 @@ def percentile(waits: list[float], share: float) -> float:
     return sorted(waits)[min(len(waits) - 1, int(share * len(waits)))]
 
 
-def waits_told(waits: list[float]) -> str:
+def waits_reported(waits: list[float]) -> str:
     """Waits as they are printed."""
     if not waits:
         return "there are none"
@@ -407,8 +407,8 @@ class Soak(Trial):
         await closing
         if strangers:
             strangers.send_signal(signal.SIGTERM)
-            found, told = await ended(strangers)
-            self.check(found == 0, f"strangers:\n{told}")
+            found, reported = await ended(strangers)
+            self.check(found == 0, f"strangers:\n{reported}")
         self.none_ended()
         for process in (*self.gateways, *self.workers):
             process.send_signal(signal.SIGCONT)
@@ -449,10 +449,10 @@ class Soak(Trial):
         """Prints how long messages waited: all, and those that no kill and no stop touched."""
         with open(self.fleet.folder / "waits", encoding="utf-8") as file:
             ends = [(float(end), float(wait)) for end, wait in map(str.split, file)]
-        print(f"waits of all messages: {waits_told([wait for _, wait in ends])}")
+        print(f"waits of all messages: {waits_reported([wait for _, wait in ends])}")
         harmed = joined(self.harmed)
         untouched = [wait for end, wait in ends if not is_within(end - wait, end, harmed)]
-        text = f"waits of messages that no kill and no stop touched: {waits_told(untouched)}"
+        text = f"waits of messages that no kill and no stop touched: {waits_reported(untouched)}"
         self.check(len(untouched) > 100 and percentile(untouched, 0.99) <= MOST_WAIT, text)
 
     async def shown(self) -> None:

@@ -6,7 +6,7 @@ It starts PostgreSQL 15 in a temporary folder, a worker and a gateway that asks 
 whose verdict is kept back and who sends empty pongs without end, and a station that is let in and does so; strangers
 who guess a station's password while the gateway begins anew; 400 strangers at 400 addresses; and a reader who notifies
 without end, and fills the queue of notifications. Whatever they do, a true station waits less than a second, and some
-seconds at most where that queue is full. The status is 1 where something is not as it must be.
+seconds at most where that queue is full. The status is 1 if something is not as it must be.
 """
 
 import argparse

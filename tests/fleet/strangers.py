@@ -367,13 +367,13 @@ class Strangers:
             waits = sorted(waits)
             if waits:
                 parts = [waits[int(part * (len(waits) - 1))] for part in (0.5, 0.99, 1)]
-                told = " / ".join(f"{one:.2f}" for one in parts)
-                print(f"waits for {text}: {told} s (median, 99th, longest of {len(waits)})")
+                reported = " / ".join(f"{one:.2f}" for one in parts)
+                print(f"waits for {text}: {reported} s (median, 99th, longest of {len(waits)})")
         print(f"odd answers: {len(self.odd)} {sorted(set(self.odd))[:5] or ''}", flush=True)
 
 
 def main() -> int:
-    """Plays them, and gives the exit status: 1 where an answer was odd."""
+    """Plays them, and gives the exit status: 1 if an answer was odd."""
     parser = argparse.ArgumentParser(
         description=__doc__, formatter_class=argparse.RawDescriptionHelpFormatter
     )

@@ -5,7 +5,7 @@
 
 It starts PostgreSQL 15 in a temporary folder and a worker, whose limits are made small. Then come: conflicting events,
 of which the log keeps some and `refusal` counts all; the same in a log that no worker read, which is compacted; a
-station without room; two events of an archived session by turns. Days are closed in between. The status is 1 where
+station without room; two events of an archived session by turns. Days are closed in between. The status is 1 if
 something is not as it must be.
 """
 
@@ -97,7 +97,7 @@ class Demo(ClosingTrial):
         for at in range(0, len(lines), 20):
             part = list(lines[at : at + 20])
             await self.fleet.come(self.owner, shard, part, "closings", front + at + 1)
-        await self.fleet.until_told(self.owner)
+        await self.fleet.until_reported(self.owner)
         tokens = range(front + 1, len(self.asked) + 1)
         return [self.answers.get(token, "no answer") for token in tokens]
 
@@ -111,8 +111,8 @@ class Demo(ClosingTrial):
         is_small = await self.until(f"select ({BYTES}) < {UNCHANGED + 5_000}", True, 0)
         size = await self.owner.fetchval(BYTES, 0)
         self.check(is_small, f"the log keeps {size:,} bytes of {SIZE * CONFLICTS:,}")
-        is_told = await self.until(REFUSED, CONFLICTS, "A", "ConflictingEvent")
-        self.check(is_told, f"and `refusal` counts {CONFLICTS}")
+        is_reported = await self.until(REFUSED, CONFLICTS, "A", "ConflictingEvent")
+        self.check(is_reported, f"and `refusal` counts {CONFLICTS}")
         answers = await self.together(
             *session("B", "TX-2", local("2026-03-02 08:00"), 3)[:2],
             "void A TX-1 1",
@@ -205,7 +205,7 @@ class Demo(ClosingTrial):
         )
 
     async def measured(self, name: str, *more: object) -> tuple[int, str, Memory]:
-        """Runs a tool, and gives its status, what it told, and the memory that it and what it started took at most."""
+        """Runs a tool; gives its status, what it printed, and the memory that it and what it started took at most."""
         role = {"compact": "ledger_compactor", "close-day": "ledger_closer"}[name]
         words = ("--db", self.fleet.dsn(role), "--program", self.fleet.program)
         code = "" if self.words.big else SMALL

@@ -4,14 +4,15 @@
 
 It starts PostgreSQL 15 in a temporary folder, makes certificates by `openssl`, and plays stations by TLS 1.2 and 1.3,
 without TLS, while the gateway's certificate is changed, and with certificates of their own, of others and of another
-authority, and such as a revocation list names. Where nginx is installed the same goes by way of it, which hands on
-whose certificate a station has: a station or a stranger beside it that says so by itself is not believed. The status
-is 1 where something is not as it must be.
+authority, and such as a revocation list names. If nginx is installed the same goes by way of it, by the lines of
+docs/formats.md and docs/fleet-secure.md: it hands on whose certificate a station has, and a station or a stranger
+beside it that says so by itself is not believed. The status is 1 if something is not as it must be.
 """
 
 import argparse
 import asyncio
 import os
+import re
 import secrets
 import signal
 import socket
@@ -21,9 +22,10 @@ import sys
 import time
 from pathlib import Path
 
+from ocpp_board.fleet.database import Fault
 from ocpp_board.fleet.passwords import SALT, hashed
 from tests.fleet.client import Client
-from tests.fleet.fleet import free_port, tool
+from tests.fleet.fleet import TOP, free_port, tool
 from tests.fleet.trials import Trial, parsed, parser_of, tried
 
 A, B = "CS-00000", "CS-00001"
@@ -34,30 +36,12 @@ ELLIPTIC, RSA = ("ec", "-pkeyopt", "ec_paramgen_curve:P-256"), ("rsa:2048",)
 SUITE = "AES128-GCM-SHA256"
 NGINX = "/usr/sbin/nginx"
 SECRET, HEADER = "a-secret-of-nginx-and-gateway", "X-Client-Certificate"
-# The lines of docs/fleet-secure.md, in files of its own.
-PROXY = """
-daemon off; worker_processes 1; pid {folder}/nginx.pid; error_log {folder}/nginx.log;
-events {{}}
-http {{
-  access_log off; client_body_temp_path {folder}/body; proxy_temp_path {folder}/proxy; fastcgi_temp_path {folder}/f;
-  uwsgi_temp_path {folder}/u; scgi_temp_path {folder}/s;
-  server {{
-    listen 127.0.0.1:{port} ssl;
-    ssl_certificate {folder}/second.pem;
-    ssl_certificate_key {folder}/second.key;
-    ssl_client_certificate {folder}/proxy-authority.pem;
-    ssl_verify_client on;
-    location /ocpp/ {{
-      proxy_pass http://127.0.0.1:{gateway};
-      proxy_http_version 1.1;
-      proxy_set_header Upgrade $http_upgrade;
-      proxy_set_header Connection "upgrade";
-      proxy_set_header X-Forwarded-For $remote_addr;
-      proxy_set_header {header} "{secret} $ssl_client_verify $ssl_client_s_dn";
-      proxy_read_timeout 660s;
-    }}
-  }}
-}}
+# The pages with the lines of nginx, and what a proxy of this trial has beside them.
+PAGES = TOP / "docs"
+BLOCK = re.compile("```nginx\\n(.*?)```", re.DOTALL)
+OWN = "daemon off; worker_processes 1; pid {folder}/nginx.pid; worker_shutdown_timeout 10s;\n"
+HTTP = """  access_log off; client_body_temp_path {folder}/body; proxy_temp_path {folder}/proxy;
+  fastcgi_temp_path {folder}/f; uwsgi_temp_path {folder}/u; scgi_temp_path {folder}/s;
 """
 # What `openssl ca` needs to name certificates in a list.
 AUTHORITY = """
@@ -138,7 +122,7 @@ class Demo(Trial):
         self.url = url.replace("ws://", "wss://")
         return process
 
-    async def until_told(self, text: str, count: int = 1) -> bool:
+    async def until_reported(self, text: str, count: int = 1) -> bool:
         """Whether the gateway reports this, so many times."""
         end = time.monotonic() + 10
         while self.log.read_text().count(text) < count and time.monotonic() < end:
@@ -174,7 +158,7 @@ class Demo(Trial):
         self.use("second")
         process.send_signal(signal.SIGHUP)
         self.check(
-            await self.until_told("used.pem was read again"),
+            await self.until_reported("used.pem was read again"),
             "a certificate is read again by SIGHUP",
         )
         link.send(b'[2,"1","Heartbeat",{}]')
@@ -187,9 +171,9 @@ class Demo(Trial):
         self.check(heard == "101", f"only {SUITE}: {heard}")
         self.file("used.key").write_bytes(self.file("first.key").read_bytes())
         process.send_signal(signal.SIGHUP)
-        is_told = await self.until_told("the certificate stays as it was")
+        is_reported = await self.until_reported("the certificate stays as it was")
         heard = await self.heard(self.trusting("second"))
-        self.check(is_told and heard == "101", f"a key that does not fit is reported: {heard}")
+        self.check(is_reported and heard == "101", f"a key that does not fit is reported: {heard}")
 
     async def certificates(self) -> None:
         """Profile 3: certificates of stations."""
@@ -213,7 +197,7 @@ class Demo(Trial):
         )
         authority.write_bytes(self.file("other.pem").read_bytes())
         process.send_signal(signal.SIGHUP)
-        await self.until_told("used.pem was read again", 3)
+        await self.until_reported("used.pem was read again", 3)
         for own, wanted in (("forged", "101"), ("station-a", "refused: ")):
             heard = await self.heard(self.trusting("second", own=own), "", A)
             self.check(heard.startswith(wanted), f"{own}, with another authority: {heard}")
@@ -267,7 +251,7 @@ class Demo(Trial):
         count = self.log.read_text().count("used.pem was read again")
         self.lists("station-a")
         process.send_signal(signal.SIGHUP)
-        await self.until_told("used.pem was read again", count + 1)
+        await self.until_reported("used.pem was read again", count + 1)
         heard = [await first.said()]
         other.send(b'[2,"1","Heartbeat",{}]')
         heard.append(await other.said())
@@ -283,12 +267,38 @@ class Demo(Trial):
         self.check(heard == ["101"], f"the other one comes again: {heard}")
         self.file("revoked.pem").write_text("no list")
         process.send_signal(signal.SIGHUP)
-        await self.until_told("the certificate stays as it was", 2)
+        await self.until_reported("the certificate stays as it was", 2)
         text = await self.heard(self.trusting("second", own="station-a"), "")
         self.check(
             text.startswith("refused: "), f"a list that can't be read changes nothing: {text}"
         )
         process.kill()
+
+    def proxy(self, port: int, behind: int, *more: str) -> None:
+        """The configuration of nginx: the lines of formats.md, with those of fleet-secure.md where that says, and more
+        for the server."""
+        (text,) = BLOCK.findall((PAGES / "formats.md").read_text())
+        (own,) = BLOCK.findall((PAGES / "fleet-secure.md").read_text())
+        lines = own.splitlines(keepends=True)
+        server, place = "".join([*lines[:2], *more]), "".join(lines[2:])
+        for old, new in (
+            ("events {}", OWN + "events {}"),
+            ("http { server {", "http {\n" + HTTP + "server {"),
+            ("127.0.0.1:9443", f"127.0.0.1:{port}"),
+            (" cert.pem", f" {self.file('second.pem')}"),
+            (" key.pem", f" {self.file('second.key')}"),
+            ("  location ", server + "  location "),
+            ("http://127.0.0.1:9000", f"http://127.0.0.1:{behind}"),
+            ("    proxy_read_timeout", place + "    proxy_read_timeout"),
+            ("/etc/nginx/stations-ca.pem", f"{self.file('proxy-authority.pem')}"),
+            ("X-Client-Certificate", HEADER),
+            ('"SECRET ', f'"{SECRET} '),
+            ("{folder}", f"{self.fleet.folder}"),
+        ):
+            if old not in text:
+                raise Fault(f"the pages have no {old!r} in their lines of nginx")
+            text = text.replace(old, new)
+        self.file("nginx.conf").write_text(text)
 
     async def proxied(self) -> None:
         """Profile 3 behind nginx."""
@@ -299,10 +309,9 @@ class Demo(Trial):
         options = ("--proxy", "127.0.0.1", "--client-header", HEADER)
         gateway, url = await asyncio.to_thread(self.fleet.gateway, options=options)
         behind, port = int(url.rpartition(":")[2].split("/")[0]), free_port()
-        values = {"folder": self.fleet.folder, "port": port, "gateway": behind}
-        text = PROXY.format(header=HEADER, secret=SECRET, **values)
-        self.file("nginx.conf").write_text(text)
-        nginx = self.fleet.start(NGINX, "-e", self.file("nginx.log"), "-c", self.file("nginx.conf"))
+        self.proxy(port, behind)
+        command = (NGINX, "-e", self.file("nginx.log"), "-c", self.file("nginx.conf"))
+        nginx = self.fleet.start(*command)
         for _ in range(100):
             try:
                 (await asyncio.open_connection("127.0.0.1", port))[1].close()
@@ -339,11 +348,35 @@ class Demo(Trial):
         link = await Client.open(f"ws://127.0.0.1:{behind}/ocpp", A, LOGIN, "127.0.0.2")
         heard = await link.said()
         self.check(heard.startswith("403 "), f"a password in place of a certificate: {heard}")
+        await self.revoked_by_proxy(port, behind, list(map(str, command)))
         del os.environ["PROXY_SECRET"]
         gateway.kill()
         # Killed, it would leave its own process behind.
         nginx.terminate()
         await asyncio.to_thread(nginx.wait, 10)
+
+    async def revoked_by_proxy(self, port: int, behind: int, command: list[str]) -> None:
+        """A revocation list that nginx reads anew."""
+        link = await self.link(self.trusting("second", own="station-b"), "", B)
+        heard = [await link.said()]
+        self.file("authority.pem").write_bytes(self.file("proxy-authority.pem").read_bytes())
+        self.lists("station-b")
+        self.proxy(port, behind, f"  ssl_crl {self.file('revoked.pem')};\n")
+        subprocess.run([*command, "-s", "reload"], check=True)
+        began = time.monotonic()
+        heard.append(await link.said(15))
+        took = time.monotonic() - began
+        self.check(
+            heard[0] == "101" and heard[1].startswith("closed") and took < 12,
+            f"nginx with a list that names a certificate: its connection ends after {took:.0f} s: {heard}",
+        )
+        found = []
+        for name, own in ((B, "station-b"), (A, "station-a")):
+            found.append(await self.heard(self.trusting("second", own=own), "", name))
+        self.check(
+            found[0].startswith("400 ") and found[1] == "101",
+            f"it comes again, and another one: {found}",
+        )
 
     def ending(self, *more: str) -> str:
         """How a gateway ends with these words."""

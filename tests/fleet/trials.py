@@ -76,7 +76,7 @@ class Trial:
         self.owner: Any = None
 
     def check(self, is_right: object, text: str) -> None:
-        """Tells what was tried, and remembers it where it is wrong."""
+        """Prints what was tried, and keeps it if it is wrong."""
         print(("ok    " if is_right else "WRONG ") + text, flush=True)
         if not is_right:
             self.wrong.append(text)

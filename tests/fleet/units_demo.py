@@ -9,7 +9,7 @@ memory that is written and executed, and (with python3-seccomp) with only the sy
 stations send to the gateway, a worker answers, a feed takes a file, and the page shows their sum; a day is closed, logs
 are compacted, tokens forgotten, a backup made. Each has to report figures where its unit says, and to end by SIGTERM. A
 unit of a timer that fails has one that reports it. Then the database is backed up while all runs, rows are deleted, and
-the copy takes its place: boards must be as before. The status is 1 where one of these is not as it must be, and 77
+the copy takes its place: boards must be as before. The status is 1 if one of these is not as it must be, and 77
 without systemd-analyze.
 """
 
@@ -183,11 +183,15 @@ class Demo(Trial):
         folder = self.root / "etc/systemd/system"
         for timer in sorted(folder.glob("*.timer")):
             unit = unit_of(timer.with_suffix(".service"))["Unit"]
-            told = re.sub("@.*", "@.service", unit.get("OnFailure", "none"))
+            reported = re.sub("@.*", "@.service", unit.get("OnFailure", "none"))
             command = (
-                unit_of(folder / told)["Service"]["ExecStart"] if (folder / told).exists() else ""
+                unit_of(folder / reported)["Service"]["ExecStart"]
+                if (folder / reported).exists()
+                else ""
             )
-            self.check("logger" in command, f"{timer.stem}, where it fails: {told}: {command[:60]}")
+            self.check(
+                "logger" in command, f"{timer.stem}, where it fails: {reported}: {command[:60]}"
+            )
 
     def verify(self) -> None:
         for path in sorted((self.root / "etc/systemd/system").iterdir()):

@@ -6,7 +6,7 @@
 Stations of some shards send. Meanwhile a transaction that wrote in another database stays open (`open`), boards of 64
 full stations are written whole again and again (`boards`), a day of 60,000 lines is closed (`closing`), or the plans of
 shards with long logs change again and again while a further worker begins (`passing`). The 99th wait of the stations
-that send has to be below a second. The status is 1 where it is not, or where a board is wrong.
+that send has to be below a second. The status is 1 if it is not, or if a board is wrong.
 """
 
 import argparse
@@ -110,20 +110,20 @@ class Waits(Trial):
                 for number in range(shard, self.shards):
                     lines = await self.fill(number, full, EVENTS[name])
                     record.writelines(f"{line}\n" for line in lines)
-            await self.fleet.until_told(self.owner, 3 * PATIENCE)
+            await self.fleet.until_reported(self.owner, 3 * PATIENCE)
         # One in five is sent twice.
         events = max(2, int(seconds * self.words.rate / self.words.stations / 1.2))
         words = ("--events", events, "--rate", self.words.rate, "--seconds", 3 * seconds + 60)
         load = self.fleet.load([self.url], first, self.words.stations, *words)
 
-        async def told() -> None:
+        async def reported() -> None:
             status, text = await ended(load)
             found = re.search(r"longest \d+ / (\d+) / \d+ ms", text)
             self.check(status == 0 and found and int(found[1]) < 1000, f"{name}: {text}")
             differ = await self.fleet.compared(self.owner, shard, 30)
             self.check(not differ, f"{name}: every board of those that sent {differ or 'is right'}")
 
-        return asyncio.create_task(told())
+        return asyncio.create_task(reported())
 
     async def open_one(self) -> None:
         """A transaction of another database that has written, and stays open."""
@@ -162,10 +162,10 @@ class Waits(Trial):
             rows = max(rows, await session.fetchval(ROWS, shard))
         await session.close()
         await waiting
-        told = ", ".join(f"{took:.0f}" for took in tooks)
+        reported = ", ".join(f"{took:.0f}" for took in tooks)
         self.check(
             tooks,
-            f"boards: {rows} rows of periods and sessions, written whole in {told} s",
+            f"boards: {rows} rows of periods and sessions, written whole in {reported} s",
         )
 
     async def closing(self) -> None:

@@ -6,7 +6,7 @@ It starts PostgreSQL 15 in a temporary folder (on a tmpfs of its own where root 
 feed, a page, stations that send, and Prometheus with the rules of examples/thousands-of-stations, whose times are a
 fraction here. First no alert may fire but that of open gateways. Then come the faults of demo.py one by one, and what
 else has an alert: each has to have its alert fire, which before its next fault is waited for to end. Besides, /health
-has to say what is wrong. The status is 1 where one does not fire, or fires where all is well, and 77 without
+has to say what is wrong. The status is 1 if one does not fire, or fires when all is well, and 77 without
 Prometheus.
 """
 
@@ -111,11 +111,14 @@ class Demo(WatchedTrial):
             'ocpp_board_cell_shards{cell="1"}' in text and "shard_last_answer_age_seconds{" in text,
             "a worker reports its cell and its shards",
         )
-        told = set[str]()
+        reported = set[str]()
         for name in self.parts:
             _, text = await asyncio.to_thread(asked, self.ports[name], "/metrics")
-            told |= set(re.findall(rf"^# HELP {FRONT}(\w+) ", text, re.MULTILINE))
-        self.check(told == HELP.keys(), f"all figures are there: {told ^ HELP.keys() or len(told)}")
+            reported |= set(re.findall(rf"^# HELP {FRONT}(\w+) ", text, re.MULTILINE))
+        self.check(
+            reported == HELP.keys(),
+            f"all figures are there: {reported ^ HELP.keys() or len(reported)}",
+        )
 
     async def common(self) -> None:
         """One server, and the faults that take no other one."""

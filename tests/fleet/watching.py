@@ -56,13 +56,13 @@ def shortened(text: str) -> str:
         seconds = int(found[2]) * {"s": 1, "m": 60, "h": 3600}[found[3]]
         return f"{found[1]}{max(200, 1000 * seconds // SHORTER)}ms"
 
-    def told(found: "re.Match[str]") -> str:
+    def reported(found: "re.Match[str]") -> str:
         seconds = int(found[2])
         part = 10 if seconds < 100 else 1000 if 1000 <= seconds < 5000 else 100
         return f"{found[1]}{seconds / part:g}"
 
     text = re.sub(r"(\[|for: |offset )(\d+)([smh])", shorter, text)
-    return re.sub(r"(_seconds\)? > )(\d+)", told, text)
+    return re.sub(r"(_seconds\)? > )(\d+)", reported, text)
 
 
 class WatchedTrial(Trial):
@@ -239,8 +239,8 @@ class WatchedTrial(Trial):
         self.fleet.databases[0].kill()
         await asyncio.sleep(2)
         status, said = await self.health("worker-1")
-        is_told = status == 503 and '"connected": false' in said
-        self.check(is_told, f"server: /health of a worker: {status} {said.strip()}")
+        is_reported = status == 503 and '"connected": false' in said
+        self.check(is_reported, f"server: /health of a worker: {status} {said.strip()}")
         await asyncio.to_thread(self.fleet.databases[0].start)
         self.owner = await self.fleet.owner()
 
@@ -425,7 +425,7 @@ class WatchedTrial(Trial):
 
 
 def asked(port: int, path: str) -> tuple[int, str]:
-    """The status and the text of a page of this machine; 0 where nobody answers."""
+    """The status and the text of a page of this machine; 0 if nobody answers."""
     try:
         with urllib.request.urlopen(f"http://127.0.0.1:{port}{path}", timeout=2) as answer:
             return answer.status, answer.read().decode()

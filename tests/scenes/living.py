@@ -149,7 +149,7 @@ def client_takes_no_bytes(program: str) -> None:
         began = time.monotonic()
         other = Station(server, "A")
         other.reports(0, 1)
-        while b"session A ended WriteFault" not in server.has_told():
+        while b"session A ended WriteFault" not in server.has_reported():
             if time.monotonic() - began > WRITE + 3:
                 raise Differs("its session does not end")
             time.sleep(0.1)
@@ -282,7 +282,7 @@ def boards_are_of_one_moment(program: str) -> None:
             raise Differs(f"status {server.process.returncode}")
 
 
-def sessions_are_told(program: str) -> None:
+def sessions_are_reported(program: str) -> None:
     """The lines of `--log`, and the reasons of close frames."""
     with Live(program, "--log") as server:
         station = Station(server, "A")
@@ -332,11 +332,13 @@ def limits_nearly_used(program: str) -> None:
     behind = {1: 1, 16: 1, 17: 2, 18: 3}
     with Live(program, "--limits", "1", "20", "18", "30") as server:
 
-        def has_told(lines: int) -> None:
+        def has_reported(lines: int) -> None:
             deadline = time.monotonic() + LONGEST_WAIT
-            while server.has_told() != b"".join(reported[:lines]) and time.monotonic() < deadline:
+            while (
+                server.has_reported() != b"".join(reported[:lines]) and time.monotonic() < deadline
+            ):
                 time.sleep(0.01)
-            if (found := server.has_told()) != b"".join(reported[:lines]):
+            if (found := server.has_reported()) != b"".join(reported[:lines]):
                 raise Differs(f"standard error has {found!r}")
 
         def sends(station: Station, number: int, reply: bytes = b"") -> None:
@@ -352,16 +354,16 @@ def limits_nearly_used(program: str) -> None:
             sends(station, number)
             station.leaves()
             if number + 1 in behind:
-                has_told(behind[number + 1])
+                has_reported(behind[number + 1])
         for change in range(19, 28, 2):
             server.answers("void A T1 0", f"accepted {change}\n")
             if change < 27:
                 server.answers("restore A T1 0", f"accepted {change + 1}\n")
-        has_told(3)
+        has_reported(3)
         station = Station(server, "A")
         sends(station, 18, b'[4,"19","InternalError","ReadingsFull",{}]')
         sends(station, 17)
-        has_told(4)
+        has_reported(4)
         station.leaves()
         shown = "".join(server.board("north") + server.board("south"))
         server.ends(shown, b"".join(reported).decode())
@@ -464,7 +466,7 @@ SCENES: tuple[Callable[[str], None], ...] = (
     input_ends_within_a_line,
     an_interrupt_writes_no_board,
     boards_are_of_one_moment,
-    sessions_are_told,
+    sessions_are_reported,
     limits_nearly_used,
     unfinished_handshake_ends,
     boards_in_a_browser,

@@ -161,7 +161,7 @@ class Live(Served):
             lines.append(self.line().decode())
         return lines
 
-    def has_told(self) -> bytes:
+    def has_reported(self) -> bytes:
         """What it has reported so far."""
         return os.pread(self.reported.fileno(), 1_000_000, 0)
 

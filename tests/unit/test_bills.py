@@ -35,7 +35,7 @@ def payload(**more: Any) -> dict[str, Any]:
     return one | more
 
 
-def test_an_event_tells_its_token_and_its_start() -> None:
+def test_an_event_has_its_token_and_its_start() -> None:
     assert details_of(sound("T1", FIRST)[0].payload) is NOTHING
     found = details_of(payload(idToken={"idToken": "AB\x0012", "type": "ISO14443"}, remote="77"))
     assert found == Details("AB12", "ISO14443", "77")

@@ -124,7 +124,7 @@ def test_a_text_without_a_board_is_complained_of(
     assert "line 2: the text ends, and no board began in it" in caplog.text
 
 
-def test_lines_of_a_station_do_not_stand_in_a_site(tmp_path: Path) -> None:
+def test_lines_of_a_station_are_not_in_a_site(tmp_path: Path) -> None:
     _, counts = reading(BOARD.replace("period 2026", f"{TX}\nperiod 2026", 1), tmp_path)
     assert counts["unread"] == 2
 

@@ -24,7 +24,7 @@ def faults_of(edit: Path) -> list[str]:
 
 
 @pytest.mark.parametrize("edit", EDITS, ids=lambda edit: f"{edit.parents[1].name}/{edit.name}")
-def test_each_old_text_stands_once(edit: Path) -> None:
+def test_each_old_text_is_there_once(edit: Path) -> None:
     assert faults_of(edit) == []
 
 

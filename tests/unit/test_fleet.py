@@ -127,7 +127,7 @@ class Ended:
         raise asyncpg.InterfaceError("connection is closed")
 
 
-def test_a_worker_whose_session_is_ended_beats_until_it_is_told() -> None:
+def test_a_worker_whose_session_is_ended_beats_until_it_is_reported() -> None:
     async def beaten() -> None:
         words = argparse.Namespace(
             program="none", hang=1.0, name="worker_1", seen=metrics.WorkerSeen(1.0)
@@ -157,7 +157,7 @@ class Slow:
 
 
 @pytest.mark.parametrize("waits", [True, False])
-def test_a_commit_that_waits_for_a_standby_is_told_at_once_and_waited_for(
+def test_a_commit_that_waits_for_a_standby_is_reported_at_once_and_waited_for(
     waits: bool, monkeypatch: pytest.MonkeyPatch
 ) -> None:
     async def committed() -> None:
@@ -480,7 +480,7 @@ def left_behind(ended: Exception) -> Exception:
     return fault
 
 
-def test_a_session_that_ended_is_told_by_why_it_did() -> None:
+def test_a_session_that_ended_is_named_by_why_it_did() -> None:
     fault = left_behind(asyncpg.AdminShutdownError("terminating connection"))
     assert said(fault) == "terminating connection"
     assert said(left_behind(ValueError("of the work"))).startswith("cannot call")
@@ -539,7 +539,7 @@ def test_work_is_begun_anew_where_its_session_is_lost(monkeypatch: pytest.Monkey
         anew(monkeypatch, away, fine)
 
 
-def test_another_tool_is_run_with_what_it_reads_and_tells() -> None:
+def test_another_tool_is_run_with_what_it_reads_and_prints() -> None:
     made = asyncio.run(parts.completed(["ocpp_board", "tables", "--out", "/none/x", "-"], 60, b"x"))
     assert made.returncode == 2 and made.stdout == b""
     assert parts.last_of(made.stderr).startswith("ocpp-board tables: ")
@@ -754,7 +754,7 @@ def test_a_replay_whose_board_was_not_waited_for_answers_no_more(
     asyncio.run(run())
 
 
-def test_answers_are_told_in_notifications_that_fit() -> None:
+def test_answers_are_sent_in_notifications_that_fit() -> None:
     answers = [("g1", "x" * 3_000)] * 5 + [("g2", "y")]
     channels, payloads = payloads_of(answers)
     assert all(len(payload) <= 7_900 for payload in payloads)
@@ -800,12 +800,12 @@ def test_a_line_lies_before_a_day_with_all_its_moments() -> None:
         '[2,"1","TransactionEvent",{"timestamp":"2026-03-01T10:00:00Z","meterValue":[7]}]',
     ],
 )
-def test_a_line_that_cannot_be_read_is_told(text: str) -> None:
+def test_a_line_that_cannot_be_read_is_reported(text: str) -> None:
     with pytest.raises(Unreadable):
         is_before(f"msg A {text}", datetime(2026, 3, 2, tzinfo=timezone.utc))
 
 
-def test_what_a_line_may_name_is_told_without_reading_it() -> None:
+def test_what_a_line_may_name_is_found_without_reading_it() -> None:
     assert may_name("msg A " + EVENT % "x") == {("A", "t1")}
     assert may_name('msg A {"transactionId" : "T1", "customData": {"transactionId":"T2"}}') == {
         ("A", "t1"),

@@ -297,7 +297,7 @@ def test_a_script_has_an_end(
         kept.append(b"#" * 19)
 
 
-def test_how_far_the_log_was_read_is_whole_or_told(tmp_path: Path) -> None:
+def test_how_far_the_log_was_read_is_whole_or_reported(tmp_path: Path) -> None:
     kept = KeptScript(tmp_path, STATIONS)
     kept.read.write_text('{"place": ')
     with pytest.raises(Mistaken, match="is not whole"):

@@ -168,7 +168,7 @@ def test_an_operators_change_is_kept_and_a_question_is_not(stub: str, tmp_path: 
     ledger.close()
 
 
-def test_a_log_that_is_not_there_is_told(stub: str, tmp_path: Path) -> None:
+def test_a_log_that_is_not_there_is_reported(stub: str, tmp_path: Path) -> None:
     feed, ledger, _ = feed_of(stub, tmp_path)
     with pytest.raises(FileNotFoundError):
         feed.feed()
@@ -190,7 +190,7 @@ def test_a_site_that_the_file_of_stations_lacks_is_warned_of(
     assert ledger.counts["accepted"] == 1
 
 
-def test_a_cut_is_told_with_the_last_line_before_it(
+def test_a_cut_is_reported_with_the_last_line_before_it(
     stub: str, tmp_path: Path, capsys: pytest.CaptureFixture[str]
 ) -> None:
     log = tmp_path / "log"

@@ -136,7 +136,7 @@ def test_pages_are_written_for_the_days_that_changed(tmp_path: Path) -> None:
         os.close(file)
 
 
-def test_days_of_several_pages_stand_until_they_change(
+def test_days_of_several_pages_stay_until_they_change(
     tmp_path: Path, monkeypatch: pytest.MonkeyPatch
 ) -> None:
     monkeypatch.setattr("ocpp_board.reports.board_pages.PAGE_BYTES", 100)
@@ -232,7 +232,7 @@ def test_wrong_words_end_with_2(words: tuple[str, ...]) -> None:
     assert ended.value.code == 2
 
 
-def test_a_wrong_word_is_told_in_two_lines(capsys: pytest.CaptureFixture[str]) -> None:
+def test_a_wrong_word_is_reported_in_two_lines(capsys: pytest.CaptureFixture[str]) -> None:
     with pytest.raises(SystemExit) as ended:
         arguments(["--out", "x", "script", "--evry", "3"], "ocpp-board live")
     assert ended.value.code == 2

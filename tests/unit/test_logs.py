@@ -289,7 +289,7 @@ def test_a_plan_has_at_most_so_many_sites_and_readings(tmp_path: Path) -> None:
     assert (counts["messages"], counts["refused"]) == (16, 1)
 
 
-def test_a_station_stands_on_one_site(tmp_path: Path) -> None:
+def test_a_station_is_on_one_site(tmp_path: Path) -> None:
     _, counts = script_of([row(), row(site="south")], tmp_path)
     assert (counts["messages"], counts["refused"]) == (1, 1)
 
@@ -321,7 +321,7 @@ def test_no_message_is_left_out_for_its_time(tmp_path: Path) -> None:
     assert (counts["messages"], counts["refused"]) == (6, 0)
 
 
-def test_times_of_receipt_stand_in_comments(tmp_path: Path) -> None:
+def test_times_of_receipt_are_in_comments(tmp_path: Path) -> None:
     log = [row(), row(message='[2,"1","TransactionEvent",{}]', time="x"), row()]
     script, _ = script_of(log, tmp_path, "--no-boards", "--received")
     comment = "# received 2026-03-01T08:00:00Z\n"

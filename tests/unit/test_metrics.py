@@ -48,7 +48,7 @@ def test_health_says_what_is_wrong() -> None:
     assert watch_of(False).answer("/health")[0] == 503
 
 
-def test_an_event_loop_that_stands_still_is_not_well() -> None:
+def test_an_event_loop_that_hangs_is_not_well() -> None:
     watch = watch_of()
     watch.ran = time.monotonic() - metrics.STUCK - 1
     status, _, text = watch.answer("/health")
@@ -81,7 +81,7 @@ def test_what_counts_up_is_a_counter() -> None:
     assert "# TYPE ocpp_board_page_wrong_passwords_total counter" in lines
 
 
-def test_a_worker_without_sessions_tells_that() -> None:
+def test_a_worker_without_sessions_reports_that() -> None:
     seen = WorkerSeen(10)
     reported = {one.name: one.values for one in seen.figures()}
     assert reported["worker_connected"] == [({}, 0.0)] and not seen.health().is_well

@@ -125,7 +125,7 @@ def begun(database: Database, *tries: tuple[str, str]) -> list[str]:
 # Operators ------------------------------------------------------------------------------------------------------------
 
 
-def test_wrong_ones_are_told_alike() -> None:
+def test_wrong_ones_are_answered_alike() -> None:
     database = Database(b"a right password")
     reported = begun(
         database,
@@ -138,7 +138,7 @@ def test_wrong_ones_are_told_alike() -> None:
     assert begun(database, ("ann", "a right password")) == ["in"]
 
 
-def test_a_locked_account_is_told_as_a_wrong_password() -> None:
+def test_a_locked_account_is_answered_as_a_wrong_password() -> None:
     database = Database(b"a right password")
     reported = begun(database, *[("ann", "a wrong one")] * 5, ("ann", "a right password"))
     assert len(set(reported)) == 1 and reported[0] != "in"
@@ -215,7 +215,7 @@ def test_words_of_the_command() -> None:
                 wrong(text)
 
 
-def test_the_address_is_what_our_proxy_tells_last() -> None:
+def test_the_address_is_what_our_proxy_says_last() -> None:
     reported = ["198.51.100.7, 192.0.2.9"]
     assert address_by("127.0.0.1", reported, ["127.0.0.1"]) == "192.0.2.9"
     assert address_by("127.0.0.1", reported, []) == "127.0.0.1"
@@ -288,7 +288,7 @@ def test_where_a_sign_in_leads() -> None:
         assert local_path(text) == to
 
 
-def test_the_page_tells_what_a_closing_will_do() -> None:
+def test_the_page_says_what_a_closing_will_do() -> None:
     row = {"is_archived": True, "events": None}
     assert "in the archive of a closed day" in session_said(row)
     assert "no such session" in session_said(row | {"is_archived": False})
@@ -382,7 +382,7 @@ def test_energies_are_exact_in_both_units() -> None:
     assert one["net"] == -3 and set(FLOW) < set(one)
 
 
-def test_a_figure_is_told_by_what_is_settled() -> None:
+def test_a_figure_is_named_by_what_is_settled() -> None:
     now, other = Flow(5, 1, 0, 0)._asdict(), Flow(6, 1, 0, 0)._asdict()
     assert energy_state(now, None, 0) == "provisional"
     assert energy_state(now, now, 0) == "settled" and energy_state(now, now, 1) == "corrected"
@@ -390,7 +390,7 @@ def test_a_figure_is_told_by_what_is_settled() -> None:
     assert state_of(False, 1) == "provisional" and state_of(True, 1) == "corrected"
 
 
-def test_each_number_is_told() -> None:
+def test_each_number_is_reported() -> None:
     row = {"transactions": 3, "complete": 2, "missing": 4, "corrected_transactions": 0}
     row |= {"corrected_complete": 0, "corrected_missing": 1}
     archived = {name: row[name] for name in ("transactions", "complete", "missing")}

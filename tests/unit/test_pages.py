@@ -62,7 +62,7 @@ def test_a_link_names_the_file_alone() -> None:
     assert link("/a/b&c.html", "text", "x") == '<a href="b&amp;c.html#x">text</a>'
 
 
-def test_refused_messages_are_told_where_there_are_some() -> None:
+def test_refused_messages_are_reported_if_there_are_some() -> None:
     assert refused_banner(0, "x.csv") == ""
     assert "1 message was refused" in refused_banner(1, "x.csv")
     text = refused_banner(1_234, "a&b.refused.csv")
@@ -316,7 +316,7 @@ def layout(folder: Path, **more: object) -> Layout:
     return Layout(str(folder / "x"), Calendar(), DAY + timedelta(days=2), **more)  # type: ignore[arg-type]
 
 
-def test_data_that_is_too_old_is_told(tmp_path: Path) -> None:
+def test_data_that_is_too_old_is_reported(tmp_path: Path) -> None:
     until = DAY + timedelta(days=1, hours=23)
     assert "older" not in layout(tmp_path, until=until).stamp(None)
     assert "older" not in layout(tmp_path, until=until, oldest=3_600).stamp(None)
@@ -456,7 +456,7 @@ def test_a_page_leads_to_those_of_several_sites(tmp_path: Path) -> None:
     assert re.search(row, text) and "Data up to" in text and ">2026-03-01</td></tr>" in text
 
 
-def test_a_day_that_is_full_tells_on_which_page_it_is(
+def test_a_day_that_is_full_says_on_which_page_it_is(
     tmp_path: Path, monkeypatch: pytest.MonkeyPatch
 ) -> None:
     monkeypatch.setattr("ocpp_board.reports.board_pages.PAGE_BYTES", 8_000)

@@ -1,9 +1,13 @@
 """Stations' passwords, without a database."""
 
+import argparse
 import asyncio
 import base64
+import errno
 import io
+import os
 import time
+from pathlib import Path
 from typing import Any
 
 import pytest
@@ -202,13 +206,13 @@ def test_a_change_while_a_password_is_compared_is_not_missed() -> None:
     assert not door.is_known("A", given)
 
 
-def test_a_password_that_is_new_is_told() -> None:
+def test_a_password_that_is_new_is_reported() -> None:
     for cell, verdict in ((Cell(), Verdict.RIGHT), (Cell(False), Verdict.UNSURE)):
         rows = [one._replace(cell=cell, is_news=True) for one in known(RIGHT)]
         assert judged(Passwords(), rows, RIGHT) == [verdict] and cell.seen == ["A"]
 
 
-def test_with_a_cell_down_nobody_is_told_that_a_password_is_wrong() -> None:
+def test_with_a_cell_down_no_answer_says_that_a_password_is_wrong() -> None:
     for rows in (known(), known(RIGHT)):
         assert judged(Passwords(), rows, WRONG, all_up=False) == [Verdict.UNSURE]
     assert judged(Passwords(), known(RIGHT), RIGHT, all_up=False) == [Verdict.RIGHT]
@@ -292,3 +296,20 @@ def test_addresses_take_turns() -> None:
 
     asyncio.run(all_of())
     assert "".join(got) == "aabcaaa"
+
+
+def test_a_secret_that_cannot_be_read_is_a_fault(
+    monkeypatch: pytest.MonkeyPatch, tmp_path: Path, capsys: pytest.CaptureFixture[str]
+) -> None:
+    (tmp_path / "secret_PGPASSWORD").write_text("one")
+    monkeypatch.setenv("CREDENTIALS_DIRECTORY", str(tmp_path))
+    monkeypatch.delenv("PGPASSWORD", raising=False)
+
+    def denied(_path: Path) -> str:
+        raise PermissionError(errno.EACCES, os.strerror(errno.EACCES), "secret_PGPASSWORD")
+
+    monkeypatch.setattr(Path, "read_text", denied)
+    with pytest.raises(SystemExit) as end:
+        parts.parsed(argparse.ArgumentParser("tool"), [])
+    assert end.value.code == 2
+    assert "tool: error: secret_PGPASSWORD: Permission denied" in capsys.readouterr().err

@@ -187,7 +187,7 @@ def test_the_greatest_power_may_be_said(most_kw: int, count: int) -> None:
 
 
 @pytest.mark.parametrize(
-    ("signed", "is_told"),
+    ("signed", "is_reported"),
     [
         ('OCMF|{"RD":[{"RV":1.750,"RU":"kWh"}]}|{}', False),
         ('OCMF|{"RD":[{"RV":1.0,"RU":"kWh"},{"RV":1750,"RU":"Wh"}]}|{}', False),
@@ -200,12 +200,12 @@ def test_the_greatest_power_may_be_said(most_kw: int, count: int) -> None:
         ("OCMF|", False),
     ],
 )
-def test_signed_values_are_compared(signed: str, is_told: bool) -> None:
+def test_signed_values_are_compared(signed: str, is_reported: bool) -> None:
     for data in (signed, base64.b64encode(signed.encode()).decode()):
         messages = sound("T1", FIRST)
         sampled = messages[3].payload["meterValue"][0]["sampledValue"][0]
         sampled["signedMeterValue"] = {"signedMeterData": data}
-        assert [one.kind for one in findings(messages)] == [Kind.SIGNED] * is_told
+        assert [one.kind for one in findings(messages)] == [Kind.SIGNED] * is_reported
 
 
 def test_an_id_is_used_again_by_later_numbers_and_by_later_conflicts() -> None:
@@ -224,7 +224,7 @@ def test_a_conflict_before_the_end_uses_no_id_again() -> None:
     assert kinds("conflict", {2: CONFLICT}) == []
 
 
-def test_the_measurands_that_do_not_count_are_told() -> None:
+def test_the_measurands_that_do_not_count_are_reported() -> None:
     messages = KINDS["phase-energy"]("T1", FIRST)
     value = messages[0].payload["meterValue"][0]["sampledValue"][0]
     messages[0].payload["meterValue"][0]["sampledValue"].append(value | {"phase": "L2"})
@@ -234,7 +234,7 @@ def test_the_measurands_that_do_not_count_are_told() -> None:
     assert (found.kind, found.first) == (Kind.OTHER_ENERGY, FIRST)
 
 
-def test_of_many_measurands_the_first_are_told() -> None:
+def test_of_many_measurands_the_first_are_reported() -> None:
     messages = KINDS["phase-energy"]("T1", FIRST)[:1]
     values = messages[0].payload["meterValue"][0]["sampledValue"]
     values += [values[0] | {"phase": f"L{number}"} for number in range(2, 10)]
@@ -313,7 +313,7 @@ def test_by_time_the_first_and_the_last_reading_are_those_of_moments() -> None:
     assert findings(messages, by_sequence=None) == []
 
 
-def test_a_board_by_time_tells_its_sessions_so() -> None:
+def test_a_board_by_moment_has_its_sessions_so() -> None:
     reported = SessionFacts()
     for sent in KINDS["readings-repeated"]("T1", FIRST):
         reported.take(answered(sent))
@@ -409,7 +409,7 @@ def test_events_that_the_board_does_not_count_tell_no_times() -> None:
     assert times_of([]).begun is None
 
 
-def test_an_event_that_was_erased_is_told_by_the_one_that_came_in_its_place() -> None:
+def test_an_event_that_was_erased_is_known_by_the_one_that_came_in_its_place() -> None:
     other = event("T1", 1, "Updated", FIRST + HOUR, 2_000)
     assert taken([*sound("T1", FIRST), other]).events[1].at == (FIRST + HOUR).timestamp()
 

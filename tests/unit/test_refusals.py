@@ -66,7 +66,7 @@ def test_a_moment_is_the_receipt_of_the_message_behind_it_alone(stub: str, tmp_p
     assert received == [AT, None, None, AT, None]
 
 
-def test_a_replay_that_fails_is_told(stub: str, tmp_path: Path) -> None:
+def test_a_replay_that_fails_is_reported(stub: str, tmp_path: Path) -> None:
     with open(script_of(tmp_path, "msg A 1\nfail\n"), "rb") as script:
         with pytest.raises(Mistaken, match="ended with status 1: fault ReadFault"):
             list(answered(stub, script))
@@ -262,7 +262,7 @@ def test_no_other_action_is_proposed_for_a_valid_one(action: str, cause: str, re
     assert said[1].startswith(remedy)
 
 
-def test_a_station_near_its_limits_is_told_once() -> None:
+def test_a_station_near_its_limits_is_reported_once() -> None:
     reported: list[str] = []
     near = NearLimits({"A": (2, 10, 1_000, 2**63)}, lambda _, said, remedy: reported.append(said))
     event = EVENT.replace("T1", "T{}").replace("{", "{{").replace("}", "}}").replace("{{}}", "{}")

@@ -10,7 +10,7 @@ from tests.fleet.soak import (  # noqa: E402
     joined,
     percentile,
     unseen,
-    waits_told,
+    waits_reported,
 )
 
 TIMES = [(5.0, 6.0), (1.0, 2.0), (1.5, 3.0), (1.6, 1.7), (10.0, 11.0)]
@@ -34,8 +34,10 @@ def test_percentiles_of_waits() -> None:
     waits = [number / 1000 for number in reversed(range(1000))]
     assert percentile(waits, 0.5) == 0.5 and percentile(waits, 0.99) == 0.99
     assert percentile(waits, 1) == 0.999
-    assert waits_told(waits) == "500 / 990 / 999 / 999 ms (median, 99th, 99.9th, longest of 1000)"
-    assert waits_told([]) == "there are none"
+    assert (
+        waits_reported(waits) == "500 / 990 / 999 / 999 ms (median, 99th, 99.9th, longest of 1000)"
+    )
+    assert waits_reported([]) == "there are none"
 
 
 def test_faults_that_nobody_looked_at() -> None:

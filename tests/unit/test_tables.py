@@ -135,7 +135,7 @@ def test_what_was_fed_back_is_a_negative_net_energy(
         ),
     ],
 )
-def test_a_text_of_another_script_is_told_and_nothing_is_written(
+def test_a_text_of_another_script_is_reported_and_nothing_is_written(
     text: str,
     why: str,
     tmp_path: Path,
@@ -152,14 +152,14 @@ def test_a_text_of_another_script_is_told_and_nothing_is_written(
     assert list(tmp_path.glob("x.*")) == []
 
 
-def test_a_zone_stands_beside_utc(tmp_path: Path) -> None:
+def test_a_zone_is_beside_utc(tmp_path: Path) -> None:
     words = ("--script", str(tmp_path / "script"), "--tz", "Europe/Berlin")
     (row,) = csv.DictReader(run(tmp_path, *words)["transactions.csv"].splitlines())
     assert row["end (Europe/Berlin)"] == "2026-03-01T09:30:00+01:00"
 
 
 @pytest.mark.parametrize(
-    ("words", "text", "is_told"),
+    ("words", "text", "is_reported"),
     [
         (["--oldest", "60", "--until", "2026-03-01T08:00:00Z"], "older than it should be", True),
         (["--oldest", "86400", "--until", "2026-03-01T08:00:00Z"], "older than it should", False),
@@ -168,10 +168,12 @@ def test_a_zone_stands_beside_utc(tmp_path: Path) -> None:
         ([], "http-equiv", False),
     ],
 )
-def test_what_each_page_tells(words: list[str], text: str, is_told: bool, tmp_path: Path) -> None:
+def test_what_each_page_says(
+    words: list[str], text: str, is_reported: bool, tmp_path: Path
+) -> None:
     files = run(tmp_path, "--written", "2026-03-01T09:00:00Z", *words)
     for name in ("html", "2026-03-01.html"):
-        assert (text in files[name]) == is_told, name
+        assert (text in files[name]) == is_reported, name
         assert '<time datetime="2026-03-01T09:00:00+00:00">' in files[name]
 
 
@@ -227,7 +229,7 @@ def followed(folder: Path, monkeypatch: pytest.MonkeyPatch, writings: int) -> st
     return (folder / "x.html").read_text()
 
 
-def test_a_server_that_is_gone_leaves_a_board_that_is_told_to_be_old(
+def test_a_server_that_is_gone_leaves_a_board_that_is_shown_as_old(
     tmp_path: Path, monkeypatch: pytest.MonkeyPatch
 ) -> None:
     text = followed(tmp_path, monkeypatch, 4)

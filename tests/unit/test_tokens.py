@@ -47,7 +47,7 @@ def test_a_name_that_is_written_with_escapes() -> None:
     assert without_token('{"id\\u0054oken":{"idToken":"X"}}', None) == '{"id\\u0054oken":{}}'
 
 
-def test_members_that_stand_twice_or_deeper() -> None:
+def test_members_that_come_twice_or_deeper() -> None:
     twice = (
         '{"idToken":{"idToken":"X"},"a":[{"idToken":{"idToken":"Y"}}],"idToken":{"idToken":"Z"}}'
     )

@@ -36,7 +36,7 @@ def record(level: int, text: str, **more: object) -> logging.LogRecord:
     return made
 
 
-def test_the_programs_name_stands_before_faults() -> None:
+def test_the_programs_name_is_before_faults() -> None:
     plain = PlainFormatter("ocpp-board tables", logging.ERROR)
     assert plain.format(record(logging.WARNING, "line 1: not read")) == "line 1: not read"
     assert plain.format(record(logging.ERROR, "no file")) == "ocpp-board tables: no file"

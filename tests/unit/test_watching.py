@@ -38,7 +38,7 @@ def known(expression: str) -> bool:
     )
 
 
-def test_each_alert_asks_for_what_is_told() -> None:
+def test_each_alert_asks_for_what_is_reported() -> None:
     expressions = re.findall(r"^        expr: (.*)$", ALERTS, re.MULTILINE)
     assert len(expressions) == len(NAMES) == len(set(NAMES))
     assert [one for one in expressions if not known(one)] == []
@@ -76,7 +76,7 @@ def test_prometheus_takes_the_rules_and_has_them_fire() -> None:
         assert made.returncode == 0, made.stdout + made.stderr
 
 
-def test_each_query_of_the_dashboard_asks_for_what_is_told() -> None:
+def test_each_query_of_the_dashboard_asks_for_what_is_reported() -> None:
     expressions = [one["expr"] for panel in DASHBOARD["panels"] for one in panel["targets"]]
     assert len(expressions) > 20 and [one for one in expressions if not known(one)] == []
 

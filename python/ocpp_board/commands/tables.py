@@ -17,13 +17,15 @@ since a site may be printed more than once. Periods of a site are the sums of th
 add up rows of one level only. The first line of a board says how long its periods are, 300, 900, 1800 or
 3600 seconds; sites may have different ones.
 
-What `up` and `down` mean for a settlement: a difference of two readings counts in the period of the
-later one, so a rise up to a reading of 10:15:00 belongs to the period that begins at 10:15. Readings
-that an Ended event lists again show as `down`, back to the first of them, and again as `up`, unless the
-site's readings are taken by moment (`order <site> moment` in the script): the column `readings` and the
-pages say so. `export up` and `export down` are the same of the export register, which vehicles that
-feed back have. The net energy, which the pages show, is what was imported less what was exported: `up`
-less `down`, less `export up` and more `export down`.
+What `up` and `down` mean for a settlement: if a site settles by `later`, a difference of two readings
+counts in the period of the later one, so a rise up to a reading of 10:15:00 belongs to the period that
+begins at 10:15. By `closing` it belongs to the period that ends then, and by `even` each period between
+the readings has its share by time (`settle <site> <word>` in the script): the column `settle` and the
+pages say which. Readings that an Ended event lists again show as `down`, back to the first of them, and
+again as `up`, unless the site's readings are taken by moment (`order <site> moment`): the column
+`readings` and the pages say so. `export up` and `export down` are the same of the export register, which
+vehicles that feed back have. The net energy, which the pages show, is what was imported less what was
+exported: `up` less `down`, less `export up` and more `export down`.
 
 A board has no times of transactions. With --script the tool replays the script that the text is of, and takes
 from its messages when each transaction began and ended, what its registers read first and last, and why it stopped:

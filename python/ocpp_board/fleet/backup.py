@@ -168,7 +168,11 @@ def main(argv: Sequence[str], prog: str) -> int:
         "--to", required=True, type=Path, metavar="FOLDER", help="where backups are kept"
     )
     parser.add_argument(
-        "--keep", type=at_least_one, default=7, metavar="N", help="how many stay (default: 7)"
+        "--keep",
+        type=at_least_one,
+        default=7,
+        metavar="N",
+        help="how many backups to keep (default: 7)",
     )
     words = parts.parsed(parser, argv)
     return parts.ended(lambda: back_up(words))

@@ -109,7 +109,7 @@ def arguments(argv: Sequence[str], prog: str) -> argparse.Namespace:
         "url", help="amqp://USER@HOST:PORT/VHOST, the virtual host without its slash in front"
     )
     rabbit.add_argument(
-        "--queue", required=True, help="a queue that is there and durable, and nobody else's"
+        "--queue", required=True, help="a durable queue that exists and is read by nobody else"
     )
     mqtt = sources.add_parser("mqtt", help="a topic of an MQTT broker (needs python3-paho-mqtt)")
     mqtt.add_argument("url", help="mqtt://USER@HOST:PORT")

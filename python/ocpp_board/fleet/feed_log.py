@@ -59,7 +59,7 @@ class Counts:
         self.wrong: dict[str, int] = {}
         self.logged: tuple[Any, ...] = ()
 
-    def tell(self, where: str, why: Refused) -> None:
+    def cannot_read(self, where: str, why: Refused) -> None:
         """A message can't be read."""
         self.wrong[why.kind] = self.wrong.get(why.kind, 0) + 1
         if self.wrong[why.kind] == 1:

@@ -54,7 +54,7 @@ class Source:
         try:
             event = read()
         except Refused as why:
-            self.counts.tell(where, why)
+            self.counts.cannot_read(where, why)
             return None
         self.counts.left += event is None
         return event
@@ -115,7 +115,7 @@ class FileSource(Source):
         """The event of the line that ends at this place; None, and counted, where it is none."""
         where = f"{self.path}, before byte {place:,}"
         if len(line) > LONGEST_LOG_LINE:
-            self.counts.tell(where, Refused("a line that is too long"))
+            self.counts.cannot_read(where, Refused("a line that is too long"))
             return None
         return self.take(where, lambda: self.read(line)) if line.strip() else None
 

@@ -365,10 +365,15 @@ def main(argv: Sequence[str], prog: str) -> int:
         "--archive", required=True, type=Path, metavar="FOLDER", help="where archives are kept"
     )
     what = parser.add_mutually_exclusive_group(required=True)
-    what.add_argument("--after", type=at_least_one, metavar="DAYS", help="all tokens, so old")
+    what.add_argument(
+        "--after", type=at_least_one, metavar="DAYS", help="all tokens that are so many days old"
+    )
     what.add_argument("--token", type=token_of, metavar="TOKEN", help="this one, at once")
     what.add_argument(
-        "--years", type=at_least_one, metavar="YEARS", help="history of before so many whole years"
+        "--years",
+        type=at_least_one,
+        metavar="YEARS",
+        help="history that is older than so many whole years",
     )
     words = parts.parsed(parser, argv)
     return parts.ended(lambda: asyncio.run(run(words)))

@@ -82,12 +82,16 @@ def add_place(parser: argparse.ArgumentParser, port: int) -> None:
 def parsed(parser: argparse.ArgumentParser, argv: Sequence[str]) -> argparse.Namespace:
     """The words. All that is logged has the program's name in front. Secrets that systemd hands on come into the
     environment, where a person puts them."""
-    take_credentials()
+    try:
+        take_credentials()
+    except OSError as fault:
+        parser.error(f"{fault.filename}: {fault.strerror}")
     return words.parsed(parser, argv, logging.DEBUG)
 
 
 def take_credentials() -> None:
-    """Takes the secrets that systemd's LoadCredential= put into a folder for this process."""
+    """Takes the secrets that systemd's LoadCredential= put into a folder for this process. Raises OSError where that
+    fails."""
     folder = os.environ.get("CREDENTIALS_DIRECTORY")
     for name in SECRETS if folder else ():
         path = Path(folder or "") / f"secret_{name}"

@@ -180,9 +180,7 @@ def main(argv: Sequence[str], prog: str) -> int:
     """Runs the program with these words; gives its exit status."""
     parser = parser_of(prog, __doc__)
     parts.add_cells(parser)
-    parser.add_argument(
-        "station", nargs="?", type=name_of, metavar="STATION", help="which station comes"
-    )
+    parser.add_argument("station", nargs="?", type=name_of, metavar="STATION", help="the station")
     parser.add_argument("--site", type=name_of, help="the station's site")
     parser.add_argument(
         "--reason", type=parts.reason_of, help="why, in 3 to 500 characters, beside the change"

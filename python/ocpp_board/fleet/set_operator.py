@@ -183,7 +183,7 @@ def main(argv: Sequence[str], prog: str) -> int:
     token.add_argument(
         "--days", type=days_of, default=DAYS, help=f"how long it is good (default: {DAYS})"
     )
-    revoke = jobs.add_parser("revoke", help="a token is good no longer")
+    revoke = jobs.add_parser("revoke", help="ends a token")
     revoke.add_argument("token", type=int)
     for job in (setting, token, revoke):
         parts.add_reason(job)

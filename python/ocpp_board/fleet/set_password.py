@@ -4,8 +4,8 @@
         --reason 'a new station' < FILE
 
 It reads the password, 16 to 40 characters, from standard input: one line. The plan keeps a salted hash of it. What the
-station came with last stays good until it comes with the new one; with --at-once it ends now, for a password that
-others may know. Open connections go on.
+station came with last stays good until it comes with the new one, and its connection goes on. With --at-once the old
+password ends now, for one that others may know, and so does the connection that came with it.
 """
 
 import argparse
@@ -41,9 +41,7 @@ def main(argv: Sequence[str], prog: str) -> int:
     parser = parser_of(prog, __doc__)
     parts.add_cell(parser, f"the database of the station's cell: {parts.ADDRESS}")
     parser.add_argument("station", metavar="STATION", help="which station")
-    parser.add_argument(
-        "--at-once", action="store_true", help="the password that it had is good no longer"
-    )
+    parser.add_argument("--at-once", action="store_true", help="end the password that it had")
     parts.add_reason(parser)
     words = parts.parsed(parser, argv)
     return parts.done(lambda: run(words))

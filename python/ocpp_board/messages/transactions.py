@@ -40,7 +40,7 @@ class Reading(NamedTuple):
 
 class Event(NamedTuple):
     """An event as its message has it. `others`: what it has of energy that doesn't count; `is_far`: whether its time
-    is far from its receipt; `evse`: 0 where it names none; `unlike`: signed values that differ from their plain ones.
+    is far from its receipt; `evse`: 0 if it names none; `unlike`: signed values that differ from their plain ones.
     """
 
     number: int
@@ -169,7 +169,7 @@ def event_of(payload: dict[str, Any], received: datetime | None, line: int = 0) 
 
 
 def evse_of(payload: dict[str, Any]) -> int:
-    """The EVSE that an event names; 0 where it names none."""
+    """The EVSE that an event names; 0 if it names none."""
     evse = payload.get("evse")
     return int((evse or {}).get("id") or 0)
 

@@ -41,7 +41,7 @@ class Lines(Protocol):
 class Line(NamedTuple):
     """A line that was sent; something comes back for it."""
 
-    # Its number in the script, from 1; 0 where it is none of the script's.
+    # Its number in the script, from 1; 0 if it is none of the script's.
     number: int
     # Its bytes, without what ends it. Of one that is too long only the beginning.
     line: bytes

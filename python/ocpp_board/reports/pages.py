@@ -90,9 +90,9 @@ was exported: up less down, less export up and more export down.</p>
 much they fell. A thick line at zero is a period in which readings show no difference. Energy that was fed back goes \
 down, full and green; a fall of the export register goes up, striped and green. The table beside a picture has its \
 numbers.</p>
-<p>A difference of two readings counts in the period of the later one: a rise up to a reading of 10:15:00 belongs to \
-the period that begins at 10:15. Readings that an Ended event lists again show as down, and again as up, unless the \
-page says that readings are taken by moment.</p>
+<p>Unless the page says how it is settled, a difference of two readings counts in the period of the later one: a rise \
+up to a reading of 10:15:00 belongs to the period that begins at 10:15. Unless the page says that readings are taken \
+by moment, readings that an Ended event lists again show as down, and again as up.</p>
 <p>A figure is estimated if a session went on at an end of the period and has no reading within 2 seconds of that end: \
 some of its energy may belong to the period beside. All other figures are measured. Numbers missing: messages of a \
 session did not come then, or do not count. The CSV file has what the period gets if energy is shared by time.</p>
