@@ -23,7 +23,7 @@ from pathlib import Path
 
 from ocpp_board.fleet.passwords import SALT, hashed
 from tests.fleet.client import Client
-from tests.fleet.fleet import free_port, tool
+from tests.fleet.fleet import children, free_port, is_alive, tool
 from tests.fleet.trials import Trial, parsed, parser_of, tried
 
 A, B = "CS-00000", "CS-00001"
@@ -342,8 +342,11 @@ class Demo(Trial):
         del os.environ["PROXY_SECRET"]
         gateway.kill()
         # Killed, it would leave its own process behind.
+        own = [nginx.pid, *children(nginx.pid)]
         nginx.terminate()
         await asyncio.to_thread(nginx.wait, 10)
+        left = [pid for pid in own if is_alive(pid)]
+        self.check(len(own) > 1 and not left, f"nginx and its {len(own) - 1} end: {left} are left")
 
     def ending(self, *more: str) -> str:
         """How a gateway ends with these words."""
