@@ -105,6 +105,19 @@ def test_commands_of_tests_are_there() -> None:
     assert commands and not {one for one in unknown if len(one) > 2}
 
 
+def test_commands_of_the_fleet_name_the_program_that_replays() -> None:
+    modules = {
+        name: TOP / f"python/ocpp_board/{tool.module.replace('.', '/')}.py"
+        for name, tool in TOOLS.items()
+    }
+    replays = {name for name, path in modules.items() if "add_program(" in path.read_text()}
+    texts = ["\n".join(code(page.read_text("utf-8"))).replace("\\\n", " ") for page in pages()]
+    commands = [line for text in texts for line in text.splitlines() if "--db " in line]
+    named = [(tool, line) for line in commands for tool in TOOL.findall(line) if tool in replays]
+    assert {"page", "billing", "forget"} <= {tool for tool, _ in named}
+    assert not [line for _, line in named if "--program " not in line]
+
+
 def test_the_page_of_scale_says_what_is_measured_and_what_breaks_first() -> None:
     lines = SCALE.read_text("utf-8").splitlines()
     rows = [[cell.strip() for cell in line.split("|")[1:-1]] for line in lines if "|" in line]
