@@ -80,6 +80,11 @@ YEARS = (
     from own_station, generate_series(1, $1::int) n, generate_series(0, 8) q where shard = $2 and (n + place) % 2 = 0
     """,
     """
+    insert into own_settled (shard, site, station, up, down, export_up, export_down, rows, corrections)
+    select shard, site, station, sum(up), sum(down), 0, 0, count(*), 0 from own_closed_period
+    where shard = $2 and $1::int > 0 group by 1, 2, 3
+    """,
+    """
     insert into own_archived_period (shard, site, closing, station, starts, day, up, down)
     select shard, site, closing, station, starts, day, up, down from own_closed_period where shard = $2 and $1::int > 0
     """,
@@ -395,10 +400,9 @@ async def years(fleet: Fleet, words: argparse.Namespace) -> int:
     began = time.monotonic()
     for shard in range(words.shards):
         for statement in YEARS:
-            # The rows are right: their keys to others need not be looked up, and sums come behind.
-            await owner.execute("set session_replication_role = replica")
-            if "own_archived_total" in statement or "own_closed_period (" in statement:
-                await owner.execute("set session_replication_role = origin")
+            # The rows are right: keys to others need not be looked up, and each is settled once. Sums come behind.
+            role = "origin" if "own_archived_total" in statement else "replica"
+            await owner.execute(f"set session_replication_role = {role}")
             await owner.execute(statement, words.days, shard, timeout=None)
     await owner.execute("vacuum analyze", timeout=None)
     names = ("own_closed_period", "own_archived_period", "own_archived_transaction")
