@@ -259,7 +259,7 @@ def falls_short(words: argparse.Namespace, texts: Sequence[str]) -> bool:
     print(
         f"together {rate:.0f} messages a second" + (f", connected in {took:.2f} s" if took else "")
     )
-    return rate < words.least or took > words.soon
+    return bool(rate < words.least or took > words.soon)
 
 
 async def door(

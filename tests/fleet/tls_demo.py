@@ -342,11 +342,11 @@ class Demo(Trial):
         del os.environ["PROXY_SECRET"]
         gateway.kill()
         # Killed, it would leave its own process behind.
-        own = [nginx.pid, *children(nginx.pid)]
+        pids = [nginx.pid, *children(nginx.pid)]
         nginx.terminate()
         await asyncio.to_thread(nginx.wait, 10)
-        left = [pid for pid in own if is_alive(pid)]
-        self.check(len(own) > 1 and not left, f"nginx and its {len(own) - 1} end: {left} are left")
+        left = [pid for pid in pids if is_alive(pid)]
+        self.check(len(pids) > 1 and not left, f"nginx's {len(pids)} processes end: {left} are left")
 
     def ending(self, *more: str) -> str:
         """How a gateway ends with these words."""

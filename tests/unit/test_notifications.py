@@ -16,19 +16,20 @@ from ocpp_board.fleet.worker import Session  # noqa: E402
 MANY = 100_000
 
 
-def cell_of(*served: str) -> tuple[Cell, list[tuple[Any, ...]]]:
+def cell_of(*served: str) -> tuple[Any, list[tuple[Any, ...]]]:
     """A cell of a gateway that serves these stations, and what it asks the database for."""
     own: Any = argparse.Namespace(
         served=dict.fromkeys(served), homes={}, move_in=lambda *_: None, door=None
     )
-    cell, asked = Cell(own, "a"), list[tuple[Any, ...]]()
+    cell: Any = Cell(own, "a")
+    asked = list[tuple[Any, ...]]()
     own.homes = dict.fromkeys(served, (cell, 0))
 
     async def ask(_call: str, *values: Any) -> list[Any]:
         asked.append(values)
         return []
 
-    cell.ask = ask  # type: ignore[method-assign]
+    cell.ask = ask
     return cell, asked
 
 
