@@ -346,7 +346,9 @@ class Demo(Trial):
         nginx.terminate()
         await asyncio.to_thread(nginx.wait, 10)
         left = [pid for pid in pids if is_alive(pid)]
-        self.check(len(pids) > 1 and not left, f"nginx's {len(pids)} processes end: {left} are left")
+        self.check(
+            len(pids) > 1 and not left, f"nginx's {len(pids)} processes end: {left} are left"
+        )
 
     def ending(self, *more: str) -> str:
         """How a gateway ends with these words."""
