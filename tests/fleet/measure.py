@@ -10,23 +10,27 @@
 `load` gives messages a second, waits (median, 99th, longest) and processor time a message by part, and compares
 every board at the end; with --kill a worker, a gateway and a replay are killed on the way; with --password and --tls
 stations come so, and with --together N all connect, N at a time, before the first one sends, and at the end once
-more, when their gateway knows their passwords; it gives how many did so a second. `recovery` fills the log
-of some shards and times a worker that takes them. `memory` gives what a replay of 64 stations takes, empty, by its
-limits. `lists` writes rows of so many closed days, with so many archived sessions a station and day, and times the
-page and the API that list sites and the stations of one. `years` writes what closings of so many days leave, with a
-session of nine periods of each station every other day, and times views, the page and the API for one day.
+more, when their gateway knows their passwords; it gives how many did so a second. With --least and --soon the status
+is 1 where that is slower. `recovery` fills the log of some shards and times a worker that takes them. `memory` gives
+what a replay of 64 stations takes, empty, by its limits. `lists` writes rows of so many closed days, with so many
+archived sessions a station and day, and times the page and the API that list sites and the stations of one. `years`
+writes what closings of so many days leave, with a session of nine periods of each station every other day, and times
+views, the page and the API for one day.
 """
 
 import argparse
 import asyncio
 import logging
+import math
 import os
+import re
 import resource
 import secrets
 import signal
 import subprocess
 import sys
 import time
+from collections.abc import Sequence
 from pathlib import Path
 from typing import Any
 
@@ -76,6 +80,11 @@ YEARS = (
     from own_station, generate_series(1, $1::int) n, generate_series(0, 8) q where shard = $2 and (n + place) % 2 = 0
     """,
     """
+    insert into own_settled (shard, site, station, up, down, export_up, export_down, rows, corrections)
+    select shard, site, station, sum(up), sum(down), 0, 0, count(*), 0 from own_closed_period
+    where shard = $2 and $1::int > 0 group by 1, 2, 3
+    """,
+    """
     insert into own_archived_period (shard, site, closing, station, starts, day, up, down)
     select shard, site, closing, station, starts, day, up, down from own_closed_period where shard = $2 and $1::int > 0
     """,
@@ -101,6 +110,9 @@ VIEWS = {
     "settled_period": "select site, starts, sum(up) from settled_period where {} group by 1, 2",
 }
 TICKS = os.sysconf("SC_CLK_TCK")
+# What load.py prints: messages a second, and the seconds in which its stations connected.
+RATE = re.compile(r" (\d+) a second in the middle")
+CONNECTED = re.compile(r"connected in ([\d.]+) s")
 
 
 def spent(pids: list[int]) -> float:
@@ -113,6 +125,12 @@ def spent(pids: list[int]) -> float:
             continue
         total += (int(words[11]) + int(words[12])) / TICKS
     return total
+
+
+def children_spent() -> float:
+    """The processor time of processes that this one started and that have ended, in seconds."""
+    used = resource.getrusage(resource.RUSAGE_CHILDREN)
+    return used.ru_utime + used.ru_stime
 
 
 def resident(pid: int) -> int:
@@ -178,6 +196,7 @@ async def load(fleet: Fleet, words: argparse.Namespace) -> int:
         ],
     }
     before = {name: spent(pids) for name, pids in parts.items()}
+    began = children_spent()
     more = (*(("--rate", words.rate) if words.rate else ()), *door_words)
     each = -(-words.stations // words.loads)
     runs = [
@@ -200,14 +219,17 @@ async def load(fleet: Fleet, words: argparse.Namespace) -> int:
         gateways[0][0].kill()
         await asyncio.sleep(2)
         os.kill(children(workers[1].pid)[0], signal.SIGKILL)
-    status, count = 0, 0
+    status, count, texts = 0, 0, list[str]()
     for run in runs:
         code, text = await ended(run)
         status |= code
         count += int(text.splitlines()[-1].split()[0])
+        texts.append(text)
         print(text)
+    short = falls_short(words, texts)
     if not words.kill:
         used = {name: spent(pids) - before[name] for name, pids in parts.items()}
+        used["stations"] = children_spent() - began
         own = ", ".join(f"{name} {1e6 * seconds / count:.0f}" for name, seconds in used.items())
         held = ", ".join(
             f"{name} {sum(map(resident, parts[name])) / 1e6:.0f}"
@@ -227,7 +249,17 @@ async def load(fleet: Fleet, words: argparse.Namespace) -> int:
         _, text = await ended(again)
         print(f"known to their gateway: {text.splitlines()[0]}")
     await owner.close()
-    return 1 if status or differ else 0
+    return 1 if status or differ or short else 0
+
+
+def falls_short(words: argparse.Namespace, texts: Sequence[str]) -> bool:
+    """Whether stations took longer than the words allow. What all of them together did is printed."""
+    rate = sum(float(one) for text in texts for one in RATE.findall(text))
+    took = max((float(one) for text in texts for one in CONNECTED.findall(text)), default=0.0)
+    print(
+        f"together {rate:.0f} messages a second" + (f", connected in {took:.2f} s" if took else "")
+    )
+    return bool(rate < words.least or took > words.soon)
 
 
 async def door(
@@ -368,10 +400,9 @@ async def years(fleet: Fleet, words: argparse.Namespace) -> int:
     began = time.monotonic()
     for shard in range(words.shards):
         for statement in YEARS:
-            # The rows are right: their keys to others need not be looked up, and sums come behind.
-            await owner.execute("set session_replication_role = replica")
-            if "own_archived_total" in statement or "own_closed_period (" in statement:
-                await owner.execute("set session_replication_role = origin")
+            # The rows are right: keys to others need not be looked up, and each is settled once. Sums come behind.
+            role = "origin" if "own_archived_total" in statement else "replica"
+            await owner.execute(f"set session_replication_role = {role}")
             await owner.execute(statement, words.days, shard, timeout=None)
     await owner.execute("vacuum analyze", timeout=None)
     names = ("own_closed_period", "own_archived_period", "own_archived_transaction")
@@ -452,6 +483,20 @@ def main() -> int:
     )
     parser.add_argument(
         "--alone", action="store_true", help="gateways have a processor that nothing else here has"
+    )
+    parser.add_argument(
+        "--least",
+        type=float,
+        default=0,
+        metavar="N",
+        help="status 1 below so many messages a second",
+    )
+    parser.add_argument(
+        "--soon",
+        type=float,
+        default=math.inf,
+        metavar="S",
+        help="status 1 where stations take more seconds to connect, with --together",
     )
     parser.add_argument("--standby", action="store_true", help="with a synchronous standby")
     parser.add_argument("--kill", action="store_true", help="kill a worker, a gateway and a replay")

@@ -58,8 +58,6 @@ TRIES = 3
 BEHIND_KILL, BEHIND_CRASH = 2.0, 10.0
 # Seconds of the 99th wait of messages that nothing touched.
 MOST_WAIT = 1.0
-# What asyncio logs of a fault that nobody looked at, in front of the line with the task.
-NOT_LOOKED_AT = "exception was never retrieved"
 # Bytes of the record from which events to void are chosen.
 RECENT = 1 << 17
 
@@ -113,12 +111,6 @@ def is_within(begin: float, end: float, times: list[tuple[float, float]]) -> boo
     """Whether a time touches one of these, which are in their order and apart."""
     at = bisect_left(times, (end, 0.0))
     return at > 0 and times[at - 1][1] > begin
-
-
-def unseen(text: str) -> list[str]:
-    """The faults of tasks of the tools that nobody looked at, as asyncio logs them; those of tests are left."""
-    pairs = zip(text.split("\n"), text.split("\n")[1:])
-    return [task for line, task in pairs if NOT_LOOKED_AT in line and "/tests/fleet/" not in task]
 
 
 class Soak(Trial):
@@ -425,8 +417,6 @@ class Soak(Trial):
         )
         stops = ", ".join(f"{what} {seconds:.0f}" for what, seconds in self.stops.items())
         print(f"seconds for which was stopped, or open: {stops}")
-        faults = unseen((self.fleet.folder / "parts.log").read_text("utf-8", "replace"))
-        self.check(not faults, f"faults of tasks that nobody looked at: {len(faults)} {faults[:3]}")
         await self.done("select 1")
         for name in self.sizes[0] if self.sizes else ():
             sizes = ", ".join(f"{size[name]:.0f}" for size in self.sizes)

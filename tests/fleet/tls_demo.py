@@ -25,7 +25,7 @@ from pathlib import Path
 from ocpp_board.fleet.database import Fault
 from ocpp_board.fleet.passwords import SALT, hashed
 from tests.fleet.client import Client
-from tests.fleet.fleet import TOP, free_port, tool
+from tests.fleet.fleet import TOP, children, free_port, is_alive, tool
 from tests.fleet.trials import Trial, parsed, parser_of, tried
 
 A, B = "CS-00000", "CS-00001"
@@ -352,8 +352,13 @@ class Demo(Trial):
         del os.environ["PROXY_SECRET"]
         gateway.kill()
         # Killed, it would leave its own process behind.
+        pids = [nginx.pid, *children(nginx.pid)]
         nginx.terminate()
         await asyncio.to_thread(nginx.wait, 10)
+        left = [pid for pid in pids if is_alive(pid)]
+        self.check(
+            len(pids) > 1 and not left, f"nginx's {len(pids)} processes end: {left} are left"
+        )
 
     async def revoked_by_proxy(self, port: int, behind: int, command: list[str]) -> None:
         """A revocation list that nginx reads anew."""

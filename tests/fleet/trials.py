@@ -26,6 +26,8 @@ RIGHT, WRONG, MISTAKEN, SKIPPED = 0, 1, 2, 77
 FAULTS = (Fault, Unreachable, *LOST, asyncpg.PostgresError, subprocess.SubprocessError)
 # Lines of a log that are shown where something was wrong.
 SHOWN = 30
+# What asyncio logs of a fault that nobody looked at, in front of the line with the task.
+NOT_LOOKED_AT = "exception was never retrieved"
 # 2026-03-01T00:00:00Z in seconds since 1970, and events of a transaction.
 BEGIN, EACH = 1_772_323_200, 8
 # Makes new sites as they are in scripts that declare nothing.
@@ -67,6 +69,12 @@ def messages(station: int, events: int, step: int = 300, near: int = 0) -> list[
     return [text for one in made for text in [one] * (2 if chance.random() < 0.2 else 1)]
 
 
+def unseen(text: str) -> list[str]:
+    """The faults of tasks of the tools that nobody looked at, as asyncio logs them; those of tests are left."""
+    pairs = zip(text.split("\n"), text.split("\n")[1:])
+    return [task for line, task in pairs if NOT_LOOKED_AT in line and "/tests/fleet/" not in task]
+
+
 class Trial:
     """What is tried on a fleet of its own, and what of it was wrong."""
 
@@ -97,6 +105,13 @@ class Trial:
         """From here on new sites are as in scripts that declare nothing, by sequence and by later: some trials know
         what their periods have to be."""
         await self.owner.execute(USUAL_SITES)
+
+    def check_tasks(self) -> None:
+        """Looks for faults of the tools' tasks that nobody looked at."""
+        faults = unseen((self.fleet.folder / "parts.log").read_text("utf-8", "replace"))
+        if faults:
+            text = f"faults of tasks that nobody looked at: {len(faults)} {faults[:3]}"
+            self.check(False, text)
 
     def close(self) -> None:
         """Ends what was started. Where something was wrong the ends of logs are shown before."""
@@ -142,6 +157,7 @@ def tried(name: str, begin: Callable[[], Trial]) -> int:
     try:
         trial = begin()
         asyncio.run(trial.run())
+        trial.check_tasks()
     except (*FAULTS, AssertionError) as fault:
         log.error("%s", said(fault))
         if trial is None:

@@ -5,13 +5,8 @@ import pytest
 pytest.importorskip("asyncpg")
 pytest.importorskip("websockets")
 
-from tests.fleet.soak import (  # noqa: E402
-    is_within,
-    joined,
-    percentile,
-    unseen,
-    waits_reported,
-)
+from tests.fleet.soak import is_within, joined, percentile, waits_reported  # noqa: E402
+from tests.fleet.trials import unseen  # noqa: E402
 
 TIMES = [(5.0, 6.0), (1.0, 2.0), (1.5, 3.0), (1.6, 1.7), (10.0, 11.0)]
 
