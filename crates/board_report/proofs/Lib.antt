@@ -3,3 +3,4 @@ pub mod SumLemmas
 pub mod SiteBoards
 pub mod ClosedSites
 pub mod RunningBoards
+mod Pieces

@@ -1,6 +1,7 @@
 pub mod Boards
 pub mod Closed
 pub mod Lines
+pub mod Listing
 pub mod Named
 pub mod Plans
 pub mod Running

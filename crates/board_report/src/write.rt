@@ -17,7 +17,7 @@ use std::alloc::{AllocError, Global};
 
 // Appends a label and a number.
 #[tactic(auto, unfolding(crate::specs::Texts::field))]
-fn put_field(text: &mut Vec<u8>, label: &str, number: u64) -> Result<(), AllocError>
+pub(crate) fn put_field(text: &mut Vec<u8>, label: &str, number: u64) -> Result<(), AllocError>
     ensures { OnOk result (text.new.items ≡ text.old.items ++ field label.now number) }
 {
     text.extend_from_slice(label.as_bytes())?;
@@ -36,7 +36,7 @@ fn put_text(text: &mut Vec<u8>, word: &str, shown: &str) -> Result<(), AllocErro
 
 // Appends ` up=<n> down=<n> export_up=<n> export_down=<n>`.
 #[tactic(auto, unfolding(crate::specs::Texts::flows_fields))]
-fn put_fields(text: &mut Vec<u8>, flow: Flow, export: Flow) -> Result<(), AllocError>
+pub(crate) fn put_fields(text: &mut Vec<u8>, flow: Flow, export: Flow) -> Result<(), AllocError>
     ensures { OnOk result (text.new.items ≡ text.old.items ++ flows_fields flow.up flow.down export.up export.down) }
 {
     put_field(text, " up=", flow.up())?;
@@ -65,7 +65,7 @@ fn put_total(text: &mut Vec<u8>, figures: &Figures) -> Result<(), AllocError>
 
 // The first moment of a period.
 #[tactic(auto, unfolding(crate::specs::Texts::start_text))]
-fn start_text(quarter: Quarter, period: Periods) -> ArrayString<20>
+pub(crate) fn start_text(quarter: Quarter, period: Periods) -> ArrayString<20>
     requires { IsQuarterOf period.length quarter }
     ensures { result.bytes ≡ start_text period quarter }
 {
@@ -221,7 +221,7 @@ fn put_stations(text: &mut Vec<u8>, stations: &[(Name, StationBoard)]) -> Result
 }
 
 // Nothing for readings by sequence, ` order=moment` for readings by moment.
-fn order_field(order: Order) -> &'static str
+pub(crate) fn order_field(order: Order) -> &'static str
     ensures { result.now ≡ order_field order }
 {
     match order {
@@ -232,7 +232,7 @@ fn order_field(order: Order) -> &'static str
 
 // Nothing if differences count in the period of their later reading, ` settle=closing` if they count in the
 // period that it closes, ` settle=even` if they are shared by time.
-fn settle_field(settle: Settle) -> &'static str
+pub(crate) fn settle_field(settle: Settle) -> &'static str
     ensures { result.now ≡ settle_field settle }
 {
     match settle {

@@ -23,6 +23,7 @@ use Rattle.event_chain.specs.Table.{TxRow, AreRising, row_of}
 use Rattle.event_chain.specs.Flat.{EventPlace, place_of, stored_at, entry_of, segment, flat, event_at, number_at, look_in, look}
 use Rattle.event_chain.specs.Kept.{AreRanks, HasPlace, IsBare, IsSub, chosen, is_live, is_naming, is_end, live_one, end_one}
 use Rattle.event_chain.specs.Edits.{first_under, last_under, kind_in, evse_at}
+use Rattle.event_chain.specs.EventLines.{events_of, line_at, line_of}
 use Rattle.event_chain.specs.Walk.{number_in, numbers_at}
 use Rattle.ledger_model.specs.declared.kind.Kind.{Kind}
 use Rattle.ledger_model.specs.Complete.{kinds_of}
@@ -185,6 +186,34 @@ last_turned g ps = ap (λ n. slice_get (map g ps) (n - 1)) (length-map ps g) ∙
 turned_map : {Y : Type 0} (f : Entry → Y) (tx : List ℕ) (slots : List (Option Held)) (ps : List EventPlace) → map f (map (entry_of tx slots) ps) ≡ map (λ p. f (entry_of tx slots p)) ps
 turned_map f tx slots [] = refl
 turned_map {Y = Y} f tx slots (p ∷ ps) = ap (λ (ys : List Y). f (entry_of tx slots p) ∷ ys) (turned_map f tx slots ps)
+
+-- All events of a transaction are those of its places.
+any : Stored → Bool
+any s = true
+
+all_sub : (es : List EventPlace) (slots : List (Option Held)) → AreRanks es → IsSub any es slots es
+unfolding any
+all_sub es slots ranks = record { rising = ranks; each = λ r. told (place_of r es) } where
+  told : (o : Option ℕ) → o ≡ chosen any slots o
+  told None = refl
+  told (Some s) = refl
+
+passing_any : (tx : List ℕ) (es : List Entry) → filter (λ e. bytes_eq tx e.0.tx) es ≡ passing_of any tx es
+unfolding any
+passing_any tx [] = refl
+passing_any tx (e ∷ es) =
+    elim (bytes_eq tx e.0.tx) as (λ b. cond b (e ∷ filter (λ (x : Entry). bytes_eq tx x.0.tx) es) (filter (λ x. bytes_eq tx x.0.tx) es) ≡ cond (b && true) (e ∷ passing_of any tx es) (passing_of any tx es)) [
+      | true ↦ ap (λ (xs : List Entry). e ∷ xs) (passing_any tx es)
+      | false ↦ passing_any tx es
+    ]
+
+pub events_under : (rows : List TxRow) (es : List EventPlace) (slots : List (Option Held)) → AreRising rows → AreRanks es → (tx : List ℕ) (row : TableRow) → row_of tx rows ≡ Some row → events_of tx (flat rows es slots) ≡ map (line_at slots) (segment row.slot es)
+events_under rows es slots rising ranks tx row is =
+    ap (map (λ (e : Entry). line_of e.0.seq e.1)) (passing_any tx (flat rows es slots) ∙ segment_passing rows es slots rising ranks any es (all_sub es slots ranks) tx row is)
+    ∙ turned_map (λ (e : Entry). line_of e.0.seq e.1) tx slots (segment row.slot es)
+
+pub events_absent : (rows : List TxRow) (es : List EventPlace) (slots : List (Option Held)) → AreRising rows → AreRanks es → (tx : List ℕ) → row_of tx rows ≡ None → events_of tx (flat rows es slots) ≡ []
+events_absent rows es slots rising ranks tx is = ap (map (λ (e : Entry). line_of e.0.seq e.1)) (passing_any tx (flat rows es slots) ∙ none_passing rows es slots rising ranks any tx is)
 
 module _ {Y : Type 0} (f : Entry → Y) (rows : List TxRow) (es lives : List EventPlace) (slots : List (Option Held)) (rising : AreRising rows) (ranks : AreRanks es) (sub : IsSub is_live es slots lives) (tx : List ℕ) where
   -- All events.

@@ -156,6 +156,70 @@ first_of_some : (xs : List EventPlace) (e : EventPlace) → slice_get xs 0 ≡ S
 first_of_some [] e none = cc
 first_of_some (x ∷ xs) e some = let same : x ≡ e = cc in (xs, ap (λ (y : EventPlace). y ∷ xs) same)
 
+-- The first of some places is found in the index, and behind it are the others.
+pub record IsNext (es : List EventPlace) (e : EventPlace) (ps : List EventPlace) : Type 0 where
+  pub rest : places_behind e.0 es ≡ ps
+  pub found : place_of e.0 es ≡ Some e.1
+
+-- The places from a place on; none if there is no place.
+abbrev pub on_from : List EventPlace → Option EventPlace → List EventPlace
+on_from es None = []
+on_from es (Some e) = e ∷ places_behind e.0 es
+
+-- A place is found if there is one.
+abbrev pub IsFound : List EventPlace → Option EventPlace → Type 0
+IsFound es None = Unit {0}
+IsFound es (Some e) = place_of e.0 es ≡ Some e.1
+
+-- A walk along places: what is left from the next one on.
+pub record IsLeft (es : List EventPlace) (place : Option EventPlace) (ps : List EventPlace) : Type 0 where
+  pub left : on_from es place ≡ ps
+  pub found : IsFound es place
+
+module _ (es : List EventPlace) (rising : entries.AreRising es) where
+  -- Places that are found.
+  found_all : AllPlaces (λ p. place_of p.0 es ≡ Some p.1) es
+  found_all = all_found (λ p. place_of p.0 es ≡ Some p.1) es (ranks_of es rising) (λ p at. at)
+
+  -- The first place of a transaction.
+  pub first_next : (t : ℕ) (e : EventPlace) (ps : List EventPlace) → segment t es ≡ e ∷ ps → IsNext es e ps
+  first_next t e ps is =
+      let mine = all_tested (λ p. place_of p.0 es ≡ Some p.1) (λ p. p.0 / 2 ^ 31 == t) es found_all in
+      let here = subst (AllPlaces (λ p. ((p.0 / 2 ^ 31 == t) ≡ true) × (place_of p.0 es ≡ Some p.1))) is mine in
+      let home : e.0 / 2 ^ 31 ≡ t = (Decides-eqb (e.0 / 2 ^ 31) t).0 here.0.0 in
+      let up = subst entries.AreRising is (left_rising (λ p. p.0 / 2 ^ 31 == t) es rising) in
+      record {
+        rest = ap (λ k. filter (λ (x : EventPlace). nat_lt e.0 x.0) (segment k es)) home ∙ ap (filter (λ (x : EventPlace). nat_lt e.0 x.0)) is ∙ behind_first e ps up;
+        found = here.0.1;
+      }
+
+  -- The first place behind a rank.
+  pub behind_next : (r : ℕ) (e : EventPlace) (ps : List EventPlace) → places_behind r es ≡ e ∷ ps → IsNext es e ps
+  behind_next r e ps is =
+      let t = r / 2 ^ 31 in
+      let mine = all_tested (λ p. place_of p.0 es ≡ Some p.1) (λ p. p.0 / 2 ^ 31 == t) es found_all in
+      let after = all_tested (λ p. ((p.0 / 2 ^ 31 == t) ≡ true) × (place_of p.0 es ≡ Some p.1)) (λ p. nat_lt r p.0) (segment t es) mine in
+      let here = subst (AllPlaces (λ p. (nat_lt r p.0 ≡ true) × (((p.0 / 2 ^ 31 == t) ≡ true) × (place_of p.0 es ≡ Some p.1)))) is after in
+      let home : e.0 / 2 ^ 31 ≡ t = (Decides-eqb (e.0 / 2 ^ 31) t).0 here.0.1.0 in
+      let more : r < e.0 = (Decides-ltb r e.0).0 here.0.0 in
+      let up = subst entries.AreRising is (left_rising (λ p. nat_lt r p.0) (segment t es) (left_rising (λ p. p.0 / 2 ^ 31 == t) es rising)) in
+      record {
+        rest = ap (λ k. filter (λ (x : EventPlace). nat_lt e.0 x.0) (segment k es)) home ∙ sym (greater_twice r e.0 (segment t es) more) ∙ ap (filter (λ (x : EventPlace). nat_lt e.0 x.0)) is ∙ behind_first e ps up;
+        found = here.0.1.1;
+      }
+
+  pub left_first : (t : ℕ) → IsLeft es (slice_get (segment t es) 0) (segment t es)
+  left_first t = step (segment t es) refl where
+    step : (ps : List EventPlace) → segment t es ≡ ps → IsLeft es (slice_get ps 0) ps
+    step [] is = record { left = refl; found = tt }
+    step (e ∷ ps) is = let n = first_next t e ps is in record { left = ap (λ (xs : List EventPlace). e ∷ xs) n.rest; found = n.found }
+
+  pub left_behind : (r : ℕ) → IsLeft es (slice_get (places_behind r es) 0) (places_behind r es)
+  left_behind r = step (places_behind r es) refl where
+    step : (ps : List EventPlace) → places_behind r es ≡ ps → IsLeft es (slice_get ps 0) ps
+    step [] is = record { left = refl; found = tt }
+    step (e ∷ ps) is = let n = behind_next r e ps is in record { left = ap (λ (xs : List EventPlace). e ∷ xs) n.rest; found = n.found }
+
 module _ (es : List EventPlace) (slots : List (Option Held)) (rising : entries.AreRising es) (own : AreOwn es) where
   -- The place of a walk at a slot.
   pub record IsAt (s : ℕ) : Type 0 where
@@ -181,20 +245,11 @@ module _ (es : List EventPlace) (slots : List (Option Held)) (rising : entries.A
   unfolding at_found
   from_first e ps all there behind = (at_found e.0 e.1 all there).numbers ∙ ap (λ xs. number_in e ∷ map number_in xs) behind
 
-  -- Places that are found.
-  found_all : AllPlaces (λ p. place_of p.0 es ≡ Some p.1) es
-  found_all = all_found (λ p. place_of p.0 es ≡ Some p.1) es (ranks_of es rising) (λ p at. at)
-
   -- A walk starts at the first place of its transaction.
   pub start_some : (t : ℕ) (e : EventPlace) → are_under slots es ≡ true → slice_get (segment t es) 0 ≡ Some e → numbers_from es slots e.1 ≡ map number_in (segment t es)
   start_some t e all first_is =
-      let split = first_of_some (segment t es) e first_is in
-      let mine = all_tested (λ p. place_of p.0 es ≡ Some p.1) (λ p. p.0 / 2 ^ 31 == t) es found_all in
-      let here = subst (AllPlaces (λ p. ((p.0 / 2 ^ 31 == t) ≡ true) × (place_of p.0 es ≡ Some p.1))) split.1 mine in
-      let home : e.0 / 2 ^ 31 ≡ t = (Decides-eqb (e.0 / 2 ^ 31) t).0 here.0.0 in
-      let up = subst entries.AreRising split.1 (left_rising (λ p. p.0 / 2 ^ 31 == t) es rising) in
-      from_first e split.0 all here.0.1 (ap (λ k. filter (λ (x : EventPlace). nat_lt e.0 x.0) (segment k es)) home ∙ ap (filter (λ (x : EventPlace). nat_lt e.0 x.0)) split.1 ∙ behind_first e split.0 up)
-      ∙ ap (map number_in) (sym split.1)
+      let split = first_of_some (segment t es) e first_is in let next = first_next es rising t e split.0 split.1 in
+      from_first e split.0 all next.found next.rest ∙ ap (map number_in) (sym split.1)
 
   module _ (s : ℕ) (at : IsAt s) where
     abbrev behind : List EventPlace
@@ -211,15 +266,7 @@ module _ (es : List EventPlace) (slots : List (Option Held)) (rising : entries.A
     number_read h here = let same : (at.rank, at.stored) ≡ h = held_same (value_at slots s) (at.rank, at.stored) h at.held_is here in ap (λ (x : Held). x.0 % 2 ^ 31) (sym same) ∙ sym (ap (λ ns. slice_index ns 0) at.numbers)
 
     next_from : (e : EventPlace) (ps : List EventPlace) → behind ≡ e ∷ ps → numbers_from es slots e.1 ≡ map number_in behind
-    next_from e ps is =
-        let mine = all_tested (λ p. place_of p.0 es ≡ Some p.1) (λ p. p.0 / 2 ^ 31 == home_of) es found_all in
-        let after = all_tested (λ p. ((p.0 / 2 ^ 31 == home_of) ≡ true) × (place_of p.0 es ≡ Some p.1)) (λ p. nat_lt at.rank p.0) (segment home_of es) mine in
-        let here = subst (AllPlaces (λ p. (nat_lt at.rank p.0 ≡ true) × (((p.0 / 2 ^ 31 == home_of) ≡ true) × (place_of p.0 es ≡ Some p.1)))) is after in
-        let home : e.0 / 2 ^ 31 ≡ home_of = (Decides-eqb (e.0 / 2 ^ 31) home_of).0 here.0.1.0 in
-        let more : at.rank < e.0 = (Decides-ltb at.rank e.0).0 here.0.0 in
-        let up = subst entries.AreRising is (left_rising (λ p. nat_lt at.rank p.0) (segment home_of es) (left_rising (λ p. p.0 / 2 ^ 31 == home_of) es rising)) in
-        from_first e ps at.all here.0.1.1 (ap (λ k. filter (λ (x : EventPlace). nat_lt e.0 x.0) (segment k es)) home ∙ sym (greater_twice at.rank e.0 (segment home_of es) more) ∙ ap (filter (λ (x : EventPlace). nat_lt e.0 x.0)) is ∙ behind_first e ps up)
-        ∙ ap (map number_in) (sym is)
+    next_from e ps is = let next = behind_next es rising at.rank e ps is in from_first e ps at.all next.found next.rest ∙ ap (map number_in) (sym is)
 
     -- A step goes to the first place behind.
     pub next_some : (k : ℕ) → Some k ≡ option_map slot_in (slice_get behind 0) → numbers_from es slots k ≡ drop 1 (numbers_from es slots s)

@@ -9,5 +9,6 @@ pub mod Lists
 pub mod Edits
 pub mod Room
 pub mod Walk
+pub mod EventLines
 pub mod Placed
 pub mod Sides

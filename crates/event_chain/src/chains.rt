@@ -12,6 +12,7 @@ ghost use Rattle.event_chain.specs.declared.answers.Room.TheVariants.{Fits};
 ghost use Rattle.event_chain.specs.declared.answers.Found.TheVariants.{Live, Voided};
 ghost use Rattle.event_chain.specs.Table.{row_of};
 ghost use Rattle.event_chain.specs.Chains.{stored};
+ghost use Rattle.event_chain.specs.EventLines.{events_of};
 ghost use Rattle.event_chain.specs.Room.{room_of, found_of, readings_under};
 ghost use Rattle.event_chain.specs.Kept.{end_count, is_end, IsTxStanding};
 ghost use Rattle.ledger_model.specs.declared.reading.Direction.{Direction};
@@ -23,6 +24,7 @@ ghost use Rattle.event_chain.specs.Sides.{AreSides};
 use crate::answers::{Found, Room, TxStanding};
 use crate::around::{Around, NONE_AROUND, Sides, around_of, sides_of};
 use crate::carries::{Carries, carried_by};
+use crate::event_lines::{EventLine, lines_under};
 use crate::look_ups::{
     enter, evse_at, first_live, first_naming, kind_at, last_live, leave, locate, look_up,
     number_of, renew, slot_sought,
@@ -433,6 +435,20 @@ impl Chains {
             live: counts.0,
             ends: counts.1,
             evse: evse_at(&self.store, first_naming(&self.places, row)),
+        }
+    }
+
+    /// The events of a transaction, live and voided, by rising number. The error says that the allocator refused
+    /// memory.
+    pub fn events(&self, alloc: Global, tx: &TxId) -> Result<Vec<EventLine>, AllocError>
+        ensures { IfOk result (λ lines. lines.items ≡ events_of tx.now (stored self.now)) }
+    {
+        match self.table.get(tx) {
+            Some(row) => {
+                let stored = self.places.stored(KeyPlace::UNKNOWN);
+                lines_under(alloc, &stored, &self.store, row.slot)
+            }
+            None => Ok(Vec::new(alloc)),
         }
     }
 

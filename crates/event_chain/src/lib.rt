@@ -3,7 +3,7 @@
 //! Events and their readings are in two arenas. A sorted table has the transactions. One ordered index
 //! has the places of all events; each is marked as live, as live with a reading of a direction, and as
 //! live and naming an EVSE. The live events of each transaction are also a doubly linked list over
-//! their slots, in order. Only [`Chains::open`] asks the allocator. Each call makes a fixed number of
+//! their slots, in order. No change asks the allocator. Each call makes a fixed number of
 //! look-ups in the index and in the table, and walks over no events; if the nearest event with a mark
 //! is far away, it walks over the counts of leaves.
 //!
@@ -13,7 +13,8 @@
 //! [`Chains::relink`] makes it live again, and [`Chains::remove`] removes a voided one.
 //! [`Chains::standing`] gives a transaction's lowest and highest live number with their kinds, two
 //! counts, and the EVSE; [`Chains::walk`] goes over its live numbers, one link a step.
-//! [`Chains::neighbours`] gives the live readings on either side of a key.
+//! [`Chains::neighbours`] gives the live readings on either side of a key, and [`Chains::events`] lists the events of a
+//! transaction, which takes memory.
 //!
 //! [`TransactionTable`] is a type of its own below the chains. It has a station's transactions as rows by
 //! rising id, each with a slot number that no other row has; the number is used again when its transaction
@@ -33,6 +34,7 @@ mod answers;
 mod around;
 mod carries;
 mod chains;
+mod event_lines;
 mod links;
 mod look_ups;
 mod marked_places;
@@ -46,6 +48,7 @@ pub use answers::{Found, Room, TxStanding};
 pub use around::{Around, Sides};
 pub use carries::Carries;
 pub use chains::Chains;
+pub use event_lines::EventLine;
 pub use row::TableRow;
 pub use table::TransactionTable;
 pub use tx_ids::TxIds;

@@ -23,7 +23,9 @@ use Rattle.marked_json.specs.Reading.{marked_reading}
 use Rattle.script_lines.specs.declared.script_line.LineFault.TheVariants.{BadLine, DeclaredLate, PlanLimit}
 use Rattle.script_lines.specs.declared.script_line.Operation.{Operation}
 use Rattle.script_lines.specs.declared.script_line.Operation.TheVariants as operation
-use Rattle.script_lines.specs.LineMeaning.{LineMeaning, ◌>>=◌, nothing, fails, sets_limits, declares, sets_period, sets_order, sets_settle, tells, sends, commands, asks_energy, asks_export, asks_total, asks_board, by_bytes, by_first_word, by_words, command_line, is_number, is_space, limits_line, line_meaning, moment, msg_line, name, now_line, number, order_line, order_word, settle_line, settle_word, parted, period_line, question_line, station_line, words}
+use Rattle.script_lines.specs.declared.script_line.TxList.{TxList}
+use Rattle.script_lines.specs.declared.script_line.TxList.TheVariants.{Events, Readings}
+use Rattle.script_lines.specs.LineMeaning.{LineMeaning, ◌>>=◌, nothing, fails, sets_limits, declares, sets_period, sets_order, sets_settle, tells, sends, commands, asks_energy, asks_export, asks_total, asks_board, lists, marks, by_bytes, by_first_word, by_words, command_line, is_number, is_space, list_line, tx_id, limits_line, line_meaning, moment, msg_line, name, now_line, number, order_line, order_word, settle_line, settle_word, parted, period_line, question_line, station_line, words}
 use Rattle.script_lines.specs.Lines.{ended}
 use Rattle.script_lines.specs.Texts.{fault_line}
 use Rattle.script_ledgers.specs.Script.{KeepsSites, Script, are_limits, by_meaning, limited_to, line_step, sent_to, station_named, step_by}
@@ -156,6 +158,8 @@ Idle (asks_energy _) = ⊤
 Idle (asks_export _) = ⊤
 Idle (asks_total _) = ⊤
 Idle (asks_board _) = ⊤
+Idle (lists _ _ _) = ⊤
+Idle (marks _) = ⊤
 
 idle_if : (b : Bool) (m n : LineMeaning) → (b ≡ true → Idle m) → (b ≡ false → Idle n) → Idle (cond b m n)
 idle_if true m n f g = f refl
@@ -259,6 +263,12 @@ module _ (c : ℕ) (no_space : (32 == c) ≡ false) (no_digit : is_ascii_digit c
   idle_settle (a ∷ []) h = tt
   idle_settle (a ∷ b ∷ d ∷ line) h = tt
 
+  idle_list : (what : TxList) (line : List (List ℕ)) → Idle (list_line what line)
+  idle_list what (station ∷ tx ∷ []) = idle_read (name station) _ (λ _. idle_read (tx_id tx) _ (λ _. tt))
+  idle_list what [] = tt
+  idle_list what (a ∷ []) = tt
+  idle_list what (a ∷ b ∷ d ∷ line) = tt
+
   idle_command : (what : Operation) (line : List (List ℕ)) → Ends c line → Idle (command_line what line)
   idle_command what (station ∷ tx ∷ seq ∷ []) h = idle_read (name station) _ (λ _. idle_none (number seq) _ (no_number seq h))
   idle_command what [] h = tt
@@ -288,9 +298,12 @@ module _ (c : ℕ) (no_space : (32 == c) ≡ false) (no_digit : is_ascii_digit c
       (λ _. idle_if (bytes_eq word (codes "export")) _ _ (λ _. idle_question asks_export (λ _. tt) (words 1 rest))
       (λ _. idle_if (bytes_eq word (codes "total")) _ _ (λ _. idle_question asks_total (λ _. tt) (words 1 rest))
       (λ _. idle_if (bytes_eq word (codes "board")) _ _ (λ _. idle_question asks_board (λ _. tt) (words 1 rest))
+      (λ _. idle_if (bytes_eq word (codes "events")) _ _ (λ _. idle_list Events (words 2 rest))
+      (λ _. idle_if (bytes_eq word (codes "readings")) _ _ (λ _. idle_list Readings (words 2 rest))
+      (λ _. idle_if (bytes_eq word (codes "mark")) _ _ (λ _. idle_question marks (λ _. tt) (words 1 rest))
       (λ _. idle_if (bytes_eq word (codes "void")) _ _ (λ _. idle_command operation.Void (words 3 rest) (last_word c 3 rest end))
       (λ _. idle_if (bytes_eq word (codes "restore")) _ _ (λ _. idle_command operation.Restore (words 3 rest) (last_word c 3 rest end))
-      (λ _. idle_if (bytes_eq word (codes "erase")) _ _ (λ _. idle_command operation.Erase (words 3 rest) (last_word c 3 rest end)) (λ _. tt))))))))))))))
+      (λ _. idle_if (bytes_eq word (codes "erase")) _ _ (λ _. idle_command operation.Erase (words 3 rest) (last_word c 3 rest end)) (λ _. tt)))))))))))))))))
 
   idle_parted : (text : List ℕ) (o : Option (List ℕ × List ℕ)) → last 32 text ≡ c → is_marked text ≡ true → parted text ≡ o → Idle (o >>= by_first_word)
   idle_parted text None h m e = tt
@@ -345,6 +358,8 @@ stays_step s (asks_energy _) idle = (refl, record { sites = refl; periods = refl
 stays_step s (asks_export _) idle = (refl, record { sites = refl; periods = refl; orders = refl })
 stays_step s (asks_total _) idle = (refl, record { sites = refl; periods = refl; orders = refl })
 stays_step s (asks_board _) idle = (refl, record { sites = refl; periods = refl; orders = refl })
+stays_step s (lists _ _ _) idle = (refl, record { sites = refl; periods = refl; orders = refl })
+stays_step s (marks _) idle = (refl, record { sites = refl; periods = refl; orders = refl })
 
 -- a line with a `#`, which ends with it or with the run's comment, changes nothing that is shown
 pub spoiled : (s : Script) (most : ℕ) (front back : List ℕ) → (last 35 back ≡ 35) ⊎ (last 35 back ≡ 115) → Stays s (line_step s (ended most (front ++ 35 ∷ back))).0

@@ -9,7 +9,7 @@ use Rattle.kept_desk.specs.Entries.{line_text, text_of}
 use Rattle.ledger_model.specs.declared.command.Command.{Command}
 use Rattle.ledger_model.specs.World.{Station, World, Happens, run, station_after, world_after}
 use Rattle.transaction_event.specs.Message.{Meaning, Event, message}
-use Rattle.script_lines.specs.LineMeaning.{LineMeaning, nothing, fails, sets_limits, declares, sets_period, sets_order, sets_settle, tells, sends, commands, asks_energy, asks_export, asks_total, asks_board, line_meaning}
+use Rattle.script_lines.specs.LineMeaning.{LineMeaning, nothing, fails, sets_limits, declares, sets_period, sets_order, sets_settle, tells, sends, commands, asks_energy, asks_export, asks_total, asks_board, lists, marks, line_meaning}
 use Rattle.script_lines.specs.Lines.{Line, ended, lines_of, unended}
 use Rattle.script_lines.specs.Ranges.{longest_line}
 use Rattle.script_lines.proofs.Cuts.{cut-ended}
@@ -92,6 +92,8 @@ takes_step s (asks_energy _) name command station says found = absurd says
 takes_step s (asks_export _) name command station says found = absurd says
 takes_step s (asks_total _) name command station says found = absurd says
 takes_step s (asks_board _) name command station says found = absurd says
+takes_step s (lists _ _ _) name command station says found = absurd says
+takes_step s (marks _) name command station says found = absurd says
 
 takes_line : (s : Script) (name line : List ℕ) (command : Command) → Speaks name line command → Has s.world name → Takes s (line_step s (Some line)).0 name command
 takes_line s name line command speaks has =

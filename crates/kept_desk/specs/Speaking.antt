@@ -6,7 +6,7 @@ use Rattle.ledger_model.specs.declared.command.Command.{Command}
 use Rattle.ledger_model.specs.declared.command.Command.TheVariants.{Deliver}
 use Rattle.transaction_event.specs.Message.{Event, message}
 use Rattle.transaction_event.specs.Request.{Request}
-use Rattle.script_lines.specs.LineMeaning.{LineMeaning, nothing, fails, sets_limits, declares, sets_period, sets_order, sets_settle, tells, sends, commands, asks_energy, asks_export, asks_total, asks_board, line_meaning}
+use Rattle.script_lines.specs.LineMeaning.{LineMeaning, nothing, fails, sets_limits, declares, sets_period, sets_order, sets_settle, tells, sends, commands, asks_energy, asks_export, asks_total, asks_board, lists, marks, line_meaning}
 use Rattle.script_lines.specs.Lines.{HasNoFeed}
 use Rattle.script_lines.specs.Ranges.{longest_line}
 
@@ -33,6 +33,8 @@ Says (asks_energy _) name command = ⊥
 Says (asks_export _) name command = ⊥
 Says (asks_total _) name command = ⊥
 Says (asks_board _) name command = ⊥
+Says (lists _ _ _) name command = ⊥
+Says (marks _) name command = ⊥
 
 -- The bytes are one line of a script, and that line asks for this command on the station of this name.
 pub record Speaks (name line : List ℕ) (command : Command) : Type 0 where

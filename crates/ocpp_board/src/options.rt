@@ -31,7 +31,7 @@ const VERSION: &str = "0.3.0";
 const LINES: &str = "\
 Without a command, ocpp_board replays.
 
-A script has one line for each step, and each answer is one line, or a board:
+A script has one line for each step, and each answer is one line, a board or a list:
   limits <transactions> <events> <readings> <changes>
                              holds for the stations that follow; writes nothing
   station <site> <station>   declares a station; writes nothing
@@ -54,9 +54,15 @@ A script has one line for each step, and each answer is one line, or a board:
   export <station>           writes `export up=<n> down=<n>`, what was exported
   total <station>            writes the station's figures
   board <site>               writes the board of the site, from its name to `end`
+  events <station> <transaction id>
+                             writes the events of a transaction, live and voided, up to `end`
+  readings <station> <transaction id>
+                             writes the readings that its energy is made of, what each two in a
+                             row show and the periods in which that counts, up to `end`
+  mark <word>                writes itself
 Empty lines and lines that begin with # write nothing. A line with a fault writes
 `fault <name>` and changes no plan, content or moment: LineTooLong, BadLine,
-DeclaredLate, PlanLimit, StationTwice, UnknownStation or UnknownSite.
+DeclaredLate, PlanLimit, StationTwice, UnknownStation, UnknownSite or UnknownTransaction.
 
 Exit status: 0; 1 with `fault <name>` on standard error where a command stopped before its
 end (ReadFault, WriteFault, TooMuchInput, OutOfMemory, ListenFailed, HandshakeFailed, Torn);

@@ -1,6 +1,7 @@
 -- Rows after several pairs, and after one event.
-use Rattle.std.proofs.Common.{◌≡◌, ℕ, ◌+◌, List, [], ◌∷◌, ◌++◌, refl, sym, ap, ◌∙◌, arith}
+use Rattle.std.proofs.Common.{◌≡◌, ℕ, ◌+◌, ◌<◌, List, [], ◌∷◌, ◌++◌, get_or, length, take, refl, sym, ap, ◌∙◌, arith}
 use Rattle.std.specs.List.{sum_by}
+use Rattle.std.proofs.lemmas.List.{map-append, take_more}
 use Rattle.std.proofs.lemmas.List.Sums.{sum_by-append}
 use Rattle.ledger_model.specs.Periods.{Periods}
 use Rattle.ledger_model.specs.declared.reading.Direction.{Direction}
@@ -9,9 +10,25 @@ use Rattle.ledger_model.specs.Board.{Flowed}
 use Rattle.ledger_model.specs.Content.{Entry}
 use Rattle.ledger_model.specs.Deltas.{IsOneMore, came_by, gone_by, kept_by}
 use Rattle.ledger_model.specs.Energy.{Pair, difference, flows_toward, pairs, quarter_of}
+use Rattle.ledger_model.specs.Parts.{Part}
 use Rattle.ledger_model.proofs.Callers.{sum_by-map, less_kept, more_kept}
-use Rattle.quarter_table.specs.Pairs.{rows_of, rows_with, rows_without, flows_of, station_flows, gone_flows, came_flows}
+use Rattle.quarter_table.specs.Pairs.{parts_toward, rows_of, rows_plus, rows_with, rows_without, flows_of, station_flows, gone_flows, came_flows}
+use Rattle.quarter_table.specs.declared.row.QuarterRow.{QuarterRow}
 use Rattle.quarter_table.proofs.Made.{made_added, made_removed, made_alike, moved_front}
+
+-- Those of two lists are added one list after the other.
+pub rows_with-append : (fs gs : List Flowed) (rows : List QuarterRow) → rows_with (fs ++ gs) rows ≡ rows_with gs (rows_with fs rows)
+rows_with-append [] gs rows = refl
+rows_with-append (f ∷ fs) gs rows = rows_with-append fs gs (rows_plus f rows)
+
+-- One part more is added.
+pub part_more : (d : Direction) (parts : List Part) (i : ℕ) (t : Part) (old rows next : List QuarterRow) → i < length parts → t ≡ get_or parts i t → rows ≡ rows_with (parts_toward d (take i parts)) old → next ≡ rows_plus (t.0, flows_toward d t.1) rows
+    → next ≡ rows_with (parts_toward d (take (i + 1) parts)) old
+part_more d parts i t old rows next lt is was added =
+    added ∙ ap (rows_plus (t.0, flows_toward d t.1)) was
+    ∙ sym (rows_with-append (parts_toward d (take i parts)) (parts_toward d (t ∷ [])) old)
+    ∙ ap (λ fs. rows_with fs old) (sym (map-append (λ (u : Part). (u.0, flows_toward d u.1)) (take i parts) (t ∷ [])))
+    ∙ ap (λ us. rows_with (parts_toward d us) old) (sym (take_more parts i t lt ∙ ap (λ u. take i parts ++ u ∷ []) (sym is)))
 
 -- The rows of pairs, with others added one after the other, are those of all.
 pub made_with : (fs gs : List Flowed) → rows_with fs (rows_of gs) ≡ rows_of (fs ++ gs)

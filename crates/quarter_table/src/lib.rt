@@ -3,9 +3,12 @@
 //!
 //! A pair is a reading and the one that follows it in its direction; it counts for the period of the
 //! later one. A period has a row exactly while it has a pair, even one of difference zero. Rows are in
-//! rising order. Only [`QuarterTable::reserve`] takes memory. A pair of a period that has a row costs
+//! rising order. Of the calls that a ledger's change makes, only [`QuarterTable::reserve`] takes memory. A pair of a period that has a row costs
 //! one binary search, or none if that row was the last one changed. A row that comes or goes moves those
 //! behind it: none if periods come in the order of time.
+//!
+//! A board of a site that settles evenly shares what two readings show by time ([`even_parts`]), and makes a table of these
+//! parts ([`QuarterTable::try_share`]), whose rows count parts in place of pairs.
 //!
 //! The crate's contract: after some pairs were added and others removed, in any order, the rows are
 //! those of the pairs that are left, each with their number and their sum. [`laws`] says so of
@@ -30,4 +33,5 @@ mod shares;
 mod table;
 
 pub use row::QuarterRow;
+pub use shares::even_parts;
 pub use table::QuarterTable;

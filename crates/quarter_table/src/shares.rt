@@ -1,26 +1,30 @@
 //! Differences that are shared by time.
-ghost use Rattle.std.specs.Prelude.{◌≡◌, ◌≤◌, ◌/◌, true};
+ghost use Rattle.std.specs.Prelude.{◌≡◌, ◌≤◌, ◌/◌, ◌++◌, true, IfOk};
 ghost use Rattle.ledger_model.specs.Energy.{change_of};
-ghost use Rattle.ledger_model.specs.Parts.{is_shared, level_at, share};
+ghost use Rattle.ledger_model.specs.Moment.{IsMoment};
+ghost use Rattle.ledger_model.specs.Parts.{is_shared, level_at, parts_by, share, shares as shares_of};
+ghost use Rattle.ledger_model.specs.Quarter.{quarter_at};
 ghost use Rattle.ledger_model.specs.Ranges.{greatest_reading};
+ghost use Rattle.ledger_model.specs.declared.settle.Settle.{Settle};
 
-use ledger_model::Reading;
-use std::alloc::Global;
+use energy_flow::Flow;
+use ledger_model::{FIRST_MOMENT, Period, Quarter, Reading};
+use std::alloc::{AllocError, Global};
 use std::marker::Model;
 
-pub(crate) const NANOS_PER_SECOND: u64 = 1_000_000_000;
+const NANOS_PER_SECOND: u64 = 1_000_000_000;
 
 // A day: a difference over more time is not shared.
 const LONGEST_SHARE: u64 = 86_400 * NANOS_PER_SECOND;
 
-/// What a register showed twice: the earlier and the later moment, in nanoseconds since 1970, and the earlier and the
-/// later level, in milliwatt-hours.
+// What a register showed twice: the earlier and the later moment, in nanoseconds since 1970, and the earlier and the
+// later level, in milliwatt-hours.
 #[derive(Clone, Copy)]
-pub(crate) struct Change {
-    pub(crate) since: u64,
-    pub(crate) until: u64,
-    pub(crate) earlier: u64,
-    pub(crate) later: u64,
+struct Change {
+    since: u64,
+    until: u64,
+    earlier: u64,
+    later: u64,
 }
 
 impl Model for Change {
@@ -40,7 +44,7 @@ impl Model for Change {
 
 impl Change {
     // What these two readings show.
-    pub(crate) fn of(alloc: Global, earlier: Reading, later: Reading) -> Change
+    fn of(alloc: Global, earlier: Reading, later: Reading) -> Change
         ensures { result ≡ change_of (earlier, later) }
     {
         Change {
@@ -52,7 +56,7 @@ impl Change {
     }
 
     // Returns whether the difference is shared: the moments rise, by at most a day.
-    pub(crate) fn is_shared(self) -> bool
+    fn is_shared(self) -> bool
         ensures { result ≡ is_shared self }
     {
         self.since < self.until && self.until - self.since <= LONGEST_SHARE
@@ -76,7 +80,7 @@ impl Change {
     }
 
     // What the register shows at a second if it rises or falls evenly.
-    pub(crate) fn level_at(self, second: u64) -> u64
+    fn level_at(self, second: u64) -> u64
         requires shared { is_shared self ≡ true }
         requires second { second ≤ self.until / 1_000_000_000 }
         ensures { result ≡ level_at self second }
@@ -85,4 +89,56 @@ impl Change {
         let down = self.share(self.earlier.saturating_sub(self.later), second);
         self.earlier + up - down
     }
+
+    // Puts the shares of the difference among periods of this length behind others.
+    fn put_shares(self, length: Period, parts: &mut Vec<(Quarter, Flow)>) -> Result<(), AllocError>
+        requires { is_shared self ≡ true }
+        ensures { IfOk result (λ _. parts.new.items ≡ parts.old.items ++ shares_of length self) }
+    {
+        let seconds = u64::from(length.seconds());
+        let first = self.since / NANOS_PER_SECOND / seconds;
+        let last = (self.until - 1) / NANOS_PER_SECOND / seconds;
+        let mut level = self.earlier;
+        for number in first..last {
+            let next = self.level_at((number + 1) * seconds);
+            // Periods between two moments are those of moments.
+            let quarter = Quarter::new(number as u32).unwrap();
+            parts.push((quarter, Flow::between(level, next)))?;
+            level = next;
+        }
+        let quarter = quarter_of(self.until - 1, length);
+        parts.push((quarter, Flow::between(level, self.later)))?;
+        Ok(())
+    }
+}
+
+// The period that a moment, given by its nanoseconds since 1970, falls into.
+fn quarter_of(nanos: u64, length: Period) -> Quarter
+    requires { IsMoment nanos }
+    ensures { result ≡ quarter_at length nanos }
+{
+    let number = nanos / NANOS_PER_SECOND / u64::from(length.seconds());
+    Quarter::new(number as u32).unwrap()
+}
+
+/// What two readings show, shared by time: each settlement period of this length to which a part of their difference
+/// belongs, in rising order, and the energy of that part. The error says that the allocator refused memory.
+pub fn even_parts(
+    alloc: Global,
+    length: Period,
+    earlier: Reading,
+    later: Reading,
+) -> Result<Vec<(Quarter, Flow)>, AllocError>
+    ensures { IfOk result (λ parts. parts.items ≡ parts_by Settle.Even length (change_of (earlier, later))) }
+{
+    let change = Change::of(alloc, earlier, later);
+    let mut parts = Vec::new(alloc);
+    if change.is_shared() {
+        change.put_shares(length, &mut parts)?;
+    } else {
+        let before = (change.until - 1).max(FIRST_MOMENT);
+        let quarter = quarter_of(before, length);
+        parts.push((quarter, Flow::between(change.earlier, change.later)))?;
+    }
+    Ok(parts)
 }

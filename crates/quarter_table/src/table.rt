@@ -1,9 +1,7 @@
-ghost use Rattle.std.specs.Prelude.{◌≡◌, ◌↔◌, ◌<◌, ◌≤◌, ◌+◌, ◌^◌, [], IfErr, IfOk, IsTrue, length, true};
+ghost use Rattle.std.specs.Prelude.{◌≡◌, ◌↔◌, ◌<◌, ◌+◌, ◌^◌, [], IfErr, IfOk, IsTrue, length};
 ghost use Rattle.energy_flow.specs.Flow.{CanPlus, CanMinus};
 ghost use Rattle.ledger_model.specs.Energy.{change_of, flows_toward};
-ghost use Rattle.ledger_model.specs.Moment.{IsMoment};
-ghost use Rattle.ledger_model.specs.Parts.{is_shared, parts_by, shares};
-ghost use Rattle.ledger_model.specs.Quarter.{quarter_at};
+ghost use Rattle.ledger_model.specs.Parts.{parts_by};
 ghost use Rattle.ledger_model.specs.declared.settle.Settle.{Settle};
 ghost use Rattle.quarter_table.specs.Pairs.{parts_toward, rows_with};
 ghost use Rattle.quarter_table.specs.Rows.{row_at, with_pair, without_pair, set_row, AreInOrder, HavePairs};
@@ -11,9 +9,9 @@ ghost use Rattle.quarter_table.specs.Table.{table};
 
 use crate::place::place_near;
 use crate::row::QuarterRow;
-use crate::shares::{Change, NANOS_PER_SECOND};
+use crate::shares::even_parts;
 use energy_flow::Flow;
-use ledger_model::{Direction, FIRST_MOMENT, Period, Quarter, Reading};
+use ledger_model::{Direction, Period, Quarter, Reading};
 use std::alloc::{AllocError, Global};
 use std::marker::Model;
 
@@ -164,42 +162,11 @@ impl QuarterTable {
     ) -> Result<(), AllocError>
         ensures { IfOk result (λ _. self.new.rows ≡ rows_with (parts_toward direction (parts_by Settle.Even length (change_of (earlier, later)))) self.old.rows) }
     {
-        let change = Change::of(alloc, earlier, later);
-        if change.is_shared() {
-            return self.add_shares(length, direction, change);
+        let parts = even_parts(alloc, length, earlier, later)?;
+        for part in &parts {
+            self.try_add(part.0, direction, part.1)?;
         }
-        let before = (change.until - 1).max(FIRST_MOMENT);
-        let quarter = quarter_of(before, length);
-        self.try_add(
-            quarter,
-            direction,
-            Flow::between(change.earlier, change.later),
-        )
-    }
-
-    // Adds the shares of a difference.
-    fn add_shares(
-        &mut self,
-        length: Period,
-        direction: Direction,
-        change: Change,
-    ) -> Result<(), AllocError>
-        requires { is_shared change ≡ true }
-        ensures { IfOk result (λ _. self.new.rows ≡ rows_with (parts_toward direction (shares length change)) self.old.rows) }
-    {
-        let seconds = u64::from(length.seconds());
-        let first = change.since / NANOS_PER_SECOND / seconds;
-        let last = (change.until - 1) / NANOS_PER_SECOND / seconds;
-        let mut level = change.earlier;
-        for number in first..last {
-            let next = change.level_at((number + 1) * seconds);
-            // Periods between two moments are those of moments.
-            let quarter = Quarter::new(number as u32).unwrap();
-            self.try_add(quarter, direction, Flow::between(level, next))?;
-            level = next;
-        }
-        let quarter = quarter_of(change.until - 1, length);
-        self.try_add(quarter, direction, Flow::between(level, change.later))
+        Ok(())
     }
 
     // Makes room for one more row.
@@ -251,15 +218,6 @@ impl QuarterTable {
             Err(_) => unreachable!(),
         }
     }
-}
-
-// The period that a moment, given by its nanoseconds since 1970, falls into.
-fn quarter_of(nanos: u64, length: Period) -> Quarter
-    requires { IsMoment nanos }
-    ensures { result ≡ quarter_at length nanos }
-{
-    let number = nanos / NANOS_PER_SECOND / u64::from(length.seconds());
-    Quarter::new(number as u32).unwrap()
 }
 
 // What a difference of this direction adds to imports, and what to exports.

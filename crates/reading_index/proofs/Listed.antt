@@ -7,7 +7,8 @@ use Rattle.std.proofs.lemmas.Bool.{cases_lt, cases_eq, eq-eqb, ne_eqb, lt-ltb, l
 use Rattle.key_index.specs.Entries.{Entry, from}
 use Rattle.ledger_model.specs.Event.{MeterReading}
 use Rattle.reading_index.specs.Ranks.{owner_of, rank}
-use Rattle.reading_index.specs.Timed.{Timed, bare, first_of, from_on, only_owned, owned, with_rank, AreAbove, AreRising}
+use Rattle.reading_index.specs.declared.placed.PlacedReading.{PlacedReading}
+use Rattle.reading_index.specs.Timed.{Timed, first_of, from_on, placed_at, only_owned, owned, with_rank, AreAbove, AreRising}
 use Rattle.reading_index.proofs.Ranked.{first_behind}
 
 -- From a rank on, one that is in front is left out, and one that is not comes first.
@@ -96,5 +97,5 @@ found_left o own k r es ts at got first is low rising all at_is got_is =
     got_is ∙ (λ i. only_owned (same i) (option_map with_rank (at_is i))) ∙ first_behind o r es low rising ∙ ap (λ us. first_of (from_on r (owned o us))) all
 
 -- One reading more is listed.
-pub one_more : (r : ℕ) (e : Timed) (done next all : List MeterReading) (ts : List Timed) → IsFirst r e ts → next ≡ done ++ e.1 ∷ [] → done ++ bare (from_on r ts) ≡ all → next ++ bare (from_on (e.0 + 1) ts) ≡ all
-one_more r e done next all ts first more was = ap (λ rs. rs ++ bare (from_on (e.0 + 1) ts)) more ∙ append_assoc done (e.1 ∷ []) (bare (from_on (e.0 + 1) ts)) ∙ sym (ap (λ us. done ++ bare us) first.steps) ∙ was
+pub one_more : (r : ℕ) (e : Timed) (done next all : List PlacedReading) (ts : List Timed) → IsFirst r e ts → next ≡ done ++ placed_at e ∷ [] → done ++ map placed_at (from_on r ts) ≡ all → next ++ map placed_at (from_on (e.0 + 1) ts) ≡ all
+one_more r e done next all ts first more was = ap (λ rs. rs ++ map placed_at (from_on (e.0 + 1) ts)) more ∙ append_assoc done (placed_at e ∷ []) (map placed_at (from_on (e.0 + 1) ts)) ∙ sym (ap (λ us. done ++ map placed_at us) first.steps) ∙ was

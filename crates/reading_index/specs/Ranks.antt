@@ -20,3 +20,7 @@ owner_of r = r / 2 ^ 10 / 2 ^ 31 / 2 ^ 62
 -- The sequence number of a rank's event.
 abbrev pub number_of : ℕ → ℕ
 number_of r = r / 2 ^ 10 % 2 ^ 31
+
+-- The place of a rank's reading in its event.
+abbrev pub place_of : ℕ → ℕ
+place_of r = r % 2 ^ 10

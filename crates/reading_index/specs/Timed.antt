@@ -5,7 +5,8 @@ use Rattle.key_index.specs.Entries.{Entry}
 pub use Rattle.key_index.specs.Entries.{first_of, last_of, AreAbove, AreBelow, AreRising}
 use Rattle.key_index.specs.Index as keyed
 use Rattle.ledger_model.specs.Event.{MeterReading}
-use Rattle.reading_index.specs.Ranks.{owner_of}
+use Rattle.reading_index.specs.Ranks.{number_of, owner_of, place_of}
+use Rattle.reading_index.specs.declared.placed.PlacedReading.{PlacedReading}
 
 -- A reading with its rank.
 abbrev pub Timed : Type 0
@@ -27,6 +28,10 @@ in_front r es = filter (λ e. nat_lt e.0 r) es
 -- The readings without their ranks.
 abbrev pub bare : List Timed → List MeterReading
 bare es = map (λ e. e.1) es
+
+-- A reading with the number and the place that its rank has.
+abbrev pub placed_at : Timed → PlacedReading
+placed_at e = record { number = number_of e.0; place = place_of e.0; reading = e.1 }
 
 -- The readings from a rank on.
 abbrev pub from_on : ℕ → List Timed → List Timed

@@ -1,9 +1,10 @@
-ghost use Rattle.std.specs.Prelude.{◌≡◌, ◌<◌, ◌≤◌, ◌^◌, ◌++◌, [], false, length, option_map, IfOk};
+ghost use Rattle.std.specs.Prelude.{◌≡◌, ◌<◌, ◌≤◌, ◌^◌, ◌++◌, [], false, length, map, option_map, IfOk};
 ghost use Rattle.ledger_model.specs.InTime.{put_in_time};
 ghost use Rattle.reading_index.specs.Ranks.{owner, owner_of};
-ghost use Rattle.reading_index.specs.Timed.{bare, first_of, from_on, has_rank, in_front, last_of, only_owned, owned, with_rank, without, AreRising};
+ghost use Rattle.reading_index.specs.Timed.{first_of, from_on, has_rank, in_front, last_of, only_owned, owned, placed_at, with_rank, without, AreRising};
 
 use crate::MomentKey;
+use crate::placed::PlacedReading;
 use key_index::{Entry, Filed, KeyIndex, KeyPlace, Marks};
 use ledger_model::{Direction, Reading};
 use std::alloc::{AllocError, Global};
@@ -101,17 +102,21 @@ impl ReadingIndex {
         &self,
         slot: u32,
         direction: Direction,
-        listed: &mut Vec<Reading>,
+        listed: &mut Vec<PlacedReading>,
     ) -> Result<(), AllocError>
         requires { slot < 2 ^ 24 }
-        ensures { IfOk result (λ _. listed.new.items ≡ listed.old.items ++ bare (owned (owner slot direction) self.now.entries)) }
+        ensures { IfOk result (λ _. listed.new.items ≡ listed.old.items ++ map placed_at (owned (owner slot direction) self.now.entries)) }
     {
         let mut from = MomentKey::first(slot, direction);
         let owner = from.owner();
         let mut place = self.index.place_near(self.near, from);
         while let Some(entry) = owned_by(owner, self.index.at_or_after(place, from)) {
             let (key, reading) = entry;
-            listed.push(reading)?;
+            listed.push(PlacedReading {
+                number: key.number(),
+                place: key.place(),
+                reading,
+            })?;
             // No moment is so late that no key is behind it.
             let Some(next) = key.next() else {
                 return Err(AllocError);

@@ -1,5 +1,5 @@
 ghost use Rattle.std.specs.Prelude.{◌≡◌, ◌<◌, ◌+◌, ◌/◌, ◌%◌, ◌^◌, IfSome, nat_lt, refl};
-ghost use Rattle.reading_index.specs.Ranks.{number_of, owner, owner_of, rank};
+ghost use Rattle.reading_index.specs.Ranks.{number_of, owner, owner_of, place_of, rank};
 
 use key_index::Ranked;
 use ledger_model::{Direction, Moment};
@@ -91,6 +91,13 @@ impl MomentKey {
         ensures { result ≡ number_of self }
     {
         (self.joined / (1 << 10) % (1 << 31)) as u32
+    }
+
+    /// The reading's place among those of its direction in its event.
+    pub fn place(self) -> usize
+        ensures { result ≡ place_of self }
+    {
+        (self.joined % (1 << 10)) as usize
     }
 }
 

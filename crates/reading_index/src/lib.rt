@@ -19,6 +19,8 @@
 
 mod index;
 mod key;
+mod placed;
 
 pub use index::ReadingIndex;
 pub use key::MomentKey;
+pub use placed::PlacedReading;

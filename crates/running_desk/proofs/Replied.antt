@@ -13,20 +13,22 @@ use Rattle.ledger_model.specs.Content.{Content, empty_content}
 use Rattle.ledger_model.specs.Limits.{Bounds}
 use Rattle.ledger_model.specs.Step.{Reached, answer}
 use Rattle.ledger_model.specs.World.{Station}
-use Rattle.script_ledgers.specs.Script.{by_meaning, energy_line, export_line, start}
+use Rattle.script_ledgers.specs.Script.{by_meaning, energy_line, export_line, listed, start}
+use Rattle.script_lines.specs.declared.script_line.TxList.{TxList}
 use Rattle.script_lines.specs.Texts.{answer_text, ended_line}
 use Rattle.site_book.specs.Book.{Known}
 use Rattle.site_desk.specs.declared.roster.StationPlace.{StationPlace}
-use Rattle.site_desk.specs.Operator.{AreTotalsOfName}
+use Rattle.site_desk.specs.Operator.{AreTotalsOfName, IsListingOfName}
 use Rattle.site_desk.specs.Roster.{IsNamed}
 use Rattle.site_desk.specs.Submit.{IsAnswered, Submitted}
 use Rattle.station_cell.specs.Cell.{Held}
+use Rattle.station_ledger.specs.declared.listing.TxListing.{TxListing}
 use Rattle.station_link.specs.Answer.{Answers, AnswersMeaning, IsGivenAt}
 use Rattle.transaction_event.specs.Message.{Meaning, Event, Ready, Silence, message}
 use Rattle.transaction_event.specs.Reply.{event_reply_bytes}
 use Rattle.running_desk.specs.declared.operator.Asked.{Asked}
 use Rattle.running_desk.specs.declared.operator.Asked.TheVariants.{Figures, Import, Export}
-use Rattle.running_desk.specs.Replied.{AreTotals, IsCommandLine, IsCommanded, IsExhausted, IsMessageLine, IsSent, IsStationOf, IsTotals, totals_line}
+use Rattle.running_desk.specs.Replied.{AreTotals, IsCommandLine, IsCommanded, IsExhausted, IsList, IsMessageLine, IsSent, IsStationOf, IsTotals, totals_line}
 
 -- a station of a name with this content
 abbrev with_content : List ℕ → Bounds → Content → Station
@@ -141,6 +143,16 @@ submitted_line gives seen places roster p p' command a told before now same empt
       given = given at here;
       is = put ∙ ap (λ (b : List ℕ). b ++ ended_line (answer_text a)) empty;
     }
+
+-- the list of a transaction that is asked for
+pub list_told : {T E : Type 0} (r : Result T E) (what : TxList) (places : List StationPlace) (name tx : List ℕ) (l : TxListing) (now : List ℕ) → IsListingOfName places name tx l → OnOk r (now ≡ listed what name tx l) → OnOk r (IsList places what name tx now)
+unfolding stands_with
+list_told (Ok _) what places name tx l now h put = inl (record {
+  station = Some (with_content name h.named.place.limits h.listing.content);
+  stands = stands_with places name h.number h.named _ h.listing.content h.listing.reached;
+  is = put ∙ ap (listed what name tx) h.listing.is;
+})
+list_told (Err _) what places name tx l now h put = put
 
 -- the line of the totals that are asked for
 pub totals_line_told : {T E : Type 0} (r : Result T E) (asked : Asked) (places : List StationPlace) (name : List ℕ) (f : figures.Figures) (e x : Energy) (now : List ℕ) → AreTotalsOfName places name f e x

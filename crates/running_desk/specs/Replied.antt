@@ -10,6 +10,8 @@ use Rattle.ledger_model.specs.declared.figures.Figures as figures
 use Rattle.ledger_model.specs.declared.order.Order.{Order}
 use Rattle.ledger_model.specs.declared.order.Order.TheVariants.{Sequence}
 use Rattle.ledger_model.specs.Board.{Board}
+use Rattle.ledger_model.specs.Periods.{Periods}
+use Rattle.ledger_model.specs.Settling.{default_periods}
 use Rattle.ledger_model.specs.Step.{Reached}
 use Rattle.ledger_model.specs.World.{Station}
 use Rattle.board_report.specs.Texts.{board_text, total_text}
@@ -18,9 +20,10 @@ use Rattle.energy_flow.specs.Flow.{Energy}
 use Rattle.running_desk.specs.declared.operator.Asked.{Asked}
 use Rattle.running_desk.specs.declared.operator.Asked.TheVariants.{Figures, Import, Export}
 use Rattle.ocppj_frame.specs.Frame.{frame}
-use Rattle.script_ledgers.specs.Script.{commanded_to, energy_answer, energy_line, export_answer, export_line, sent_to, start, total_answer}
+use Rattle.script_ledgers.specs.Script.{commanded_to, energy_answer, energy_line, export_answer, export_line, list_answer, mark_line, sent_to, start, total_answer}
+use Rattle.script_lines.specs.declared.script_line.TxList.{TxList}
 use Rattle.script_lines.specs.declared.script_line.LineFault.TheVariants.{BadLine, DeclaredLate, UnknownSite, UnknownStation}
-use Rattle.script_lines.specs.LineMeaning.{LineMeaning, nothing, fails, sets_limits, declares, sets_period, sets_order, sets_settle, tells, sends, commands, asks_energy, asks_export, asks_total, asks_board}
+use Rattle.script_lines.specs.LineMeaning.{LineMeaning, nothing, fails, sets_limits, declares, sets_period, sets_order, sets_settle, tells, sends, commands, asks_energy, asks_export, asks_total, asks_board, lists, marks}
 use Rattle.script_lines.specs.Texts.{answer_text, ended_line, fault_line}
 use Rattle.site_book.specs.Book.{Known}
 use Rattle.site_desk.specs.declared.plan.SitePlan.{SitePlan}
@@ -71,6 +74,22 @@ asked_answer Export order station = export_answer (λ _. order) station
 abbrev pub order_under : (places : List StationPlace) (name : List ℕ) (station : Option Station) → MayStand places name station → Order
 order_under places name None none = Sequence
 order_under places name (Some s) stands = stands.named.place.order
+
+-- The settlement periods of that station; the default if there is no station.
+abbrev pub period_under : (places : List StationPlace) (name : List ℕ) (station : Option Station) → MayStand places name station → Periods
+period_under places name None none = default_periods
+period_under places name (Some s) stands = stands.named.place.period
+
+-- The text is a replay's answer to a question for a list of a transaction of the station of this name, by the order and
+-- the periods of its place.
+pub record IsListOf (places : List StationPlace) (what : TxList) (name tx text : List ℕ) : Type 0 where
+  pub station : Option Station
+  pub stands : MayStand places name station
+  pub is : text ≡ list_answer (λ _. order_under places name station stands) (λ _. period_under places name station stands) what name tx station
+
+-- The answer to a question for a list of a transaction.
+abbrev pub IsList : List StationPlace → TxList → List ℕ → List ℕ → List ℕ → Type 0
+IsList places what name tx text = IsListOf places what name tx text ⊎ (text ≡ torn)
 
 -- The text is a replay's answer to a question for the totals of the station of this name, by the order of its place.
 pub record AreTotals (places : List StationPlace) (name : List ℕ) (asked : Asked) (text : List ℕ) : Type 0 where
@@ -178,6 +197,8 @@ IsReply gives shows sites places (asks_energy name) text seen = IsTotals places 
 IsReply gives shows sites places (asks_export name) text seen = IsTotals places name Export text
 IsReply gives shows sites places (asks_total name) text seen = IsTotals places name Figures text
 IsReply gives shows sites places (asks_board name) text seen = IsBoard shows sites places (position (λ s. bytes_eq name s.name) sites) text seen
+IsReply gives shows sites places (lists what name tx) text seen = IsList places what name tx text
+IsReply gives shows sites places (marks word) text seen = text ≡ mark_line word
 
 -- An operator's line gets this answer, or `fault OutOfMemory`.
 abbrev pub IsReplyOrMemory : {M : Type 0} → (ℕ → StationPlace → Command → Answer → Option Known → Option M → Type 0) → (ℕ → List (List ℕ × Board) → M → Type 0) → List SitePlan → List StationPlace → LineMeaning → List ℕ → Option M → Type 0

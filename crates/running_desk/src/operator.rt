@@ -10,7 +10,7 @@ ghost use Rattle.script_lines.specs.Texts.{fault_line};
 ghost use Rattle.site_desk.specs.declared.roster.StationPlace.{StationPlace};
 ghost use Rattle.site_desk.specs.Roster.{IsNamed};
 ghost use Rattle.running_desk.specs.declared.pooled_desk.PassFault.{PassFault};
-ghost use Rattle.running_desk.specs.Replied.{IsBoard, IsCommandLine, IsCommanded, IsMessageLine, IsMessaged, IsReply, IsSent, IsSubmitted, IsTotals, totals_line};
+ghost use Rattle.running_desk.specs.Replied.{IsBoard, IsCommandLine, IsCommanded, IsList, IsMessageLine, IsMessaged, IsReply, IsSent, IsSubmitted, IsTotals, totals_line};
 ghost use Rattle.running_desk.specs.Ordered.{ends, is_close, lines_in};
 ghost use Rattle.running_desk.specs.Replies.{AddsReplies, AddsReply};
 ghost use Rattle.station_link.specs.Attended.{if_seen};
@@ -22,8 +22,9 @@ use crate::serves::Serves;
 use board_report::{energy_text, export_text, total_text, write_out};
 use energy_flow::Flow;
 use gathered_input::Readiness;
-use ledger_model::{Command, Figures, Name};
-use script_lines::{LineFault, ScriptLine, put_answer, put_fault, put_line, read_line};
+use ledger_model::{Command, Figures, Name, TxId};
+use script_ledgers::{put_listed, put_mark};
+use script_lines::{LineFault, ScriptLine, TxList, put_answer, put_fault, put_line, read_line};
 use server_parts::{ServiceFault, SystemMoments};
 use site_desk::{BoardFault, NoGate};
 use station_cell::Pass;
@@ -176,6 +177,8 @@ fn answer_said<S: Serves, R: Threads + Wait + Clock>(
         ScriptLine::AsksEnergy(name) => put_totals(rt, running, &name, Asked::Import, reply)?,
         ScriptLine::AsksExport(name) => put_totals(rt, running, &name, Asked::Export, reply)?,
         ScriptLine::AsksTotal(name) => put_totals(rt, running, &name, Asked::Figures, reply)?,
+        ScriptLine::Lists(what, name, tx) => put_list(rt, alloc, running, what, &name, &tx, reply)?,
+        ScriptLine::Marks(word) => put_mark(reply, &word)?,
     }
     Ok(None)
 }
@@ -328,6 +331,27 @@ fn put_total(
         Asked::Figures => put_line(reply, total_text(&totals.0).as_str()),
         Asked::Import => put_line(reply, energy_text(totals.1).as_str()),
         Asked::Export => put_line(reply, export_text(totals.2).as_str()),
+    }
+}
+
+// Appends a list of a transaction of the station of this name.
+fn put_list<S: Serves, R: Wait>(
+    rt: &R,
+    alloc: Global,
+    running: &Running<'_, S>,
+    what: TxList,
+    name: &Name,
+    tx: &TxId,
+    reply: &mut Vec<u8>,
+) -> Result<(), AllocError>
+    requires { reply.old.items ≡ [] }
+    ensures { OnOk result (IsList running.now.desk.desk.now.stations what name.now tx.now reply.new.items) }
+{
+    match running.desk.desk.station_listing(rt, alloc, name, tx) {
+        Ok(listing) => put_listed(alloc, reply, what, name, tx, &listing),
+        Err(BoardFault::UnknownStation) => put_fault(reply, LineFault::UnknownStation),
+        Err(BoardFault::Torn) => put_line(reply, TORN),
+        Err(BoardFault::OutOfMemory) => Err(AllocError),
     }
 }
 

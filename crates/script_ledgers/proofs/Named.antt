@@ -19,10 +19,10 @@ use Rattle.script_ledgers.specs.Drafts.{Drafted, planned_world, site_name}
 use Rattle.script_ledgers.specs.Received.{TakesMessage}
 use Rattle.script_ledgers.specs.Running.{IsRunning, Settles, filled, running}
 use Rattle.script_lines.specs.Texts.{answer_text, ended_line}
-use Rattle.script_ledgers.specs.Script.{Script, by_meaning, commanded_to, new_station, order_named, sent_to, station_named}
+use Rattle.script_ledgers.specs.Script.{Script, by_meaning, commanded_to, new_station, order_named, period_named, sent_to, station_named}
 use Rattle.script_ledgers.proofs.Boards.{at_site}
 use Rattle.script_ledgers.proofs.Places.{is_station, unnamed}
-use Rattle.script_ledgers.proofs.SettledBy.{order_found}
+use Rattle.script_ledgers.proofs.SettledBy.{order_found, period_found}
 use Rattle.script_ledgers.proofs.Settling.{alike_running, planned_at, site_within, station_at}
 
 -- what follows for a value from what is known of it
@@ -43,6 +43,7 @@ module _ (d : Drafted) (cells : List Cell) (books : List Book) (passes : List He
     pub content : station.content ≡ cell.content
     pub limits : station.limits ≡ cell.limits
     pub order : order_named (running d cells) station.site ≡ cell.order
+    pub period : period_named (running d cells) station.site ≡ cell.period
 
   pub is_at : (k : ℕ) → k < length d.stations → IsAt k
   is_at k less =
@@ -58,6 +59,7 @@ module _ (d : Drafted) (cells : List Cell) (books : List Book) (passes : List He
         content = refl;
         limits = sym (r.placed k s.0 c.0 s.1 c.1).limits;
         order = order_found mine.site d.sites s.0.site site ∙ sym (r.placed k s.0 c.0 s.1 c.1).order;
+        period = period_found mine.site d.sites s.0.site site ∙ sym (r.placed k s.0 c.0 s.1 c.1).period;
       }
 
   length_filled : (stations : List StationPlan) (cs : List Cell) → length cs ≡ length stations → length (filled (planned_world d.sites stations) cs) ≡ length stations

@@ -20,13 +20,18 @@ use Rattle.ledger_model.specs.Ranges.{most_transactions, most_events, most_readi
 use Rattle.ledger_model.specs.Step.{answer}
 use Rattle.ledger_model.specs.World.{Station, World, world_after}
 use Rattle.board_report.specs.Named.{NamedBoard}
+use Rattle.board_report.specs.Listing.{events_text, readings_text}
 use Rattle.board_report.specs.Texts.{board_text, energy_text, export_text, total_text}
 use Rattle.transaction_event.specs.Message.{Meaning, Event, Ready, Silence, message}
 use Rattle.transaction_event.specs.Reply.{event_reply_bytes}
-use Rattle.script_lines.specs.declared.script_line.LineFault.TheVariants.{DeclaredLate, PlanLimit, StationTwice, UnknownStation, UnknownSite}
+use Rattle.script_lines.specs.declared.script_line.LineFault.TheVariants.{DeclaredLate, PlanLimit, StationTwice, UnknownStation, UnknownSite, UnknownTransaction}
+use Rattle.script_lines.specs.declared.script_line.TxList.{TxList}
+use Rattle.script_lines.specs.declared.script_line.TxList.TheVariants.{Events, Readings}
 use Rattle.script_lines.specs.Lines.{Line, text_by}
-use Rattle.script_lines.specs.LineMeaning.{LineMeaning, nothing, fails, sets_limits, declares, sets_period, sets_order, sets_settle, tells, sends, commands, asks_energy, asks_export, asks_total, asks_board, line_meaning}
+use Rattle.script_lines.specs.LineMeaning.{LineMeaning, nothing, fails, sets_limits, declares, sets_period, sets_order, sets_settle, tells, sends, commands, asks_energy, asks_export, asks_total, asks_board, lists, marks, line_meaning}
 use Rattle.script_lines.specs.Texts.{ended_line, fault_line, answer_text}
+use Rattle.station_ledger.specs.Listing.{listing_by}
+use Rattle.station_ledger.specs.declared.listing.TxListing.{TxListing}
 
 -- the state of a script: the limits of the stations that are declared next; the sites of the plan
 -- so far in the order of their first mention, each with its settlement periods and the order of its
@@ -210,6 +215,30 @@ period_named s site = period_of (site_number site s.sites) s.periods
 abbrev pub order_named : Script → List ℕ → Order
 order_named s site = order_of (site_number site s.sites) s.orders
 
+-- a list of a transaction's events or readings
+abbrev pub list_text : TxList → List ℕ → List ℕ → TxListing → List ℕ
+list_text Events name tx l = events_text name tx l
+list_text Readings name tx l = readings_text name tx l
+
+-- the text, if there is any event
+abbrev pub if_any : {X : Type 0} → List X → List ℕ → List ℕ
+if_any [] text = fault_line UnknownTransaction
+if_any (e ∷ es) text = text
+
+-- a list of a transaction, if the station has an event of it
+abbrev pub listed : TxList → List ℕ → List ℕ → TxListing → List ℕ
+listed what name tx l = if_any l.events (list_text what name tx l)
+
+-- a list of a transaction of a station, computed from all its events; the first arguments give each site's order of
+-- readings and settlement periods by the site's name
+abbrev pub list_answer : (List ℕ → Order) → (List ℕ → Periods) → TxList → List ℕ → List ℕ → Option Station → List ℕ
+list_answer order period what name tx None = fault_line UnknownStation
+list_answer order period what name tx (Some station) = listed what name tx (listing_by (order station.site) (period station.site) tx (entries station.content))
+
+-- `mark <word>`
+abbrev pub mark_line : List ℕ → List ℕ
+mark_line word = ended_line (codes "mark " ++ word)
+
 -- the board of the site of this name by its order and its settlement periods, computed from all events of
 -- its stations
 abbrev pub board_of_site : Script → List ℕ → NamedBoard
@@ -248,6 +277,8 @@ step_by s (asks_energy name) = (record s { opened = true }, energy_answer (order
 step_by s (asks_export name) = (record s { opened = true }, export_answer (order_named s) (station_named name s.world))
 step_by s (asks_total name) = (record s { opened = true }, total_answer (order_named s) (station_named name s.world))
 step_by s (asks_board site) = (record s { opened = true }, board_answer s site)
+step_by s (lists what name tx) = (record s { opened = true }, list_answer (order_named s) (period_named s) what name tx (station_named name s.world))
+step_by s (marks word) = (s, mark_line word)
 
 -- the same for a line's bytes
 abbrev pub line_step : Script → Line → Script × List ℕ
@@ -278,6 +309,8 @@ opening (asks_energy _) = true
 opening (asks_export _) = true
 opening (asks_total _) = true
 opening (asks_board _) = true
+opening (lists _ _ _) = true
+opening (marks _) = false
 
 -- the script with its ledgers opened
 abbrev pub opened_script : Script → Script

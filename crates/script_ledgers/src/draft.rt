@@ -7,6 +7,7 @@ ghost use Rattle.script_lines.specs.ScriptLines.{meaning_of};
 ghost use Rattle.script_ledgers.specs.Drafts.{planned, IsPlan};
 ghost use Rattle.script_ledgers.specs.Script.{start, declared_to, is_past_plan, is_period, joined_by, limited_to, opening, order_to, period_to, settle_to, step_by};
 
+use crate::listed::put_mark;
 use ledger_model::{Limits, Moment, Name, Order, Period, Periods, Settle};
 use script_lines::{LineFault, ScriptLine, put_fault};
 use site_desk::Plan;
@@ -128,12 +129,14 @@ impl Draft {
                 self.tell(moment);
                 Ok(())
             }
+            ScriptLine::Marks(word) => put_mark(reply, &word),
             ScriptLine::Sends(_, _)
             | ScriptLine::Commands(_, _)
             | ScriptLine::AsksEnergy(_)
             | ScriptLine::AsksExport(_)
             | ScriptLine::AsksTotal(_)
-            | ScriptLine::AsksBoard(_) => unreachable!(),
+            | ScriptLine::AsksBoard(_)
+            | ScriptLine::Lists(_, _, _) => unreachable!(),
         }
     }
 }

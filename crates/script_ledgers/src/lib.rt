@@ -13,8 +13,10 @@
 
 mod draft;
 mod hints;
+mod listed;
 mod opened_script;
 mod script_state;
 
 pub use draft::Draft;
+pub use listed::{put_listed, put_mark};
 pub use script_state::{MAX_SCRIPT_BYTES, ScriptState};

@@ -9,7 +9,7 @@ ghost use Rattle.station_cell.specs.Cell.{Cell, new_pass};
 ghost use Rattle.site_desk.specs.Plan.{plan_fault};
 ghost use Rattle.site_desk.specs.Roster.{AreCellsOf};
 ghost use Rattle.script_ledgers.specs.Drafts.{planned};
-ghost use Rattle.script_lines.specs.LineMeaning.{asks_energy, asks_export, asks_total, commands, sends};
+ghost use Rattle.script_lines.specs.LineMeaning.{asks_energy, asks_export, asks_total, commands, lists, sends};
 ghost use Rattle.script_lines.specs.Lines.{line_bytes};
 ghost use Rattle.script_lines.specs.ScriptLines.{meaning_of};
 ghost use Rattle.script_ledgers.specs.Received.{TakesMessageAt};
@@ -19,11 +19,14 @@ ghost use Rattle.transaction_event.specs.MessageMeaning.{HasShortId, asking, wit
 
 use crate::draft::Draft;
 use crate::hints::StationHints;
+use crate::listed::{put_listed, put_mark};
 use arrayvec::ArrayString;
 use board_report::{energy_text, export_text, site_text, total_text};
-use ledger_model::{Answer, Command, Name};
+use ledger_model::{Answer, Command, Name, TxId};
 use message_ahead::{Lookahead, SentEvent};
-use script_lines::{LineFault, LineReader, ScriptLine, put_answer, put_fault, put_line, read_line};
+use script_lines::{
+    LineFault, LineReader, ScriptLine, TxList, put_answer, put_fault, put_line, read_line,
+};
 use site_book::{Naming, SiteBook, Tables};
 use site_desk::Parts;
 use station_cell::{Pass, StationCell, enlist_cell, settle};
@@ -181,6 +184,8 @@ impl<J: Naming> OpenedScript<J> {
             ScriptLine::AsksExport(name) => self.put_export(&name, reply),
             ScriptLine::AsksTotal(name) => self.put_total(&name, reply),
             ScriptLine::AsksBoard(name) => self.put_board(&name, reply),
+            ScriptLine::Lists(what, name, tx) => self.put_list(what, &name, &tx, reply),
+            ScriptLine::Marks(word) => put_mark(reply, &word),
         }
     }
 
@@ -365,6 +370,26 @@ impl<J: Naming> OpenedScript<J> {
                 Ok(())
             }
             None => put_fault(reply, LineFault::UnknownSite),
+        }
+    }
+
+    // Puts a list of a transaction into the reply.
+    fn put_list(
+        &self,
+        what: TxList,
+        name: &Name,
+        tx: &TxId,
+        reply: &mut Vec<u8>,
+    ) -> Result<(), AllocError>
+        requires { reply.old.items ≡ [] }
+        ensures { OnOk result (reply.new.items ≡ (step_by (running self.now.draft self.now.cells.items) (lists what name.now tx.now)).1) }
+    {
+        match self.draft.station(name) {
+            Some(number) => {
+                let listing = self.cells[number].ledger().listing(self.alloc, tx)?;
+                put_listed(self.alloc, reply, what, name, tx, &listing)
+            }
+            None => put_fault(reply, LineFault::UnknownStation),
         }
     }
 

@@ -200,12 +200,14 @@ fn needs_ledgers(asked: &ScriptLine<'_>) -> bool
         | ScriptLine::SetsPeriod(_, _)
         | ScriptLine::SetsOrder(_, _)
         | ScriptLine::SetsSettle(_, _)
+        | ScriptLine::Marks(_)
         | ScriptLine::Tells(_) => false,
         ScriptLine::Sends(_, _)
         | ScriptLine::Commands(_, _)
         | ScriptLine::AsksEnergy(_)
         | ScriptLine::AsksExport(_)
         | ScriptLine::AsksTotal(_)
-        | ScriptLine::AsksBoard(_) => true,
+        | ScriptLine::AsksBoard(_)
+        | ScriptLine::Lists(_, _, _) => true,
     }
 }

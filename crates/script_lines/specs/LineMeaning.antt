@@ -18,13 +18,15 @@ use Rattle.ledger_model.specs.Ranges.{sequence_end}
 use Rattle.ledger_model.specs.TxId.{is_tx_id, folded}
 use Rattle.reading_decimal.specs.Moment.{moment_reading}
 use Rattle.script_lines.specs.declared.script_line.LineFault.{LineFault}
-use Rattle.script_lines.specs.declared.script_line.LineFault.TheVariants.{LineTooLong, BadLine, DeclaredLate, PlanLimit, StationTwice, UnknownStation, UnknownSite}
+use Rattle.script_lines.specs.declared.script_line.LineFault.TheVariants.{LineTooLong, BadLine, DeclaredLate, PlanLimit, StationTwice, UnknownStation, UnknownSite, UnknownTransaction}
 use Rattle.script_lines.specs.declared.script_line.Operation.{Operation}
 use Rattle.script_lines.specs.declared.script_line.Operation.TheVariants as operation
+use Rattle.script_lines.specs.declared.script_line.TxList.{TxList}
+use Rattle.script_lines.specs.declared.script_line.TxList.TheVariants.{Events, Readings}
 use Rattle.script_lines.specs.Lines.{Line}
 
 -- what a line says: nothing, a fault, the limits of the stations that follow, a station's declaration, the length of a site's settlement periods, the order of its readings, the rule by which differences count in
--- those periods, a moment, a message of a station, a command on a station, or a question for a station's imported or exported energy or its figures or for a site's board
+-- those periods, a moment, a message of a station, a command on a station, a question for a station's imported or exported energy or its figures, for a site's board or for a list of a transaction, or a mark
 pub data LineMeaning : Type 0 where
   nothing : LineMeaning
   fails : LineFault → LineMeaning
@@ -40,6 +42,8 @@ pub data LineMeaning : Type 0 where
   asks_export : List ℕ → LineMeaning
   asks_total : List ℕ → LineMeaning
   asks_board : List ℕ → LineMeaning
+  lists : TxList → List ℕ → List ℕ → LineMeaning
+  marks : List ℕ → LineMeaning
 
 -- ---- words
 
@@ -89,6 +93,10 @@ settle_word word =
     else (if bytes_eq word (codes "closing") then Some Closing
     else (if bytes_eq word (codes "even") then Some Even
     else None))
+
+-- a transaction's id, which is folded
+abbrev pub tx_id : List ℕ → Option (List ℕ)
+tx_id word = if is_tx_id word then Some (folded word) else None
 
 -- the key of a transaction's id, which is folded, and a sequence number
 abbrev pub key : List ℕ → ℕ → Option KeyName
@@ -148,7 +156,12 @@ abbrev pub command_line : Operation → List (List ℕ) → LineMeaning
 command_line what (station ∷ tx ∷ seq ∷ []) = do commands (← name station) (command_of what (← key tx (← number seq)))
 command_line what _ = fails BadLine
 
--- `energy`, `export` or `total` with `<station>`, or `board <site>`
+-- `events` or `readings` with `<station> <transaction id>`
+abbrev pub list_line : TxList → List (List ℕ) → LineMeaning
+list_line what (station ∷ tx ∷ []) = do lists what (← name station) (← tx_id tx)
+list_line what _ = fails BadLine
+
+-- `energy`, `export` or `total` with `<station>`, `board <site>`, or `mark <word>`
 abbrev pub question_line : (List ℕ → LineMeaning) → List (List ℕ) → LineMeaning
 question_line asks (place ∷ []) = do asks (← name place)
 question_line asks _ = fails BadLine
@@ -170,10 +183,13 @@ by_first_word (word, rest) =
     else (if bytes_eq word (codes "export") then question_line asks_export (words 1 rest)
     else (if bytes_eq word (codes "total") then question_line asks_total (words 1 rest)
     else (if bytes_eq word (codes "board") then question_line asks_board (words 1 rest)
+    else (if bytes_eq word (codes "events") then list_line Events (words 2 rest)
+    else (if bytes_eq word (codes "readings") then list_line Readings (words 2 rest)
+    else (if bytes_eq word (codes "mark") then question_line marks (words 1 rest)
     else (if bytes_eq word (codes "void") then command_line operation.Void (words 3 rest)
     else (if bytes_eq word (codes "restore") then command_line operation.Restore (words 3 rest)
     else (if bytes_eq word (codes "erase") then command_line operation.Erase (words 3 rest)
-    else fails BadLine)))))))))))))
+    else fails BadLine))))))))))))))))
 
 -- a line has a first word, and a space behind it
 abbrev pub by_text : List ℕ → LineMeaning
@@ -202,3 +218,4 @@ fault_name PlanLimit = codes "PlanLimit"
 fault_name StationTwice = codes "StationTwice"
 fault_name UnknownStation = codes "UnknownStation"
 fault_name UnknownSite = codes "UnknownSite"
+fault_name UnknownTransaction = codes "UnknownTransaction"

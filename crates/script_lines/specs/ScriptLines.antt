@@ -1,8 +1,8 @@
 -- What a line that was read says.
 use Rattle.std.specs.Prelude.{Option}
 use Rattle.script_lines.specs.declared.script_line.ScriptLine.{ScriptLine}
-use Rattle.script_lines.specs.declared.script_line.ScriptLine.TheVariants.{Nothing, Fails, Limits, Declares, SetsPeriod, SetsOrder, SetsSettle, Tells, Sends, Commands, AsksEnergy, AsksExport, AsksTotal, AsksBoard}
-use Rattle.script_lines.specs.LineMeaning.{LineMeaning, ◌>>=◌, nothing, fails, sets_limits, declares, sets_period, sets_order, sets_settle, tells, sends, commands, asks_energy, asks_export, asks_total, asks_board}
+use Rattle.script_lines.specs.declared.script_line.ScriptLine.TheVariants.{Nothing, Fails, Limits, Declares, SetsPeriod, SetsOrder, SetsSettle, Tells, Sends, Commands, AsksEnergy, AsksExport, AsksTotal, AsksBoard, Lists, Marks}
+use Rattle.script_lines.specs.LineMeaning.{LineMeaning, ◌>>=◌, nothing, fails, sets_limits, declares, sets_period, sets_order, sets_settle, tells, sends, commands, asks_energy, asks_export, asks_total, asks_board, lists, marks}
 
 -- The meaning of a line that was read.
 abbrev pub meaning_of : ScriptLine → LineMeaning
@@ -20,6 +20,8 @@ meaning_of (AsksEnergy name) = asks_energy name
 meaning_of (AsksExport name) = asks_export name
 meaning_of (AsksTotal name) = asks_total name
 meaning_of (AsksBoard name) = asks_board name
+meaning_of (Lists what name tx) = lists what name tx
+meaning_of (Marks word) = marks word
 
 -- The meaning of a line of a form, or that its words are not those of the form.
 abbrev pub meaning_of_form : Option ScriptLine → LineMeaning

@@ -22,6 +22,6 @@ mod write;
 
 pub use fault::ReplayFault;
 pub use line_reader::{LineEnd, LineReader, MAX_LINE_BYTES, without_return};
-pub use script_line::{LineFault, Operation, ScriptLine, order_of, read_line, settle_of};
+pub use script_line::{LineFault, Operation, ScriptLine, TxList, order_of, read_line, settle_of};
 pub use text::{put_answer, put_fault, put_line};
 pub use write::{WriteStopped, write_bytes};

@@ -29,6 +29,8 @@ pub enum LineFault {
     UnknownStation,
     /// No station of this site is declared.
     UnknownSite,
+    /// The station has no event of this transaction, live or voided.
+    UnknownTransaction,
 }
 
 impl LineFault {
@@ -44,6 +46,7 @@ impl LineFault {
             LineFault::StationTwice => "StationTwice",
             LineFault::UnknownStation => "UnknownStation",
             LineFault::UnknownSite => "UnknownSite",
+            LineFault::UnknownTransaction => "UnknownTransaction",
         }
     }
 }
@@ -70,6 +73,15 @@ impl Operation {
             Operation::Erase => Command::Erase(key),
         }
     }
+}
+
+/// What a list of a transaction shows.
+#[derive(Clone, Copy, Debug, PartialEq, Eq)]
+pub enum TxList {
+    /// Its events, live and voided.
+    Events,
+    /// Its live readings, and what each two of them in a row show.
+    Readings,
 }
 
 /// What a line of a script says.
@@ -103,6 +115,10 @@ pub enum ScriptLine<'a> {
     AsksTotal(Name),
     /// `board <site>`: a question for the board of a site.
     AsksBoard(Name),
+    /// `events` or `readings` with `<station> <transaction id>`: a question for a list of a transaction.
+    Lists(TxList, Name, TxId),
+    /// `mark <word>`: a line that is answered with itself.
+    Marks(Name),
 }
 
 /// What the line says; `None` is a line that is too long.
@@ -168,6 +184,9 @@ fn line_of_form<'a>(word: &str, rest: &'a str) -> Option<ScriptLine<'a>>
         "export" => Some(ScriptLine::AsksExport(Name::new(rest)?)),
         "total" => Some(ScriptLine::AsksTotal(Name::new(rest)?)),
         "board" => Some(ScriptLine::AsksBoard(Name::new(rest)?)),
+        "events" => list_line(TxList::Events, rest),
+        "readings" => list_line(TxList::Readings, rest),
+        "mark" => Some(ScriptLine::Marks(Name::new(rest)?)),
         "void" => command_line(Operation::Void, rest),
         "restore" => command_line(Operation::Restore, rest),
         "erase" => command_line(Operation::Erase, rest),
@@ -322,4 +341,12 @@ fn command_line(what: Operation, rest: &str) -> Option<ScriptLine<'_>>
     let name = Name::new(station)?;
     let key = key_of(tx, number(seq)?)?;
     Some(ScriptLine::Commands(name, what.command(key)))
+}
+
+// `events` or `readings` with `<station> <transaction id>`
+fn list_line(what: TxList, rest: &str) -> Option<ScriptLine<'_>>
+    ensures { meaning_of_form result ≡ spec.list_line what (spec.words 2 rest.now) }
+{
+    let (station, tx) = parted(rest)?;
+    Some(ScriptLine::Lists(what, Name::new(station)?, TxId::new(tx)?))
 }

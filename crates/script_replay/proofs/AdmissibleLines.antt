@@ -11,8 +11,10 @@ use Rattle.ledger_model.proofs.Ids.{IsFoldedId-folded}
 use Rattle.script_lines.specs.declared.script_line.LineFault.TheVariants.{BadLine}
 use Rattle.script_lines.specs.declared.script_line.Operation.{Operation}
 use Rattle.script_lines.specs.declared.script_line.Operation.TheVariants as operation
+use Rattle.script_lines.specs.declared.script_line.TxList.{TxList}
+use Rattle.script_lines.specs.declared.script_line.TxList.TheVariants.{Events, Readings}
 use Rattle.script_lines.specs.Lines.{Line}
-use Rattle.script_lines.specs.LineMeaning.{LineMeaning, ◌>>=◌, nothing, fails, sets_limits, declares, sets_period, sets_order, sets_settle, tells, sends, commands, asks_energy, asks_export, asks_total, asks_board, by_bytes, by_first_word, by_words, command_line, command_of, key, limits_line, line_meaning, moment, msg_line, name, now_line, number, order_line, order_word, settle_line, settle_word, parted, period_line, question_line, station_line, words}
+use Rattle.script_lines.specs.LineMeaning.{LineMeaning, ◌>>=◌, nothing, fails, sets_limits, declares, sets_period, sets_order, sets_settle, tells, sends, commands, asks_energy, asks_export, asks_total, asks_board, lists, marks, by_bytes, by_first_word, by_words, command_line, command_of, key, list_line, tx_id, limits_line, line_meaning, moment, msg_line, name, now_line, number, order_line, order_word, settle_line, settle_word, parted, period_line, question_line, station_line, words}
 
 -- a command that the line asks is admissible
 abbrev pub IsFine : LineMeaning → Type 0
@@ -30,6 +32,8 @@ IsFine (asks_energy _) = Unit {0}
 IsFine (asks_export _) = Unit {0}
 IsFine (asks_total _) = Unit {0}
 IsFine (asks_board _) = Unit {0}
+IsFine (lists _ _ _) = Unit {0}
+IsFine (marks _) = Unit {0}
 
 either : (b : Bool) (x y : LineMeaning) → IsFine x → IsFine y → IsFine (cond b x y)
 either true x y a c = a
@@ -72,6 +76,10 @@ fine_question : (asks : List ℕ → LineMeaning) → ((place : List ℕ) → Is
 fine_question asks all (place ∷ []) = reads (name place) _ all
 fine_question asks all _ = tt
 
+fine_list : (what : TxList) (line : List (List ℕ)) → IsFine (list_line what line)
+fine_list what (station ∷ tx ∷ []) = reads (name station) _ (λ at. reads (tx_id tx) _ (λ id. tt))
+fine_list what _ = tt
+
 fine_command_of : (what : Operation) (k : KeyName) → IsKeyName k → IsAdmissible (command_of what k)
 fine_command_of operation.Void k is = is
 fine_command_of operation.Restore k is = is
@@ -103,9 +111,12 @@ fine_words (word, rest) =
     (either (bytes_eq word (codes "export")) _ _ (fine_question asks_export (λ _. tt) (words 1 rest))
     (either (bytes_eq word (codes "total")) _ _ (fine_question asks_total (λ _. tt) (words 1 rest))
     (either (bytes_eq word (codes "board")) _ _ (fine_question asks_board (λ _. tt) (words 1 rest))
+    (either (bytes_eq word (codes "events")) _ _ (fine_list Events (words 2 rest))
+    (either (bytes_eq word (codes "readings")) _ _ (fine_list Readings (words 2 rest))
+    (either (bytes_eq word (codes "mark")) _ _ (fine_question marks (λ _. tt) (words 1 rest))
     (either (bytes_eq word (codes "void")) _ _ (fine_command operation.Void (words 3 rest))
     (either (bytes_eq word (codes "restore")) _ _ (fine_command operation.Restore (words 3 rest))
-    (either (bytes_eq word (codes "erase")) _ _ (fine_command operation.Erase (words 3 rest)) tt)))))))))))))
+    (either (bytes_eq word (codes "erase")) _ _ (fine_command operation.Erase (words 3 rest)) tt))))))))))))))))
 
 fine_bytes : (bytes : List ℕ) → IsFine (by_bytes bytes)
 fine_bytes [] = tt

@@ -13,7 +13,7 @@ use Rattle.script_replay.specs.Laws.{FaultsChangeNothing}
 use Rattle.script_lines.specs.Texts.{answer_text, ended_line, fault_line}
 use Rattle.ledger_model.specs.Periods.{Periods}
 use Rattle.script_ledgers.specs.Script.{Script, are_limits, by_meaning, commanded_to, declared_to, is_past_plan, is_period, joined_by, lasting, limited_to, order_to, ordered_by, period_to, sent_to, settle_to, settled_by, settling, site_number, station_named, step_by}
-use Rattle.script_lines.specs.LineMeaning.{LineMeaning, nothing, fails, sets_limits, declares, sets_period, sets_order, sets_settle, tells, sends, commands, asks_energy, asks_export, asks_total, asks_board, line_meaning}
+use Rattle.script_lines.specs.LineMeaning.{LineMeaning, nothing, fails, sets_limits, declares, sets_period, sets_order, sets_settle, tells, sends, commands, asks_energy, asks_export, asks_total, asks_board, lists, marks, line_meaning}
 
 -- nothing has changed but whether the ledgers are opened
 abbrev Same : Script → Script × List ℕ → Type 0
@@ -104,6 +104,8 @@ steps s (asks_energy name) fault e = refl
 steps s (asks_export name) fault e = refl
 steps s (asks_total name) fault e = refl
 steps s (asks_board site) fault e = refl
+steps s (lists what name tx) fault e = refl
+steps s (marks word) fault e = refl
 
 pub faults_change_nothing : FaultsChangeNothing
 faults_change_nothing s line fault e = steps s (line_meaning line) fault e

@@ -17,13 +17,13 @@ use Rattle.ledger_model.proofs.ReachedContents.{is_counted}
 use Rattle.transaction_event.specs.Message.{Meaning, Event, Ready, Silence, message}
 use Rattle.transaction_event.specs.Request.{Request}
 use Rattle.transaction_event.proofs.AdmissibleRequests.{each_delivery_is_admissible}
-use Rattle.script_replay.specs.Laws.{StationsAreReached, EnergyIsFromScratch, ExportIsFromScratch, TotalsAreFromScratch, BoardsAreFromScratch}
+use Rattle.script_replay.specs.Laws.{StationsAreReached, EnergyIsFromScratch, ExportIsFromScratch, ListsAreFromScratch, TotalsAreFromScratch, BoardsAreFromScratch}
 use Rattle.script_lines.specs.Lines.{Line}
 use Rattle.script_lines.specs.Texts.{fault_line}
 use Rattle.ledger_model.specs.Periods.{Periods}
-use Rattle.script_ledgers.specs.Script.{Script, are_limits, by_meaning, commanded_to, declared_to, energy_answer, export_answer, is_among, is_past_plan, is_period, joined_by, lasting, limited_to, line_step, new_station, order_named, order_to, ordered_by, period_named, period_to, sent_to, settle_to, settled_by, settling, shown_site, site_number, start, station_named, stations_of, step_by, total_answer, script_after}
+use Rattle.script_ledgers.specs.Script.{Script, are_limits, by_meaning, commanded_to, declared_to, energy_answer, export_answer, is_among, is_past_plan, is_period, joined_by, lasting, limited_to, line_step, new_station, order_named, order_to, ordered_by, period_named, period_to, sent_to, settle_to, settled_by, settling, shown_site, site_number, start, station_named, stations_of, step_by, total_answer, script_after, list_answer}
 use Rattle.board_report.specs.Texts.{board_text}
-use Rattle.script_lines.specs.LineMeaning.{LineMeaning, nothing, fails, sets_limits, declares, sets_period, sets_order, sets_settle, tells, sends, commands, asks_energy, asks_export, asks_total, asks_board, line_meaning}
+use Rattle.script_lines.specs.LineMeaning.{LineMeaning, nothing, fails, sets_limits, declares, sets_period, sets_order, sets_settle, tells, sends, commands, asks_energy, asks_export, asks_total, asks_board, lists, marks, line_meaning}
 use Rattle.script_lines.specs.declared.script_line.LineFault.TheVariants.{DeclaredLate, PlanLimit, UnknownSite}
 use Rattle.script_replay.proofs.AdmissibleLines.{IsFine, fine_line}
 
@@ -192,6 +192,8 @@ kept_step s (asks_energy name) fine kept = kept
 kept_step s (asks_export name) fine kept = kept
 kept_step s (asks_total name) fine kept = kept
 kept_step s (asks_board site) fine kept = kept
+kept_step s (lists what name tx) fine kept = kept
+kept_step s (marks word) fine kept = kept
 
 kept_after : (s : Script) (lines : List Line) → Kept s.world → Kept (script_after s lines).world
 kept_after s [] kept = kept
@@ -219,6 +221,11 @@ pub totals_are_from_scratch : TotalsAreFromScratch
 totals_are_from_scratch lines line name station says e =
     let s = script_after start lines in
     ap (λ meaning. (step_by s meaning).1) says ∙ ap (total_answer (order_named s)) e
+
+pub lists_are_from_scratch : ListsAreFromScratch
+lists_are_from_scratch lines line what name tx station says e =
+    let s = script_after start lines in
+    ap (λ meaning. (step_by s meaning).1) says ∙ ap (list_answer (order_named s) (period_named s) what name tx) e
 
 pub boards_are_from_scratch : BoardsAreFromScratch
 boards_are_from_scratch lines line site says there =

@@ -14,7 +14,7 @@ use Rattle.transaction_event.specs.Message.{Meaning, Event, Ready, Silence, mess
 use Rattle.script_lines.specs.declared.script_line.LineFault.TheVariants.{DeclaredLate, PlanLimit}
 use Rattle.script_replay.specs.Laws.{asked_by, asked_of, commanded_by, emptied, happened, sent_by, IsNoOperation, OrderChangesNoBoard, UnacceptedChangesNothing, WorldsAreRuns}
 use Rattle.script_lines.specs.Lines.{Line}
-use Rattle.script_lines.specs.LineMeaning.{LineMeaning, nothing, fails, sets_limits, declares, sets_period, sets_order, sets_settle, tells, sends, commands, asks_energy, asks_export, asks_total, asks_board, line_meaning}
+use Rattle.script_lines.specs.LineMeaning.{LineMeaning, nothing, fails, sets_limits, declares, sets_period, sets_order, sets_settle, tells, sends, commands, asks_energy, asks_export, asks_total, asks_board, lists, marks, line_meaning}
 use Rattle.script_lines.specs.Texts.{fault_line}
 use Rattle.ledger_model.specs.Periods.{Periods}
 use Rattle.script_ledgers.specs.Script.{KeepsSites, Script, start, are_limits, board_answer, by_meaning, commanded_to, declared_to, is_past_plan, is_period, joined_by, lasting, limited_to, line_step, order_to, ordered_by, period_to, sent_to, settle_to, settled_by, settling, site_number, station_named, step_by, script_after}
@@ -114,6 +114,8 @@ run_step s (asks_energy name) hs ran = still s (record s { opened = true }) hs r
 run_step s (asks_export name) hs ran = still s (record s { opened = true }) hs refl (λ f. absurd (false≢true (sym f))) ran
 run_step s (asks_total name) hs ran = still s (record s { opened = true }) hs refl (λ f. absurd (false≢true (sym f))) ran
 run_step s (asks_board site) hs ran = still s (record s { opened = true }) hs refl (λ f. absurd (false≢true (sym f))) ran
+run_step s (lists what name tx) hs ran = still s (record s { opened = true }) hs refl (λ f. absurd (false≢true (sym f))) ran
+run_step s (marks word) hs ran = still s s hs refl (λ f. f) ran
 
 run_lines : (s : Script) (lines : List Line) (hs : List Happens) → IsRun s hs → IsRun (script_after s lines) (hs ++ happened s lines)
 run_lines s [] hs ran = subst (IsRun s) (sym (append-nil hs)) ran
@@ -161,6 +163,8 @@ asks_step s (asks_energy _) name command e = cc e
 asks_step s (asks_export _) name command e = cc e
 asks_step s (asks_total _) name command e = cc e
 asks_step s (asks_board _) name command e = cc e
+asks_step s (lists _ _ _) name command e = cc e
+asks_step s (marks _) name command e = cc e
 
 pub unaccepted_changes_nothing : UnacceptedChangesNothing
 unaccepted_changes_nothing lines line name station command asks named none =
@@ -194,6 +198,8 @@ delivers_line s (asks_export _) is = All-nil (λ h. IsDelivery h.1)
 delivers_line s (asks_energy _) is = All-nil (λ h. IsDelivery h.1)
 delivers_line s (asks_total _) is = All-nil (λ h. IsDelivery h.1)
 delivers_line s (asks_board _) is = All-nil (λ h. IsDelivery h.1)
+delivers_line s (lists _ _ _) is = All-nil (λ h. IsDelivery h.1)
+delivers_line s (marks _) is = All-nil (λ h. IsDelivery h.1)
 
 delivers_lines : (s : Script) (lines : List Line) → All (λ line. IsNoOperation (line_meaning line)) lines → All (λ h. IsDelivery h.1) (happened s lines)
 delivers_lines s [] all = All-nil (λ h. IsDelivery h.1)

@@ -1,14 +1,17 @@
 -- What the text of a script means, in the subject's own words.
-use Rattle.std.specs.Prelude.{◌≡◌, ℕ, true, List, [], ◌∷◌, ◌++◌, ⊤, All, map, Option, None, Some, IsPermutation}
+use Rattle.std.specs.Prelude.{◌≡◌, ℕ, ◌==◌, true, List, [], ◌∷◌, ◌++◌, ⊤, All, filter, map, Option, None, Some, IsPermutation}
+use Rattle.std.specs.List.{flat_map}
 use Rattle.ledger_model.specs.Periods.{Periods}
 use Rattle.ledger_model.specs.declared.command.Command.{Command}
 use Rattle.ledger_model.specs.declared.command.Command.TheVariants.{Deliver}
 use Rattle.ledger_model.specs.declared.order.Order.{Order}
 use Rattle.ledger_model.specs.Board.{figures_by}
 use Rattle.ledger_model.specs.BoardLaws.{AreSums, sum_of_energies}
-use Rattle.ledger_model.specs.Content.{empty_content, entries}
+use Rattle.ledger_model.specs.Content.{Entry, empty_content, entries, live, transactions_of}
+use Rattle.ledger_model.specs.Parts.{energy_of_parts}
+use Rattle.ledger_model.specs.declared.reading.Direction.{Direction}
 use Rattle.ledger_model.specs.declared.reading.Direction.TheVariants.{Import, Export}
-use Rattle.ledger_model.specs.Energy.{Flows, energy_by, energy_in_by}
+use Rattle.ledger_model.specs.Energy.{Flows, Pair, energy_by, energy_in_by, energy_over, followed, parts_over}
 use Rattle.ledger_model.specs.Laws.{IsAccepted}
 use Rattle.ledger_model.specs.Step.{Reached, answer}
 use Rattle.ledger_model.specs.World.{Station, World, Happens, run}
@@ -16,10 +19,13 @@ use Rattle.ledger_model.specs.WorldLaws.{accepted_deliveries, commands_on}
 use Rattle.board_report.specs.Texts.{board_text, total_text}
 use Rattle.transaction_event.specs.Message.{Meaning, Event, Ready, Silence, message}
 use Rattle.script_lines.specs.declared.script_line.LineFault.{LineFault}
+use Rattle.script_lines.specs.declared.script_line.TxList.{TxList}
 use Rattle.script_lines.specs.Lines.{Line, lines_of}
 use Rattle.script_lines.specs.Texts.{ended_line, fault_line}
-use Rattle.script_ledgers.specs.Script.{KeepsSites, Script, start, line_step, script_text, script_after, station_named, stations_of, is_among, energy_line, export_line, order_named, period_named, shown_site}
-use Rattle.script_lines.specs.LineMeaning.{LineMeaning, nothing, fails, sets_limits, declares, sets_period, sets_order, sets_settle, tells, sends, commands, asks_energy, asks_export, asks_total, asks_board, line_meaning}
+use Rattle.reading_index.specs.declared.placed.PlacedReading.{PlacedReading}
+use Rattle.station_ledger.specs.Listing.{listing_by, placed_by}
+use Rattle.script_ledgers.specs.Script.{KeepsSites, Script, start, line_step, script_text, script_after, station_named, stations_of, is_among, energy_line, export_line, listed, order_named, period_named, shown_site}
+use Rattle.script_lines.specs.LineMeaning.{LineMeaning, nothing, fails, sets_limits, declares, sets_period, sets_order, sets_settle, tells, sends, commands, asks_energy, asks_export, asks_total, asks_board, lists, marks, line_meaning}
 
 -- the text of no bytes is empty
 abbrev pub AnEmptyScriptWritesNothing : Type 0
@@ -57,6 +63,28 @@ abbrev pub TotalsAreFromScratch : Type 0
 TotalsAreFromScratch = (lines : List Line) (line : Line) (name : List ℕ) (station : Station) → line_meaning line ≡ asks_total name
     → station_named name (script_after start lines).world ≡ Some station
     → (line_step (script_after start lines) line).1 ≡ ended_line (total_text (figures_by (order_named (script_after start lines) station.site) (entries station.content)))
+
+-- after any lines, the answer to `events` or `readings` is the list of the transaction, computed from all events of its
+-- station in its site's order of readings and settlement periods
+abbrev pub ListsAreFromScratch : Type 0
+ListsAreFromScratch = (lines : List Line) (line : Line) (what : TxList) (name tx : List ℕ) (station : Station) → line_meaning line ≡ lists what name tx
+    → station_named name (script_after start lines).world ≡ Some station
+    → (line_step (script_after start lines) line).1 ≡ listed what name tx (listing_by (order_named (script_after start lines) station.site) (period_named (script_after start lines) station.site) tx (entries station.content))
+
+-- the pairs that a list of readings shows in a direction: each reading with the one behind it
+abbrev pub listed_pairs : List PlacedReading → List Pair
+listed_pairs rs = followed (map (λ r. r.reading) rs)
+
+-- the energies in the heading of a list of readings are those of the pairs that it shows
+abbrev pub ListedPairsMakeEnergies : Type 0
+ListedPairsMakeEnergies = (order : Order) (period : Periods) (tx : List ℕ) (es : List Entry) →
+    let l = listing_by order period tx es in (l.flow ≡ energy_over (listed_pairs l.imported)) × (l.export ≡ energy_over (listed_pairs l.exported))
+
+-- the energy of a period of a station is that of the parts of the period in the lists of its transactions: each part is
+-- in one of them
+abbrev pub ListedPartsMakePeriods : Type 0
+ListedPartsMakePeriods = (order : Order) (period : Periods) (d : Direction) (quarter : ℕ) (es : List Entry)
+    → energy_in_by order d period quarter es ≡ energy_of_parts (filter (λ t. t.0 == quarter) (flat_map (λ tx. parts_over period (listed_pairs (placed_by order d tx es))) (transactions_of (live es))))
 
 -- after any lines, the answer to a question for a site's board is the board of its stations by its
 -- order of readings and its length of periods, each computed from all its events
@@ -114,6 +142,8 @@ asked_of s (asks_energy _) = []
 asked_of s (asks_export _) = []
 asked_of s (asks_total _) = []
 asked_of s (asks_board _) = []
+asked_of s (lists _ _ _) = []
+asked_of s (marks _) = []
 
 -- all commands that these lines ask for, in their order
 abbrev pub happened : Script → List Line → List Happens

@@ -1,6 +1,6 @@
 //! Laws of a script's text. Each function's contract is the law; the functions do nothing.
 ghost use Rattle.script_replay.specs.LiveLaws.{LiveEventsMakeBoards, LiveEventsMakeEnergies, LiveEventsMakeTotals};
-ghost use Rattle.script_replay.specs.Laws.{AnEmptyScriptWritesNothing, FaultsChangeNothing, StationsAreReached, EnergyIsFromScratch, ExportIsFromScratch, TotalsAreFromScratch, BoardsAreFromScratch, SitesAreSums, WorldsAreRuns, UnacceptedChangesNothing, OrderChangesNoBoard};
+ghost use Rattle.script_replay.specs.Laws.{AnEmptyScriptWritesNothing, FaultsChangeNothing, StationsAreReached, EnergyIsFromScratch, ExportIsFromScratch, ListedPairsMakeEnergies, ListedPartsMakePeriods, ListsAreFromScratch, TotalsAreFromScratch, BoardsAreFromScratch, SitesAreSums, WorldsAreRuns, UnacceptedChangesNothing, OrderChangesNoBoard};
 
 /// The text of an empty script is empty.
 pub fn empty_script()
@@ -28,6 +28,16 @@ pub fn energies()
 /// After any lines, the answer to `total` is the figures of the station, computed from all its events.
 pub fn totals()
     ensures { TotalsAreFromScratch }
+{}
+
+/// After any lines, the answer to `events` or `readings` is the list of the transaction, computed from all events of its
+/// station. The energies of a list of readings are those of the pairs that it shows, each reading with the one behind
+/// it. The energy of a settlement period of a station, in each direction, is that of the parts of this period in the
+/// lists of all its transactions: each part is in one of them.
+pub fn lists()
+    ensures answers { ListsAreFromScratch }
+    ensures energies { ListedPairsMakeEnergies }
+    ensures periods { ListedPartsMakePeriods }
 {}
 
 /// After any lines, the answer to `board` is the board of the site's stations, computed from all their events.

@@ -4,16 +4,22 @@ use Rattle.std.proofs.lemmas.List.Sums.{count_by_more_no, count_by_more_yes}
 use Rattle.std.specs.Prelude.{filter}
 use Rattle.std.proofs.lemmas.Bool.{eqb-false}
 use Rattle.std.proofs.lemmas.List.{take_more, append-nil}
-use Rattle.std.specs.Prelude.{All, OnOk}
+use Rattle.std.specs.Prelude.{All, IfOk, OnOk}
 use Rattle.std.proofs.lemmas.List.Elements.{All-head, All-tail, filter-append}
 use Rattle.std.proofs.lemmas.Option.{get_or_from_slice_get, slice_get-get_or, slice_get-map, slice_get_within}
 use Rattle.ledger_model.specs.declared.figures.Figures.{Figures}
 use Rattle.energy_flow.specs.Flow.{Energy}
 use Rattle.ledger_model.specs.Board.{Board, board_by}
-use Rattle.ledger_model.specs.Content.{entries}
+use Rattle.ledger_model.specs.Content.{Content, entries}
+use Rattle.ledger_model.specs.Limits.{Bounds}
+use Rattle.ledger_model.specs.Periods.{Periods}
+use Rattle.ledger_model.specs.Step.{Reached}
+use Rattle.ledger_model.specs.declared.order.Order.{Order}
+use Rattle.station_ledger.specs.Listing.{listing_by}
+use Rattle.station_ledger.specs.declared.listing.TxListing.{TxListing}
 use Rattle.site_desk.specs.declared.roster.StationPlace.{StationPlace}
 use Rattle.station_cell.specs.Cell.{Cell}
-use Rattle.site_desk.specs.Operator.{AreBoardsAt, AreBoardsOf, AreNotedBoards, AreTotalsOfName, AreTotalsWithin, IsAmong, IsBoardAt, IsBoardOfCell, IsNotedBoard, before_at}
+use Rattle.site_desk.specs.Operator.{AreBoardsAt, AreBoardsOf, AreNotedBoards, AreTotalsOfName, AreTotalsWithin, IsAmong, IsBoardAt, IsBoardOfCell, IsListingOfName, IsListingWithin, IsNotedBoard, before_at}
 use Rattle.site_desk.specs.Roster.{IsNamed, StandsAt}
 
 -- one board more, of one place more
@@ -53,6 +59,21 @@ totals_named places name k at c f e x named is stands within =
     let limits = stands.limits ∙ ap (λ (p : StationPlace). p.limits) place in
     let order = stands.order ∙ ap (λ (p : StationPlace). p.order) place in
     record { number = k; named = named; totals = subst (λ l. AreTotalsWithin l named.place.order f e x) limits (subst (λ o. AreTotalsWithin c.limits o f e x) order within) }
+
+-- the listing of a ledger
+pub listing_shown : {E : Type 0} (r : Result TxListing E) (limits : Bounds) (by_order order : Order) (by period : Periods) (tx : List ℕ) (content c : Content) → IfOk r (λ l. l ≡ listing_by by_order by tx (entries content)) → by_order ≡ order → by ≡ period → content ≡ c → Reached limits c.changes c
+    → IfOk r (IsListingWithin limits order period tx)
+listing_shown (Ok l) limits by_order order by period tx content c shown ordered same is reached = record { content = c; reached = reached; is = shown ∙ (λ i. listing_by (ordered i) (same i) tx (entries (is i))) }
+listing_shown (Err e) limits by_order order by period tx content c shown ordered same is reached = tt
+
+-- that of a cell at the place of the station of this name
+pub listing_named : (places : List StationPlace) (name : List ℕ) (k : ℕ) (at : StationPlace) (c : Cell) (tx : List ℕ) (l : TxListing) → IsNamed places name k → at ≡ get_or places k at → StandsAt k at c → IsListingWithin c.limits c.order c.period tx l → IsListingOfName places name tx l
+listing_named places name k at c tx l named is stands within =
+    let place : at ≡ named.place = is ∙ get_or_from_slice_get places k named.place at named.there in
+    let limits = stands.limits ∙ ap (λ (p : StationPlace). p.limits) place in
+    let period = stands.period ∙ ap (λ (p : StationPlace). p.period) place in
+    let order = stands.order ∙ ap (λ (p : StationPlace). p.order) place in
+    record { number = k; named = named; listing = subst (λ b. IsListingWithin b named.place.order named.place.period tx l) limits (subst (λ o. IsListingWithin c.limits o named.place.period tx l) order (subst (λ p. IsListingWithin c.limits c.order p tx l) period within)) }
 
 -- what is in a list is in a longer one
 kept_at : {A : Type 0} (xs : List A) (y : A) (i : ℕ) (x : A) → slice_get xs i ≡ Some x → slice_get (xs ++ y ∷ []) i ≡ Some x

@@ -9,10 +9,13 @@ use Rattle.ledger_model.specs.Energy.{energy_by}
 use Rattle.ledger_model.specs.Content.{Content, entries}
 use Rattle.ledger_model.specs.Figures.{AreWithin}
 use Rattle.ledger_model.specs.Limits.{Bounds}
+use Rattle.ledger_model.specs.Periods.{Periods}
 use Rattle.ledger_model.specs.Step.{Reached}
 use Rattle.site_desk.specs.declared.roster.StationPlace.{StationPlace}
 use Rattle.site_desk.specs.Roster.{IsNamed, StandsAt}
 use Rattle.station_cell.specs.Cell.{Cell}
+use Rattle.station_ledger.specs.Listing.{listing_by}
+use Rattle.station_ledger.specs.declared.listing.TxListing.{TxListing}
 use Rattle.site_desk.specs.Submit.{IsBoardWithin}
 
 -- Some content that accepted commands reach under these limits has these figures and these imported
@@ -30,6 +33,20 @@ pub record AreTotalsOfName (places : List StationPlace) (name : List ℕ) (f : F
   pub number : ℕ
   pub named : IsNamed places name number
   pub totals : AreTotalsWithin named.place.limits named.place.order f e x
+
+-- Some content that accepted commands reach under these limits has these events and readings of a transaction, by this
+-- order and these settlement periods.
+pub record IsListingWithin (limits : Bounds) (order : Order) (period : Periods) (tx : List ℕ) (l : TxListing) : Type 0 where
+  pub content : Content
+  pub reached : Reached limits content.changes content
+  pub is : l ≡ listing_by order period tx (entries content)
+
+-- They belong to the station of this name: some content has them that accepted commands reach under the limits of the
+-- station's place, by that place's order and period.
+pub record IsListingOfName (places : List StationPlace) (name tx : List ℕ) (l : TxListing) : Type 0 where
+  pub number : ℕ
+  pub named : IsNamed places name number
+  pub listing : IsListingWithin named.place.limits named.place.order named.place.period tx l
 
 -- The board of the station of this place, under its name: it is the board of some content that
 -- accepted commands reach under the place's limits, by the place's period and order.

@@ -14,7 +14,7 @@ ghost use Rattle.site_desk.specs.Parts.{AreTied, new_viewers};
 ghost use Rattle.site_desk.specs.Plan.{plan_fault};
 ghost use Rattle.site_desk.specs.Roster.{AreNewPlaces, IsNamed};
 ghost use Rattle.ledger_model.specs.Board.{sum_of_figures};
-ghost use Rattle.site_desk.specs.Operator.{AreBoardsAt, AreNotedBoards, AreTotalsOfName};
+ghost use Rattle.site_desk.specs.Operator.{AreBoardsAt, AreNotedBoards, AreTotalsOfName, IsListingOfName};
 ghost use Rattle.site_desk.specs.Submit.{IsBoardOfName, IsUnchanged, Submitted};
 
 use crate::checks::fault_of;
@@ -24,17 +24,19 @@ use crate::gate::Gate;
 use crate::has_cell::HasCell;
 use crate::locks::{Locked, Spare, lock_up, take_viewers, unlock};
 use crate::notes::Notes;
-use crate::operator::{hold_stations, noted_boards_of, site_boards_of, sum_of, totals_of};
+use crate::operator::{
+    hold_stations, listing_of, noted_boards_of, site_boards_of, sum_of, totals_of,
+};
 use crate::parts::Parts;
 use crate::plan::Plan;
 use crate::roster::{Located, StationPlace, number_of, open_places};
 use crate::settles::{AtCell, Settles};
 use crate::submit::{board_of, stands_at};
 use energy_flow::Flow;
-use ledger_model::{Answer, Command, Figures, Listed, Name, Refusal};
+use ledger_model::{Answer, Command, Figures, Listed, Name, Refusal, TxId};
 use site_book::{Naming, SiteBook, Tables, Told, Viewer};
 use station_cell::{Pass, StationCell};
-use station_ledger::StationBoard;
+use station_ledger::{StationBoard, TxListing};
 use std::alloc::{AllocError, Global};
 use std::marker::Model;
 use std::sync::{Mutex, Wait};
@@ -259,6 +261,34 @@ impl<J: Naming, C: HasCell> Desk<J, C> {
         }
         match board_of(cell, alloc) {
             Ok(board) => Ok(board),
+            Err(_) => Err(BoardFault::OutOfMemory),
+        }
+    }
+
+    /// The events and readings of a transaction of the station of this name, all of one moment. It waits for the
+    /// station's lock. Errors: `UnknownStation`, `OutOfMemory`, `Torn`. `Torn` means that another station's cell is
+    /// there, which no run of these calls meets.
+    pub fn station_listing<R: Wait>(
+        &self,
+        rt: &R,
+        alloc: Global,
+        name: &Name,
+        tx: &TxId,
+    ) -> Result<TxListing, BoardFault>
+        ensures unknown { (result ≡ Err BoardFault.UnknownStation) ↔ (list_any (λ p. bytes_eq name.now p.name) self.now.stations ≡ false) }
+        ensures listing { IfOk result (IsListingOfName self.now.stations name.now tx.now) }
+    {
+        let Some(number) = number_of(&self.places, name) else {
+            return Err(BoardFault::UnknownStation);
+        };
+        let lock: &Mutex<C> = &self.cells[number];
+        let held = lock.lock(rt);
+        let there = held.cell();
+        if !stands_at(there, number, &self.places[number]) {
+            return Err(BoardFault::Torn);
+        }
+        match listing_of(there, alloc, tx) {
+            Ok(listing) => Ok(listing),
             Err(_) => Err(BoardFault::OutOfMemory),
         }
     }

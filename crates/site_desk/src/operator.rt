@@ -4,7 +4,7 @@ ghost use Rattle.std.specs.Prelude.{◌≡◌, ◌≢◌, ◌++◌, ◌∷◌, [
 ghost use Rattle.site_desk.specs.declared.fault.BoardFault.{BoardFault};
 ghost use Rattle.ledger_model.specs.Board.{Board, sum_of_figures};
 ghost use Rattle.std.specs.Sync.Mutex.{mutex_guard_value};
-ghost use Rattle.site_desk.specs.Operator.{AreBoardsAt, AreNotedBoards, AreTotalsWithin, IsAmong, IsBoardAt, IsBoardOfCell};
+ghost use Rattle.site_desk.specs.Operator.{AreBoardsAt, AreNotedBoards, AreTotalsWithin, IsAmong, IsBoardAt, IsBoardOfCell, IsListingWithin};
 ghost use Rattle.station_cell.specs.Cell.{Cell};
 
 use crate::checks::plus;
@@ -15,9 +15,9 @@ use crate::notes::Notes;
 use crate::roster::StationPlace;
 use crate::submit::{board_of, stands_at};
 use energy_flow::Flow;
-use ledger_model::{Figures, Name};
+use ledger_model::{Figures, Name, TxId};
 use station_cell::StationCell;
-use station_ledger::StationBoard;
+use station_ledger::{StationBoard, TxListing};
 use std::alloc::{AllocError, Global};
 use std::sync::{Mutex, MutexGuard, Wait};
 
@@ -27,6 +27,17 @@ pub(crate) fn totals_of(cell: &StationCell) -> (Figures, Flow, Flow)
 {
     let ledger = cell.ledger();
     (ledger.figures(), ledger.energy(), ledger.export())
+}
+
+// The events and readings of a transaction of a cell's station.
+pub(crate) fn listing_of(
+    cell: &StationCell,
+    alloc: Global,
+    tx: &TxId,
+) -> Result<TxListing, AllocError>
+    ensures { IfOk result (IsListingWithin cell.now.limits cell.now.order cell.now.period tx.now) }
+{
+    cell.ledger().listing(alloc, tx)
 }
 
 // The cells of a site's stations, each with its lock held, in the plan's order.

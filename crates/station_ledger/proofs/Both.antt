@@ -12,7 +12,8 @@ use Rattle.quarter_table.specs.Table.{Table}
 use Rattle.quarter_table.specs.Pairs.{rows_of, rows_with, rows_without}
 use Rattle.station_ledger.specs.Quarters.{HasRoom, HoldsBoth, HoldsPairs, AreAdded, AreTaken, IsAdded, IsSumOf, IsTaken, both_length, both_quartered, quartered}
 use Rattle.station_ledger.proofs.Rows.{room_fewer, rows_more, rows_less}
-use Rattle.station_ledger.proofs.Walks.{rows_with-append, rows_without-append}
+use Rattle.quarter_table.proofs.Several.{rows_with-append}
+use Rattle.station_ledger.proofs.Walks.{rows_without-append}
 
 pub room_first : (ps : Direction → List Pair) {t : Table} → HasRoom (both_length ps) t → HasRoom (length (ps Import)) t
 room_first ps has = room_fewer has (omega arith)

@@ -18,10 +18,12 @@ use Rattle.ledger_model.specs.InTime.{in_time, put_in_time}
 use Rattle.ledger_model.specs.ReadingOrder.{Numbered, numbered, numbered_by}
 use Rattle.ledger_model.proofs.Callers.{AreEntries, AreForeign, AreOwn, IsEntry, few_toward, in_time-map, live_else, live_with, live_without, numbered_readings, own_before_key, own_behind_key, put-behind, put-front}
 use Rattle.reading_index.specs.Ranks.{number_of, owner, owner_of, rank}
-use Rattle.reading_index.specs.Timed.{Timed, has_rank, without, AreAbove, AreRising}
+use Rattle.reading_index.specs.Timed.{Timed, has_rank, placed_at, without, AreAbove, AreRising}
+use Rattle.reading_index.specs.declared.placed.PlacedReading.{PlacedReading}
 use Rattle.station_ledger.specs.ByMoment.{bare, live_readings, put_each, ranked, ranked_from, take_each, timed_of}
 use Rattle.station_ledger.specs.Runs.{own_timed}
-use Rattle.station_ledger.proofs.MomentRanks.{at, number_of-rank, owner_of-rank, length-put, put-ranked}
+use Rattle.station_ledger.specs.Listing.{placed, placed_by, placed_from}
+use Rattle.station_ledger.proofs.MomentRanks.{at, number_of-rank, owner_of-rank, length-put, place_of-rank, put-ranked}
 
 -- What is so of each reading is so of each by rank.
 module _ (P : Timed → Type 0) where
@@ -444,6 +446,19 @@ entries_shown slot d (e ∷ es) range =
     map-append shown (ranked slot d e) (flat_map (ranked slot d) es)
     ∙ (λ i. shown_from (owner slot d) e.0.seq 0 (toward d e.1.event.readings) it.key.number (few_ranked d e it) i ++ entries_shown slot d es range.1 i)
 
+placed_shown : (o n p : ℕ) (rs : List MeterReading) → n < 2 ^ 31 → p + length rs ≤ 2 ^ 10 → map placed_at (ranked_from o n p rs) ≡ placed_from n p rs
+placed_shown o n p [] number room = refl
+placed_shown o n p (r ∷ rs) number room =
+    let n_is = number_of-rank o r.moment n p number (omega (arith, room)) in let p_is = place_of-rank o r.moment n p (omega (arith, room)) in
+    (λ i. record { number = n_is i; place = p_is i; reading = r } ∷ placed_shown o n (p + 1) rs number (omega (arith, room)) i)
+
+entries_placed : (slot : ℕ) (d : Direction) (es : List Entry) → AreEntries es → map placed_at (flat_map (ranked slot d) es) ≡ flat_map (placed d) es
+entries_placed slot d [] range = refl
+entries_placed slot d (e ∷ es) range =
+    let it : IsEntry e = range.0 in
+    map-append placed_at (ranked slot d e) (flat_map (ranked slot d) es)
+    ∙ (λ i. placed_shown (owner slot d) e.0.seq 0 (toward d e.1.event.readings) it.key.number (few_ranked d e it) i ++ entries_placed slot d es range.1 i)
+
 bare_shown : (ts : List Timed) → bare ts ≡ map (λ (n : Numbered). n.1) (map shown ts)
 bare_shown [] = refl
 bare_shown (t ∷ ts) = ap (λ rs. t.1 ∷ rs) (bare_shown ts)
@@ -466,6 +481,13 @@ module _ (slot : ℕ) (d : Direction) (tx : List ℕ) (es : List Entry) (range :
       ap (map shown) (by_rank (flat_map (ranked slot d) (live_of tx es)) live_listed)
       ∙ sym (in_time-map (λ (n : Numbered). n.1.moment) shown (flat_map (ranked slot d) (live_of tx es)))
       ∙ ap (in_time (λ (n : Numbered). n.1.moment)) (entries_shown slot d (live_of tx es) live_range)
+
+  -- and their places there
+  pub placed-timed : map placed_at (timed_of slot d tx es) ≡ placed_by Moment d tx es
+  placed-timed =
+      ap (map placed_at) (by_rank (flat_map (ranked slot d) (live_of tx es)) live_listed)
+      ∙ sym (in_time-map (λ (p : PlacedReading). p.reading.moment) placed_at (flat_map (ranked slot d) (live_of tx es)))
+      ∙ ap (in_time (λ (p : PlacedReading). p.reading.moment)) (entries_placed slot d (live_of tx es) live_range)
 
   -- and without
   pub bare-timed : bare (timed_of slot d tx es) ≡ readings_by Moment d tx es

@@ -7,7 +7,7 @@ use Rattle.ledger_model.specs.declared.reading.Direction.{Direction}
 use Rattle.ledger_model.specs.declared.reading.Direction.TheVariants.{Import, Export}
 use Rattle.ledger_model.specs.InTime.{put_in_time, AreInTime}
 use Rattle.ledger_model.proofs.Callers.{put-behind, put-front, put-passed}
-use Rattle.reading_index.specs.Ranks.{number_of, owner, owner_of, rank}
+use Rattle.reading_index.specs.Ranks.{number_of, owner, owner_of, place_of, rank}
 use Rattle.key_index.proofs.Orders.{above_less}
 use Rattle.reading_index.specs.Timed.{Timed, from_on, has_rank, in_front, owned, without, AreAbove, AreRising}
 
@@ -25,6 +25,9 @@ pub number_of-rank : (o m n p : ℕ) → n < 2 ^ 31 → p < 2 ^ 10 → number_of
 number_of-rank o m n p number place =
     ap (λ r. r % 2 ^ 31) (div-mul-add ((o * 2 ^ 62 + m) * 2 ^ 31 + n) (2 ^ 10) p place)
     ∙ mod-mul-add (o * 2 ^ 62 + m) (2 ^ 31) n number
+
+pub place_of-rank : (o m n p : ℕ) → p < 2 ^ 10 → place_of (rank o m n p) ≡ p
+place_of-rank o m n p place = mod-mul-add ((o * 2 ^ 62 + m) * 2 ^ 31 + n) (2 ^ 10) p place
 
 -- Two slots or two directions have two owners.
 pub owner-apart : (s u : ℕ) (d e : Direction) → owner s d ≡ owner u e → (s ≡ u) × (d ≡ e)

@@ -10,9 +10,10 @@ use Rattle.std.proofs.lemmas.Bool.{ne_eqb}
 use Rattle.event_chain.specs.Table.{Table, row_of}
 use Rattle.ledger_model.specs.InTime.{in_time}
 use Rattle.ledger_model.specs.Limits.{Bounds}
-use Rattle.ledger_model.specs.declared.order.Order.TheVariants.{Moment}
+use Rattle.ledger_model.specs.declared.order.Order.{Order}
+use Rattle.ledger_model.specs.declared.order.Order.TheVariants.{Sequence, Moment}
 use Rattle.ledger_model.specs.declared.reading.Direction.TheVariants.{Import, Export}
-use Rattle.quarter_table.proofs.Several.{made_with}
+use Rattle.quarter_table.proofs.Several.{made_with, rows_with-append}
 use Rattle.station_ledger.specs.ByMoment.{AreSlots}
 use Rattle.std.specs.Str.{bytes_eq}
 use Rattle.std.proofs.lemmas.Grind.{flat_map-append}
@@ -24,24 +25,25 @@ use Rattle.event_chain.specs.Room.{readings_under}
 use Rattle.event_chain.proofs.Decided.{key_test}
 use Rattle.ledger_model.specs.Content.{Entry, live, live_of}
 use Rattle.ledger_model.specs.Deltas.{across, pairs_between}
-use Rattle.ledger_model.specs.Energy.{Pair, followed, parts_of, parts_over, readings_by, readings_of}
+use Rattle.ledger_model.specs.Energy.{Pair, followed, parts_of, parts_over, readings_by}
 use Rattle.ledger_model.specs.Entries.{IsRising}
 use Rattle.ledger_model.specs.Event.{MeterReading, toward}
 use Rattle.ledger_model.specs.Gaps.{numbers_of}
 use Rattle.ledger_model.specs.Key.{key_cmp}
 use Rattle.ledger_model.specs.declared.reading.Direction.{Direction}
-use Rattle.ledger_model.proofs.Callers.{find_below, first, second}
+use Rattle.ledger_model.proofs.Callers.{find_below, first, in_time-map, second}
 use Rattle.ledger_model.specs.Energy.{flows_toward}
 use Rattle.ledger_model.specs.Parts.{Part}
 use Rattle.ledger_model.specs.declared.settle.Settle.{Settle}
 use Rattle.ledger_model.specs.declared.settle.Settle.TheVariants.{Later, Closing, Even}
 use Rattle.quarter_table.specs.declared.row.QuarterRow.{QuarterRow}
 use Rattle.quarter_table.specs.Pairs.{parts_toward, rows_of, rows_with}
+use Rattle.reading_index.specs.declared.placed.PlacedReading.{PlacedReading}
+use Rattle.station_ledger.specs.Listing.{placed, placed_by, placed_from}
 use Rattle.station_ledger.specs.Numbered.{AreNumbered, AreNumbers}
 use Rattle.station_ledger.specs.Quarters.{readings_at}
 use Rattle.station_ledger.specs.Shares.{evenly, with_shares}
 use Rattle.station_ledger.proofs.Numbered.{live_numbered}
-use Rattle.station_ledger.proofs.Walks.{rows_with-append}
 
 -- Shares of more pairs are added behind those of the first.
 pub shares-append : (length : ℕ) (d : Direction) (ps qs : List Pair) (rows : List QuarterRow) → with_shares length d (ps ++ qs) rows ≡ with_shares length d qs (with_shares length d ps rows)
@@ -100,32 +102,38 @@ found_passed : (p : Entry → Bool) (all es : List Entry) → AllByRecursion (Is
 found_passed p all [] found = tt
 found_passed p all (e ∷ es) found = elim (p e) as (λ b. AllByRecursion (IsFound all) (cond b (e ∷ filter p es) (filter p es))) [ true ↦ (found.0, found_passed p all es found.1) | false ↦ found_passed p all es found.1 ]
 
--- The readings under the numbers of a transaction's entries are those of the entries.
-read_each : (d : Direction) (tx : List ℕ) (all es : List Entry) → AllByRecursion (IsFound all) es
-    → flat_map (λ n. readings_under d (find key_cmp (record { tx = tx; seq = n }) all)) (map (λ (e : Entry). e.0.seq) (filter (λ (e : Entry). bytes_eq tx e.0.tx) es)) ≡ flat_map (λ (e : Entry). toward d e.1.event.readings) (filter (λ (e : Entry). bytes_eq tx e.0.tx) es)
-read_each d tx all [] found = refl
-read_each d tx all (e ∷ es) found = step (bytes_eq tx e.0.tx) refl (read_each d tx all es found.1)
-  where
-    own : List Entry
-    own = filter (λ (f : Entry). bytes_eq tx f.0.tx) es
+-- What the readings under the numbers of a transaction's entries make is what those of the entries make.
+module _ {X : Type 0} (made : ℕ → List MeterReading → List X) where
+  read_each : (d : Direction) (tx : List ℕ) (all es : List Entry) → AllByRecursion (IsFound all) es
+      → flat_map (λ n. made n (readings_under d (find key_cmp (record { tx = tx; seq = n }) all))) (map (λ (e : Entry). e.0.seq) (filter (λ (e : Entry). bytes_eq tx e.0.tx) es))
+      ≡ flat_map (λ (e : Entry). made e.0.seq (toward d e.1.event.readings)) (filter (λ (e : Entry). bytes_eq tx e.0.tx) es)
+  read_each d tx all [] found = refl
+  read_each d tx all (e ∷ es) found = step (bytes_eq tx e.0.tx) refl (read_each d tx all es found.1)
+    where
+      own : List Entry
+      own = filter (λ (f : Entry). bytes_eq tx f.0.tx) es
 
-    reads : ℕ → List MeterReading
-    reads n = readings_under d (find key_cmp (record { tx = tx; seq = n }) all)
+      reads : ℕ → List X
+      reads n = made n (readings_under d (find key_cmp (record { tx = tx; seq = n }) all))
 
-    step : (b : Bool) → bytes_eq tx e.0.tx ≡ b → flat_map reads (map (λ (f : Entry). f.0.seq) own) ≡ flat_map (λ (f : Entry). toward d f.1.event.readings) own
-        → flat_map reads (map (λ (f : Entry). f.0.seq) (cond b (e ∷ own) own)) ≡ flat_map (λ (f : Entry). toward d f.1.event.readings) (cond b (e ∷ own) own)
-    step false is rest = rest
-    step true is rest =
-        let same : tx ≡ e.0.tx = (bytes_eq-Decides tx e.0.tx).0 is in
-        let here : reads e.0.seq ≡ toward d e.1.event.readings = ap (λ t. readings_under d (find key_cmp (record { tx = t; seq = e.0.seq }) all)) same ∙ ap (readings_under d) found.0 in
-        λ i. here i ++ rest i
+      of_entry : Entry → List X
+      of_entry f = made f.0.seq (toward d f.1.event.readings)
 
--- Along the numbers of a transaction's live events are its readings.
-pub read_along : (d : Direction) (tx : List ℕ) (chains : Chained) → flat_map (λ n. readings_at d chains (record { tx = tx; seq = n })) (numbers_of tx (stored chains)) ≡ readings_of d tx (stored chains)
-read_along d tx chains =
-    let es = stored chains in
-    ap (λ (f : ℕ → List MeterReading). flat_map f (numbers_of tx es)) (λ i n. readings_under d (finite.get-entries chains.events (record { tx = tx; seq = n }) i))
-    ∙ read_each d tx es (live es) (found_passed (λ (e : Entry). not e.1.voided) es es (all_found es (finite.entries_sorted chains.events)))
+      step : (b : Bool) → bytes_eq tx e.0.tx ≡ b → flat_map reads (map (λ (f : Entry). f.0.seq) own) ≡ flat_map of_entry own
+          → flat_map reads (map (λ (f : Entry). f.0.seq) (cond b (e ∷ own) own)) ≡ flat_map of_entry (cond b (e ∷ own) own)
+      step false is rest = rest
+      step true is rest =
+          let same : tx ≡ e.0.tx = (bytes_eq-Decides tx e.0.tx).0 is in
+          let here : readings_under d (find key_cmp (record { tx = tx; seq = e.0.seq }) all) ≡ toward d e.1.event.readings = ap (λ t. readings_under d (find key_cmp (record { tx = t; seq = e.0.seq }) all)) same ∙ ap (readings_under d) found.0 in
+          λ i. made e.0.seq (here i) ++ rest i
+
+  -- So along the numbers of a transaction's live events.
+  pub read_along : (d : Direction) (tx : List ℕ) (chains : Chained)
+      → flat_map (λ n. made n (readings_at d chains (record { tx = tx; seq = n }))) (numbers_of tx (stored chains)) ≡ flat_map (λ (e : Entry). made e.0.seq (toward d e.1.event.readings)) (live_of tx (stored chains))
+  read_along d tx chains =
+      let es = stored chains in
+      ap (λ (f : ℕ → List X). flat_map f (numbers_of tx es)) (λ i n. made n (readings_under d (finite.get-entries chains.events (record { tx = tx; seq = n }) i)))
+      ∙ read_each d tx es (live es) (found_passed (λ (e : Entry). not e.1.voided) es es (all_found es (finite.entries_sorted chains.events)))
 
 -- The numbers of entries are those of events.
 numbers_each : (es : List Entry) → AreNumbered es → AreNumbers (map (λ (e : Entry). e.0.seq) es)
@@ -146,13 +154,28 @@ next_number [] rest n some is after = absurd (omega (arith, some))
 next_number (m ∷ was) rest n some is after = λ i. sym is i ∷ sym after i
 
 -- The readings of one number more are listed.
-pub walked : (reads : ℕ → List MeterReading) (was rest : List ℕ) (n : ℕ) (done next all : List MeterReading) → was ≡ n ∷ rest → next ≡ done ++ reads n → done ++ flat_map reads was ≡ all → next ++ flat_map reads rest ≡ all
+pub walked : {X : Type 0} (reads : ℕ → List X) (was rest : List ℕ) (n : ℕ) (done next all : List X) → was ≡ n ∷ rest → next ≡ done ++ reads n → done ++ flat_map reads was ≡ all → next ++ flat_map reads rest ≡ all
 walked reads was rest n done next all steps more so_far = ap (λ rs. rs ++ flat_map reads rest) more ∙ append_assoc done (reads n) (flat_map reads rest) ∙ sym (ap (λ ns. done ++ flat_map reads ns) steps) ∙ so_far
 
+-- Without their numbers and places they are the readings in a site's order.
+places_off : (n p : ℕ) (rs : List MeterReading) → map (λ (r : PlacedReading). r.reading) (placed_from n p rs) ≡ rs
+places_off n p [] = refl
+places_off n p (r ∷ rs) = ap (λ ss. r ∷ ss) (places_off n (p + 1) rs)
+
+places_off_each : (d : Direction) (es : List Entry) → map (λ (r : PlacedReading). r.reading) (flat_map (placed d) es) ≡ flat_map (λ (e : Entry). toward d e.1.event.readings) es
+places_off_each d [] = refl
+places_off_each d (e ∷ es) = map-append (λ (r : PlacedReading). r.reading) (placed d e) (flat_map (placed d) es) ∙ (λ i. places_off e.0.seq 0 (toward d e.1.event.readings) i ++ places_off_each d es i)
+
+pub placed_readings : (order : Order) (d : Direction) (tx : List ℕ) (es : List Entry) → map (λ r. r.reading) (placed_by order d tx es) ≡ readings_by order d tx es
+placed_readings Sequence d tx es = places_off_each d (live_of tx es)
+placed_readings Moment d tx es =
+    sym (in_time-map (λ (r : MeterReading). r.moment) (λ (r : PlacedReading). r.reading) (flat_map (placed d) (live_of tx es)))
+    ∙ ap (in_time (λ (r : MeterReading). r.moment)) (places_off_each d (live_of tx es))
+
 -- A transaction without a slot has no reading by moment.
-pub none_in_time : (d : Direction) (tx : List ℕ) (limits : Bounds) (es : List Entry) (slots : Table) → AreSlots limits es slots → row_of tx slots.rows ≡ None → readings_by Moment d tx es ≡ []
+pub none_in_time : (d : Direction) (tx : List ℕ) (limits : Bounds) (es : List Entry) (slots : Table) → AreSlots limits es slots → row_of tx slots.rows ≡ None → placed_by Moment d tx es ≡ []
 none_in_time d tx limits es slots are none =
-    ap (λ us. in_time (λ (r : MeterReading). r.moment) (flat_map (λ (e : Entry). toward d e.1.event.readings) us)) (none_live (live_of tx es) (sym (ap is_some none) ∙ are.each tx))
+    ap (λ us. in_time (λ (r : PlacedReading). r.reading.moment) (flat_map (placed d) us)) (none_live (live_of tx es) (sym (ap is_some none) ∙ are.each tx))
   where
     none_live : (us : List Entry) → false ≡ not (length us == 0) → us ≡ []
     none_live [] h = refl

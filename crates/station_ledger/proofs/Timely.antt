@@ -162,6 +162,13 @@ in_parts Even length c k is since until h = shared_in (is_shared c) refl h
         (own_quarter length (c.until - 1) is (let a = since.0 in let b = until.1 in (omega (arith, a, up), omega (arith, b))))
         low (omega (arith, high, ordered))
 
+own_parts : (length : ℕ) (ts : List Part) → ((k : ℕ) → IsIn k (map (λ (t : Part). t.0) ts) → IsQuarterOf length k) → All (λ (t : Part). IsQuarterOf length t.0) ts
+own_parts length [] h = All-nil (λ (t : Part). IsQuarterOf length t.0)
+own_parts length (t ∷ ts) h = All-cons (λ (t : Part). IsQuarterOf length t.0) t ts (h t.0 (inl refl)) (own_parts length ts (λ k there. h k (inr there)))
+
+pub parts_own : (period : Periods) (p : Pair) → IsPeriod period.length → IsMoment p.0.moment → IsMoment p.1.moment → All (λ (t : Part). IsQuarterOf period.length t.0) (parts_of period p)
+parts_own period p is since until = own_parts period.length (parts_of period p) (λ k there. in_parts period.rule period.length (change_of p) k is since until there)
+
 -- a part of several differences is one of the first, or of the others
 either_part : (ts us : List Part) (k : ℕ) → IsIn k (map (λ (t : Part). t.0) (ts ++ us)) → IsIn k (map (λ (t : Part). t.0) ts) ⊎ IsIn k (map (λ (t : Part). t.0) us)
 either_part [] us k h = inr h

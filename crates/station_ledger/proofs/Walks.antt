@@ -11,9 +11,10 @@ use Rattle.ledger_model.specs.declared.reading.Direction.TheVariants.{Import, Ex
 use Rattle.ledger_model.specs.Event.{MeterReading, same_direction, toward}
 use Rattle.ledger_model.specs.Ranges.{greatest_reading}
 use Rattle.quarter_table.specs.declared.row.QuarterRow.{QuarterRow}
-use Rattle.quarter_table.specs.Rows.{row_at, set_row, with_pair, without_pair}
+use Rattle.quarter_table.specs.Rows.{row_at, set_row, without_pair}
 use Rattle.quarter_table.specs.Pairs.{rows_of, rows_with, rows_without}
 use Rattle.quarter_table.specs.Table.{Table}
+use Rattle.quarter_table.proofs.Several.{rows_with-append}
 use Rattle.station_ledger.specs.Quarters.{HasRoom, HoldsPairs, IsAdded, IsTaken, quartered}
 use Rattle.station_ledger.proofs.Rows.{rows_more, rows_less}
 
@@ -26,10 +27,6 @@ energy_over-append ps qs =
 
 pub quartered-append : (period : Periods) (d : Direction) (ps qs : List Pair) → quartered period d (ps ++ qs) ≡ quartered period d ps ++ quartered period d qs
 quartered-append period d ps qs = map-append (λ p. (quarter_of period p, flows_toward d (difference p))) ps qs
-
-pub rows_with-append : (fs gs : List Flowed) (rows : List QuarterRow) → rows_with (fs ++ gs) rows ≡ rows_with gs (rows_with fs rows)
-rows_with-append [] gs rows = refl
-rows_with-append (f ∷ fs) gs rows = rows_with-append fs gs (set_row (with_pair f.1 (row_at f.0 rows)) rows)
 
 pub rows_without-append : (fs gs : List Flowed) (rows : List QuarterRow) → rows_without (fs ++ gs) rows ≡ rows_without gs (rows_without fs rows)
 rows_without-append [] gs rows = refl

@@ -16,3 +16,4 @@ pub mod New
 pub mod Lines
 pub mod Numbered
 pub mod Shares
+pub mod Listing

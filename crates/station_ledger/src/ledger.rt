@@ -9,6 +9,7 @@ ghost use Rattle.ledger_model.specs.Figures.{AreWithin};
 ghost use Rattle.ledger_model.specs.Board.{board_by, figures_by};
 ghost use Rattle.ledger_model.specs.Step.{Reached, answer, answer_to_deliver, answer_to_void, answer_to_voided, accepted_within_limit, step};
 ghost use Rattle.station_ledger.specs.Judged.{IsApplied, IsJudged};
+ghost use Rattle.station_ledger.specs.Listing.{listing_by};
 ghost use Rattle.station_ledger.specs.New.{answer_to_new};
 ghost use Rattle.station_ledger.specs.Spent.{IsSpent, most_spent};
 ghost use Rattle.station_ledger.specs.Used.{used_limits};
@@ -16,6 +17,7 @@ ghost use Rattle.station_ledger.specs.Used.{used_limits};
 use crate::board::StationBoard;
 use crate::judgement::Judgement;
 use crate::lines::board_of;
+use crate::listing::{TxListing, listing_of};
 use crate::moves::carry_out;
 use crate::sums::Sums;
 use crate::used::UsedLimits;
@@ -54,8 +56,8 @@ impl Model for StationLedger {
 
 impl StationLedger {
     /// A ledger without events, for these limits. Its board has settlement periods of this length, takes the
-    /// readings of a transaction in this order and counts differences by this rule. Only this call and
-    /// [`StationLedger::board`] can run out of memory.
+    /// readings of a transaction in this order and counts differences by this rule. Only this call,
+    /// [`StationLedger::board`] and [`StationLedger::listing`] can run out of memory.
     pub fn open(
         alloc: Global,
         limits: Limits,
@@ -258,8 +260,17 @@ impl StationLedger {
         self.sums.evses[usize::from(evse.number())].export
     }
 
+    /// The events of a transaction, live and voided; its live readings, in the order of the ledger, each with the
+    /// number of its event; and its energies. A transaction without an event has none. The error says that the
+    /// allocator refused memory.
+    pub fn listing(&self, alloc: Global, tx: &TxId) -> Result<TxListing, AllocError>
+        ensures { IfOk result (λ l. l ≡ listing_by self.now.order self.now.period tx.now (entries self.now.content)) }
+    {
+        listing_of(alloc, &self.chains, &self.sums, tx)
+    }
+
     /// The board: the figures; the EVSEs and the periods with their energies; and the transactions
-    /// with a live event, with their gaps. It is the only call on an open ledger that takes memory.
+    /// with a live event, with their gaps. It takes memory, as [`StationLedger::listing`] does; no other call does.
     pub fn board(&self, alloc: Global) -> Result<StationBoard, AllocError>
         ensures board { IfOk result (λ b. b ≡ board_by self.now.order self.now.period (entries self.now.content)) }
         ensures within { IfOk result (λ b. AreWithin self.now.limits b.figures) }
@@ -305,9 +316,6 @@ impl StationLedger {
     pub fn order(&self) -> Order
         ensures { result ≡ self.now.order }
     {
-        match self.sums.by_moment {
-            None => Order::Sequence,
-            Some(_) => Order::Moment,
-        }
+        self.sums.order()
     }
 }

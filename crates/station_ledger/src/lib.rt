@@ -11,7 +11,8 @@
 //! transactions of one EVSE; [`StationLedger::export`] and [`StationLedger::evse_export`] do the same for
 //! the export register. [`StationLedger::figures`] sums up the station in nine numbers. A
 //! [`StationBoard`] shows the figures, the EVSEs and the periods with their energies, and each
-//! transaction with a live event and its missing numbers. None of these calls is lent a `Work`, so none
+//! transaction with a live event and its missing numbers. [`StationLedger::listing`] lists the events of a transaction,
+//! and the readings that its energy is made of. None of these calls is lent a `Work`, so none
 //! compares readings by [`energy_flow::difference`]. The board of a station that settles evenly looks at
 //! levels, which needs the allocator: what two readings show is shared by time when the board is made.
 //!
@@ -20,8 +21,8 @@
 //! a ledger counts lead from the empty content to its own. A caller that needs the answer before the change, because it
 //! writes the change down first, asks for the judgement and hands it on ([`StationLedger::judgement`],
 //! [`StationLedger::apply_judged`]). `energy`, `evse`, `export`, `evse_export`, `figures` and `board` are what the
-//! definitions compute from scratch from the present content. Only `open` and `board` can run out of memory; the other
-//! calls have no such exception.
+//! definitions compute from scratch from the present content. Only `open`, `board` and `listing` can run out of memory; the
+//! other calls have no such exception.
 //!
 //! A change costs only what one event changes. By sequence, in each direction in which the event has
 //! readings, the pair across its place is taken back and the pairs that its readings make are added.
@@ -30,7 +31,7 @@
 //! them takes back the pair across it, and the pairs that they make are added: at most one difference
 //! for each reading and two for each run. In a direction in which the event has no reading nothing is
 //! compared. The sums are kept beside the events and follow those pairs. No change computes a figure anew, and
-//! only `open` and `board` ask for memory.
+//! only `open`, `board` and `listing` ask for memory.
 //!
 //! ```text
 //! let mut ledger = StationLedger::open(alloc, limits, period, order, settle)?;
@@ -45,6 +46,7 @@ mod by_moment;
 mod judgement;
 mod ledger;
 mod lines;
+mod listing;
 mod moves;
 mod pairs;
 mod shares;
@@ -54,8 +56,11 @@ mod totals;
 mod used;
 
 pub use board::{EvseLine, QuarterLine, StationBoard, TxLine};
+pub use event_chain::EventLine;
 pub use judgement::Judgement;
 pub use ledger::StationLedger;
+pub use listing::{TxListing, parts_between};
+pub use reading_index::PlacedReading;
 #[doc(hidden)]
 pub use standing::Standing;
 #[doc(hidden)]

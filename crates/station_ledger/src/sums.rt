@@ -76,6 +76,16 @@ fn by_moment_in(
 }
 
 impl Sums {
+    // The order in which the readings of a transaction are taken.
+    pub(crate) fn order(&self) -> Order
+        ensures { result ≡ order_in self.now }
+    {
+        match self.by_moment {
+            None => Order::Sequence,
+            Some(_) => Order::Moment,
+        }
+    }
+
     // The sums of no events, by this length of settlement periods, with room for as many events as
     // these limits allow.
     pub(crate) fn open(

@@ -6,7 +6,8 @@ use Rattle.ledger_model.specs.Energy.{followed, pairs_by}
 use Rattle.station_ledger.specs.declared.standing.Standing.{Standing}
 use Rattle.station_ledger.specs.Shares.{with_shares}
 use Rattle.station_ledger.specs.Sums.{order_in}
-use Rattle.station_ledger.proofs.Sharing.{shares-append, taken_more}
+use Rattle.reading_index.specs.declared.placed.PlacedReading.{PlacedReading}
+use Rattle.station_ledger.proofs.Sharing.{placed_readings, shares-append, taken_more}
 use Rattle.station_ledger.proofs.TransactionLines.{kept_ids}
 use Rattle.station_ledger.proofs.shares.share_direction.Goals as goal
 
@@ -18,7 +19,7 @@ loop-place-preserved c =
     let tx = c.unwrap-tx.result.now in
     let at = sym c.id_at.ensures ∙ ap (option_map (λ id. id.now)) c.unwrap-tx.ensures in
     let so_far = flat_map (λ t. pairs_by order d t es) (take c.loop-place.place ids) in
-    let readings = c.deref.ensures.value ∙ c.in_ok-readings.ensures in
+    let readings = ap (λ (rs : List PlacedReading). map (λ r. r.reading) rs) (c.deref.ensures.value ∙ c.in_ok-readings.ensures) ∙ placed_readings order d tx es in
     c.in_ok-share_row.ensures
     ∙ (λ i. with_shares (c.length.ensures.value i) d (followed (readings i)) (c.loop-place.invariant i))
     ∙ sym (shares-append n d so_far (pairs_by order d tx es) c.args.table.now.rows)

@@ -1,21 +1,28 @@
-use Rattle.std.proofs.Common.{◌≡◌, ◌-◌, ◌∷◌, None, take, drop, length, sym, ap, ◌∙◌}
+use Rattle.std.proofs.Common.{◌≡◌, ◌-◌, ◌∷◌, List, None, take, drop, length, map, sym, ap, ◌∙◌}
 use Rattle.std.proofs.lemmas.List.{take_rest}
 use Rattle.ledger_model.specs.Deltas.{pairs_between}
+use Rattle.ledger_model.specs.Event.{MeterReading}
+use Rattle.reading_index.specs.declared.placed.PlacedReading.{PlacedReading}
 use Rattle.station_ledger.specs.Shares.{with_shares}
 use Rattle.station_ledger.proofs.Sharing.{empty, followed_between, none_left, stepped}
 use Rattle.station_ledger.proofs.Walks.{first_and_rest}
 use Rattle.station_ledger.proofs.shares.share_row.Goals as goal
 
+readings : List PlacedReading → List MeterReading
+readings rs = map (λ (r : PlacedReading). r.reading) rs
+
 pub loop-left-preserved : goal.loop-left-preserved
+unfolding readings
 loop-left-preserved c =
     let r = c.first-item.result in let left = c.loop-left.left.now in let rest = take (length left - 1) (drop 1 left) in
     let steps : left ≡ r ∷ rest = first_and_rest left rest r r c.in-len1-up.len_at_least c.first-item.is (take_rest left 1) in
-    stepped c.args.length c.args.direction c.loop-left.last r left rest c.loop-left.table.rows c.share_across.new.table.rows _ steps c.in_ok-share_across.ensures c.loop-left.invariant
+    stepped c.args.length c.args.direction c.loop-left.last r.reading (readings left) (readings rest) c.loop-left.table.rows c.share_across.new.table.rows _ (ap readings steps) c.in_ok-share_across.ensures c.loop-left.invariant
 
 pub returns : goal.returns
+unfolding readings
 returns c =
     let n = c.args.length in let d = c.args.direction in let rows = c.loop-left.table.rows in let last = c.loop-left.last in
     sym (ap (λ ps. with_shares n d ps rows) (none_left last))
-    ∙ ap (λ rs. with_shares n d (pairs_between last rs None) rows) (sym (empty c.loop-left.left.now c.in_default.len_below))
+    ∙ ap (λ rs. with_shares n d (pairs_between last (readings rs) None) rows) (sym (empty c.loop-left.left.now c.in_default.len_below))
     ∙ c.loop-left.invariant
-    ∙ ap (λ ps. with_shares n d ps c.args.table.now.rows) (sym (followed_between c.args.readings.now))
+    ∙ ap (λ ps. with_shares n d ps c.args.table.now.rows) (sym (followed_between (readings c.args.readings.now)))

@@ -1,0 +1,30 @@
+use Rattle.std.proofs.Common.{ap, ◌∙◌, bytes_eq, get_or, subst}
+use Rattle.std.specs.List.{list_any}
+use Rattle.site_desk.specs.declared.roster.StationPlace.{StationPlace}
+use Rattle.site_desk.specs.Roster.{IsNamed}
+use Rattle.site_desk.proofs.Ends.{known_not}
+use Rattle.site_desk.proofs.Operators.{listing_named}
+use Rattle.site_desk.proofs.desk.Desk.station_listing.Goals as goal
+
+pub returns-in-Ok-clause-unknown : goal.returns-in-Ok-clause-unknown
+returns-in-Ok-clause-unknown g c =
+    known_not _ _ _ (λ e. cc) (c.in-Some.ensures.known ∙ ap (list_any (λ (p : StationPlace). bytes_eq c.args.name.now p.name)) (c.deref.ensures.value ∙ ap (λ r. r.stations) c.self.view_is))
+
+pub returns-clause-unknown : goal.returns-clause-unknown
+returns-clause-unknown g c =
+    known_not _ _ _ (λ e. cc) (c.in-Some.ensures.known ∙ ap (list_any (λ (p : StationPlace). bytes_eq c.args.name.now p.name)) (c.deref.ensures.value ∙ ap (λ r. r.stations) c.self.view_is))
+
+pub returns-then-not-stands_at-clause-unknown : goal.returns-then-not-stands_at-clause-unknown
+returns-then-not-stands_at-clause-unknown g c =
+    known_not _ _ _ (λ e. cc) (c.in-Some.ensures.known ∙ ap (list_any (λ (p : StationPlace). bytes_eq c.args.name.now p.name)) (c.deref.ensures.value ∙ ap (λ r. r.stations) c.self.view_is))
+
+pub returns-in-Ok-clause-listing : goal.returns-in-Ok-clause-listing
+returns-in-Ok-clause-listing g c =
+    let name = c.args.name.now in
+    let number = c.in-Some.number in
+    let at = c.index-2.result.now in
+    let same = ap (λ r. r.stations) c.self.view_is in
+    let named = subst (λ ps. IsNamed ps name number) (c.deref.ensures.value ∙ same) c.in-Some.ensures.named in
+    let place = c.index-2.ensures ∙ ap (λ ps. get_or ps number at) same in
+    let stands = c.stands_at.ensures c.if-not-stands_at.false in
+    listing_named c.args.self.now.stations name number at c.cell-there.result.now c.args.tx.now c.in-Ok.listing named place stands c.in-Ok.ensures
