@@ -4,7 +4,8 @@
 
 The same commands go to a station of each site: new events, repeats, late and conflicting ones, several readings of
 one moment, clocks that go back, readings that are listed again, imported and exported, voids, restorations, erasures.
-Behind each command comes the station's total, and each hundred the boards. The status is 1 if a line differs.
+Behind each command comes the station's total, and each hundred the boards and the lists of all transactions. The
+status is 1 if a line differs.
 """
 
 import argparse
@@ -85,6 +86,12 @@ def script_of(seed: int, count: int) -> list[str]:
             lines += [sent[-1].replace("<>", station, 1), f"total {station}"]
         if number % 100 == 99:
             lines += [f"board {site}" for site in STATIONS.values()]
+            lines += [
+                f"{what} {station} T{tx}"
+                for station in STATIONS
+                for tx in range(TRANSACTIONS)
+                for what in ("events", "readings")
+            ]
     return lines
 
 

@@ -13,6 +13,7 @@ from collections.abc import Iterable, Iterator
 from dataclasses import dataclass, field
 from datetime import UTC, datetime, timedelta
 from decimal import Decimal
+from itertools import pairwise
 from typing import Any, NamedTuple
 
 IMPORT, EXPORT = "Energy.Active.Import.Register", "Energy.Active.Export.Register"
@@ -129,21 +130,21 @@ class Station:
 
     def pairs(self, tx: str) -> list[Pair]:
         """Each reading with the one before it: by their numbers, or these sorted by moment."""
+        return [
+            Pair(before.at, after.at, after.mwh - before.mwh, is_export)
+            for is_export in (False, True)
+            for (*_, before), (*_, after) in pairwise(self.placed(tx, is_export))
+        ]
+
+    def placed(self, tx: str, is_export: bool) -> list[tuple[int, int, Reading]]:
+        """The live readings of a direction, each with the number of its event and its place there."""
         found = []
-        for is_export in (False, True):
-            readings = [
-                one
-                for _, event in self.live(tx)
-                for one in event.readings
-                if one.is_export == is_export
-            ]
-            if self.site.is_by_moment:
-                # Python's sort keeps equals in their order.
-                readings.sort(key=lambda one: one.at)
-            found += [
-                Pair(before.at, after.at, after.mwh - before.mwh, is_export)
-                for before, after in zip(readings, readings[1:])
-            ]
+        for number, event in self.live(tx):
+            own = (one for one in event.readings if one.is_export == is_export)
+            found += [(number, place, one) for place, one in enumerate(own)]
+        if self.site.is_by_moment:
+            # Python's sort keeps equals in their order.
+            found.sort(key=lambda one: one[2].at)
         return found
 
     def all_pairs(self) -> list[Pair]:
@@ -183,10 +184,14 @@ class Station:
         """The station's energy by the beginnings of periods, in seconds since 1970."""
         found: dict[int, list[Pair]] = {}
         for pair in self.all_pairs():
-            is_shared = pair.since < pair.at <= pair.since + DAY and self.site.rule == "even"
-            for start, part in self.shares(pair) if is_shared else [(self.period(pair.at), pair)]:
+            for start, part in self.parts(pair):
                 found.setdefault(start, []).append(part)
         return {start: energy(pairs) for start, pairs in found.items()}
+
+    def parts(self, pair: Pair) -> Iterable[tuple[int, Pair]]:
+        """The parts of a difference, each with the beginning of its period."""
+        is_shared = pair.since < pair.at <= pair.since + DAY and self.site.rule == "even"
+        return self.shares(pair) if is_shared else [(self.period(pair.at), pair)]
 
     def period(self, at: datetime) -> int:
         """The period that a moment lies in, or that it closes, by its beginning."""
@@ -226,6 +231,37 @@ class Station:
             for first, last in self.gaps(tx):
                 yield f"gap {first}..{last}"
 
+    def event_list(self, name: str, tx: str) -> Iterator[str]:
+        """The list of a transaction's events."""
+        live = len(self.live(tx))
+        yield f"events {name} {tx} live={live} voided={len(self.events[tx]) - live}"
+        for number, event in sorted(self.events[tx].items()):
+            state = "voided" if (tx, number) in self.voided else "live"
+            front = f"event {number} {event.kind} {exact(event.at)} evse={event.evse or 0}"
+            yield f"{front} readings={len(event.readings)} {state}"
+        yield "end"
+
+    def reading_list(self, name: str, tx: str) -> Iterator[str]:
+        """The list of a transaction's readings."""
+        order = " order=moment" if self.site.is_by_moment else ""
+        settle = f" settle={self.site.rule}" if self.site.rule != "later" else ""
+        yield f"readings {name} {tx}{order}{settle} {energy(self.pairs(tx)).said(FLOW)}"
+        for is_export, word in ((False, "import"), (True, "export")):
+            before = None
+            for number, place, one in self.placed(tx, is_export):
+                line = f"{word} {number}.{place} {exact(one.at)} {one.mwh}"
+                if before is None:
+                    yield line
+                else:
+                    # What one direction shows is written without its name.
+                    pair = Pair(before.at, one.at, one.mwh - before.mwh, False)
+                    yield f"{line} {energy([pair]).said(FLOW[:2])}"
+                    for start, part in self.parts(pair):
+                        at = datetime.fromtimestamp(start, UTC)
+                        yield f"part {at:%Y-%m-%dT%H:%M:%SZ} {energy([part]).said(FLOW[:2])}"
+                before = one
+        yield "end"
+
     def deliver(self, tx: str, number: int, event: Event) -> str | None:
         """Takes an event, and gives why not."""
         stored = self.events.setdefault(tx, {})
@@ -252,6 +288,12 @@ class Station:
                 del self.events[tx]
         self.changes += 1
         return f"accepted {self.changes}"
+
+
+def exact(at: datetime) -> str:
+    """A moment, with its nanoseconds if it is no whole second."""
+    fraction = f".{at.microsecond:06}000" if at.microsecond else ""
+    return f"{at.astimezone(UTC):%Y-%m-%dT%H:%M:%S}{fraction}Z"
 
 
 def period_lines(periods: dict[int, Whole]) -> Iterator[str]:
@@ -317,6 +359,8 @@ class Replay:
             return
         if is_bad(kind, words):
             yield "fault BadLine"
+        elif kind == "mark":
+            yield line
         elif kind in ("limits", "station", "period", "order", "settle"):
             if fault := self.declare(kind, words):
                 yield fault
@@ -335,6 +379,12 @@ class Replay:
             yield reply(station, words[1])
         elif kind in ("void", "restore", "erase"):
             yield station.operate(kind, words[1].lower(), int(words[2]))
+        elif kind in ("events", "readings"):
+            tx = words[1].lower()
+            lists = {"events": station.event_list, "readings": station.reading_list}
+            yield from lists[kind](words[0], tx) if tx in station.events else [
+                "fault UnknownTransaction"
+            ]
         elif kind == "total":
             yield f"total {station.total().said((*COUNTS, *FLOW))}"
         else:
@@ -345,6 +395,7 @@ class Replay:
 # How many words there are behind the first one of a line.
 WORDS = {"limits": 4, "void": 3, "restore": 3, "erase": 3, "station": 2, "period": 2, "order": 2}
 WORDS |= {"settle": 2, "msg": 2, "energy": 1, "export": 1, "total": 1, "board": 1}
+WORDS |= {"events": 2, "readings": 2, "mark": 1}
 
 
 def is_bad(kind: str, words: list[str]) -> bool:

@@ -45,6 +45,13 @@ NOT_FOUND = (
     b"HTTP/1.1 404 Not Found\r\nContent-Type: text/plain; charset=utf-8\r\nContent-Length: 13\r\n"
     b"Connection: close\r\n\r\n404 Not Found"
 )
+# What an operator is answered who asks for the lists of the transaction of FIRST.
+EVENTS = """events A t1 live=1 voided=0
+event 0 Started 2026-03-01T10:00:00Z evse=0 readings=1 live
+end"""
+READINGS = """readings A t1 up=0 down=0 export_up=0 export_down=0
+import 0.0 2026-03-01T10:00:00Z 1000000
+end"""
 
 
 def sessions_in_turn(program: str) -> None:
@@ -207,6 +214,12 @@ def faults_of_lines(program: str) -> None:
             ('msg A [3,"x",{}]', "silent"),
             ("msg A " + FIRST.decode(), '[3,"1",{}]'),
             ("msg A frob", '[4,"-1","RpcFrameworkError","NotJson",{}]'),
+            ("events Z t1", "fault UnknownStation"),
+            ("readings A t2", "fault UnknownTransaction"),
+            ("readings A", "fault BadLine"),
+            ("events A T1", EVENTS),
+            ("readings A T1", READINGS),
+            ("mark A-1", "mark A-1"),
         ):
             server.answers(line, answer + "\n" if answer else "")
         server.says('msg B [2,"h","Heartbeat",{}]')

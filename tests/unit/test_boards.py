@@ -115,6 +115,14 @@ def test_a_board_without_an_end_is_ended(tmp_path: Path) -> None:
     assert [part.whole for part in kept.parts] == [True, False, True, True]
 
 
+def test_a_list_between_boards_is_passed_over(tmp_path: Path) -> None:
+    events = "events CS-01 t1 live=1 voided=0\nevent 0 Started 2026-03-01T10:00:00Z evse=0 readings=1 live\nend\n"
+    readings = f"readings CS-01 t1 {FLOW}\nimport 0.0 2026-03-01T10:00:00Z 1\nend\n"
+    kept, counts = reading(events + BOARD + readings + BOARD, tmp_path)
+    assert len(kept.boards) == kept.ends == counts["boards"] == 2
+    assert counts["unread"] == 0 and counts["outside"] == 2
+
+
 def test_a_text_without_a_board_is_complained_of(
     tmp_path: Path, caplog: pytest.LogCaptureFixture
 ) -> None:

@@ -2,6 +2,7 @@
 
 import asyncio
 import gzip
+import io
 import json
 import logging
 import sys
@@ -20,7 +21,7 @@ from ocpp_board.fleet.plans import known_lines
 from ocpp_board.messages.message_faults import message_fault
 from ocpp_board.processes import TUNABLES
 from ocpp_board.replay import answered
-from ocpp_board.replay.answered import Replay
+from ocpp_board.replay.answered import Replay, ScriptReplay
 from ocpp_board.replay.line_faults import bad_line
 from ocpp_board.commands import tables
 from ocpp_board.statuses import Mistaken, Status
@@ -342,6 +343,45 @@ def test_faults_of_an_order_are_explained(
         "  remedy: put it before line 4\n"
         "lines: 5, reported: 3\n"
     )
+
+
+def test_faults_of_a_list_are_explained(
+    reference: str, tmp_path: Path, capsys: pytest.CaptureFixture[str]
+) -> None:
+    lines = [
+        "station north A",
+        "mark begun",
+        "events A T1",
+        "readings B T1",
+        "events A",
+        "mark a b",
+    ]
+    assert explained(reference, tmp_path, lines) == Status.REPORTED
+    assert capsys.readouterr().out == (
+        "line 3: events A T1\n  fault UnknownTransaction: station A has no event of transaction 'T1' yet\n"
+        "  remedy: ask behind its messages, by the id that they have\n"
+        "line 4: readings B T1\n  fault UnknownStation: no station B is declared\n"
+        "  remedy: declare it before line 3; declared are A\n"
+        "line 5: events A\n  fault BadLine: 2 words, and not 3\n"
+        "  remedy: events <station> <transaction id>\n"
+        "line 6: mark a b\n  fault BadLine: 3 words, and not 2\n"
+        "  remedy: mark <word>; a name has no blank\n"
+        "lines: 6, reported: 4\n"
+    )
+
+
+def test_a_line_that_writes_nothing_ends_at_its_mark(reference: str) -> None:
+    script = b"mark answered\nstation north A\nevents A T1\nstation north B\nnow x\nmark answered\n"
+    replay = ScriptReplay(reference, io.BytesIO(script))
+    assert [(line.line, text) for line, text in replay.texts()] == [
+        (b"mark answered", b"mark answered\n"),
+        (b"station north A", b""),
+        (b"events A T1", b"fault UnknownTransaction\n"),
+        (b"station north B", b"fault DeclaredLate\n"),
+        (b"now x", b""),
+        (b"mark answered", b"mark answered\n"),
+    ]
+    assert replay.ended() == (0, "")
 
 
 def test_why_a_plan_has_no_room() -> None:

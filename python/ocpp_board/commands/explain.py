@@ -66,7 +66,7 @@ class Plan:
             self.sites.setdefault(words[1], number)
             self.stations[words[2]] = words[1], number
             self.readings += self.limit
-        elif words[0] not in ("now", "period", "order", "settle") and self.opened is None:
+        elif words[0] not in ("now", "mark", "period", "order", "settle") and self.opened is None:
             self.opened = number, " ".join(words[:2])
 
     def over(self, words: list[str]) -> Said:
@@ -130,7 +130,7 @@ class Run:
         words = words_of(line.line.decode("utf-8", "replace"))
         if text.startswith("fault "):
             name = text.removeprefix("fault ")
-            if name in ("UnknownStation", "UnknownSite"):
+            if name in ("UnknownStation", "UnknownSite", "UnknownTransaction"):
                 self.plan.take(line.number, words)
             cause, remedy = self.line_fault(name, line, words)
         elif text.startswith("refused "):
@@ -170,6 +170,11 @@ class Run:
             )
         if name == "UnknownStation":
             return self.unknown_station(words)
+        if name == "UnknownTransaction":
+            return (
+                f"station {words[1]} has no event of transaction {shown(words[2])} yet",
+                "ask behind its messages, by the id that they have",
+            )
         if name == "UnknownSite" and words[0] in ("period", "order", "settle"):
             return (
                 f"no station of site {words[1]} is declared yet",

@@ -1,7 +1,7 @@
 """A replay that runs: each answer is matched with the line that it answers.
 
-Behind each line that may write nothing go lines of its own, which are faults and change nothing, so that the end
-of such a line's text is known.
+Behind each line that may write nothing goes a line `mark`, which writes itself, so that the end of such a line's text
+is known.
 """
 
 import subprocess
@@ -18,11 +18,10 @@ from ocpp_board.statuses import Mistaken
 
 # The first words of lines that may write nothing.
 SILENT = (b"limits", b"station", b"period", b"order", b"settle", b"now")
-# A line that is always BadLine, and a declaration that is always refused: by their two faults in a row the text of
-# the line before them ends, since no line writes two faults.
-MARK = b"-\nlimits 0 0 0 0\n"
-MARKED = (b"fault PlanLimit\n", b"fault DeclaredLate\n")
-BAD_LINE = b"fault BadLine\n"
+# A line that writes itself: by it the text of the line before it ends.
+MARK = b"mark answered\n"
+# How the answers begin that go up to a line `end`.
+LISTS = (b"board ", b"events ", b"readings ")
 # Bytes that are handed to the replay at once.
 BUFFER = 65_536
 # Moments that are kept, since many messages come in one second.
@@ -105,23 +104,23 @@ class Replay:
                 texts = self.up_to_mark(text)
                 if not texts[-1]:
                     return
-                yield line, b"".join(texts[:-2])
-            elif text.startswith(b"board "):
+                yield line, b"".join(texts[:-1])
+            elif text.startswith(LISTS):
                 yield line, text + b"".join(self.up_to_end())
             else:
                 yield line, text
 
     def up_to_mark(self, text: bytes) -> list[bytes]:
-        """The answers from this one on up to a mark's; the last is empty where the replay ended before it."""
+        """The answers from this one on up to a mark's; the last is empty if the replay ended before it."""
         texts = [text]
-        while not (len(texts) > 1 and texts[-1] in MARKED and texts[-2] == BAD_LINE):
+        while texts[-1] != MARK:
             texts.append(self.output.readline())
             if not texts[-1]:
                 break
         return texts
 
     def up_to_end(self) -> Iterator[bytes]:
-        """The lines of a board behind its first one."""
+        """The lines of a board or of a list behind its first one."""
         for line in self.output:
             yield line
             if line == b"end\n":

@@ -57,6 +57,8 @@ NEXT: dict[str | None, set[str]] = {
     "tx": {"tx", "gap"},
     "gap": {"tx", "gap"},
 }
+# How the lists of a transaction begin.
+LISTS = ("events ", "readings ")
 
 Numbers = dict[str, int]
 
@@ -313,6 +315,8 @@ class Reader:
     ) -> None:
         """`name`: that of the text, where it is a file."""
         self.sinks, self.progress, self.marker = sinks, progress, marker
+        # Whether a list of a transaction is being passed over.
+        self.is_list = False
         self.where = f"{name} line" if name else "line"
         self.part: Part | None = None
         self.before: str | None = None
@@ -336,6 +340,9 @@ class Reader:
 
     def take(self, number: int, line: str) -> None:
         """Takes the line of this number."""
+        if self.is_list:
+            self.is_list = line != "end"
+            return
         kind, values = understood(line)
         if kind == "board":
             self.begin_board(number, *values)
@@ -400,7 +407,8 @@ class Reader:
             self.leave_board(number, self.part)
 
     def outside(self, number: int, line: str) -> None:
-        """A line between boards: fine, unless it is a board's."""
+        """A line between boards: fine, unless it is a board's. A list of a transaction is passed over."""
+        self.is_list = line.startswith(LISTS)
         if line.split(" ", 1)[0] in LINES.keys() - {"total"}:
             self.unread(number, line)
             return

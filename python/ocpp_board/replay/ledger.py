@@ -14,7 +14,18 @@ from ocpp_board.replay.refusals import Refusal, commented, is_left
 from ocpp_board.replay.script_lines import ScriptLines
 
 # The first words of lines that need the ledgers.
-OPENING = (b"msg", b"void", b"restore", b"erase", b"energy", b"export", b"total", b"board")
+OPENING = (
+    b"msg",
+    b"void",
+    b"restore",
+    b"erase",
+    b"energy",
+    b"export",
+    b"total",
+    b"board",
+    b"events",
+    b"readings",
+)
 # Events that are erased at once.
 ERASED = 1_000
 # Faults of lines that open no ledgers.

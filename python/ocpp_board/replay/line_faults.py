@@ -30,6 +30,9 @@ FORMS = {
     "export": "export <station>",
     "total": "total <station>",
     "board": "board <site>",
+    "events": "events <station> <transaction id>",
+    "readings": "readings <station> <transaction id>",
+    "mark": "mark <word>",
 }
 NO_NAME_CHARACTER = re.compile(r"[^A-Za-z0-9*\-_=:+|@.]")
 NUMBER = re.compile(r"0|[1-9][0-9]*")
@@ -87,6 +90,8 @@ def words_fault(words: list[str]) -> Said | None:
         return name_fault("site's name", rest[0]) or name_fault("station's name", rest[1])
     if kind == "board":
         return name_fault("site's name", rest[0])
+    if kind == "mark":
+        return name_fault("word", rest[0])
     if kind == "period":
         return name_fault("site's name", rest[0]) or number_fault(
             "number of seconds", rest[1], GREATEST
@@ -109,12 +114,13 @@ def words_fault(words: list[str]) -> Said | None:
         )
     if fault := name_fault("station's name", rest[0]):
         return fault
-    if kind in ("void", "restore", "erase"):
+    if kind in ("void", "restore", "erase", "events", "readings"):
         if not TRANSACTION.fullmatch(rest[1]):
             return (
                 f"the transaction id {shown(rest[1])} has not 1 to 36 characters from ! to ~",
                 "the id as the station sent it",
             )
+    if kind in ("void", "restore", "erase"):
         return number_fault("sequence number", rest[2], GREATEST_SEQ_NO)
     return None
 
