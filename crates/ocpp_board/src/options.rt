@@ -262,7 +262,7 @@ fn settle_option<'a>(alloc: Global) -> Arg<'a>
     ensures { IsOption result }
 {
     let help =
-        "In which period of all sites a difference counts: that of its later reading, or the one that this reading closes";
+        "How all sites settle a difference: in the period of its later reading, in the one that this reading closes, or by even shares of the time";
     option(alloc, "settle", "WORD", "later", help).value_parser(RULES.as_slice())
 }
 
