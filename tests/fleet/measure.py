@@ -1,6 +1,6 @@
 """Measures a fleet of its own on this machine.
 
-    tests/one fleet.measure ocpp_board load --stations 1000 --shards 16 --rate 1500 --kill
+    tests/one fleet.measure ocpp_board load --stations 1000 --shards 16 --rate 1500 --gateways 2 --kill
     tests/one fleet.measure ocpp_board load --stations 1000 --shards 16 --events 160 --alone --loads 2
     tests/one fleet.measure ocpp_board recovery --lines 200000 --shards 4
     tests/one fleet.measure ocpp_board memory
@@ -514,6 +514,10 @@ def main() -> int:
     )
     parser.add_argument("--processors", help="run only on these, such as 0,1 (default: all)")
     words = parsed(parser)
+    if words.kill and min(words.gateways, words.workers) < 2:
+        parser.error(
+            "--kill needs two gateways and two workers: what is killed isn't started again"
+        )
     resource.setrlimit(resource.RLIMIT_NOFILE, (resource.getrlimit(resource.RLIMIT_NOFILE)[1],) * 2)
     if words.processors:
         os.sched_setaffinity(0, {int(word) for word in words.processors.split(",")})
