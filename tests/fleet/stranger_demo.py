@@ -274,7 +274,7 @@ class Demo(Trial):
         )
 
     async def reader(self) -> None:
-        """A reader who notifies without end, on the channels of which a reader sees a name, and on the tools' own."""
+        """A reader who notifies without end, on the channels whose names a reader sees, and on the tools' own."""
         _, _, link = await self.comes(TRUE)
         reader = await connect(self.fleet.dsn("ledger_reader"))
         await self.flooded("a reader", link, reader.execute(NOTIFY, timeout=120), self.limit)
