@@ -475,9 +475,12 @@ class Fleet:
             await asyncio.sleep(0.02)
 
     async def compared(self, owner: Any, shard: int = 0, seconds: float = PATIENCE) -> list[str]:
-        """What differs, once boards have had the time to be written."""
+        """What differs, once boards have had the time to be written. A comparison may take longer than that, so the
+        last one begins behind it."""
         end = time.monotonic() + seconds
-        while (differ := await self.compare(owner, shard)) and time.monotonic() < end:
+        while differ := await self.compare(owner, shard):
+            if time.monotonic() >= end:
+                return await self.compare(owner, shard)
             await asyncio.sleep(0.3)
         return differ
 

@@ -2,6 +2,7 @@
 
 import argparse
 import asyncio
+from collections import deque
 from collections.abc import Callable
 from types import SimpleNamespace
 from typing import Any
@@ -193,5 +194,34 @@ def test_frames_of_any_kind_have_a_pace(
         now[0] += 1
         later.pop()()
         assert had < len(counted) <= had + FRAMES + most - BURST * FRAMES and not wire.is_read
+
+    asyncio.run(run())
+
+
+def test_an_event_that_its_shard_does_not_know_goes_to_the_shard_of_then(
+    monkeypatch: pytest.MonkeyPatch,
+) -> None:
+    monkeypatch.setattr(gateway, "AGAIN", 0.01)
+    words = ("certificate", "key", "client_ca", "client_crl")
+    files = argparse.Namespace(**dict.fromkeys(words), db=[], program="replay")
+
+    async def run() -> None:
+        own, queue = gateway.Gateway(files), deque[int]()
+        cell: Any = SimpleNamespace(is_up=True, queue=queue, filled=asyncio.Event())
+        own.homes["CS-1"] = (cell, 1)
+        heard = list[bytes]()
+        link: Any = SimpleNamespace(name="CS-1", accepted=lambda _, answer: heard.append(answer))
+        own.keep(gateway.Wait(link, "[2]", b"", 0.0))
+        token = queue.popleft()
+        own.answered(None, 0, "", f"{token} fault UnknownStation")
+        assert token in own.waiting and not heard and not queue
+        await asyncio.sleep(0.05)
+        assert list(queue) == [token]
+        # Of an event that nobody waits for any more nothing is appended.
+        own.answered(None, 0, "", f"{token} [3,1]")
+        own.answered(None, 0, "", f"{token} fault UnknownStation")
+        await asyncio.sleep(0.05)
+        assert list(queue) == [token] and heard == [b"[3,1]"]
+        assert own.counts == {"answers": 1, "unknown": 1}
 
     asyncio.run(run())

@@ -100,6 +100,9 @@ LONGEST_HEAD = 16_384
 # Seconds for which an event that was accepted last is answered again without being appended. Not for ever: an operator
 # may have erased it.
 REPEATED = 60
+# What a shard answers that has no such station any more, and seconds after which the event goes to the station's shard
+# of then: the change of the plan may still be on its way to this gateway.
+UNKNOWN, AGAIN = "fault UnknownStation", 0.5
 # Stations of one notification of those that were let in.
 LET_IN = 100
 # Each shard is woken by the number of its first line; 250 of these fit into a notification.
@@ -850,6 +853,9 @@ class Gateway:
     def answered(self, _session: Any, _pid: int, _channel: str, payload: str) -> None:
         """Answers of a worker came."""
         for token, answer in answers_in(payload):
+            if answer == UNKNOWN and token in self.waiting:
+                asyncio.get_running_loop().call_later(AGAIN, self.queue_again, [token])
+                continue
             if wait := self.waiting.pop(token, None):
                 wait.link.accepted(wait.digest, answer.encode())
             self.counts["answers" if wait else "unknown"] += 1
