@@ -13,8 +13,8 @@ decides: the tool looks for the causes in the line afterwards.
 If a board's periods are wrong because stations list readings again, it names the line that mends it, a line
 `order <site> moment`. That is a hint and no mistake; so is a report of a station near its limits.
 
-To distinguish the answers, it adds lines of its own: `mark` after lines that may write nothing, and lists of transactions
-after boards. They change nothing. It reports the first mistakes of a kind, and counts the others.
+To distinguish the answers, it adds lines of its own: `mark` after lines that may write nothing, and lists of
+transactions after boards. They change nothing. It reports the first mistakes of a kind, and counts the others.
 """
 
 import difflib
