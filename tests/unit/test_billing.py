@@ -17,7 +17,7 @@ from ocpp_board.fleet.archives import packed  # noqa: E402
 from ocpp_board.fleet.billing import HEADS, Row, ShardSessions, ends_of  # noqa: E402
 from ocpp_board.fleet.database import Fault  # noqa: E402
 from ocpp_board.messages.bills import Details, Signed  # noqa: E402
-from ocpp_board.traffic.troubles import FIRST, Session, messages, signed_differs  # noqa: E402
+from tests.traffic.troubles import FIRST, Session, messages, signed_differs  # noqa: E402
 
 SITE: dict[str, Any] = {"shard": 0, "site": "north", "zone": "UTC", "period": 900}
 SITE |= {"reading_order": "sequence", "settle": "later"}

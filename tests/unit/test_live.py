@@ -19,7 +19,7 @@ from ocpp_board.reports.calendars import Calendar
 from ocpp_board.reports.changed_days import digests
 from ocpp_board.reports.live_pages import Pages, Shown
 from tests.unit.listed import Facts
-from ocpp_board.traffic.troubles import FIRST, KINDS
+from tests.traffic.troubles import FIRST, KINDS
 
 TOTAL = (
     "total events=4 voided=0 transactions=1 complete=0 missing=0 up=3 down=0 export_up=0 "

@@ -30,8 +30,8 @@ from ocpp_board.reports.powers import kw, peak_cell, peak_said
 from ocpp_board.reports.quality import Effect, Finding, Kind
 from tests.unit.listed import Facts
 from ocpp_board.statuses import Status
-from ocpp_board.traffic.month_traffic import log
-from ocpp_board.traffic.troubles import FIRST, sound
+from tests.traffic.month_traffic import log
+from tests.traffic.troubles import FIRST, sound
 from tests.reference import answers
 
 DAY = datetime(2026, 3, 1, tzinfo=timezone.utc)

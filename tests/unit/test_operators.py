@@ -15,7 +15,7 @@ from ocpp_board.commands import tables
 from ocpp_board.reports.page_sections import problems_of, state_text
 from tests.unit.listed import Facts
 from ocpp_board.statuses import Status
-from ocpp_board.traffic.troubles import FIRST, messages, sound
+from tests.traffic.troubles import FIRST, messages, sound
 from tests.unit.test_ledger import feed_of
 
 

@@ -14,7 +14,7 @@ from ocpp_board.replay.boards import Part, Session
 from ocpp_board.replay.lists import LiveEvents
 from ocpp_board.reports.quality import Finding, Kind, findings_of
 from ocpp_board.reports.session_times import Registers, duration, times_of
-from ocpp_board.traffic.troubles import (
+from tests.traffic.troubles import (
     FIRST,
     KINDS,
     Sent,

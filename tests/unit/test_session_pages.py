@@ -18,7 +18,7 @@ from ocpp_board.reports.calendars import Calendar
 from tests.unit.listed import Facts
 from ocpp_board.reports.session_pages import Known, SessionPages, href_of, lines_of, path_of
 from ocpp_board.statuses import Status
-from ocpp_board.traffic.troubles import FIRST, messages, sound
+from tests.traffic.troubles import FIRST, messages, sound
 
 
 def test_addresses_are_those_of_the_files() -> None:

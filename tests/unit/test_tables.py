@@ -9,7 +9,7 @@ import pytest
 from ocpp_board.replay.answered import Answered
 from ocpp_board.commands import tables
 from ocpp_board.statuses import Status
-from ocpp_board.traffic.troubles import FIRST, KINDS, messages
+from tests.traffic.troubles import FIRST, KINDS, messages
 
 FLOW = "up=750000 down=0 export_up=0 export_down=0"
 TOTAL = f"total events=4 voided=0 transactions=1 complete=1 missing=0 {FLOW}"
