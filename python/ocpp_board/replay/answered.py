@@ -23,6 +23,8 @@ from ocpp_board.statuses import Mistaken
 SILENT = (b"limits", b"station", b"period", b"order", b"settle", b"now")
 # A line that writes itself: by it the text of the line before it ends.
 MARK = b"mark answered\n"
+# How the lines begin that may change what a board shows.
+CHANGES = (b"msg ", b"void ", b"restore ", b"erase ")
 # How the answers begin that go up to a line `end`.
 LISTS = (b"board ", b"events ", b"readings ")
 # Bytes that are handed to the replay at once.
@@ -147,7 +149,8 @@ class ScriptReplay(Replay):
         asked for them."""
         super().__init__(program, is_heard=True)
         self.script, self.lines, self.at_end = script, 0, at_end
-        self.sites = dict[bytes, None]()
+        # By site, the line that asked for its board last.
+        self.sites = dict[bytes, int]()
         self.fault: OSError | None = None
         # What is asked behind each board; None where nothing is asked any more.
         self.asked: Queue[bytes | None] | None = Queue() if asks else None
@@ -159,22 +162,23 @@ class ScriptReplay(Replay):
         """Sends the script, with marks after lines that may write nothing."""
         try:
             with self.input as out:
-                sites, line = dict[bytes, None](), b"\n"
+                changed, line = 0, b"\n"
                 for number, line in enumerate(iter(self.script.readline, b""), 1):
                     self.lines = number
                     out.write(self.sendable(number, line))
-                    if line.startswith(b"board "):
+                    if line.startswith(CHANGES):
+                        changed = number
+                    elif line.startswith(b"board "):
                         self.wait(out, line)
-                        sites.pop(line[6:].rstrip(b"\r\n"), None)
-                    elif line.startswith((b"msg ", b"void ", b"restore ", b"erase ")):
-                        sites |= self.sites
+                        self.sites[line[6:].rstrip(b"\r\n")] = number
                     elif line.startswith(b"station "):
-                        self.sites[line.split(b" ")[1]] = None
-                for site in sites if self.at_end else ():
-                    out.write(ending(line))
-                    line = b"board " + site + b"\n"
-                    out.write(self.sendable(0, line))
-                    self.wait(out, line)
+                        self.sites.setdefault(line.split(b" ")[1], 0)
+                for site, shown in self.sites.items():
+                    if self.at_end and shown < changed:
+                        out.write(ending(line))
+                        line = b"board " + site + b"\n"
+                        out.write(self.sendable(0, line))
+                        self.wait(out, line)
         except BrokenPipeError:
             pass
         except OSError as fault:
