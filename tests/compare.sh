@@ -12,7 +12,7 @@ top=$(cd "$(dirname "$0")/.." && pwd) && cd "$top/tests/tools" || exit
 # What is compared is in this folder, and the days of traffic are in:
 export days=../../examples
 export board=$top/python/ocpp-board
-one=$top/tests/one
+export one=$top/tests/one
 # When the pages that are compared were written.
 written=2026-03-02T20:00:00Z
 made=$(mktemp -d) || exit
@@ -82,7 +82,7 @@ replays() {
 # burst COMMAND..: a burst of events through a pipe is answered before more comes there.
 burst() {
     local events=200
-    "$board" traffic $events | grep -v '^board' > "$made/burst.script"
+    "$one" traffic $events | grep -v '^board' > "$made/burst.script"
     coproc "$@" 2> /dev/null
     cat "$made/burst.script" >&"${COPROC[1]}"
     timeout 20 head -n $events <&"${COPROC[0]}" > "$made/answers"
@@ -118,7 +118,7 @@ with_program() {
     reports 2 "No such file or directory" "$board" live --program ./nowhere --out "$made/live" forms/ocpp.script
 
     # Two sessions of each kind of trouble: each is in the tables and on the pages, and counted there.
-    "$board" traffic 2 troubles > "$made/troubles.script"
+    "$one" traffic 2 troubles > "$made/troubles.script"
     gives 0 tables/troubles.text bash -c '"$1" replay < "$2" | grep -v "^.3,"' _ "$program" "$made/troubles.script"
     for zone in UTC Europe/Berlin; do
         made_by "$board" tables --script "$made/troubles.script" --program "$program" --written $written --oldest 3600 \
@@ -150,9 +150,9 @@ with_program() {
 
     # A day on which stations list readings again has, by moment, the periods of the same day without them; by sequence
     # it has others.
-    "$board" traffic 3 sessions | "$program" replay | grep '^period' > "$made/once.lines"
-    "$board" traffic 3 repeats | "$program" replay | grep '^period' > "$made/again.lines"
-    "$board" traffic 3 repeats | grep -v '^order' | "$program" replay | grep '^period' > "$made/sequence.lines"
+    "$one" traffic 3 sessions | "$program" replay | grep '^period' > "$made/once.lines"
+    "$one" traffic 3 repeats | "$program" replay | grep '^period' > "$made/again.lines"
+    "$one" traffic 3 repeats | grep -v '^order' | "$program" replay | grep '^period' > "$made/sequence.lines"
     if diff "$made/once.lines" "$made/again.lines" && ! cmp -s "$made/once.lines" "$made/sequence.lines"; then
         echo "a day with readings that are listed again: $(wc -l < "$made/once.lines") periods as without"
     else
@@ -181,7 +181,7 @@ with_program() {
     fi
 
     # 50 events of each of two stations: a session of 48 and one of 2. In each all but the first rise by 250 Wh.
-    gives 0 forms/traffic.text bash -c '"$board" traffic 100 --stations 2 | "$1" replay | grep -v "^.3,"' _ "$program"
+    gives 0 forms/traffic.text bash -c '"$one" traffic 100 --stations 2 | "$1" replay | grep -v "^.3,"' _ "$program"
 }
 
 # written_as README: the commands of this page, with the program that is built and in a folder of their own, but for
@@ -216,7 +216,7 @@ gives 0 forms/periods.script "$board" log-to-script --form citrineos --site nort
     --period north=300 forms/citrineos.jsonl
 gives 0 forms/orders.script "$board" log-to-script --form citrineos --site north --site-map forms/sites.txt --order moment \
     --order north=sequence forms/citrineos.jsonl
-gives 0 "$days/repeats.script" "$board" traffic 3 repeats
+gives 0 "$days/repeats.script" "$one" traffic 3 repeats
 gives 0 forms/citrineos.script "$board" log-to-script --form citrineos-csv "${citrineos[@]}" forms/citrineos.csv
 gives 0 forms/arrows.script "$board" log-to-script --form arrows --site north forms/arrows.log
 gives 0 forms/regex.script "$board" log-to-script --received --incoming up \
@@ -346,11 +346,11 @@ reports 2 "no time such as 2026-03-01T10:00:00Z: '2026-03-01T10:00:00'" \
 reports 2 "--from is after --to" "$board" tables --from 2026-03-02 --to 2026-03-01 --out "$made/x" "$days/day.expected"
 reports 2 "File too large" bash -c 'ulimit -f 8; "$board" tables --out "$1" "$days/day.expected"' _ "$made/full"
 # Traffic for measuring, and the clients' words.
-gives 0 forms/traffic.script "$board" traffic 3
-reports 2 "N is from 0 to 1,048,576" "$board" traffic 1048577
-reports 2 "N is from 0 to 1000 with troubles" "$board" traffic 1001 troubles
-reports 2 "200,000 events need 4 to 64 stations" "$board" traffic 200000 --stations 3
-reports 2 "No space left on device" bash -c '"$board" traffic 10 > /dev/full'
+gives 0 forms/traffic.script "$one" traffic 3
+reports 2 "N is from 0 to 1,048,576" "$one" traffic 1048577
+reports 2 "N is from 0 to 1000 with troubles" "$one" traffic 1001 troubles
+reports 2 "200,000 events need 4 to 64 stations" "$one" traffic 200000 --stations 3
+reports 2 "No space left on device" bash -c '"$one" traffic 10 > /dev/full'
 gives 0 - "$days/clients/station.py" --help
 reports 1 "Debian: apt-get install python3-websockets" python3 -c 'import runpy, sys
 sys.modules["websockets"] = None

@@ -33,7 +33,6 @@ TOOLS = {
     "tables": Tool("commands.tables", "turns boards into CSV tables and pages"),
     "live": Tool("commands.live", "keeps the pages and tables of a ledger that still grows"),
     "explain": Tool("commands.explain", "says what is wrong with a script"),
-    "traffic": Tool("commands.traffic", "writes scripts of many events, for measuring"),
     "gateway": Tool("fleet.gateway", "fleet: takes charging stations' connections"),
     "worker": Tool("fleet.worker", "fleet: replays the log and answers"),
     "page": Tool("fleet.page", "fleet: shows all boards in a browser"),

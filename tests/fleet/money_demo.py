@@ -24,7 +24,7 @@ from xml.etree import ElementTree
 
 import asyncpg
 
-from ocpp_board.traffic.troubles import FIRST, messages, signed_differs
+from tests.traffic.troubles import FIRST, messages, signed_differs
 from tests.fleet.client import Client
 from tests.fleet.closings import ClosingTrial, line, local, session
 from tests.fleet.fleet import ended, tool

@@ -13,7 +13,7 @@ import sys
 from collections.abc import Iterator, Sequence
 from datetime import timedelta
 
-from ocpp_board.commands.traffic import FIRST, START, kind_of, message, name
+from tests.traffic.script import FIRST, START, kind_of, message, name
 
 ORDERS = ("in_order", "repeats", "many", "shuffled")
 # Events of a transaction of `many`, and events of `repeats`.

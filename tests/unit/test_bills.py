@@ -23,7 +23,7 @@ from ocpp_board.messages.bills import (
 from ocpp_board.replay.ledger import Ledger
 from ocpp_board.commands import tables
 from ocpp_board.statuses import Status
-from ocpp_board.traffic.troubles import FIRST, KINDS, Session, messages, sound
+from tests.traffic.troubles import FIRST, KINDS, Session, messages, sound
 
 OCMF = 'OCMF|{"RD":[{"RV":1.0,"RU":"kWh"}]}|{"SD":"00"}'
 KEY = base64.b64encode(b"oca:base16:asn1:3059aa").decode()

@@ -8,9 +8,8 @@ import pytest
 pytest.importorskip("asyncpg")
 
 from ocpp_board.fleet.archives import each_unpacked, packed, unpacked  # noqa: E402
-from ocpp_board.fleet.closing_lines import Line, Sorted  # noqa: E402
+from ocpp_board.fleet.closing_lines import Line, Sorted, named  # noqa: E402
 from ocpp_board.fleet.compact import pieces  # noqa: E402
-from ocpp_board.fleet.figures import Figures, by_transaction  # noqa: E402
 from ocpp_board.fleet.spooled import Spool, Texts  # noqa: E402
 
 
@@ -60,20 +59,10 @@ def test_what_leaves_a_log_and_what_stays() -> None:
         ("A", "t9"): ["msg A old", "msg A t9"],
         ("A", "t1"): ["msg A t1"],
     }
-    named = {one[1]: [line.stored.place for line in own] for one, own in lines.named().items()}
-    assert named == {"t9": [0, 6], "t1": [1], "t2": [2, 5], "t3": [3, 4]}
-
-
-def test_figures_by_transaction() -> None:
-    part: Figures = {
-        ("A", "total", ""): {"events": 4},
-        ("A", "tx", "t1"): {"events": 2},
-        ("A", "gap", "t1 1..3"): {},
-        ("A", "tx", "t10"): {"events": 1},
-        ("B", "tx", "t1"): {"events": 1},
-    }
-    assert by_transaction(part) == {
-        ("A", "t1"): {("A", "tx", "t1"): {"events": 2}, ("A", "gap", "t1 1..3"): {}},
-        ("A", "t10"): {("A", "tx", "t10"): {"events": 1}},
-        ("B", "t1"): {("B", "tx", "t1"): {"events": 1}},
+    own = named(lines.known, lines.live + lines.late).items()
+    assert {one[1]: [line.stored.place for line in some] for one, some in own} == {
+        "t9": [0, 6],
+        "t1": [1],
+        "t2": [2, 5],
+        "t3": [3, 4],
     }

@@ -93,10 +93,13 @@ def test_tools_are_those_of_the_command() -> None:
 
 def unknown_options(module: str, words: str) -> set[str]:
     """Options of a command of the tests that its program does not have; its module, where that is not there."""
-    path = TOP / "tests" / f"{module.replace('.', '/')}.py"
-    if not path.exists():
+    path = TOP / "tests" / module.replace(".", "/")
+    is_package = (path / "__main__.py").exists()
+    paths = [*path.glob("*.py")] if is_package else [path.with_name(f"{path.name}.py")]
+    if not paths[0].exists():
         return {module}
-    return {word for word in OPTION.findall(words) if f'"{word}"' not in path.read_text()}
+    text = "".join(one.read_text() for one in paths)
+    return {word for word in OPTION.findall(words) if f'"{word}"' not in text}
 
 
 def test_commands_of_tests_are_there() -> None:

@@ -18,8 +18,8 @@ from ocpp_board.replay.refusals import Refusal, Refusals
 from ocpp_board.reports.calendars import Calendar
 from ocpp_board.reports.changed_days import digests
 from ocpp_board.reports.live_pages import Pages, Shown
-from ocpp_board.reports.session_facts import SessionFacts
-from ocpp_board.traffic.troubles import FIRST, KINDS
+from tests.unit.listed import Facts
+from tests.traffic.troubles import FIRST, KINDS
 
 TOTAL = (
     "total events=4 voided=0 transactions=1 complete=0 missing=0 up=3 down=0 export_up=0 "
@@ -109,7 +109,7 @@ def made(folder: Path) -> dict[str, int]:
 def test_pages_are_written_for_the_days_that_changed(tmp_path: Path) -> None:
     options = Shown(tmp_path, 10)
     refusals = Refusals()
-    pages = Pages(options, refusals, SessionFacts())
+    pages = Pages(options, refusals, Facts())
     pages.write("north", board(9, 1, 1))
     first = made(tmp_path)
     days = [f"north.2026-03-0{day}.html" for day in (1, 2, 3)]
@@ -141,7 +141,7 @@ def test_days_of_several_pages_stay_until_they_change(
 ) -> None:
     monkeypatch.setattr("ocpp_board.reports.board_pages.PAGE_BYTES", 100)
     options = Shown(tmp_path, 10)
-    pages = Pages(options, Refusals(), SessionFacts())
+    pages = Pages(options, Refusals(), Facts())
     pages.write("north", board(9, 1))
     first = made(tmp_path)
     held = [os.open(tmp_path / name, os.O_RDONLY) for name in first]
@@ -158,7 +158,7 @@ def test_days_of_several_pages_stay_until_they_change(
 
 def test_pages_have_times_and_findings(tmp_path: Path) -> None:
     options = Shown(tmp_path, 10)
-    reported, refusals = SessionFacts(), Refusals()
+    reported, refusals = Facts(), Refusals()
     refusals.add(Refusal("", "A", "T", "0", "Moment", "", "north", "is none"))
     session = KINDS["clock-far"]("T1", FIRST)
     for sent in session:
@@ -189,7 +189,7 @@ def test_pages_have_times_and_findings(tmp_path: Path) -> None:
 
 def test_one_page_leads_to_those_of_several_sites(tmp_path: Path) -> None:
     options = Shown(tmp_path, 10)
-    pages = Pages(options, Refusals(), SessionFacts())
+    pages = Pages(options, Refusals(), Facts())
     pages.write("south", board(9).replace(b"board north", b"board south"))
     assert not (tmp_path / "index.html").exists()
     pages.write("north", board(9, 1))
@@ -207,7 +207,7 @@ def test_one_page_leads_to_those_of_several_sites(tmp_path: Path) -> None:
 
 def test_what_is_no_board_writes_nothing(tmp_path: Path) -> None:
     options = Shown(tmp_path, 10)
-    Pages(options, Refusals(), SessionFacts()).write("north", b"fault UnknownSite\n")
+    Pages(options, Refusals(), Facts()).write("north", b"fault UnknownSite\n")
     assert made(tmp_path) == {}
 
 

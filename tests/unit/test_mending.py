@@ -24,7 +24,7 @@ from ocpp_board.messages.message_faults import message_fault
 from ocpp_board.replay.ledger import Ledger
 from ocpp_board.commands import tables
 from ocpp_board.statuses import Mistaken, Status
-from ocpp_board.traffic.troubles import FIRST, sound
+from tests.traffic.troubles import FIRST, sound
 from tests.unit.test_ledger import feed_of
 
 BERLIN = ZoneInfo("Europe/Berlin")

@@ -28,10 +28,10 @@ from ocpp_board.reports.month_pictures import (
 )
 from ocpp_board.reports.powers import kw, peak_cell, peak_said
 from ocpp_board.reports.quality import Effect, Finding, Kind
-from ocpp_board.reports.session_facts import SessionFacts
+from tests.unit.listed import Facts
 from ocpp_board.statuses import Status
-from ocpp_board.traffic.month_traffic import log
-from ocpp_board.traffic.troubles import FIRST, sound
+from tests.traffic.month_traffic import log
+from tests.traffic.troubles import FIRST, sound
 from tests.reference import answers
 
 DAY = datetime(2026, 3, 1, tzinfo=timezone.utc)
@@ -88,7 +88,7 @@ def test_weeks_begin_on_monday_and_months_on_the_first() -> None:
 
 def marked(*left_out: int) -> Part:
     """A station with a session that lacks these events."""
-    reported = SessionFacts()
+    reported = Facts()
     numbers = [number for number in range(4) if number not in left_out]
     for number in numbers:
         one = sound("T1", FIRST)[number]

@@ -13,9 +13,9 @@ from ocpp_board.replay.ledger import Ledger
 from ocpp_board.replay.operators import HEADS, Deed, Operators, commented, deed_of
 from ocpp_board.commands import tables
 from ocpp_board.reports.page_sections import problems_of, state_text
-from ocpp_board.reports.session_facts import SessionFacts
+from tests.unit.listed import Facts
 from ocpp_board.statuses import Status
-from ocpp_board.traffic.troubles import FIRST, messages, sound
+from tests.traffic.troubles import FIRST, messages, sound
 from tests.unit.test_ledger import feed_of
 
 
@@ -97,7 +97,7 @@ def test_who_and_why_are_kept_and_a_refused_line_does_not_count(
 
 def marked(*deeds: Deed) -> Session:
     """A session of numbers 0 to 5 without 2 and 3, and with such lines of operators."""
-    reported = SessionFacts()
+    reported = Facts()
     for deed in deeds:
         reported.operators.add(deed)
     session = Session("t1", 1, 4, 0, 5, False, 2, Flow(), [(2, 3)], "numbers missing")
@@ -127,7 +127,7 @@ def test_what_is_voided_is_not_missing() -> None:
     ("number", "wanted"), [(3, "voided by jo: no end"), (0, "voided by jo: no start")]
 )
 def test_an_end_that_is_voided_is_not_yet_to_come(number: int, wanted: str) -> None:
-    reported = SessionFacts()
+    reported = Facts()
     for one in sound("T1", FIRST):
         message = json.dumps([2, "1", "TransactionEvent", one.payload])
         reported.take(Answered(1, "north", "A", one.received, message, '[3,"1",{}]'))
@@ -144,7 +144,7 @@ def test_an_end_that_is_voided_is_not_yet_to_come(number: int, wanted: str) -> N
 
 def test_a_period_with_a_voided_event_lacks_no_number() -> None:
     def gaps_of(*deeds: Deed) -> list[int]:
-        reported = SessionFacts()
+        reported = Facts()
         for one in sound("T1", FIRST):
             message = json.dumps([2, "1", "TransactionEvent", one.payload])
             reported.take(Answered(1, "north", "A", one.received, message, '[3,"1",{}]'))

@@ -11,16 +11,10 @@ import pytest
 from ocpp_board.energies import Flow
 from ocpp_board.messages.transactions import Event, Reading
 from ocpp_board.replay.boards import Part, Period
+from ocpp_board.replay.lists import LiveEvents
 from ocpp_board.reports.board_pages import Board, DayPages, Layout
 from ocpp_board.reports.calendars import LONGEST_PAUSE, Calendar
-from ocpp_board.reports.period_doubts import (
-    FIRST_SECOND,
-    Doubt,
-    KnownPeriods,
-    doubts_of,
-    flows_of,
-    period_of,
-)
+from ocpp_board.reports.period_doubts import Doubt, KnownPeriods, doubts_of
 from ocpp_board.reports.period_table import PeriodTable
 
 TEN = int(datetime(2026, 3, 1, 10, tzinfo=timezone.utc).timestamp())
@@ -40,7 +34,8 @@ def events(*readings: tuple[float, int]) -> list[Event]:
 
 def doubts(some: list[Event], *gaps: tuple[int, int]) -> dict[int, Doubt]:
     """The doubts by quarters after ten."""
-    found = doubts_of(some, QUARTER, gaps)
+    read = [(event, one) for event in some for one in event.readings]
+    found = doubts_of(LiveEvents(some, read), QUARTER, gaps)
     return {(start - TEN) // QUARTER: doubt for start, doubt in found.items()}
 
 
@@ -79,43 +74,6 @@ def test_numbers_are_missing_between_the_events_around_a_gap() -> None:
     found = doubts(some, (2, 6))
     assert {quarter for quarter, one in found.items() if one.has_gap} == {1, 2, 3}
     assert {quarter for quarter, one in found.items() if one.is_estimated} == {1, 2}
-
-
-def test_energy_is_in_the_periods_of_later_readings() -> None:
-    flows = flows_of(events((5, 0), (15, 100), (16, 90), (31, 190)), QUARTER, False)
-    assert {(start - TEN) // QUARTER: flow for start, flow in flows.items()} == {
-        1: Flow(100_000, 10_000),
-        2: Flow(100_000, 0),
-    }
-
-
-def test_a_reading_at_the_end_of_a_period_closes_it() -> None:
-    some = events((0, 0), (15, 100), (16, 90), (30, 190), (31, 200))
-    flows = flows_of(some, QUARTER, False, "closing")
-    assert {(start - TEN) // QUARTER: flow for start, flow in flows.items()} == {
-        0: Flow(100_000, 0),
-        1: Flow(100_000, 10_000),
-        2: Flow(10_000, 0),
-    }
-    assert period_of(TEN, QUARTER, "closing") == TEN - QUARTER
-    assert period_of(FIRST_SECOND, QUARTER, "closing") == FIRST_SECOND
-
-
-def test_even_shares_are_of_each_period_between_readings() -> None:
-    some = events((5, 1_000), (35, 1_900), (35, 1_901), (20, 1_904))
-    flows = flows_of(some, QUARTER, False, "even")
-    assert {(start - TEN) // QUARTER: flow for start, flow in flows.items()} == {
-        0: Flow(300_000, 0),
-        1: Flow(450_000 + 3_000, 0),
-        2: Flow(150_000 + 1_000, 0),
-    }
-    day = 24 * 60 + 5
-    flows = flows_of(events((5, 0), (day, 96)), QUARTER, False, "even")
-    assert len(flows) == 97
-    assert (flows[TEN], flows[TEN + 86_400]) == (Flow(666, 0), Flow(334, 0))
-    # More than a day, by a second.
-    flows = flows_of(events((5, 0), (day + 1 / 60, 96)), QUARTER, False, "even")
-    assert flows == {TEN + 86_400: Flow(96_000, 0)}
 
 
 @pytest.mark.parametrize(

@@ -11,10 +11,10 @@ from ocpp_board.energies import Flow
 from ocpp_board.messages.transactions import Transaction, Transactions, mwh_of
 from ocpp_board.replay.answered import Answered
 from ocpp_board.replay.boards import Part, Session
+from ocpp_board.replay.lists import LiveEvents
 from ocpp_board.reports.quality import Finding, Kind, findings_of
-from ocpp_board.reports.session_facts import SessionFacts
 from ocpp_board.reports.session_times import Registers, duration, times_of
-from ocpp_board.traffic.troubles import (
+from tests.traffic.troubles import (
     FIRST,
     KINDS,
     Sent,
@@ -23,6 +23,7 @@ from ocpp_board.traffic.troubles import (
     reading,
     sound,
 )
+from tests.unit.listed import Facts, live
 
 HOUR = timedelta(hours=1)
 CONFLICT = '[4,"1","GenericError","ConflictingEvent",{}]'
@@ -42,14 +43,25 @@ def taken(messages: Messages, answers: dict[int, str] | None = None) -> Transact
     return found.of("north", "CS-01", "t1")
 
 
+def counted(
+    messages: Messages, answers: dict[int, str] | None = None, is_by_moment: bool = False
+) -> LiveEvents:
+    """The live events of these messages."""
+    some = [
+        answered(sent, (answers or {}).get(number, '[3,"1",{}]'))
+        for number, sent in enumerate(messages)
+    ]
+    return live(some, taken(messages, answers), is_by_moment)
+
+
 def findings(
     messages: Messages,
     complete: bool = True,
     answers: dict[int, str] | None = None,
     by_sequence: str | None = "a line `order north moment`",
 ) -> list[Finding]:
-    transaction = taken(messages, answers)
-    return findings_of(transaction, transaction.live(0, 99, []), complete, by_sequence)
+    events = counted(messages, answers, by_sequence is None)
+    return findings_of(taken(messages, answers), events, complete, by_sequence)
 
 
 def kinds(name: str, answers: dict[int, str] | None = None) -> list[tuple[Kind, int]]:
@@ -88,7 +100,7 @@ def test_each_trouble_is_found_and_no_other(name: str, wanted: list[tuple[Kind, 
 
 def marked(name: str, count: int = 2) -> Part:
     """A station of the generator with so many sessions, as a board with their messages has it."""
-    reported = SessionFacts()
+    reported = Facts()
     for number in range(count):
         for place, sent in enumerate(KINDS[name](f"T{number + 1}", FIRST + 3 * number * HOUR)):
             is_conflict = name == "id-again" and place == 4
@@ -144,7 +156,7 @@ def test_a_register_that_rises_outside_sessions_is_of_the_station() -> None:
     assert (found.kind, found.times) == (Kind.OUTSIDE, 1)
     assert found.detail == "0.250 kWh at EVSE 1" and found.first == FIRST + 5 * HOUR / 6
     # While a session goes on, and where nothing rises, MeterValues are no finding.
-    reported = SessionFacts()
+    reported = Facts()
     for minutes, wh in ((0, 1), (10, 900), (40, 900), (50, 900)):
         reported.take(
             answered(
@@ -163,7 +175,7 @@ def test_a_register_that_rises_outside_sessions_is_of_the_station() -> None:
 
 
 def test_between_sessions_a_meter_that_reads_less_was_exchanged() -> None:
-    reported = SessionFacts()
+    reported = Facts()
     for tx, more in (("T1", 5_000), ("T2", 0)):
         for sent in sound(tx, FIRST + (3 * HOUR if tx == "T2" else 0 * HOUR)):
             sent.payload["meterValue"][0]["sampledValue"][0]["value"] += more
@@ -181,8 +193,7 @@ def test_the_greatest_power_may_be_said(most_kw: int, count: int) -> None:
     messages = sound("T1", FIRST)
     messages[1].payload["meterValue"][0]["sampledValue"][0]["value"] = 6_000
     messages[2:] = []
-    transaction = taken(messages)
-    found = findings_of(transaction, transaction.live(0, 9, []), False, "", most_kw)
+    found = findings_of(taken(messages), counted(messages), False, "", most_kw)
     assert [one.kind for one in found] == [Kind.POWER] * count
 
 
@@ -256,7 +267,7 @@ def test_of_many_measurands_the_first_are_reported() -> None:
 def test_a_reason_may_be_anything(reason: Any, reported: str) -> None:
     messages = sound("T1", FIRST)
     messages[3].payload["transactionInfo"]["stoppedReason"] = reason
-    times = times_of(taken(messages).live(0, 3, []))
+    times = times_of(counted(messages))
     assert times.reason == reported and reported.isprintable()
 
 
@@ -285,7 +296,7 @@ def test_readings_that_are_listed_again_name_the_line_that_mends_it() -> None:
 def test_by_time_what_is_listed_again_is_no_finding(name: str) -> None:
     messages = KINDS[name]("T1", FIRST)
     assert findings(messages, by_sequence=None) == []
-    times = times_of(taken(messages).live(0, 3, []), True)
+    times = times_of(counted(messages, is_by_moment=True))
     assert Registers(1_000_000, 1_750_000) in (times.imported, times.exported)
 
 
@@ -306,15 +317,15 @@ def test_by_time_the_first_and_the_last_reading_are_those_of_moments() -> None:
     values = [1_000, 1_300, 1_200]
     messages = [event("T1", n, "Updated", FIRST + n * HOUR, wh) for n, wh in enumerate(values)]
     messages[2].payload["meterValue"][0] = reading(FIRST + HOUR / 2, 1_200)
-    events = taken(messages).live(0, 2, [])
-    assert times_of(events).imported == Registers(1_000_000, 1_200_000)
-    assert times_of(events, True).imported == Registers(1_000_000, 1_300_000)
+    assert times_of(counted(messages)).imported == Registers(1_000_000, 1_200_000)
+    by_moment = times_of(counted(messages, is_by_moment=True))
+    assert by_moment.imported == Registers(1_000_000, 1_300_000)
     assert [one.kind for one in findings(messages)] == [Kind.REGISTER_FALLS]
     assert findings(messages, by_sequence=None) == []
 
 
 def test_a_board_by_moment_has_its_sessions_so() -> None:
-    reported = SessionFacts()
+    reported = Facts()
     for sent in KINDS["readings-repeated"]("T1", FIRST):
         reported.take(answered(sent))
     one = session(0, 3, 4, True)
@@ -364,14 +375,14 @@ def test_an_event_that_is_sent_again_keeps_its_first_receipt() -> None:
 
 
 def test_without_a_receipt_no_clock_is_far() -> None:
-    found = Transactions()
-    found.take(answered(KINDS["clock-far"]("T1", FIRST)[0])._replace(received=None))
+    found, one = Transactions(), answered(KINDS["clock-far"]("T1", FIRST)[0])
+    found.take(one := one._replace(received=None))
     transaction = found.of("north", "CS-01", "t1")
-    assert findings_of(transaction, transaction.live(0, 9, []), False, "north") == []
+    assert findings_of(transaction, live([one], transaction), False, "north") == []
 
 
 def test_times_and_registers_of_a_session() -> None:
-    times = times_of(taken(sound("T1", FIRST)).live(0, 3, []))
+    times = times_of(counted(sound("T1", FIRST)))
     assert (times.start, times.end) == (FIRST, FIRST + timedelta(minutes=30))
     assert (times.seconds, times.imported, times.exported) == (
         1_800,
@@ -379,18 +390,18 @@ def test_times_and_registers_of_a_session() -> None:
         None,
     )
     assert times.reason == "EVDisconnected"
-    exported = times_of(taken(KINDS["feeds-back"]("T1", FIRST)).live(0, 3, [])).exported
+    exported = times_of(counted(KINDS["feeds-back"]("T1", FIRST))).exported
     assert exported == Registers(1_000_000, 1_750_000)
 
 
 def test_registers_are_the_first_and_the_last_and_not_the_lowest() -> None:
-    times = times_of(taken(KINDS["register-falls"]("T1", FIRST)).live(0, 3, []))
+    times = times_of(counted(KINDS["register-falls"]("T1", FIRST)))
     assert times.imported == Registers(1_000_000, 750_000)
 
 
 def test_a_first_event_that_is_voided_came_all_the_same() -> None:
-    transaction = taken(sound("T1", FIRST))
-    assert findings_of(transaction, transaction.live(1, 3, []), False, "north") == []
+    messages = sound("T1", FIRST)
+    assert findings_of(taken(messages), counted(messages[1:]), False, "north") == []
 
 
 def test_two_events_may_have_the_same_time() -> None:
@@ -400,13 +411,10 @@ def test_two_events_may_have_the_same_time() -> None:
 
 
 def test_events_that_the_board_does_not_count_tell_no_times() -> None:
-    transaction = taken(sound("T1", FIRST))
-    times = times_of(transaction.live(1, 2, []))
+    times = times_of(counted(sound("T1", FIRST)[1:3]))
     assert (times.start, times.end, times.seconds) == (None, None, None)
     assert times.begun == FIRST + timedelta(minutes=10)
-    assert [one.number for one in transaction.live(0, 3, [(1, 2)])] == [0, 3]
-    assert [one.number for one in transaction.live(0, 3, [(2, 2)])] == [0, 1, 3]
-    assert times_of([]).begun is None
+    assert times_of(LiveEvents()).begun is None
 
 
 def test_an_event_that_was_erased_is_known_by_the_one_that_came_in_its_place() -> None:
@@ -440,7 +448,7 @@ def test_refused_messages_and_other_actions_tell_nothing() -> None:
 
 
 def test_data_is_up_to_the_latest_receipt_or_to_the_latest_event_without_one() -> None:
-    found = SessionFacts()
+    found = Facts()
     assert found.until() is None
     for sent in KINDS["clock-far"]("T1", FIRST):
         found.take(answered(sent))
@@ -494,7 +502,7 @@ def session(first: int, last: int, events: int, complete: bool) -> Session:
 def test_messages_tell_why_a_session_is_not_complete(
     name: str, last: int, events: int, state: str
 ) -> None:
-    reported = SessionFacts()
+    reported = Facts()
     for number, sent in enumerate(KINDS[name]("T1", FIRST)):
         is_conflict = name == "id-again" and number == 4
         reported.take(answered(sent, CONFLICT if is_conflict else '[3,"1",{}]'))

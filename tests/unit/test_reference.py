@@ -4,7 +4,7 @@ from pathlib import Path
 
 import pytest
 
-from ocpp_board.traffic import repeats
+from tests.traffic import repeats
 from tests.reference import replayed
 from tests.rows.rows import scripts_of
 

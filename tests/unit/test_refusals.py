@@ -22,7 +22,7 @@ from ocpp_board.replay.refusals import (
     refusal_of,
     sentence,
 )
-from ocpp_board.reports.session_facts import SessionFacts
+from tests.unit.listed import Facts
 from ocpp_board.statuses import Mistaken
 
 AT = datetime(2026, 3, 1, 10, 0, 5, tzinfo=timezone.utc)
@@ -294,7 +294,7 @@ def test_what_is_declared_has_its_limits() -> None:
 
 
 def test_what_was_taken_since_is_no_longer_listed(tmp_path: Path) -> None:
-    reported, refusals = SessionFacts(), Refusals()
+    reported, refusals = Facts(), Refusals()
     refusal = Refusal("", "A", "T1", "0", UNTAKEN, "", "", "a station is not in stations.txt: 'A'")
     beat, other = (refusal._replace(transaction="", number=number) for number in ("", "x"))
     stay = [

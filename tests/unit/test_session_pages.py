@@ -15,10 +15,10 @@ from ocpp_board.replay.refusals import Refusal, Refusals
 from ocpp_board.replay.script_lines import ScriptLines
 from ocpp_board.commands import tables
 from ocpp_board.reports.calendars import Calendar
-from ocpp_board.reports.session_facts import SessionFacts
+from tests.unit.listed import Facts
 from ocpp_board.reports.session_pages import Known, SessionPages, href_of, lines_of, path_of
 from ocpp_board.statuses import Status
-from ocpp_board.traffic.troubles import FIRST, messages, sound
+from tests.traffic.troubles import FIRST, messages, sound
 
 
 def test_addresses_are_those_of_the_files() -> None:
@@ -60,7 +60,7 @@ def known_of(folder: Path) -> Known:
     for line in lines:
         script.passed(line)
     script.path.write_bytes(b"".join(lines))
-    known = Known(SessionFacts(), Refusals(), script)
+    known = Known(Facts(), Refusals(), script)
     for place, one in enumerate(sound("T1", FIRST)):
         text = json.dumps([2, "1", "TransactionEvent", one.payload])
         said = Answered(2 * place + 2, "north", "A", one.received, text, '[3,"1",{}]')

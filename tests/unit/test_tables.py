@@ -1,17 +1,15 @@
 """The files that `tables` writes of boards and of the messages beside them."""
 
 import csv
-from collections.abc import Iterator
 from datetime import datetime, timedelta
 from pathlib import Path
-from typing import IO
 
 import pytest
 
 from ocpp_board.replay.answered import Answered
 from ocpp_board.commands import tables
 from ocpp_board.statuses import Status
-from ocpp_board.traffic.troubles import FIRST, KINDS, messages
+from tests.traffic.troubles import FIRST, KINDS, messages
 
 FLOW = "up=750000 down=0 export_up=0 export_down=0"
 TOTAL = f"total events=4 voided=0 transactions=1 complete=1 missing=0 {FLOW}"
@@ -30,27 +28,23 @@ SESSION = {"kind": "clock-back"}
 
 
 @pytest.fixture(autouse=True)
-def reported(monkeypatch: pytest.MonkeyPatch) -> list[str]:
-    """The messages of a script, with what the program was and how it begins."""
-    seen = list[str]()
+def programmed(monkeypatch: pytest.MonkeyPatch, reference: str) -> None:
+    """The program that tools take where none is named."""
+    monkeypatch.setattr("ocpp_board.words.found_program", lambda: reference)
 
-    def answered(program: str, script: IO[bytes], _other: object) -> Iterator[Answered]:
-        seen.extend([program, script.readline().decode()])
-        session = KINDS[SESSION["kind"]]("T1", FIRST)
-        session[-1].payload["transactionInfo"]["stoppedReason"] = REASON
-        lines = [line for line in messages("CS-01", session) if line.startswith("msg ")]
-        for number, (sent, line) in enumerate(zip(session, lines)):
-            text = line.split(" ", 2)[2]
-            yield Answered(number, "north", "CS-01", sent.received, text, '[3,"1",{}]')
 
-    monkeypatch.setattr(tables, "answered", answered)
-    return seen
+def write(folder: Path, text: str) -> None:
+    """Writes a text with boards, and a script with a session."""
+    session = KINDS[SESSION["kind"]]("T1", FIRST)
+    session[-1].payload["transactionInfo"]["stoppedReason"] = REASON
+    (folder / "text").write_text(text)
+    lines = ["station north CS-01", *messages("CS-01", session)]
+    (folder / "script").write_text("\n".join(lines) + "\n")
 
 
 def run(folder: Path, *words: str, text: str = BOARD) -> dict[str, str]:
     """The files by how they end."""
-    (folder / "text").write_text(text)
-    (folder / "script").write_text("a script\n")
+    write(folder, text)
     argv = [*words, "--out", str(folder / "x"), str(folder / "text")]
     assert tables.main(argv, "tables") == Status.DONE
     return {path.name[2:]: path.read_text() for path in folder.glob("x.*") if path.is_file()}
@@ -81,11 +75,8 @@ def test_tables_and_pages_say_how_readings_are_taken(tmp_path: Path) -> None:
             assert files[page].count("Readings by moment:") == times
 
 
-def test_with_a_script_sessions_have_times_and_findings(
-    tmp_path: Path, reported: list[str]
-) -> None:
-    files = run(tmp_path, "--script", str(tmp_path / "script"), "--program", "p")
-    assert reported == ["p", "a script\n"]
+def test_with_a_script_sessions_have_times_and_findings(tmp_path: Path) -> None:
+    files = run(tmp_path, "--script", str(tmp_path / "script"))
     (row,) = csv.DictReader(files["transactions.csv"].splitlines())
     assert row["start (UTC)"] == "2026-03-01T08:00:00Z"
     assert row["end (UTC)"] == "2026-03-01T08:30:00Z"
@@ -123,15 +114,18 @@ def test_what_was_fed_back_is_a_negative_net_energy(
 @pytest.mark.parametrize(
     ("text", "why"),
     [
-        (BOARD.replace("tx t1", "tx t2"), "counts 4 of its events, and the script has none"),
+        (BOARD.replace("tx t1", "tx t2"), "the script has none of its events"),
         (
             BOARD.replace("station CS-01", "station CS-02"),
             "session t1 of station CS-02, site north",
         ),
-        (BOARD.replace("events=4 first=0 last=3", "events=5 first=0 last=4"), "the script has 4"),
+        (
+            BOARD.replace("events=4 first=0 last=3", "events=5 first=0 last=4"),
+            "the script has other figures of it",
+        ),
         (
             BOARD.replace(f"missing=0 {FLOW}\nend", f"missing=0 {FLOW.replace('75', '76')}\nend"),
-            "its energy on the board is not that of the script's readings",
+            "session t1 of station CS-01, site north: the script has other figures of it",
         ),
     ],
 )
@@ -142,8 +136,7 @@ def test_a_text_of_another_script_is_reported_and_nothing_is_written(
     capsys: pytest.CaptureFixture[str],
     monkeypatch: pytest.MonkeyPatch,
 ) -> None:
-    (tmp_path / "text").write_text(text)
-    (tmp_path / "script").write_text("a script\n")
+    write(tmp_path, text)
     argv = ["--script", str(tmp_path / "script"), "--out", str(tmp_path / "x")]
     monkeypatch.setattr("ocpp_board.statuses.drop_output", lambda: None)
     assert tables.main([*argv, str(tmp_path / "text")], "tables") == Status.MISTAKEN

@@ -13,7 +13,7 @@ import pytest
 from ocpp_board import cli, processes, statuses
 from ocpp_board.commands import log_to_script
 from ocpp_board.commands.explain import Plan, Run
-from ocpp_board.commands.traffic import arguments, event, script, unchanging
+from tests.traffic.script import arguments, event, script, unchanging
 from ocpp_board.escapes import csv_cell, from_copy, shown
 from ocpp_board.fleet import forget, replays
 from ocpp_board.fleet.database import SECRETS
@@ -26,8 +26,8 @@ from ocpp_board.replay.line_faults import bad_line
 from ocpp_board.commands import tables
 from ocpp_board.statuses import Mistaken, Status
 from ocpp_board.reporting import JsonFormatter, PlainFormatter
-from ocpp_board.traffic import repeats
-from ocpp_board.traffic.troubles import KINDS, MOST_SESSIONS, script as troubled
+from tests.traffic import repeats
+from tests.traffic.troubles import KINDS, MOST_SESSIONS, script as troubled
 from ocpp_board.version import version
 
 

@@ -4,7 +4,6 @@
     live            follows a log or a script, and keeps pages and tables
     tables          turns the text of boards into tables and pages
     explain         says what is wrong with a script
-    traffic         writes scripts of many events, for measuring
 
 Each has `main`, which cli.py calls by the tool's name.
 """

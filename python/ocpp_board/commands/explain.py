@@ -13,8 +13,8 @@ decides: the tool looks for the causes in the line afterwards.
 If a board's periods are wrong because stations list readings again, it names the line that mends it, a line
 `order <site> moment`. That is a hint and no mistake; so is a report of a station near its limits.
 
-To distinguish the answers, it adds lines of its own after lines that may write nothing; these are faults and change
-nothing. It reports the first mistakes of a kind, and counts the others.
+To distinguish the answers, it adds lines of its own: `mark` after lines that may write nothing, and lists of
+transactions after boards. They change nothing. It reports the first mistakes of a kind, and counts the others.
 """
 
 import difflib
@@ -42,7 +42,7 @@ from ocpp_board.statuses import Status, ended
 from ocpp_board.words import add_program, parsed, parser_of
 
 ENDING = """\
-It takes half a kilobyte of memory for each event. Exit status: 0 if there is nothing to report; 1 if something was
+Exit status: 0 if there is nothing to report; 1 if something was
 reported; 2 if the words are wrong, the program is not there, or a file can't be read or written."""
 # Mistakes of a kind that are reported one by one, and characters of a line that are shown.
 MOST_REPORTED = 10
@@ -118,7 +118,7 @@ class Run:
     def __init__(self, program: str, script: IO[bytes], name: str = "") -> None:
         """`name`: that of the script, where it is a file."""
         self.name, self.where = (f"{name}: ", f"{name} line") if name else ("", "line")
-        self.replay, self.plan = ScriptReplay(program, script), Plan()
+        self.replay, self.plan = ScriptReplay(program, script, asks=True), Plan()
         self.messages = Messages()
         self.near = NearLimits(self.messages.limits, self.report_limit)
         self.repeats = RepeatHints(self.report_hint)
@@ -222,14 +222,14 @@ class Run:
 
     def run(self) -> int:
         """Reports all that is wrong, and returns the exit status. Raises OSError."""
-        for line, text in self.replay.texts():
+        for line, text in self.replay.answers:
             self.progress.report(line.number, len(line.line) + 1)
             if message := self.messages.take(line, text):
                 self.near.take(message)
-                self.repeats.messages.take(message)
                 if message.is_accepted and self.plan.opened:
                     continue
-            self.repeats.look(line, text)
+            if line.line.startswith(b"board "):
+                self.repeats.look(line, text, self.replay.ask)
             self.explain(line, text.partition(b"\n")[0].decode("utf-8", "replace"))
         self.progress.end()
         status, said = self.replay.ended()

@@ -53,6 +53,7 @@ from ocpp_board.logs.script_plan import add_plan, plan_options
 from ocpp_board.processes import keep_many
 from ocpp_board.replay.answered import Answered
 from ocpp_board.replay.ledger import Ended, Ledger
+from ocpp_board.replay.live_lists import LiveLists
 from ocpp_board.replay.near_limits import NearLimits
 from ocpp_board.replay.refusals import Refusals
 from ocpp_board.reports.live_pages import Pages, Shown
@@ -145,6 +146,7 @@ class Run:
         takers: list[Callable[[Answered], None]] = [self.refusals.take, facts.take]
         self.ledger = Ledger(options.program, takers, self.refusals.add)
         facts.operators = self.ledger.operators
+        facts.counted = self.lists = LiveLists(self.ledger, facts.transactions)
         of_script = self.ledger.script, self.ledger.mended
         self.pages = Pages(options.shown, self.refusals, facts, *of_script)
         self.source: ScriptFeed | LogFeed = (
@@ -155,7 +157,8 @@ class Run:
         near = NearLimits(self.ledger.messages.limits, report_limit)
         takers.append(near.take)
         if isinstance(self.source, LogFeed):
-            self.source.known = facts
+            self.source.known, self.source.lists = facts, self.lists
+            self.lists.archived = self.source.archive.of
             self.source.archived = [self.refusals.take, facts.take]
             self.source.closed.append(near.sent.counts.clear)
             self.pages.archive = self.source.archive
@@ -223,6 +226,7 @@ class Run:
                 self.source.settle()
                 for site in self.ledger.sites():
                     board = self.source.board(site)
+                    self.lists.renew()
                     with self.ledger.taking:
                         self.pages.write(site, board)
                 if is_last or not self.options.log or self.source.is_caught_up.is_set():

@@ -65,6 +65,7 @@ from urllib.request import urlopen
 
 from ocpp_board.processes import keep_many
 from ocpp_board.replay.answered import Answered, answered
+from ocpp_board.replay.board_lists import BoardLists, TextLists
 from ocpp_board.replay.refusals import Refusals, UntakenLines
 from ocpp_board.replay.script_check import check_text, whole
 from ocpp_board.replay.script_lines import ScriptLines
@@ -270,15 +271,16 @@ def read_script(options: Options, path: str, text: IO[bytes]) -> Known:
     """Replays the script that a text is of, and returns what its messages say and what was refused of them, which it
     writes. Raises Mistaken where the text is of another script."""
     known = Known(SessionFacts(options.most_kw), Refusals(), ScriptLines())
-    facts, refusals = known.facts, known.refusals
+    facts, refusals, lists = known.facts, known.refusals, BoardLists()
     known.script.path = Path(path)
     with opened(path) as file:
         if is_gzip(file):
             raise Mistaken(f"{path}: the script is compressed by gzip: gunzip it first")
         script = UntakenLines(file, known.script, known.mended.take)
-        messages = answered(options.program, script, facts.operators.take)
+        messages = answered(options.program, script, facts.operators.take, lists.take)
         hand_on(messages, [facts.take, refusals.take])
-    check_text(text, facts.transactions, path)
+    check_text(text, lists, path)
+    facts.counted = TextLists(lists)
     for refusal in script.refusals:
         if not facts.has_taken(refusal):
             refusals.add(refusal)

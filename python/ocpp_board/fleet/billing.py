@@ -35,21 +35,22 @@ from typing import Any, NamedTuple
 from ocpp_board.energies import Flow, flow_of, kwh_of
 from ocpp_board.escapes import csv_cell
 from ocpp_board.fleet import parts
-from ocpp_board.fleet.archives import Late, unpacked
+from ocpp_board.fleet.archives import Late, unpacked, widened
 from ocpp_board.fleet.cells import Cells, Room, Wrong
 from ocpp_board.fleet.close_day import zone_of
 from ocpp_board.fleet.database import Fault, connect
-from ocpp_board.fleet.figures import figures
+from ocpp_board.fleet.figures import Figures, figures
 from ocpp_board.fleet.findings import Findings
 from ocpp_board.fleet.lines import Transaction
 from ocpp_board.fleet.operators import Operator
 from ocpp_board.fleet.plans import Plan, Reckoning, known_lines
 from ocpp_board.fleet.replays import Replay
 from ocpp_board.fleet.states import CORRECTED, PROVISIONAL, SETTLED
-from ocpp_board.limits import MOMENT, is_name
+from ocpp_board.limits import GREATEST_LIMITS, MOMENT, is_name
 from ocpp_board.messages.bills import TOKENS, Details, cells_of, with_key, write_signed
 from ocpp_board.messages.transactions import Event
 from ocpp_board.replay.boards import Numbers
+from ocpp_board.replay.lists import LiveEvents
 from ocpp_board.reports.session_times import times_of
 from ocpp_board.statuses import Status
 from ocpp_board.words import add_program, add_tokens, parser_of
@@ -62,8 +63,9 @@ HEADS = (
     *("sent_id", "id_token", "id_token_type", "remote_start_id"),
     *("first_signed_value", "first_public_key", "last_signed_value", "last_public_key"),
 )
-# Lines that are replayed at once. For pages one table at once, and one that waits; seconds for one.
-LINES, PATIENCE = 5_000, 80
+# Lines that are replayed at once, and transactions whose lists are read at once. For pages one table at once, and one
+# that waits; seconds for one.
+LINES, LISTED, PATIENCE = 5_000, 100, 80
 ROOM = Room(1, 1)
 # MiB of a table that a page holds at most: signed values are as long as stations make them.
 MOST_MIB = 64
@@ -195,7 +197,7 @@ class ShardSessions:
                     yield row
             # Some at once: the lines of a month may have many signed values.
             async for one in self.session.cursor(ARCHIVED, *values):
-                row = self.archived(one)
+                row = await self.archived(one)
                 if month.has(row.start or row.begun):
                     yield row
 
@@ -210,12 +212,23 @@ class ShardSessions:
             await replay.open(plan)
             await self.replay(replay, plan, found)
             board = figures((await replay.board(self.site)).decode())
+            return [row async for row in self.listed(replay, board, found)]
         finally:
             replay.kill()
-        return [
-            self.row(one, numbers, events, found.messages.of(self.site, *one).sent)
-            for one, numbers, events in found.sessions(board)
-        ]
+
+    async def listed(self, replay: Replay, board: Figures, found: Findings) -> AsyncIterator[Row]:
+        """The rows of the sessions of a board, by their lists."""
+        sessions = {
+            (station, name): numbers
+            for (station, kind, name), numbers in board.items()
+            if kind == "tx"
+        }
+        ones = list(sessions)
+        for at in range(0, len(ones), LISTED):
+            some = ones[at : at + LISTED]
+            for one, lists in zip(some, await replay.listed(some)):
+                sent = found.messages.of(self.site, *one).sent
+                yield self.row(one, sessions[one], found.events(one, lists), sent)
 
     async def replay(self, replay: Replay, plan: Plan, found: Findings) -> None:
         """Replays the log's lines, but for those that came for archived sessions."""
@@ -229,7 +242,7 @@ class ShardSessions:
             for row, answer in zip(own, await replay.answers(len(own))):
                 found.take(row["line"], answer.decode())
 
-    def row(self, one: Transaction, numbers: Numbers, events: list[Event], sent: str) -> Row:
+    def row(self, one: Transaction, numbers: Numbers, events: LiveEvents, sent: str) -> Row:
         """The row of a session of the log."""
         times = times_of(events)
         return Row(
@@ -238,11 +251,11 @@ class ShardSessions:
             *(sent, ends_of(events)),
         )
 
-    def archived(self, row: Any) -> Row:
+    async def archived(self, row: Any) -> Row:
         """The row of an archived session."""
         one = (row["station"], row["transaction"])
         state = CORRECTED if row["corrections"] else SETTLED
-        events, sent = self.counted(one, unpacked(row["lines"]) if row["lines"] else [])
+        events, sent = await self.counted(one, unpacked(row["lines"]) if row["lines"] else [])
         begun, start, end = row["begun"], row["started"], row["ended"]
         if begun is None:
             begun, start, end = (times := times_of(events)).begun, times.start, times.end
@@ -252,24 +265,26 @@ class ShardSessions:
             *(sent, ends_of(events)),
         )
 
-    def counted(self, one: Transaction, lines: list[str]) -> tuple[list[Event], str]:
+    async def counted(self, one: Transaction, lines: list[str]) -> tuple[LiveEvents, str]:
         """The events of an archived session that count, by their numbers, and its id as it was sent first. Each of its
-        lines changed something."""
-        found, voided = Findings(self.site, self.reckoning), set[int]()
-        for text in lines:
-            command, _, rest = text.split(" ", 2)
-            if command == "msg":
-                found.archived([text])
-                continue
-            number = int(rest.split(" ")[1])
-            if command == "void":
-                voided.add(number)
-            else:
-                voided.discard(number)
-            if command == "erase":
-                found.messages.of(self.site, *one).events.pop(number, None)
+        lines changed something, so where no operator's is among them all count."""
+        found = Findings(self.site, self.reckoning)
+        found.archived(lines)
         whole = found.messages.of(self.site, *one)
-        return [whole.events[at] for at in sorted(whole.events.keys() - voided)], whole.sent
+        if all(line.startswith("msg ") for line in lines):
+            return LiveEvents(whole.events[number] for number in sorted(whole.events)), whole.sent
+        row = {"site": self.site, "station": one[0], "changes": GREATEST_LIMITS["changes"]}
+        row |= {"transactions": 1, "events": 1, "readings": 1}
+        plan = Plan([widened(row, lines)], {self.site: self.reckoning}, self.known)
+        replay = await Replay.start(self.program)
+        try:
+            await replay.open(plan)
+            replay.write("".join(line + "\n" for line in lines).encode())
+            await replay.answers(len(lines))
+            (lists,) = await replay.listed([one])
+        finally:
+            replay.kill()
+        return found.events(one, lists), whole.sent
 
 
 async def sessions_of(words: argparse.Namespace) -> list[Row]:

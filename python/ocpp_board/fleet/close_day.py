@@ -34,9 +34,9 @@ from ocpp_board.energies import Flow, flow_of
 from ocpp_board.fleet import closing_queries, compact, findings, parts
 from ocpp_board.fleet.archives import ARCHIVED, each_unpacked, packed, widened
 from ocpp_board.fleet.begun_anew import begun_anew, reserve
-from ocpp_board.fleet.closing_lines import SAID, Line, Sorted
+from ocpp_board.fleet.closing_lines import SAID, Line, Sorted, named
 from ocpp_board.fleet.database import Fault, said
-from ocpp_board.fleet.figures import Figures, Flows, added, by_transaction, figures, periods
+from ocpp_board.fleet.figures import Figures, Flows, added, figures, periods
 from ocpp_board.fleet.findings import Findings
 from ocpp_board.fleet.lines import (
     COMMANDS,
@@ -52,7 +52,7 @@ from ocpp_board.fleet.replays import Replay
 from ocpp_board.fleet.spooled import Spool, Stored, Texts
 from ocpp_board.fleet.states import SESSIONS
 from ocpp_board.limits import LONGEST_SCRIPT
-from ocpp_board.reports.session_times import SessionTimes
+from ocpp_board.reports.session_times import SessionTimes, times_of
 from ocpp_board.words import add_program, parser_of
 
 log = logging.getLogger(__name__)
@@ -60,6 +60,8 @@ log = logging.getLogger(__name__)
 NAME = "ocpp-board close-day"
 # Bytes of a log that is compacted before it is closed.
 LARGE = LONGEST_SCRIPT // 16
+# Transactions whose lists are read at once.
+LISTED = 100
 # A station, and when its period begins.
 Period = tuple[str, datetime]
 
@@ -104,6 +106,9 @@ class Closing:
         # Transactions that were named to be archived, and are; and where those were archived that something came for.
         self.had = set[Transaction]()
         self.homes: dict[Transaction, str] = {}
+        # When the sessions that it looked at began and ended, and rows of what is doubtful in them.
+        self.times = dict[Transaction, SessionTimes]()
+        self.doubts = list[tuple[Any, ...]]()
         # Before which moment history left the cell.
         self.aged: datetime | None = None
 
@@ -144,13 +149,48 @@ class Closing:
         rows = [widened(row, Texts(own.get(row["station"], []))) for row in self.stations]
         return Plan(rows, {self.site: reckoning or self.reckoning}, self.words.known)
 
-    async def replayed(self, lines: list[Stored], reckoning: Reckoning | None = None) -> Figures:
-        """The figures of the site's stations after these lines."""
+    async def replayed(
+        self,
+        lines: list[Stored],
+        reckoning: Reckoning | None = None,
+        own: Mapping[Transaction, list[Line]] | None = None,
+    ) -> Figures:
+        """The figures of the site's stations after these lines. `own`: each transaction's, where its session is looked
+        at."""
         if not lines:
             return {}
-        plan = self.plan(lines, reckoning)
-        made = await compact.replayed(self.words.program, plan, Texts(lines))
-        return figures(made.boards[0].decode()) if made.boards else {}
+        plan, whole = self.plan(lines, reckoning), Figures()
+
+        async def look(replay: Replay, boards: list[bytes]) -> None:
+            for board in boards[:1]:
+                whole.update(figures(board.decode()))
+            if own is not None:
+                await self.look(replay, whole, own)
+
+        await compact.replayed(self.words.program, plan, Texts(lines), look)
+        return whole
+
+    async def look(
+        self, replay: Replay, whole: Figures, own: Mapping[Transaction, list[Line]]
+    ) -> None:
+        """Looks at the sessions of a replay: when each began and ended, and what is doubtful in it."""
+        complete = {
+            (station, name): bool(numbers["complete"])
+            for (station, kind, name), numbers in whole.items()
+            if kind == "tx"
+        }
+        ones = list(complete)
+        for at in range(0, len(ones), LISTED):
+            some = ones[at : at + LISTED]
+            for one, lists in zip(some, await replay.listed(some)):
+                # One at a time, since each event takes half a kilobyte.
+                found = Findings(self.site, self.reckoning)
+                for line in own.get(one, ()):
+                    heard = line.stored.at if line.stored.gateway else None
+                    found.take(line.stored.text, line.answer.decode(), heard)
+                events = found.events(one, lists)
+                self.doubts += found.rows(one, events, complete[one])
+                self.times[one] = times_of(events)
 
     async def sorted_out(self, rows: list[Stored], front: list[Stored]) -> list[Line]:
         """What these lines do behind those in front, which all have to change something."""
@@ -314,7 +354,7 @@ class Closing:
         own = [(row, row.transaction in known) for row in rows]
         live = await self.sorted_out([row for row, is_late in own if not is_late], [])
         changes = [line for line in live if line.is_change]
-        whole = await self.replayed([line.stored for line in changes])
+        whole = await self.replayed([line.stored for line in changes], own=named({}, live))
         gone = self.finished(changes, whole, day)
         rest = await self.replayed(
             [line.stored for line in changes if line.transaction not in gone]
@@ -322,7 +362,10 @@ class Closing:
         old = [line for lines in known.values() for line in lines]
         late = await self.sorted_out([row for row, is_late in own if is_late], old)
         again = old + [line.stored for line in late if line.is_change]
-        was, now = (await self.replayed(old), await self.replayed(again)) if late else ({}, {})
+        was, now = Figures(), Figures()
+        if late:
+            was = await self.replayed(old)
+            now = await self.replayed(again, own=named(known, late))
         return Sorted(live, late, known, gone, whole, rest, was, now)
 
     async def shares(self, log_lines: Sorted, in_file: Figures) -> dict[str, Share]:
@@ -390,9 +433,9 @@ class Closing:
             for booking in bookings:
                 await self.book(booking, place, name, plan + 1)
             await self.note_open(day, flows.keys() | opened, periods(log_lines.rest))
-            times = await self.write_findings(log_lines, in_file)
+            await self.write_findings(log_lines.known)
             heads = {booking.head[1]: booking.head for booking in bookings}
-            await self.write_transactions(heads, in_file, leaving, times)
+            await self.write_transactions(heads, in_file, leaving)
             await self.take_out(plan, removed)
         # Behind the commit: a notification within it would make others wait. Its worker looks by itself, too.
         await self.session.execute("select tell('plan', $1)", str(self.shard))
@@ -457,7 +500,6 @@ class Closing:
         heads: Mapping[str, tuple[int, str, int]],
         in_file: Figures,
         leaving: dict[Transaction, list[Stored]],
-        times: Mapping[Transaction, SessionTimes],
     ) -> None:
         """Writes the archived transactions: their figures, their times, and their lines."""
         names = ([one[part] for one in leaving] for part in (0, 1))
@@ -466,7 +508,7 @@ class Closing:
             for row in await self.fetch(closing_queries.FORGET, *names)
         }
         own = {one: heads[self.homes.get(one, self.site)] for one in leaving}
-        rows = transactions(in_file, had, times)
+        rows = transactions(in_file, had, self.times)
         if self.aged:
             # A session that left the cell does not come back.
             rows = [row for row in rows if row[:2] in had or (row[14] or self.aged) >= self.aged]
@@ -478,26 +520,11 @@ class Closing:
             ((*own[one], *one, packed(Texts(lines))) for one, lines in leaving.items()),
         )
 
-    async def write_findings(
-        self, log_lines: Sorted, in_file: Figures
-    ) -> dict[Transaction, SessionTimes]:
-        """Writes what is doubtful in the sessions of the log, and in those that come to be archived again. Gives when
-        the archived ones began and ended."""
-        rows, times = list[tuple[Any, ...]](), dict[Transaction, SessionTimes]()
-        seen = by_transaction(log_lines.whole) | by_transaction(log_lines.now)
-        filed = by_transaction(in_file)
-        for one, lines in log_lines.named().items():
-            # One at a time, since each event takes half a kilobyte.
-            found = Findings(self.site, self.reckoning)
-            for line in lines:
-                heard = line.stored.at if line.stored.gateway else None
-                found.take(line.stored.text, line.answer.decode(), heard)
-            rows += found.rows(seen.get(one, {}))
-            times |= found.times(filed.get(one, {}))
-        known = ([one[part] for one in log_lines.known] for part in (0, 1))
-        await self.session.execute(findings.GONE, self.shard, self.names(), *known, findings.FAR)
-        await self.session.executemany(findings.WRITE, [(self.shard, *row) for row in rows])
-        return times
+    async def write_findings(self, known: Collection[Transaction]) -> None:
+        """Writes what is doubtful in the sessions of the log, and in those that come to be archived again."""
+        again = ([one[part] for one in known] for part in (0, 1))
+        await self.session.execute(findings.GONE, self.shard, self.names(), *again, findings.FAR)
+        await self.session.executemany(findings.WRITE, [(self.shard, *row) for row in self.doubts])
 
     async def take_out(self, plan: int, removed: list[int]) -> None:
         """Takes rows out of the log. Raises Fault where that or the plan was changed meanwhile."""

@@ -1,5 +1,6 @@
 """The lines of a log by what becomes of them in a closing."""
 
+from collections.abc import Iterable, Mapping, Sequence
 from hashlib import sha256
 from typing import NamedTuple
 
@@ -30,6 +31,19 @@ class Line(NamedTuple):
         return not is_taken and not is_for_room(self.answer)
 
 
+def named(
+    known: Mapping[Transaction, Sequence[Stored]], lines: Iterable[Line]
+) -> dict[Transaction, list[Line]]:
+    """The lines of each transaction, those that were archived first."""
+    found = {
+        one: [Line(stored, SAID, True) for stored in stored_of] for one, stored_of in known.items()
+    }
+    for line in lines:
+        if line.transaction:
+            found.setdefault(line.transaction, []).append(line)
+    return found
+
+
 class Sorted(NamedTuple):
     """The log's lines by what becomes of them, and the figures of parts of it."""
 
@@ -52,16 +66,6 @@ class Sorted(NamedTuple):
             if line.is_change and (line.transaction in self.gone or line.transaction in self.known):
                 assert line.transaction
                 lines.setdefault(line.transaction, []).append(line.stored)
-        return lines
-
-    def named(self) -> dict[Transaction, list[Line]]:
-        """The lines of each transaction, those that were archived first."""
-        lines = {
-            one: [Line(stored, SAID, True) for stored in known] for one, known in self.known.items()
-        }
-        for line in self.live + self.late:
-            if line.transaction:
-                lines.setdefault(line.transaction, []).append(line)
         return lines
 
     def refused(self) -> list[Line]:

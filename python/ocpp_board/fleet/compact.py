@@ -14,7 +14,7 @@ reads a log in parts, and replays one in parts that is longer than a replay read
 import argparse
 import logging
 import os
-from collections.abc import AsyncIterator, Awaitable, Collection, Iterator, Sequence
+from collections.abc import AsyncIterator, Awaitable, Callable, Collection, Iterator, Sequence
 from tempfile import SpooledTemporaryFile
 from typing import IO, Any, NamedTuple
 
@@ -151,13 +151,22 @@ class Replaying:
             self.piece.replay.kill()
 
 
-async def replayed(program: str, plan: Plan, lines: Sequence[str]) -> Replayed:
+# Looks at a replay behind its lines, which wrote these boards.
+Look = Callable[[Replay, list[bytes]], Awaitable[None]]
+
+
+async def replayed(
+    program: str, plan: Plan, lines: Sequence[str], look: Look | None = None
+) -> Replayed:
     """Replays a log of any length. Raises as Replaying does."""
     replaying, found = Replaying(program, plan), list[tuple[bytes, bool]]()
     try:
         for front, end in pieces(lines, min(PIECE // 4, BLOCK_BYTES)):
             found += await replaying.answered(list(lines[front:end]))
-        return Replayed(found, await replaying.boards())
+        boards = await replaying.boards()
+        if look and replaying.piece:
+            await look(replaying.piece.replay, boards)
+        return Replayed(found, boards)
     finally:
         replaying.close()
 

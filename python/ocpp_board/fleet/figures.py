@@ -6,7 +6,6 @@ from datetime import datetime
 from typing import Any
 
 from ocpp_board.energies import FLOW, Flow, flow_of
-from ocpp_board.fleet.lines import Transaction
 from ocpp_board.fleet.plans import Reckoning
 from ocpp_board.replay.boards import TOTAL, Numbers, numbers_of
 
@@ -68,16 +67,6 @@ def periods(part: Figures) -> Flows:
         for (station, kind, start), numbers in part.items()
         if kind == "period"
     }
-
-
-def by_transaction(part: Figures) -> dict[Transaction, Figures]:
-    """The figures of each transaction, with its gaps."""
-    found: dict[Transaction, Figures] = {}
-    for (station, kind, name), numbers in part.items():
-        if kind in ("tx", "gap"):
-            one = found.setdefault((station, name.split(" ")[0]), {})
-            one[station, kind, name] = numbers
-    return found
 
 
 def blocks(text: str) -> dict[str, str]:

@@ -5,14 +5,12 @@ from contextlib import suppress
 from datetime import datetime
 from typing import Any
 
-from ocpp_board.fleet.figures import Figures
 from ocpp_board.fleet.lines import ODD, Transaction
 from ocpp_board.fleet.plans import DEFAULT_ORDER, Reckoning
-from ocpp_board.messages.transactions import Event, Transactions
+from ocpp_board.messages.transactions import Transactions
 from ocpp_board.replay.answered import Answered
-from ocpp_board.replay.boards import Numbers
+from ocpp_board.replay.lists import LiveEvents, counted, lists_of
 from ocpp_board.reports.quality import Kind, findings_of
-from ocpp_board.reports.session_times import SessionTimes, times_of
 
 # Of sessions in the log, and of those that this closing archives again. Rows of other archived sessions stay, and so do
 # those of a clock that is far: when archived lines were heard is not known any more, and what came since is added.
@@ -43,6 +41,9 @@ class Findings:
 
     def take(self, line: str, answer: str, received: datetime | None = None) -> None:
         """Takes a line with its answer. `received`: when a gateway heard it."""
+        if line.startswith("erase ") and answer.startswith(("accepted ", "[3,")):
+            _, station, tx, number = line.split(" ")
+            self.messages.erase(self.site, station, tx.lower(), int(number))
         if line.startswith("msg "):
             _, station, message = line.split(" ", 2)
             # What Python can't read says nothing, and holds up no closing.
@@ -54,28 +55,15 @@ class Findings:
         for line in lines:
             self.take(line, TAKEN)
 
-    def sessions(self, figures: Figures) -> Iterator[tuple[Transaction, Numbers, list[Event]]]:
-        """The sessions that these figures of boards have, with their numbers and the events that count."""
-        gaps = dict[Transaction, list[tuple[int, int]]]()
-        for station, kind, name in figures:
-            if kind == "gap":
-                tx, _, ends = name.rpartition(" ")
-                first, last = map(int, ends.split(".."))
-                gaps.setdefault((station, tx), []).append((first, last))
-        for (station, kind, tx), numbers in figures.items():
-            if kind == "tx":
-                whole = self.messages.of(self.site, station, tx)
-                missing = sorted(gaps.get((station, tx), ()))
-                yield (station, tx), numbers, whole.live(numbers["first"], numbers["last"], missing)
+    def events(self, one: Transaction, lists: tuple[bytes, bytes]) -> LiveEvents:
+        """The events of a session that count, by its lists."""
+        return counted(lists_of(*lists), self.messages.of(self.site, *one))
 
-    def times(self, figures: Figures) -> dict[Transaction, SessionTimes]:
-        """When the sessions that these figures have began and ended."""
-        return {one: times_of(events) for one, _, events in self.sessions(figures)}
-
-    def rows(self, figures: Figures) -> Iterator[tuple[Any, ...]]:
-        """The rows of the sessions that these figures of boards have."""
-        for (station, tx), numbers, events in self.sessions(figures):
-            whole = self.messages.of(self.site, station, tx)
-            for one in findings_of(whole, events, bool(numbers["complete"]), self.by_sequence):
-                columns = (one.kind.label, one.times, one.first, one.detail, one.kind.meaning)
-                yield (self.site, station, tx, *columns)
+    def rows(
+        self, one: Transaction, events: LiveEvents, is_complete: bool
+    ) -> Iterator[tuple[Any, ...]]:
+        """The rows of a session."""
+        whole = self.messages.of(self.site, *one)
+        for found in findings_of(whole, events, is_complete, self.by_sequence):
+            columns = (found.kind.label, found.times, found.first, found.detail, found.kind.meaning)
+            yield (self.site, *one, *columns)

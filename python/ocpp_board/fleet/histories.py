@@ -16,7 +16,7 @@ from typing import Any, NamedTuple
 from ocpp_board.fleet.archives import LATER, unpacked, widened
 from ocpp_board.fleet.cells import Cell, Cells, Room, Wrong
 from ocpp_board.fleet.figures import figures
-from ocpp_board.fleet.lines import ODD, may_name, transaction_of
+from ocpp_board.fleet.lines import ODD, Transaction, may_name, transaction_of
 from ocpp_board.fleet.operators import Operator
 from ocpp_board.fleet.plans import Plan, Reckoning
 from ocpp_board.fleet.replays import Replay, ReplayEnded
@@ -25,6 +25,7 @@ from ocpp_board.messages.texts import parsed
 from ocpp_board.messages.transactions import Transactions
 from ocpp_board.replay.answered import Answered
 from ocpp_board.replay.boards import Numbers
+from ocpp_board.replay.lists import counted, lists_of
 from ocpp_board.reports.session_times import SessionTimes, times_of
 
 # Bytes of a station's lines that are read, replays at once with those that wait, and seconds that one may take.
@@ -118,13 +119,16 @@ class History:
 
 
 class Replayed(NamedTuple):
-    """The answers to lines, and the board behind them."""
+    """The answers to lines, the board behind them, and the lists of a transaction."""
 
     answers: list[str]
     board: str
+    lists: tuple[bytes, bytes]
 
 
-async def replayed(program: str, plan: Plan, site: str, lines: Sequence[str]) -> Replayed:
+async def replayed(
+    program: str, plan: Plan, site: str, lines: Sequence[str], one: Transaction
+) -> Replayed:
     """Replays lines. Raises Wrong where that can't be, or takes too long."""
 
     async def run() -> Replayed:
@@ -134,9 +138,10 @@ async def replayed(program: str, plan: Plan, site: str, lines: Sequence[str]) ->
             replay.write("".join(line + "\n" for line in lines).encode())
             answers = await replay.answers(len(lines))
             board = await replay.board(site)
+            (lists,) = await replay.listed([one])
         finally:
             replay.kill()
-        return Replayed([one.decode() for one in answers], board.decode())
+        return Replayed([text.decode() for text in answers], board.decode(), lists)
 
     async with ROOM:
         try:
@@ -222,12 +227,13 @@ async def history_of(
     if closing:
         lines = before + [one["line"] for one in own]
         plan = await asyncio.to_thread(plan_of, row, known, lines)
-        made = await replayed(program, plan, row["site"], lines)
+        made = await replayed(program, plan, row["site"], lines, (station, tx))
         answers = later(made.answers, len(before))
     else:
         archived = {one["transaction"] for one in found}
         live = await asyncio.to_thread(without_archived, rows, archived)
-        made = await replayed(program, plan_of(row, known), row["site"], [r["line"] for r in live])
+        texts = [r["line"] for r in live]
+        made = await replayed(program, plan_of(row, known), row["site"], texts, (station, tx))
         by_place = {one["place"]: text for one, text in zip(live, made.answers)}
         answers = [by_place.get(one["place"], "") for one in own]
     who = await whose(cell, shard, own)
@@ -271,8 +277,8 @@ async def whole(
     station, site = row["station"], row["site"]
     lines = [entry.line for entry in entries]
     plan = await asyncio.to_thread(plan_of, row, known, lines)
-    made = await replayed(program, plan, site, lines)
-    numbers, gaps, times = await asyncio.to_thread(read_back, row, tx, entries, made.board)
+    made = await replayed(program, plan, site, lines, (station, tx))
+    numbers, gaps, times = await asyncio.to_thread(read_back, row, tx, entries, made)
     board = "".join(
         line + "\n" for line in made.board.split("\n") if line.startswith(("tx ", "gap "))
     )
@@ -291,11 +297,11 @@ async def whole(
 
 
 def read_back(
-    row: Any, tx: str, entries: list[Entry], text: str
+    row: Any, tx: str, entries: list[Entry], made: Replayed
 ) -> tuple[Numbers, list[tuple[int, int]], SessionTimes]:
     """A session's numbers and gaps on the board of its own lines, and its times."""
     station, site = row["station"], row["site"]
-    found = figures(text)
+    found = figures(made.board)
     numbers = found.get((station, "tx", tx), {})
     gaps = [gap_of(key[2]) for key in found if key[0] == station and key[1] == "gap"]
     messages = Transactions()
@@ -304,9 +310,8 @@ def read_back(
             message = entry.line.split(" ", 2)[2]
             with suppress(*ODD):
                 messages.take(Answered(0, site, station, entry.at, message, entry.answer))
-    transaction = messages.of(site, station, tx)
-    live = transaction.live(numbers["first"], numbers["last"], gaps) if numbers else []
-    return numbers, gaps, times_of(live, row["reading_order"] == "moment")
+    whole = messages.of(site, station, tx)
+    return numbers, gaps, times_of(counted(lists_of(*made.lists), whole))
 
 
 def gap_of(name: str) -> tuple[int, int]:

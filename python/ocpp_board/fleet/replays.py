@@ -1,12 +1,14 @@
 """An `ocpp_board replay` that runs beside asyncio."""
 
 import asyncio
-from collections.abc import Iterator
+from collections.abc import Iterator, Sequence
 from contextlib import contextmanager
 
 from ocpp_board.fleet.database import Fault, seen, without_secrets
 from ocpp_board.fleet.plans import Plan
 from ocpp_board.processes import replay_environment
+from ocpp_board.replay.answered import MARK
+from ocpp_board.replay.lists import asked, parted
 
 # Bytes that are read at once.
 CHUNK = 1 << 18
@@ -110,6 +112,17 @@ class Replay:
                 chunks.append(await self.more())
             self.rest = b""
         return b"".join(chunks)
+
+    async def listed(self, ones: Sequence[tuple[str, str]]) -> list[tuple[bytes, bytes]]:
+        """The two lists of each of these transactions, which are faults of one that it has not. Raises ReplayEnded."""
+        with self.reading():
+            self.write(b"".join(asked(*one) for one in ones) + MARK)
+            chunks = [self.rest]
+            while not b"".join(chunks[-2:]).endswith(MARK):
+                chunks.append(await self.more())
+            self.rest = b""
+        answers = parted(b"".join(chunks).removesuffix(MARK))
+        return list(zip(answers, answers))
 
     def kill(self) -> None:
         """Ends it, whether it runs or not."""

@@ -22,6 +22,7 @@ from ocpp_board.messages.texts import Refused
 from ocpp_board.replay.answered import RECEIVED, Answered, Line, moment_of
 from ocpp_board.replay.archive import Archive, Takers, grouped, next_begin
 from ocpp_board.replay.ledger import Ledger
+from ocpp_board.replay.live_lists import LiveLists
 from ocpp_board.replay.line_faults import BYTE_ORDER_MARK
 from ocpp_board.replay.operators import Deed, deed_of, is_change
 from ocpp_board.replay.refusals import MOST_UNTAKEN, comment_of
@@ -95,8 +96,11 @@ class LogFeed:
             self.takers(),
         )
         self.boundary = ""
-        # What is known of sessions, who takes the messages of closed ones, and what is done where some were closed.
+        # What is known of sessions, and which of their events count; who takes the messages of closed ones, and what is
+        # done where some were closed.
         self.known = SessionFacts()
+        self.lists = LiveLists(ledger, self.known.transactions)
+        self.known.counted = self.lists
         self.archived, self.closed = list[Callable[[Answered], None]](), list[Callable[[], None]]()
 
     def takers(self) -> Takers:
@@ -112,7 +116,11 @@ class LogFeed:
             with ledger.taking:
                 ledger.operators.take(line, text)
 
-        return message, other, ledger.comment
+        def listed(station: str, tx: str, events: bytes, readings: bytes) -> None:
+            with ledger.taking:
+                self.lists.listed(station, tx, events, readings)
+
+        return Takers(message, other, ledger.comment, listed)
 
     def feed(self) -> None:
         """Hands on what the script has, and then what comes. Raises OSError, Mistaken, and Ended."""
@@ -267,6 +275,7 @@ class LogFeed:
         label = (begin - timedelta(days=1)).strftime(form)
         # A question is answered behind all that was sent.
         self.ledger.ask(f"total {next(iter(self.reader.plan.site_of))}".encode())
+        self.lists.renew()
         with self.ledger.taking:
             ended = self.known.ended(begin.timestamp())
         ended = {key: numbers for key, numbers in ended.items() if key not in self.archive.of}

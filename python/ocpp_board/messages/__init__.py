@@ -5,9 +5,10 @@
     meter_values     readings: values in whole milliwatt-hours, measurands, readings outside transactions
     signed_values    signed values (OCMF), compared with the plain values beside them
     bills            what a bill needs of a session beside its energy: ids as sent, tokens, signed values
-    transactions     the accepted events of transactions: times, counted readings, reasons
+    transactions     what the messages of transactions have: reasons, tokens, measurands that don't count
     message_faults   which member of a refused message broke which check, and the remedy
 
-The program's answers decide what was accepted; nothing here computes a board. logs/ and replay/ find stations and
-faults with it, reports/ times, registers and findings, fleet/ transactions and moments of lines.
+The program's answers decide what was accepted, and its lists what counts; nothing here computes a board. logs/ and
+replay/ find stations and faults with it, reports/ what messages have beside lists, fleet/ transactions and moments of
+lines.
 """

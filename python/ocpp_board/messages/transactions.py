@@ -1,10 +1,9 @@
-"""Transactions as the messages have them: times, counted readings and reasons, which boards don't have.
+"""Transactions as their messages have them: what only these say, and by what an event is known that came again.
 
-About half a kilobyte is kept of each event.
+Which events count, and what their readings come to, the program lists (`replay.lists`). About half a kilobyte is kept
+of each event.
 """
 
-from bisect import bisect_right
-from collections.abc import Iterable
 from dataclasses import dataclass, field
 from datetime import datetime, timezone
 from typing import Any, NamedTuple
@@ -59,35 +58,6 @@ class Event(NamedTuple):
     received: float | None = None
 
 
-class LiveEvents(list[Event]):
-    """The events of a transaction that a board counts, by their numbers. It keeps the orders of their readings."""
-
-    def __init__(self, events: Iterable[Event]) -> None:
-        super().__init__(events)
-        # By the register, and by whether it is that of their moments.
-        self.orders: dict[tuple[bool, bool], list[tuple[Event, Reading]]] = {}
-
-
-def readings_in_order(
-    events: Iterable[Event], is_export: bool, is_by_moment: bool
-) -> list[tuple[Event, Reading]]:
-    """The counted readings of a register, each with its event, in the order in which the ledger takes them: that of the
-    events, or by moment that of their own moments. One without a moment is left out then.
-    """
-    orders = events.orders if isinstance(events, LiveEvents) else {}
-    order = is_export, is_by_moment
-    if order not in orders:
-        found = [
-            (event, one)
-            for event in events
-            for one in event.readings
-            if one.is_export == is_export and not (is_by_moment and one.at is None)
-        ]
-        # Readings of one moment keep their order.
-        orders[order] = sorted(found, key=lambda both: both[1].at or 0) if is_by_moment else found
-    return orders[order]
-
-
 @dataclass
 class Transaction:
     """The accepted events of a transaction by their numbers, and those that were refused since they conflict."""
@@ -98,19 +68,6 @@ class Transaction:
     sent: str = ""
     # By the numbers of events, how often they came again.
     again: dict[int, int] = field(default_factory=dict)
-
-    def live(self, first: int, last: int, gaps: list[tuple[int, int]]) -> list[Event]:
-        """The events that a board counts, which has their first and last number and the gaps between."""
-        starts = [start for start, _ in gaps]
-
-        def is_live(number: int) -> bool:
-            before = bisect_right(starts, number) - 1
-            return first <= number <= last and (before < 0 or gaps[before][1] < number)
-
-        numbers = sorted(self.events)
-        if gaps or numbers and not first <= numbers[0] <= numbers[-1] <= last:
-            numbers = list(filter(is_live, numbers))
-        return LiveEvents(self.events[number] for number in numbers)
 
 
 def moment(seconds: float | None) -> datetime | None:
@@ -190,6 +147,8 @@ class Transactions:
         self.outside = MeterValues()
         # The sites of the stations that something was accepted of.
         self.site_of: dict[str, str] = {}
+        # Those that events came of; whoever asks for them empties it.
+        self.changed = set[tuple[str, str, str]]()
         # The latest receipt of a message, or time of an event with no time of receipt.
         self.latest: datetime | None = None
 
@@ -222,6 +181,7 @@ class Transactions:
             if len(whole.conflicts) < MOST_CONFLICTS:
                 whole.conflicts.append(event)
             return
+        self.changed.add(key)
         had = whole.events.get(event.number)
         # Of an event that was sent again the first receipt is kept.
         if had is None or had[:4] != event[:4]:
@@ -235,6 +195,15 @@ class Transactions:
     def of(self, site: str, station: str, tx: str) -> Transaction:
         """A transaction by its id as a board has it; an empty one if no message is of it."""
         return self.known.get((site, station, tx)) or Transaction()
+
+    def erase(self, site: str, station: str, tx: str, number: int) -> None:
+        """An event was erased: the next one of its number is another one, whatever it has."""
+        self.of(site, station, tx).events.pop(number, None)
+
+    def changes(self) -> set[tuple[str, str, str]]:
+        """The transactions that events came of since this was asked."""
+        changed, self.changed = self.changed, set()
+        return changed
 
     def came(self, at: datetime | None) -> None:
         """Something came then, where that is known."""

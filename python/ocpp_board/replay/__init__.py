@@ -3,6 +3,9 @@
     answered       a replay of a whole script: each line with its answer
     ledger         a replay that lives: lines go in as they come, questions between them
     boards         the lines of a board, and what they say of a site and its stations
+    lists          the lists of a transaction: which events count, and in which order their readings do
+    board_lists    the boards of a script with these lists, in a file
+    live_lists     the lists of a replay that lives, asked for again where a transaction changed
     board_sums     boards of several ledgers, added up
     script_lines   where the lines of a script are, so that some can be read again
     script_check   whether a text with boards is that of a script

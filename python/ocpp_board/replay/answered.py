@@ -10,7 +10,10 @@ from collections import deque
 from collections.abc import Callable, Iterator
 from datetime import datetime
 from functools import lru_cache
-from typing import NamedTuple, Protocol
+from io import BytesIO
+from itertools import islice
+from queue import Queue
+from typing import IO, NamedTuple, Protocol
 
 from ocpp_board.limits import DEFAULT_LIMITS, LONGEST_LINE
 from ocpp_board.processes import BUILD, replay_environment
@@ -20,6 +23,8 @@ from ocpp_board.statuses import Mistaken
 SILENT = (b"limits", b"station", b"period", b"order", b"settle", b"now")
 # A line that writes itself: by it the text of the line before it ends.
 MARK = b"mark answered\n"
+# How the lines begin that may change what a board shows.
+CHANGES = (b"msg ", b"void ", b"restore ", b"erase ")
 # How the answers begin that go up to a line `end`.
 LISTS = (b"board ", b"events ", b"readings ")
 # Bytes that are handed to the replay at once.
@@ -28,6 +33,10 @@ BUFFER = 65_536
 KEPT_MOMENTS = 1_024
 # Comments that say when the message behind them was received, and who had the operator's line behind them done.
 RECEIVED, OPERATOR = b"# received ", b"# operator "
+
+
+# Hands lines on, and gives what each writes.
+Ask = Callable[[bytes], Iterator[bytes]]
 
 
 class Lines(Protocol):
@@ -49,6 +58,11 @@ class Line(NamedTuple):
     received: bytes
     # Who had it done, as the comment right before it says.
     operator: bytes = b""
+
+
+def ending(line: bytes) -> bytes:
+    """What a last line needs before another one: without a line feed it is a line of its own."""
+    return b"" if line.endswith(b"\n") else b"\r\n" if line.endswith(b"\r") else b"\n"
 
 
 class Replay:
@@ -92,9 +106,7 @@ class Replay:
         self.received = rest if word == b"now" else b""
         if not is_marked:
             return line
-        # A last line without a line feed is a line of its own; before a mark it gets one.
-        end = b"" if line.endswith(b"\n") else b"\r\n" if line.endswith(b"\r") else b"\n"
-        return line + end + MARK
+        return line + ending(line) + MARK
 
     def texts(self) -> Iterator[tuple[Line, bytes]]:
         """Each line that was answered, and its text, which is empty where it wrote nothing."""
@@ -130,10 +142,19 @@ class Replay:
 class ScriptReplay(Replay):
     """A replay of a whole script, which a thread feeds."""
 
-    def __init__(self, program: str, script: Lines) -> None:
+    def __init__(
+        self, program: str, script: Lines, asks: bool = False, at_end: bool = False
+    ) -> None:
+        """`asks`: behind each board `ask` is called; `at_end`: behind the script come the boards that changed since it
+        asked for them."""
         super().__init__(program, is_heard=True)
-        self.script, self.lines = script, 0
+        self.script, self.lines, self.at_end = script, 0, at_end
+        # By site, the line that asked for its board last.
+        self.sites = dict[bytes, int]()
         self.fault: OSError | None = None
+        # What is asked behind each board; None where nothing is asked any more.
+        self.asked: Queue[bytes | None] | None = Queue() if asks else None
+        self.answers = self.texts()
         self.feeder = threading.Thread(target=self.feed, daemon=True)
         self.feeder.start()
 
@@ -141,17 +162,52 @@ class ScriptReplay(Replay):
         """Sends the script, with marks after lines that may write nothing."""
         try:
             with self.input as out:
+                changed, line = 0, b"\n"
                 for number, line in enumerate(iter(self.script.readline, b""), 1):
                     self.lines = number
                     out.write(self.sendable(number, line))
+                    if line.startswith(CHANGES):
+                        changed = number
+                    elif line.startswith(b"board "):
+                        self.wait(out, line)
+                        self.sites[line[6:].rstrip(b"\r\n")] = number
+                    elif line.startswith(b"station "):
+                        self.sites.setdefault(line.split(b" ")[1], 0)
+                for site, shown in self.sites.items():
+                    if self.at_end and shown < changed:
+                        out.write(ending(line))
+                        line = b"board " + site + b"\n"
+                        out.write(self.sendable(0, line))
+                        self.wait(out, line)
         except BrokenPipeError:
             pass
         except OSError as fault:
             self.fault = fault
             self.process.kill()
 
+    def wait(self, out: IO[bytes], line: bytes) -> None:
+        """Sends what is asked behind a board, once its reader has it."""
+        if self.asked is None:
+            return
+        out.write(ending(line))
+        out.flush()
+        lines = self.asked.get()
+        if lines is None:
+            self.asked = None
+        for one in BytesIO(lines or b""):
+            out.write(self.sendable(0, one))
+
+    def ask(self, lines: bytes) -> Iterator[bytes]:
+        """The answers to lines behind the board that came last, all of which are read; fewer where the replay ended. It
+        is called once for each line `board`, if only with no lines."""
+        if self.asked is not None:
+            self.asked.put(lines)
+        return (text for _, text in islice(self.answers, lines.count(b"\n")))
+
     def ended(self) -> tuple[int, str]:
         """The replay's exit status, and what it reported. Raises OSError where the script could not be read."""
+        if self.asked is not None:
+            self.asked.put(None)
         self.feeder.join()
         if self.fault:
             raise self.fault
@@ -227,17 +283,24 @@ class Messages:
 
 
 def answered(
-    program: str, script: Lines, other: Callable[[Line, bytes], None] | None = None
+    program: str,
+    script: Lines,
+    other: Callable[[Line, bytes], None] | None = None,
+    board: Callable[[Line, bytes, Ask], None] | None = None,
 ) -> Iterator[Answered]:
-    """Each message of a script with its answer, by a replay that runs. `other` gets all other lines.
+    """Each message of a script with its answer, by a replay that runs. `other` gets all other lines; `board` each line
+    `board`, with what it wrote and what asks for more behind it, and at the end of the script lines `board` for what
+    changed since.
 
     Raises OSError where the script can't be read or the program not be started, and Mistaken where the replay ends
     with a fault.
     """
-    replay, messages = ScriptReplay(program, script), Messages()
-    for line, text in replay.texts():
+    replay, messages = ScriptReplay(program, script, bool(board), bool(board)), Messages()
+    for line, text in replay.answers:
         if message := messages.take(line, text):
             yield message
+        elif board and line.line.startswith(b"board "):
+            board(line, text, replay.ask)
         elif other:
             other(line, text)
     status, said = replay.ended()

@@ -15,18 +15,21 @@ from typing import NamedTuple
 
 from ocpp_board.energies import kwh_of
 from ocpp_board.escapes import csv_cell
-from ocpp_board.limits import MOMENT
+from ocpp_board.limits import MOMENT, TRANSACTION as ID
 from ocpp_board.logs.kept_script import sync
 from ocpp_board.logs.mending import COMMENT as MENDED
 from ocpp_board.messages.texts import HEAD
 from ocpp_board.replay.answered import OPERATOR, RECEIVED, Answered, Line, answered, moment_of
 from ocpp_board.replay.board_sums import BoardSum
+from ocpp_board.replay.lists import asked
 from ocpp_board.replay.near_limits import TRANSACTION
 from ocpp_board.replay.operators import CHANGES, Deed
 from ocpp_board.replay.operators import commented as deed_in
 from ocpp_board.replay.refusals import COMMENT as UNTAKEN, named_in
 from ocpp_board.replay.script_lines import ScriptLines
 
+# The lines that ask for lists.
+LISTED = (b"events ", b"readings ")
 # Neither the ledger nor a table keeps anything of these messages.
 QUIET = ("Heartbeat", "BootNotification", "StatusNotification")
 HEADS = [
@@ -42,10 +45,16 @@ HEADS = [
     "closed",
 ]
 Key = tuple[str, str]  # A session by its station and its id in small letters.
-# A taker of a message with its answer, of another line with what it wrote, and of a comment with its number.
-Takers = tuple[
-    Callable[[Answered], None], Callable[[Line, bytes], None], Callable[[bytes, int], None]
-]
+
+
+class Takers(NamedTuple):
+    """Who takes a message with its answer, another line with what it wrote, a comment with its number, and the lists of
+    a session by its station and its id."""
+
+    message: Callable[[Answered], None]
+    other: Callable[[Line, bytes], None]
+    comment: Callable[[bytes, int], None]
+    listed: Callable[[str, str, bytes, bytes], None]
 
 
 def session_of(line: bytes) -> Key | None:
@@ -156,7 +165,7 @@ class Archive:
         sites = [
             line.split(b" ")[1] for line in self.head.splitlines() if line.startswith(b"station ")
         ]
-        asked = b"".join(b"board " + site + b"\n" for site in dict.fromkeys(sites))
+        boards = b"".join(b"board " + site + b"\n" for site in dict.fromkeys(sites))
         data, count = closed.path.read_bytes(), self.head.count(b"\n")
         places, place = list[int](), 0
         for line in BytesIO(data):
@@ -171,18 +180,25 @@ class Archive:
         def other(line: Line, text: bytes) -> None:
             if text.startswith(b"board "):
                 closed.boards[line.line.split(b" ")[1].decode()] = BoardSum.of(text)
+            elif line.line.startswith(LISTED):
+                lists.append(text)
             elif line.number > count and is_first:
-                self.takers[1](line, text)
+                self.takers.other(line, text)
             elif line.number > count and (at := places[line.number - 1 - count]) in fresh:
                 found[at] = text
 
-        script = BytesIO(self.head + data + asked)
+        own = (line for line, at in zip(BytesIO(data), places) if is_first or at in fresh)
+        keys = [key for key in dict.fromkeys(map(session_of, own)) if key and ID.fullmatch(key[1])]
+        lists = list[bytes]()
+        script = BytesIO(self.head + data + boards + b"".join(asked(*key) for key in keys))
         for message in answered(self.program, script, other):
             at = places[message.number - 1 - count]
             if is_first:
-                self.takers[0](message._replace(number=numbers[at]))
+                self.takers.message(message._replace(number=numbers[at]))
             elif at in fresh:
                 found[at] = message
+        for key, events, readings in zip(keys, lists[::2], lists[1::2]):
+            self.takers.listed(*key, events, readings)
         closed.new, self.sums = [], {}
         return found
 
@@ -192,7 +208,7 @@ class Archive:
         if key := session_of(line):
             self.of[key] = closed.label
         if line.startswith((UNTAKEN, OPERATOR, MENDED)):
-            self.takers[2](line, number)
+            self.takers.comment(line, number)
 
     def close(self, label: str, ended: set[Key], lines: Iterable[bytes]) -> bytes:
         """Makes a script of the lines of sessions that ended, and gives the lines that are left, behind their
@@ -297,7 +313,7 @@ class Archive:
                 number = self.script.passed_in(closed.path, at)
                 self.numbers[label][at] = number
                 if line.startswith((UNTAKEN, OPERATOR, MENDED)):
-                    self.takers[2](line, number)
+                    self.takers.comment(line, number)
                 closed.new.append(at)
                 at += len(line)
             file.write(lines)
@@ -336,7 +352,7 @@ class Archive:
             answer = "accepted" if answered_with.is_accepted else answered_with.answer
             moment = answered_with.received or moment_of(named.time.encode())
             received = moment.astimezone(timezone.utc).strftime(MOMENT) if moment else named.time
-            self.takers[0](answered_with._replace(number=self.numbers[closed.label][at]))
+            self.takers.message(answered_with._replace(number=self.numbers[closed.label][at]))
         else:
             words = line.decode("utf-8", "replace").split()
             what, number, received = words[0], words[-1], ""

@@ -127,6 +127,14 @@ class Session:
     span: tuple[float, float] | None = None
     holes: list[tuple[float, float]] = field(default_factory=list)
 
+    def lines(self) -> Iterator[str]:
+        """Its lines of a board."""
+        complete = "yes" if self.complete else "no"
+        yield f"tx {self.tx} evse={self.evse} events={self.events} first={self.first} last={self.last} "
+        yield f"complete={complete} missing={self.missing} "
+        yield " ".join(f"{name}={number}" for name, number in zip(FLOW, self.flow)) + "\n"
+        yield from (f"gap {first}..{last}\n" for first, last in self.gaps)
+
     def lost(self) -> list[tuple[int, int]]:
         """The ranges of missing numbers without those that an operator voided."""
         voids = sorted(number for number, *_ in self.voided)

@@ -3,7 +3,7 @@
 import queue
 import threading
 from collections import deque
-from collections.abc import Callable, Iterable
+from collections.abc import Callable, Iterable, Sequence
 from io import BytesIO
 
 from ocpp_board.limits import LONGEST_LINE
@@ -26,8 +26,8 @@ OPENING = (
     b"events",
     b"readings",
 )
-# Events that are erased at once.
-ERASED = 1_000
+# Lines that are asked at once.
+AT_ONCE = 2_000
 # Faults of lines that open no ledgers.
 CLOSED = (b"fault BadLine\n", b"fault LineTooLong\n")
 # The beginnings of what a replay writes, by what they count as.
@@ -193,19 +193,33 @@ class Ledger:
 
     def erase(self, events: Iterable[tuple[str, str, int]]) -> None:
         """Frees the room of events, each by its station, its transaction and its number. Raises Ended."""
-        some = list(events)
-        for at in range(0, len(some), ERASED):
-            answers = list[queue.Queue[bytes | None]]()
+        self.ask_all(
+            [
+                f"{word} {station} {tx} {number}".encode()
+                for station, tx, number in events
+                for word in ("void", "erase")
+            ]
+        )
+
+    def ask_all(self, lines: Sequence[bytes]) -> list[bytes]:
+        """What lines that are none of the script's write, once the ledgers are open. Raises Ended."""
+        self.is_open.wait()
+        texts = list[bytes]()
+        for at in range(0, len(lines), AT_ONCE):
+            some = lines[at : at + AT_ONCE]
+            answers = [queue.Queue[bytes | None]() for _ in some]
             with self.sending:
-                for station, tx, number in some[at : at + ERASED]:
-                    for word in ("void", "erase"):
-                        answers.append(queue.Queue())
-                        self.questions.append(answers[-1])
-                        line = f"{word} {station} {tx} {number}\n".encode()
-                        self.write(self.replay.sendable(0, line))
+                if self.has_ended:
+                    raise Ended
+                for line, answer in zip(some, answers):
+                    self.questions.append(answer)
+                    self.write(self.replay.sendable(0, line + b"\n"))
             self.flush()
-            if any(answer.get() is None for answer in answers):
-                raise Ended
+            for answer in answers:
+                if (text := answer.get()) is None:
+                    raise Ended
+                texts.append(text)
+        return texts
 
     def passed(self, lines: bytes) -> None:
         """Counts lines that the script has beside what was sent."""

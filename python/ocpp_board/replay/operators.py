@@ -80,6 +80,8 @@ class Operators:
         self.by_session: dict[tuple[str, str], list[Deed]] = {}
         # By station and transaction, the events that are voided.
         self.voided: dict[tuple[str, str], dict[int, Deed]] = {}
+        # By station and transaction, what they changed; whoever asks for it empties it.
+        self.changed = set[tuple[str, str]]()
 
     def take(self, line: Line, text: bytes) -> None:
         """Takes an operator's line of a script with its answer, and what a comment in front of it says."""
@@ -101,6 +103,7 @@ class Operators:
         self.by_session.setdefault((station, transaction.lower()), []).append(deed)
         if not deed.is_accepted or not number.isdecimal():
             return
+        self.changed.add((station, transaction.lower()))
         events = self.voided.setdefault((station, transaction.lower()), {})
         events.pop(int(number), None)
         if what == "void":

@@ -7,13 +7,9 @@ from itertools import pairwise
 from typing import NamedTuple
 
 from ocpp_board.energies import Flow
-from ocpp_board.messages.transactions import Event, Reading, readings_in_order
+from ocpp_board.messages.transactions import Event, Reading
+from ocpp_board.replay.lists import LiveEvents
 
-# 2000-01-01T00:00:00Z, before which no moment is.
-FIRST_SECOND = 946_684_800
-
-# A difference over more seconds, a day, is not shared among periods.
-LONGEST_SHARE = 86_400
 # Seconds by which a reading may lie beside the end of a period that it measures.
 BESIDE = 2
 # Periods of a session that are looked at: more than a year of the shortest ones.
@@ -81,48 +77,7 @@ def together(parts: Iterable[KnownPeriods]) -> KnownPeriods:
     return site
 
 
-def period_of(at: float, seconds: int, rule: str) -> int:
-    """The beginning of the period in which the whole of a difference counts whose later reading is of this moment: by
-    `later` the period that it lies in, else the one that it closes."""
-    start = int(at // seconds) * seconds
-    is_closed = rule != "later" and at == start and start > FIRST_SECOND
-    return start - seconds if is_closed else start
-
-
-def parts_of(had: Reading, one: Reading, seconds: int, rule: str) -> Iterator[tuple[int, int]]:
-    """The beginnings of the periods to which the difference of two readings belongs, each with its part in mWh: below 0
-    if the register fell."""
-    assert one.at is not None
-    change = one.mwh - had.mwh
-    if rule != "even" or had.at is None or not 0 < one.at - had.at <= LONGEST_SHARE:
-        yield period_of(one.at, seconds, rule), change
-        return
-    begin, end = int(had.at // 1), int(one.at // 1)
-    start, shared = begin - begin % seconds, 0
-    while start + seconds < one.at:
-        gone = abs(change) * (start + seconds - begin) // (end - begin)
-        level = gone if change > 0 else -gone
-        yield start, level - shared
-        start, shared = start + seconds, level
-    yield start, change - shared
-
-
-def flows_of(
-    events: Sequence[Event], seconds: int, is_by_moment: bool, rule: str = "later"
-) -> dict[int, Flow]:
-    """The energy of a session by periods of so many seconds, as the ledger has it."""
-    sums = dict[int, list[int]]()
-    for is_export in (False, True):
-        for (_, had), (_, one) in pairwise(readings_in_order(events, is_export, is_by_moment)):
-            if one.at is None:
-                continue
-            for start, mwh in parts_of(had, one, seconds, rule):
-                flow = sums.setdefault(start, [0, 0, 0, 0])
-                flow[2 * is_export + (mwh < 0)] += abs(mwh)
-    return {start: Flow(*flow) for start, flow in sums.items()}
-
-
-def doubts_of(events: Sequence[Event], seconds: int, gaps: Sequence[tuple[int, int]]) -> Doubts:
+def doubts_of(events: LiveEvents, seconds: int, gaps: Sequence[tuple[int, int]]) -> Doubts:
     """The doubts of the periods in which a session ran."""
     moments = [event.at for event in events if event.at is not None]
     moments += [one.at for event in events for one in event.readings if one.at is not None]
@@ -152,10 +107,15 @@ def unmeasured(begin: float, end: float, seconds: int, read: Sequence[float]) ->
             yield at
 
 
-def shares(events: Sequence[Event], seconds: int, doubts: Doubts) -> Iterator[tuple[int, int]]:
+def in_time(events: LiveEvents, is_export: bool) -> list[Reading]:
+    """The counted readings of a register by their moments, whatever the order of the site is."""
+    return sorted((one for _, one in events.readings(is_export)), key=lambda one: one.at or 0)
+
+
+def shares(events: LiveEvents, seconds: int, doubts: Doubts) -> Iterator[tuple[int, int]]:
     """What periods with doubts get of the energy between readings, where that is shared by time: net, in mWh."""
     for is_export in (False, True):
-        for (_, had), (_, one) in pairwise(readings_in_order(events, is_export, True)):
+        for had, one in pairwise(in_time(events, is_export)):
             assert had.at is not None and one.at is not None
             net = (had.mwh - one.mwh) if is_export else (one.mwh - had.mwh)
             # A reading beside an end of a period is at it.

@@ -7,7 +7,8 @@ from itertools import pairwise
 from typing import NamedTuple
 
 from ocpp_board.energies import MWH_OF_A_KWH, kwh
-from ocpp_board.messages.transactions import Event, Reading, Transaction, moment, readings_in_order
+from ocpp_board.messages.transactions import Event, Reading, Transaction, moment
+from ocpp_board.replay.lists import LiveEvents
 
 
 # Measurands that are named of a session.
@@ -144,7 +145,7 @@ class Finding(NamedTuple):
 
 def findings_of(
     transaction: Transaction,
-    events: Sequence[Event],
+    events: LiveEvents,
     is_complete: bool,
     by_sequence: str | None,
     most_kw: int = MOST_KW,
@@ -156,7 +157,7 @@ def findings_of(
         return []
     found = [*energies(events, is_complete), *again(transaction, events)]
     found += falls_by_time(events) if by_sequence is None else registers(events, by_sequence)
-    found += [*powers(events, by_sequence is None, most_kw), *signed(events)]
+    found += [*powers(events, most_kw), *signed(events)]
     found += [*clocks(events), *numbers(transaction, events)]
     return in_order(found)
 
@@ -222,11 +223,11 @@ def settle_option(site: str) -> str:
     )
 
 
-def powers(events: Sequence[Event], is_by_moment: bool, most_kw: int) -> Iterator[Finding]:
+def powers(events: LiveEvents, most_kw: int) -> Iterator[Finding]:
     """Where a register rose faster than can be, from one reading to the next that has a later moment."""
     found, first = list[Event](), ""
     for is_export in (False, True):
-        for (_, had), (event, one) in pairwise(readings_in_order(events, is_export, is_by_moment)):
+        for (_, had), (event, one) in pairwise(events.readings(is_export)):
             if had.at is None or one.at is None or one.at < had.at:
                 continue
             seconds = one.at - had.at
@@ -284,11 +285,11 @@ def said_of_falls(falls: Sequence[Fall]) -> str:
     return f"{kwh(lost)} kWh lost: {each}"
 
 
-def falls_by_time(events: Sequence[Event]) -> Iterator[Finding]:
+def falls_by_time(events: LiveEvents) -> Iterator[Finding]:
     """Where a register falls from one reading to the next, by their own moments: what is listed again is no fall."""
     falls, readings = list[Fall](), list[Reading]()
     for is_export in (False, True):
-        found = readings_in_order(events, is_export, True)
+        found = events.readings(is_export)
         readings += [one for _, one in found]
         falls += [
             Fall(event, had, one) for (_, had), (event, one) in pairwise(found) if one.mwh < had.mwh
@@ -308,9 +309,9 @@ def is_rising(found: Sequence[tuple[Event, Reading]]) -> bool:
     )
 
 
-def registers(events: Sequence[Event], remedy: str) -> Iterator[Finding]:
+def registers(events: LiveEvents, remedy: str) -> Iterator[Finding]:
     """Where a register falls from one reading to the next, and where readings are listed again."""
-    if all(is_rising(readings_in_order(events, is_export, False)) for is_export in (False, True)):
+    if all(is_rising(events.readings(is_export)) for is_export in (False, True)):
         return
     seen = set[Reading]()
     before: dict[bool, Reading] = {}

@@ -1,60 +1,47 @@
 """Boards with periods that are wrong since stations list readings again, and the line that mends it."""
 
-import tempfile
+import re
 from collections.abc import Callable
 
-from ocpp_board.progress import Progress
-from ocpp_board.replay.answered import Line
-from ocpp_board.replay.boards import Part, Reader
-from ocpp_board.reports.quality import Kind, order_option
-from ocpp_board.reports.session_facts import SessionFacts
+from ocpp_board.messages.transactions import Transaction
+from ocpp_board.replay.answered import Ask, Line
+from ocpp_board.replay.lists import asked, counted, lists_of, rows_of
+from ocpp_board.reports.quality import Kind, order_option, registers
 
-
-class Repeats:
-    """A sink of a board that counts the sessions in which readings that are listed again show as a fall."""
-
-    def __init__(self) -> None:
-        self.count, self.first = 0, ""
-
-    def board(self, number: int, site: str, line: int) -> None:
-        """A board begins."""
-
-    def part(self, part: Part) -> None:
-        """Counts those of a station."""
-        for session in part.sessions:
-            fell = session.flow.down or session.flow.export_down
-            if fell and any(one.kind is Kind.REPEATED for one in session.findings):
-                self.first = self.first or f"{session.tx} of {part.name}"
-                self.count += 1
-
-    def end(self) -> None:
-        """The board ends."""
+# A register that fell, in a session's line.
+FELL = re.compile(rb"down=[1-9]")
+BY_MOMENT = b" order=moment"
 
 
 class RepeatHints:
-    """Takes messages with their answers, and boards, and reports once each site with a board that has such sessions."""
+    """Takes boards, and reports once each site with a board on which readings that are listed again show as a fall."""
 
     def __init__(self, report: Callable[[Line, str, str], None]) -> None:
         """`report` gets the line that asks for the board, what is reported, and a remedy."""
-        self.report, self.messages = report, SessionFacts()
+        self.report = report
         self.sites = set[str]()
 
-    def look(self, line: Line, text: bytes) -> None:
-        """Looks at what a line wrote, which may be a board."""
+    def look(self, line: Line, text: bytes, ask: Ask) -> None:
+        """Looks at what a line `board` wrote, and asks for the lists of sessions that fell."""
         site = line.line.decode("utf-8", "replace").partition(" ")[2]
-        if not text.startswith(b"board ") or site in self.sites:
-            return
-        found = Repeats()
-        with tempfile.TemporaryFile() as file:
-            file.write(text)
-            file.seek(0)
-            Reader([found], Progress(file), self.messages).read(file)
-        if found.count:
+        is_hinted = site in self.sites or BY_MOMENT in text.partition(b"\n")[0]
+        rows = {} if is_hinted else rows_of(text)
+        fell = [one for one, row in rows.items() if FELL.search(row)]
+        answers = ask(b"".join(asked(*one) for one in fell))
+        found = [one for one, *lists in zip(fell, answers, answers) if is_repeated(*lists)]
+        if found:
             self.sites.add(site)
-            sessions = "1 session" if found.count == 1 else f"{found.count:,} sessions"
+            sessions = "1 session" if len(found) == 1 else f"{len(found):,} sessions"
+            station, tx = found[0]
             self.report(
                 line,
-                f"in {sessions} of site {site}, such as {found.first}, readings are listed again, and by sequence that "
-                "is a fall and a second rise: their periods are wrong",
+                f"in {sessions} of site {site}, such as {tx} of {station}, readings are listed again, and by sequence "
+                "that is a fall and a second rise: their periods are wrong",
                 f"{order_option(site, 'behind the first `station` line of the site')} takes readings by moment",
             )
+
+
+def is_repeated(events: bytes, readings: bytes) -> bool:
+    """Whether a session with these lists has readings that are listed again."""
+    found = registers(counted(lists_of(events, readings), Transaction()), "")
+    return any(one.kind is Kind.REPEATED for one in found)

@@ -5,9 +5,10 @@ from datetime import datetime
 from ocpp_board.messages.transactions import Event, Transaction, Transactions
 from ocpp_board.replay.answered import Answered
 from ocpp_board.replay.boards import Part, Session
+from ocpp_board.replay.lists import Counted, NothingCounted
 from ocpp_board.replay.operators import Operators
 from ocpp_board.replay.refusals import NOT_IN, Refusal
-from ocpp_board.reports.period_doubts import KnownPeriods, doubts_of, flows_of, holes_of, span_of
+from ocpp_board.reports.period_doubts import KnownPeriods, doubts_of, holes_of, span_of
 from ocpp_board.reports.quality import (
     MOST_KW,
     Finding,
@@ -46,6 +47,8 @@ class SessionFacts:
         """`most_kw`: the greatest power of an EVSE that can be."""
         self.transactions, self.most_kw = Transactions(), most_kw
         self.operators = Operators()
+        # Which events of a session count, as the program lists them.
+        self.counted: Counted = NothingCounted()
 
     def take(self, answered: Answered) -> None:
         """Takes a message with its answer."""
@@ -54,10 +57,12 @@ class SessionFacts:
     def mark(self, site: str, part: Part) -> None:
         """Gives each session of a station its times and findings, by the events that the board counts."""
         lived, part.known = list[Lived](), None if part.is_site else KnownPeriods()
+        if part.is_site:
+            self.counted.board(site)
         for session in part.sessions:
             transaction = self.transactions.of(site, part.name, session.tx)
-            events = transaction.live(session.first, session.last, session.gaps)
-            session.times = times_of(events, part.is_by_moment)
+            events = self.counted((site, part.name, session.tx), transaction)
+            session.times = times_of(events)
             by_sequence = None if part.is_by_moment else order_option(site)
             session.findings = findings_of(
                 transaction, events, session.complete, by_sequence, self.most_kw
@@ -68,9 +73,8 @@ class SessionFacts:
             session.details = [event.details for event in events]
             session.span, session.holes = span_of(events), list(holes_of(events, session.lost()))
             if part.known:
-                flows = flows_of(events, part.seconds, part.is_by_moment, part.rule)
                 doubts = doubts_of(events, part.seconds, session.lost())
-                part.known.add(session.evse, flows, doubts)
+                part.known.add(session.evse, events.flows, doubts)
             numbers = session.missing, session.gaps
             lived.append(Lived(session.tx, session.evse, events, session.times, *numbers))
         if not part.is_site:
@@ -121,15 +125,14 @@ class SessionFacts:
     def ended(self, before: float) -> dict[tuple[str, str], list[int]]:
         """The sessions with an end before a moment, by station and id, each with the numbers of its events."""
         found: dict[tuple[str, str], list[int]] = {}
-        for (_, station, tx), whole in self.transactions.known.items():
-            voids = self.operators.voids(station, tx)
+        for key, whole in self.transactions.known.items():
             ends = [
                 event.at
-                for number, event in whole.events.items()
-                if event.kind == "Ended" and number not in voids and event.at is not None
+                for event in self.counted(key, whole)
+                if event.kind == "Ended" and event.at is not None
             ]
             if ends and max(ends) < before:
-                found[station, tx] = list(whole.events)
+                found[key[1:]] = list(whole.events)
         return found
 
     def sites(self) -> dict[str, str]:

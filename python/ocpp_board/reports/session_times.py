@@ -1,10 +1,10 @@
 """When sessions began and ended, what their registers read then, and why they stopped: for comparing with bills."""
 
-from collections.abc import Sequence
 from datetime import datetime
 from typing import NamedTuple
 
-from ocpp_board.messages.transactions import Event, moment, readings_in_order
+from ocpp_board.messages.transactions import moment
+from ocpp_board.replay.lists import LiveEvents
 
 
 class Registers(NamedTuple):
@@ -32,13 +32,13 @@ class SessionTimes(NamedTuple):
         return round((self.end - self.start).total_seconds())
 
 
-def registers_of(events: Sequence[Event], is_export: bool, is_by_moment: bool) -> Registers | None:
+def registers_of(events: LiveEvents, is_export: bool) -> Registers | None:
     """The first and the last counted reading of a register, in the order in which the ledger takes them."""
-    found = [one.mwh for _, one in readings_in_order(events, is_export, is_by_moment)]
-    return Registers(found[0], found[-1]) if found else None
+    found = events.readings(is_export)
+    return Registers(found[0][1].mwh, found[-1][1].mwh) if found else None
 
 
-def times_of(events: Sequence[Event], is_by_moment: bool = False) -> SessionTimes:
+def times_of(events: LiveEvents) -> SessionTimes:
     """What a session's live events say, by their numbers: its first start, its last end, and the registers."""
     started = next((event for event in events if event.kind == "Started"), None)
     ended = next((event for event in reversed(events) if event.kind == "Ended"), None)
@@ -46,8 +46,8 @@ def times_of(events: Sequence[Event], is_by_moment: bool = False) -> SessionTime
         moment(started.at) if started else None,
         moment(ended.at) if ended else None,
         moment(min((event.at for event in events if event.at is not None), default=None)),
-        registers_of(events, False, is_by_moment),
-        registers_of(events, True, is_by_moment),
+        registers_of(events, False),
+        registers_of(events, True),
         ended.reason if ended else "",
     )
 

@@ -1,6 +1,6 @@
 """Writes a script of N transaction events for `ocpp_board replay`, for measuring.
 
-    ocpp-board traffic 1000000 | ocpp_board replay | tail -n 16
+    tests/one traffic 1000000 | ocpp_board replay | tail -n 16
 
 Stations take turns, event by event. Each charges in transactions of 48 events, five minutes and 250 Wh apart,
 with one reading each, the first Started and the last Ended. There are as many stations as N events need, or
@@ -22,7 +22,7 @@ of them, only that of the start, or all of two registers. The site is read by mo
 
 With `month` comes the log of a month of N stations at two sites, with findings and doubts:
 
-    ocpp-board traffic 8 month | ocpp-board log-to-script --received | ocpp_board replay
+    tests/one traffic 8 month | ocpp-board log-to-script --received | ocpp_board replay
 """
 
 from collections.abc import Iterator, Sequence
@@ -31,7 +31,7 @@ from datetime import datetime, timedelta, timezone
 
 from ocpp_board.limits import GREATEST_LIMITS, MOMENT, MOST_READINGS, MOST_STATIONS
 from ocpp_board.statuses import Status, ended
-from ocpp_board.traffic import month_traffic, repeats, troubles
+from tests.traffic import month_traffic, repeats, troubles
 from ocpp_board.words import parsed, parser_of
 
 # Events of a session, seconds from one to the next, and what the register reads first and rises by each time, in Wh.
