@@ -175,4 +175,4 @@ def main(argv: Sequence[str], prog: str) -> int:
         help="how many backups to keep (default: 7)",
     )
     words = parts.parsed(parser, argv)
-    return parts.ended(lambda: back_up(words))
+    return parts.ended(back_up, words)

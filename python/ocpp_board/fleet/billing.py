@@ -381,4 +381,4 @@ def main(argv: Sequence[str], prog: str) -> int:
         "--most-mib", type=int, metavar="N", help="end with a fault if the table is larger"
     )
     words = parts.parsed(parser, argv)
-    return parts.done(lambda: run(words))
+    return parts.done(run, words)

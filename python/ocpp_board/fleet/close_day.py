@@ -766,4 +766,4 @@ def main(argv: Sequence[str], prog: str) -> int:
         "--archive", required=True, type=Path, metavar="FOLDER", help="where archives are kept"
     )
     words = parts.parsed(parser, argv)
-    return parts.done(lambda: run(words))
+    return parts.done(run, words)

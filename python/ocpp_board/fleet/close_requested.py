@@ -94,4 +94,4 @@ def main(argv: Sequence[str], prog: str) -> int:
         help="where archives are kept, in a folder for each site",
     )
     words = parts.parsed(parser, argv)
-    return parts.done(lambda: run(words))
+    return parts.done(run, words)

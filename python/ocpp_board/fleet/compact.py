@@ -286,4 +286,4 @@ def main(argv: Sequence[str], prog: str) -> int:
     which.add_argument("--shard", type=int, help="which shard")
     which.add_argument("--all", action="store_true", help="each shard of the cell in turn")
     words = parts.parsed(parser, argv)
-    return parts.done(lambda: run(words))
+    return parts.done(run, words)

@@ -48,6 +48,7 @@ SOURCES = {"file": FileSource, "rabbitmq": RabbitSource, "mqtt": MqttSource}
 
 async def run(words: argparse.Namespace) -> int:
     """Appends what the source has until that or a signal ends it, and gives the exit status. Raises Fault."""
+    client_or_fault(words.source)
     counts = Counts()
     ledger = Log(words.db, words.name, counts)
     metrics.serve(words.metrics, metrics.feed_watch(ledger, counts))
@@ -138,10 +139,4 @@ def client_or_fault(source: str) -> None:
 
 def main(argv: Sequence[str], prog: str) -> int:
     """Runs the program with these words; gives its exit status."""
-    words = arguments(argv, prog)
-
-    async def feed() -> int:
-        client_or_fault(words.source)
-        return await run(words)
-
-    return parts.done(feed)
+    return parts.done(run, arguments(argv, prog))

@@ -376,4 +376,4 @@ def main(argv: Sequence[str], prog: str) -> int:
         help="history that is older than so many whole years",
     )
     words = parts.parsed(parser, argv)
-    return parts.ended(lambda: asyncio.run(run(words)))
+    return parts.done(run, words)

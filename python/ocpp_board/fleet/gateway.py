@@ -908,6 +908,13 @@ class Gateway:
             job.result()
 
 
+async def run(words: argparse.Namespace) -> None:
+    """Listens until a job fails. Raises Fault before anything begins, such as where the program is not there."""
+    known_lines(words.program)
+    station_tls.header_or_fault(words)
+    await Gateway(words).run()
+
+
 def main(argv: Sequence[str], prog: str) -> int:
     """Runs the program with these words; gives its exit status."""
     parser = parser_of(prog, __doc__)
@@ -935,13 +942,5 @@ def main(argv: Sequence[str], prog: str) -> int:
         help="let each station of the plan in without a password, as in a laboratory",
     )
     words = parts.parsed(parser, argv)
-
-    async def run() -> None:
-        known_lines(
-            words.program
-        )  # That a program is not there is reported before anything begins.
-        station_tls.header_or_fault(words)
-        await Gateway(words).run()
-
     parts.use_uvloop()
-    return parts.done(run)
+    return parts.done(run, words)

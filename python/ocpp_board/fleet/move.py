@@ -249,4 +249,4 @@ def main(argv: Sequence[str], prog: str) -> int:
     parser.add_argument("--shard", type=int, required=True, help="which shard")
     parts.add_reason(parser)
     words = parts.parsed(parser, argv)
-    return parts.done(lambda: run(words))
+    return parts.done(run, words)

@@ -127,4 +127,4 @@ def main(argv: Sequence[str], prog: str) -> int:
         help="what is shown comes from a standby among the hosts of --db, where one answers",
     )
     words = parts.parsed(parser, argv)
-    return parts.ended(lambda: run(words))
+    return parts.ended(run, words)

@@ -197,4 +197,4 @@ def main(argv: Sequence[str], prog: str) -> int:
         parser.error("either a station with --site and --reason, or --moves")
     if words.station and not (words.site and words.reason):
         parser.error("a station needs --site and --reason")
-    return parts.done(lambda: run(words))
+    return parts.done(run, words)

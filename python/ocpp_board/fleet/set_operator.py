@@ -191,4 +191,4 @@ def main(argv: Sequence[str], prog: str) -> int:
     words = parts.parsed(parser, argv)
     if words.job == "set" and words.sites and words.all_sites:
         parser.error("--sites and --all-sites exclude one another")
-    return parts.done(lambda: run(words))
+    return parts.done(run, words)

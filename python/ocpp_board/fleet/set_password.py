@@ -44,4 +44,4 @@ def main(argv: Sequence[str], prog: str) -> int:
     parser.add_argument("--at-once", action="store_true", help="end the password that it had")
     parts.add_reason(parser)
     words = parts.parsed(parser, argv)
-    return parts.done(lambda: run(words))
+    return parts.done(run, words)

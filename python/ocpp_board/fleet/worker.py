@@ -792,7 +792,7 @@ def main(argv: Sequence[str], prog: str) -> int:
         )
     metrics.add_option(parser)
     words = parts.parsed(parser, argv)
-    return parts.ended(lambda: run(words))
+    return parts.ended(run, words)
 
 
 def run(words: argparse.Namespace) -> int:
