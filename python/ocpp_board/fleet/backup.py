@@ -41,7 +41,7 @@ UNFINISHED = ".part"
 
 @dataclass(frozen=True)
 class Options:
-    """What the words ask for."""
+    """What the words ask for: a server, where archives and backups are, and how many backups to keep."""
 
     db: str
     archive: Path

@@ -290,7 +290,7 @@ class ShardSessions:
 
 @dataclass(frozen=True)
 class Options(parts.OfCells):
-    """What the words ask for."""
+    """What the words ask for: a site's month, how tokens are written, where signed values go, and the most MiB."""
 
     site: str
     month: tuple[int, int]

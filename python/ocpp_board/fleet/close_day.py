@@ -69,7 +69,7 @@ Period = tuple[str, datetime]
 
 @dataclass(frozen=True)
 class Options(parts.OfCell):
-    """What the words ask for."""
+    """What the words ask for: a site, its day, transactions that are archived as they are, and where archives are."""
 
     site: str
     day: date | None

@@ -42,7 +42,7 @@ KEPT = 2_000
 
 @dataclass(frozen=True)
 class Options(parts.OfCell):
-    """What the words ask for."""
+    """What the words ask for: a cell, and where the folders of its sites' archives are."""
 
     archives: Path
 

@@ -734,7 +734,7 @@ class StationLink(Link):
 
 @dataclass(frozen=True)
 class Options(parts.OfCells, station_tls.Options):
-    """What the words ask for."""
+    """What the words ask for: where to listen, seconds that a station may wait, and whether each is let in."""
 
     host: str
     port: int

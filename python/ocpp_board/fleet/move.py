@@ -199,7 +199,7 @@ class Move:
 
 @dataclass(frozen=True)
 class Options:
-    """What the words ask for."""
+    """What the words ask for: the two cells, which shard, and why."""
 
     source: str
     target: str

@@ -64,7 +64,7 @@ ROUTES: list[BaseRoute] = [
 
 @dataclass(frozen=True)
 class Options(parts.OfCells):
-    """What the words ask for."""
+    """What the words ask for: where to listen, which proxies are before it, and where what it shows comes from."""
 
     host: str
     port: int

@@ -22,7 +22,7 @@ from ocpp_board.words import parser_of
 
 @dataclass(frozen=True)
 class Options:
-    """What the words ask for."""
+    """What the words ask for: a backup, and where its files and archives go."""
 
     backup: Path
     data: Path

@@ -22,7 +22,7 @@ NAME = "ocpp-board password"
 
 @dataclass(frozen=True)
 class Options:
-    """What the words ask for."""
+    """What the words ask for: a station, whether the password that it had ends now, and why."""
 
     db: str
     station: str

@@ -120,7 +120,7 @@ ANSWER, WAITING = 10.0, 1.0
 
 @dataclass(frozen=True)
 class Options(parts.OfCell):
-    """What the words ask for."""
+    """What the words ask for: seconds between beats and between boards, and after which a worker hangs."""
 
     beat: float
     hang: float
