@@ -1,9 +1,9 @@
 """What a fleet's month for billing has of a session beside its energy, without a database."""
 
-import argparse
 import asyncio
 import base64
 import csv
+from dataclasses import replace
 from pathlib import Path
 from typing import Any
 from xml.etree import ElementTree
@@ -122,12 +122,12 @@ def test_of_many_signed_values_the_first_and_the_last_are_kept() -> None:
 
 
 def written(monkeypatch: pytest.MonkeyPatch, rows: list[Row], **more: Any) -> str:
-    async def found(_words: argparse.Namespace) -> list[Row]:
+    async def found(_options: billing.Options) -> list[Row]:
         return rows
 
     monkeypatch.setattr(billing, "sessions_of", found)
-    words = {"site": "north", "tokens": "hash", "signed": None, "most_mib": None} | more
-    return asyncio.run(billing.written(argparse.Namespace(**words)))
+    options = billing.Options([], "", "north", (2026, 3), "hash", None, None)
+    return asyncio.run(billing.written(replace(options, **more)))
 
 
 def test_a_month_has_files_of_signed_values(

@@ -16,7 +16,7 @@ pytest.importorskip("websockets")
 import asyncpg  # noqa: E402
 
 from ocpp_board.energies import Flow  # noqa: E402
-from ocpp_board.fleet import begun_anew, database, metrics, parts, shards, worker  # noqa: E402
+from ocpp_board.fleet import begun_anew, database, parts, shards, worker  # noqa: E402
 from ocpp_board.fleet import watched as watching  # noqa: E402
 from ocpp_board.fleet.archives import Late, packed, unpacked, widened  # noqa: E402
 from ocpp_board.fleet.board_writer import Board, BoardWriter, chunks  # noqa: E402
@@ -114,6 +114,12 @@ def test_a_refused_login_is_a_fault_where_every_host_gives_it(
         connected()
 
 
+def session_with(*databases: Any) -> Session:
+    """The session of a worker with these sessions with the database."""
+    options = worker.Options(db="", program="none", beat=0.2, hang=1.0, boards=2.0, metrics=None)
+    return Session(worker.Worker(options, frozenset()), databases)
+
+
 class Ended:
     """A session with the database that another task ends, after which it has no process."""
 
@@ -129,10 +135,7 @@ class Ended:
 
 def test_a_worker_whose_session_is_ended_beats_until_it_is_reported() -> None:
     async def beaten() -> None:
-        words = argparse.Namespace(
-            program="none", hang=1.0, name="worker_1", seen=metrics.WorkerSeen(1.0)
-        )
-        session = Session(words, [Ended(), Ended(), Ended()])
+        session = session_with(Ended(), Ended(), Ended())
         for _ in range(2):
             with pytest.raises(asyncpg.InterfaceError):
                 await session.beat_once()
@@ -161,16 +164,13 @@ def test_a_commit_that_waits_for_a_standby_is_reported_at_once_and_waited_for(
     waits: bool, monkeypatch: pytest.MonkeyPatch
 ) -> None:
     async def committed() -> None:
-        words = argparse.Namespace(
-            program="none", hang=1.0, name="worker_1", seen=metrics.WorkerSeen(1.0)
-        )
-        session = Session(words, [Slow(0.5, waits), Slow(0.5, waits), Slow(0.5, waits)])
+        session = session_with(*(Slow(0.5, waits) for _ in range(3)))
         session.patience = 0.2
         job = asyncio.ensure_future(session.committed("commit"))
         await asyncio.sleep(0.1)
-        assert (words.seen.standby_since is not None) == waits and not job.done()
+        assert (session.seen.standby_since is not None) == waits and not job.done()
         if waits:
-            assert await job == [] and words.seen.standby_since is None
+            assert await job == [] and session.seen.standby_since is None
         else:
             with pytest.raises(asyncio.TimeoutError):
                 await job
@@ -206,10 +206,7 @@ class Held:
 
 def holding(held: Held) -> Session:
     """The session of a worker that holds four shards."""
-    words = argparse.Namespace(
-        program="none", hang=1.0, name="worker_1", seen=metrics.WorkerSeen(1.0)
-    )
-    session = held.session = Session(words, [held, held, held])
+    session = held.session = session_with(held, held, held)
     row = {"plan": 1, "taken": 1, "last": 0, "told": 0}
     for number in range(4):
         replay = argparse.Namespace(kill=lambda: None)

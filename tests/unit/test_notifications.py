@@ -9,7 +9,7 @@ import pytest
 pytest.importorskip("asyncpg")
 pytest.importorskip("websockets")
 
-from ocpp_board.fleet import gateway, metrics  # noqa: E402
+from ocpp_board.fleet import gateway, worker  # noqa: E402
 from ocpp_board.fleet.gateway import REPLANNED, Cell  # noqa: E402
 from ocpp_board.fleet.worker import Session  # noqa: E402
 
@@ -85,11 +85,9 @@ def test_stations_that_are_not_served_are_not_looked_for(monkeypatch: pytest.Mon
 
 def test_a_worker_is_woken_for_the_first_line_of_shards_that_it_holds() -> None:
     async def job() -> None:
-        words = argparse.Namespace(
-            program="none", hang=1.0, name="worker_1", seen=metrics.WorkerSeen(1.0)
-        )
+        options = worker.Options("", "none", beat=0.2, hang=1.0, boards=2.0, metrics=None)
         database = argparse.Namespace(get_server_pid=lambda: 7)
-        session = Session(words, [database] * 3)
+        session = Session(worker.Worker(options, frozenset()), [database] * 3)
         held: Any = None
         session.shards[7] = held
         for number in range(8, 1000):

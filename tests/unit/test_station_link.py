@@ -1,6 +1,5 @@
 """A station's connection to a gateway: what is read of it before it is let in, and how much behind that."""
 
-import argparse
 import asyncio
 from collections import deque
 from collections.abc import Callable
@@ -18,6 +17,10 @@ from ocpp_board.fleet import gateway  # noqa: E402
 from ocpp_board.fleet.gateway import BURST, FRAMES, LONGEST_HEAD, StationLink  # noqa: E402
 from tests.fleet.client import handshake  # noqa: E402
 
+ABSENT = ("certificate", "key", "client_ca", "client_crl", "client_header", "metrics")
+OPTIONS = gateway.Options(
+    **dict.fromkeys(ABSENT), db=[], program="replay", proxy=[], host="", port=0, wait=25, open=False
+)
 HEARTBEAT = b'[2,"1","Heartbeat",{}]'
 
 
@@ -54,7 +57,7 @@ class Gateway:
     """What a connection asks of its gateway, which lets a station in once a test says so."""
 
     def __init__(self) -> None:
-        self.words = argparse.Namespace(open=False, client_ca=None, client_header=None, proxy=[])
+        self.options = OPTIONS
         self.links, self.served = set[StationLink](), dict[str, StationLink]()
         self.homes: dict[str, Any] = {"CS-1": (None, 0)}
         self.paces: dict[str, Any] = {}
@@ -202,11 +205,9 @@ def test_an_event_that_its_shard_does_not_know_goes_to_the_shard_of_then(
     monkeypatch: pytest.MonkeyPatch,
 ) -> None:
     monkeypatch.setattr(gateway, "AGAIN", 0.01)
-    words = ("certificate", "key", "client_ca", "client_crl")
-    files = argparse.Namespace(**dict.fromkeys(words), db=[], program="replay")
 
     async def run() -> None:
-        own, queue = gateway.Gateway(files), deque[int]()
+        own, queue = gateway.Gateway(OPTIONS), deque[int]()
         cell: Any = SimpleNamespace(is_up=True, queue=queue, filled=asyncio.Event())
         own.homes["CS-1"] = (cell, 1)
         heard = list[bytes]()

@@ -1,7 +1,7 @@
 """TLS with stations: words, and names of certificates."""
 
-import argparse
 import asyncio
+from dataclasses import replace
 from pathlib import Path
 from typing import Any
 
@@ -11,6 +11,7 @@ pytest.importorskip("asyncpg")
 
 from ocpp_board.fleet.database import Fault  # noqa: E402
 from ocpp_board.fleet.station_tls import (  # noqa: E402
+    Options,
     common_name,
     context_of,
     header_or_fault,
@@ -18,16 +19,7 @@ from ocpp_board.fleet.station_tls import (  # noqa: E402
     pairs_of,
 )
 
-
-def words(
-    certificate: str | None = None,
-    key: str | None = None,
-    client_ca: str | None = None,
-    client_crl: str | None = None,
-) -> argparse.Namespace:
-    return argparse.Namespace(
-        certificate=certificate, key=key, client_ca=client_ca, client_crl=client_crl
-    )
+NO_TLS = Options(None, None, None, None, None, [])
 
 
 def test_the_common_name_of_a_certificate() -> None:
@@ -41,20 +33,21 @@ def test_the_common_name_of_a_certificate() -> None:
 
 
 def test_without_a_certificate_there_is_no_tls(tmp_path: Path) -> None:
-    assert context_of(words()) is None
-    for more in (words(key="key.pem"), words(client_ca="ca.pem")):
+    assert context_of(NO_TLS) is None
+    for more in (replace(NO_TLS, key="key.pem"), replace(NO_TLS, client_ca="ca.pem")):
         with pytest.raises(Fault, match="need --certificate"):
             context_of(more)
     with pytest.raises(Fault, match="--client-crl needs --client-ca"):
-        context_of(words("certificate.pem", client_crl="list.pem"))
+        context_of(replace(NO_TLS, certificate="certificate.pem", client_crl="list.pem"))
     empty = tmp_path / "empty.pem"
     empty.touch()
     for name in (str(empty), str(tmp_path / "none.pem")):
         with pytest.raises(Fault, match=name):
-            context_of(words(name))
+            context_of(replace(NO_TLS, certificate=name))
 
 
 SECRET, HEADER = "a-secret-of-nginx", "X-Client-Certificate"
+BEHIND_PROXY = replace(NO_TLS, client_header=HEADER, proxy=["127.0.0.1"])
 
 
 class Peer(asyncio.Transport):
@@ -69,8 +62,7 @@ def handed_on(*values: str, address: str = "127.0.0.1", more: str = "") -> str:
     from websockets.datastructures import Headers
 
     headers: Any = Headers([(HEADER, value) for value in values])
-    own = argparse.Namespace(client_ca=None, client_header=HEADER, proxy=["127.0.0.1"])
-    return name_of(own, Peer(address), headers)
+    return name_of(BEHIND_PROXY, Peer(address), headers)
 
 
 def test_a_subject_that_a_proxy_hands_on(monkeypatch: pytest.MonkeyPatch) -> None:
@@ -101,10 +93,10 @@ def test_parts_of_a_subject() -> None:
 
 def test_a_header_needs_who_may_set_it(monkeypatch: pytest.MonkeyPatch) -> None:
     monkeypatch.setenv("PROXY_SECRET", "short")
-    header_or_fault(argparse.Namespace(client_header=None, proxy=[]))
+    header_or_fault(NO_TLS)
     with pytest.raises(Fault, match="needs --proxy"):
-        header_or_fault(argparse.Namespace(client_header=HEADER, proxy=[]))
+        header_or_fault(replace(NO_TLS, client_header=HEADER))
     with pytest.raises(Fault, match="PROXY_SECRET"):
-        header_or_fault(argparse.Namespace(client_header=HEADER, proxy=["127.0.0.1"]))
+        header_or_fault(BEHIND_PROXY)
     monkeypatch.setenv("PROXY_SECRET", SECRET)
-    header_or_fault(argparse.Namespace(client_header=HEADER, proxy=["127.0.0.1"]))
+    header_or_fault(BEHIND_PROXY)

@@ -19,6 +19,7 @@ import os
 import shutil
 import subprocess
 from collections.abc import Iterator, Sequence
+from dataclasses import dataclass
 from datetime import datetime, timezone
 from pathlib import Path
 
@@ -36,6 +37,16 @@ CLUSTER, ARCHIVES, SUMS = "cluster", "archives", "archives.sha256"
 NAME = "%Y-%m-%dT%H-%M-%SZ"
 # What is not finished yet.
 UNFINISHED = ".part"
+
+
+@dataclass(frozen=True)
+class Options:
+    """What the words ask for: a server, where archives and backups are, and how many backups to keep."""
+
+    db: str
+    archive: Path
+    to: Path
+    keep: int
 
 
 def program(name: str) -> str:
@@ -109,34 +120,34 @@ def check(folder: Path) -> None:
             raise Fault(f"{path}: not as it was copied")
 
 
-def back_up(words: argparse.Namespace) -> int:
+def back_up(options: Options) -> int:
     """Makes a backup. Raises Fault where that can't be; what is there stays."""
-    for folder in (words.archive, words.to):
+    for folder in (options.archive, options.to):
         if not folder.is_dir():
             raise Fault(f"{folder}: no such folder")
-    for old in words.to.glob(f"*{UNFINISHED}"):
+    for old in options.to.glob(f"*{UNFINISHED}"):
         shutil.rmtree(old)
     name = datetime.now(timezone.utc).strftime(NAME)
-    made = words.to / f"{name}{UNFINISHED}"
+    made = options.to / f"{name}{UNFINISHED}"
     made.mkdir(mode=0o700)
-    dsn = connection(words.db)
+    dsn = connection(options.db)
     run(
         program("pg_basebackup"), "-D", made / CLUSTER, "-d", dsn, "-c", "fast", "-X", "stream",
         "--no-password", "--manifest-checksums=SHA256",
     )  # fmt: skip
-    count = copied(words.archive, made / ARCHIVES)
+    count = copied(options.archive, made / ARCHIVES)
     own = made / ARCHIVES
     sums = "".join(f"{sum_of(path)}  {path.relative_to(own)}\n" for path in files(own))
     (made / SUMS).write_text(sums)
     check(made)
     os.sync()
-    made.rename(words.to / name)
-    kept = sorted(path for path in words.to.iterdir() if is_backup(path))
-    for old in kept[: -words.keep]:
+    made.rename(options.to / name)
+    kept = sorted(path for path in options.to.iterdir() if is_backup(path))
+    for old in kept[: -options.keep]:
         shutil.rmtree(old)
-    gone = max(0, len(kept) - words.keep)
+    gone = max(0, len(kept) - options.keep)
     print(
-        f"{words.to / name}: the cluster and {count} archives, read again; {gone} older ones removed"
+        f"{options.to / name}: the cluster and {count} archives, read again; {gone} older ones removed"
     )
     return 0
 
@@ -174,5 +185,4 @@ def main(argv: Sequence[str], prog: str) -> int:
         metavar="N",
         help="how many backups to keep (default: 7)",
     )
-    words = parts.parsed(parser, argv)
-    return parts.ended(lambda: back_up(words))
+    return parts.ended(back_up, parts.options_of(Options, parts.parsed(parser, argv)))

@@ -27,6 +27,7 @@ import io
 import re
 import sys
 from collections.abc import AsyncIterator, Sequence
+from dataclasses import dataclass
 from datetime import date, datetime, time, timezone
 from http import HTTPStatus
 from pathlib import Path
@@ -287,42 +288,53 @@ class ShardSessions:
         return found.events(one, lists), whole.sent
 
 
-async def sessions_of(words: argparse.Namespace) -> list[Row]:
+@dataclass(frozen=True)
+class Options(parts.OfCells):
+    """What the words ask for: a site's month, how tokens are written, where signed values go, and the most MiB."""
+
+    site: str
+    month: tuple[int, int]
+    tokens: str
+    signed: Path | None
+    most_mib: int | None
+
+
+async def sessions_of(options: Options) -> list[Row]:
     """The month's sessions, by when they began. Raises Fault where there is no such site."""
-    known, rows, is_there = known_lines(words.program), list[Row](), False
-    for dsn in words.db:
+    known, rows, is_there = known_lines(options.program), list[Row](), False
+    for dsn in options.db:
         session = await connect(dsn, application_name=NAME)
-        for site in await session.fetch(SITES, words.site):
+        for site in await session.fetch(SITES, options.site):
             is_there = True
-            one = ShardSessions(session, words.program, known, site)
-            rows += [row async for row in one.rows(*words.month)]
+            one = ShardSessions(session, options.program, known, site)
+            rows += [row async for row in one.rows(*options.month)]
         await session.close()
     if not is_there:
-        raise Fault(f"no site {words.site}")
+        raise Fault(f"no site {options.site}")
     first = datetime.min.replace(tzinfo=timezone.utc)
     rows.sort(key=lambda row: (row.start or row.begun or first, row.station, row.transaction))
     return rows
 
 
-async def written(words: argparse.Namespace) -> str:
+async def written(options: Options) -> str:
     """The table; with a folder for them the files of signed values, too. Raises Fault and OSError."""
     text = io.StringIO()
     table_ = csv.writer(text, lineterminator="\n")
     table_.writerow(HEADS)
-    for row in await sessions_of(words):
-        table_.writerow(row.cells(words.site, words.tokens))
-        if words.signed:
-            write_signed(words.signed, row.station, row.sent, row.details)
-        if words.most_mib and text.tell() > words.most_mib << 20:
+    for row in await sessions_of(options):
+        table_.writerow(row.cells(options.site, options.tokens))
+        if options.signed:
+            write_signed(options.signed, row.station, row.sent, row.details)
+        if options.most_mib and text.tell() > options.most_mib << 20:
             raise Fault(
-                f"the table has more than {words.most_mib} MiB: ocpp-board billing writes it"
+                f"the table has more than {options.most_mib} MiB: ocpp-board billing writes it"
             )
     return text.getvalue()
 
 
-async def run(words: argparse.Namespace) -> None:
+async def run(options: Options) -> None:
     """Writes the table to standard output."""
-    sys.stdout.write(await written(words))
+    sys.stdout.write(await written(options))
     sys.stdout.flush()
 
 
@@ -380,5 +392,4 @@ def main(argv: Sequence[str], prog: str) -> int:
     parser.add_argument(
         "--most-mib", type=int, metavar="N", help="end with a fault if the table is larger"
     )
-    words = parts.parsed(parser, argv)
-    return parts.done(lambda: run(words))
+    return parts.done(run, parts.options_of(Options, parts.parsed(parser, argv)))

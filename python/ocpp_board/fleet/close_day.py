@@ -25,6 +25,7 @@ import argparse
 import logging
 import os
 from collections.abc import Collection, Iterable, Mapping, Sequence
+from dataclasses import dataclass
 from datetime import date, datetime, time, timedelta
 from pathlib import Path
 from typing import Any, NamedTuple
@@ -66,6 +67,16 @@ LISTED = 100
 Period = tuple[str, datetime]
 
 
+@dataclass(frozen=True)
+class Options(parts.OfCell):
+    """What the words ask for: a site, its day, transactions that are archived as they are, and where archives are."""
+
+    site: str
+    day: date | None
+    incomplete: list[list[str]]
+    archive: Path
+
+
 class Share(NamedTuple):
     """What of an archive is a site's: all of it; and what was archived there before, as it was and with what came."""
 
@@ -93,13 +104,10 @@ class Booking(NamedTuple):
 class Closing:
     """The closing of one shard's stations of the site."""
 
-    def __init__(self, words: argparse.Namespace, session: Any, site: Any) -> None:
-        self.words, self.session, self.shard, self.site = (
-            words,
-            session,
-            site["shard"],
-            site["site"],
-        )
+    def __init__(self, options: Options, known: frozenset[str], session: Any, site: Any) -> None:
+        """`known`: the lines that the program knows."""
+        self.options, self.known, self.session = options, known, session
+        self.shard, self.site = site["shard"], site["site"]
         self.zone, self.reckoning = zone_of(site), Reckoning.of(site)
         self.stations: list[dict[str, Any]] = []
         self.spool = Spool()
@@ -147,7 +155,7 @@ class Closing:
         for line in lines:
             own.setdefault(line.station, []).append(line)
         rows = [widened(row, Texts(own.get(row["station"], []))) for row in self.stations]
-        return Plan(rows, {self.site: reckoning or self.reckoning}, self.words.known)
+        return Plan(rows, {self.site: reckoning or self.reckoning}, self.known)
 
     async def replayed(
         self,
@@ -167,7 +175,7 @@ class Closing:
             if own is not None:
                 await self.look(replay, whole, own)
 
-        await compact.replayed(self.words.program, plan, Texts(lines), look)
+        await compact.replayed(self.options.program, plan, Texts(lines), look)
         return whole
 
     async def look(
@@ -196,7 +204,7 @@ class Closing:
         """What these lines do behind those in front, which all have to change something."""
         lines = front + rows
         plan = self.plan(lines if front else [])
-        answers = (await compact.replayed(self.words.program, plan, Texts(lines))).answers
+        answers = (await compact.replayed(self.options.program, plan, Texts(lines))).answers
         if not all(is_change for _, is_change in answers[: len(front)]):
             raise Fault(f"site {self.site}: what was archived is not taken again")
         # Of what was taken the answer says no more than that.
@@ -230,7 +238,7 @@ class Closing:
         """The transactions of the shard that an operator has archived as they are."""
         return {
             (station, name.lower())
-            for station, name in self.words.incomplete
+            for station, name in self.options.incomplete
             if station in self.names()
         }
 
@@ -255,7 +263,7 @@ class Closing:
         """Compacts a large log first: what is left of it is read at once."""
         if (await self.fetch(closing_queries.BYTES))[0]["bytes"] > LARGE:
             text = await compact.compacted(
-                self.words.program, self.words.known, self.session, self.shard
+                self.options.program, self.known, self.session, self.shard
             )
             log.info("%s", text)
 
@@ -266,7 +274,7 @@ class Closing:
             names.setdefault(row["archive"], {})[row["station"], row["transaction"]] = row
         for name, rows in names.items():
             try:
-                lines = archived_lines(self.words.archive / name, rows)
+                lines = archived_lines(self.options.archive / name, rows)
             except OSError as fault:
                 log.warning("%s; what comes for its transactions can't be taken", said(fault))
                 continue
@@ -290,7 +298,7 @@ class Closing:
                 one = (row["station"], row["transaction"])
                 if row["lines"] is None:
                     raise Fault(
-                        f"{self.words.archive / row['archive']} is not there, and lines came for {one[1]} of "
+                        f"{self.options.archive / row['archive']} is not there, and lines came for {one[1]} of "
                         f"{one[0]}, which it has"
                     )
                 found[one] = [self.spool.keep(text, one) for text in each_unpacked(row["lines"])]
@@ -307,14 +315,14 @@ class Closing:
             return None, {}
         cell = await self.session.fetchval(closing_queries.CELL)
         front = f"{self.site}.cell-{cell}.shard-{self.shard}.{closing}"
-        fresh = self.words.archive / f"{front}.part"
+        fresh = self.options.archive / f"{front}.part"
         with open(fresh, "wb") as file:
             file.write(self.plan(lines).lines)
             file.writelines(f"{text}\n".encode() for text in Texts(lines))
             file.flush()
             os.fsync(file.fileno())
         path = self.named_anew(front, fresh)
-        folder = os.open(self.words.archive, os.O_RDONLY)
+        folder = os.open(self.options.archive, os.O_RDONLY)
         try:
             os.fsync(folder)
         finally:
@@ -324,7 +332,7 @@ class Closing:
     def named_anew(self, front: str, fresh: Path) -> Path:
         """Gives a file a name that no other one has. One that is there is of a closing that was killed, or of a
         database that was restored since, and stays."""
-        number, path = 1, Path(self.words.archive, f"{front}.script")
+        number, path = 1, Path(self.options.archive, f"{front}.script")
         while True:
             try:
                 os.link(fresh, path)
@@ -338,7 +346,7 @@ class Closing:
     async def read_again(self, path: Path) -> Figures:
         """The figures of an archive, which is read some lines at a time."""
         commands = tuple(command.encode() for command in COMMANDS)
-        replay = await Replay.start(self.words.program)
+        replay = await Replay.start(self.options.program)
         try:
             with open(path, "rb") as file:
                 while block := file.readlines(compact.BLOCK_BYTES):
@@ -699,38 +707,38 @@ def corrections_of(had: Any, now: tuple[Any, ...]) -> int:
     return int(had["corrections"]) + (before != now)
 
 
-async def run(words: argparse.Namespace) -> None:
+async def run(options: Options) -> None:
     """Closes the day in each shard that has stations of the site. Raises Fault where that can't be."""
-    words.known = known_lines(words.program)
-    if not words.archive.is_dir():
-        raise Fault(f"{words.archive}: no folder for archives")
+    known = known_lines(options.program)
+    if not options.archive.is_dir():
+        raise Fault(f"{options.archive}: no folder for archives")
     done = set[int]()
     # Within its transaction it reckons: on a busy machine that takes longer than others may be idle.
     settings = {"application_name": NAME, "idle_in_transaction_session_timeout": "60s"}
-    await begun_anew(words.db, lambda session: closed(words, session, done), **settings)
+    await begun_anew(options.db, lambda session: closed(options, known, session, done), **settings)
 
 
-async def closed(words: argparse.Namespace, session: Any, done: set[int]) -> None:
+async def closed(options: Options, known: frozenset[str], session: Any, done: set[int]) -> None:
     """Closes the day in each of these shards that is not done, and notes those that are."""
     sites = await session.fetch(
         "select shard, site, period, reading_order, settle, zone from own_site where site = $1 order by 1",
-        words.site,
+        options.site,
     )
     if not sites:
-        raise Fault(f"no site {words.site} in this cell")
+        raise Fault(f"no site {options.site} in this cell")
     query = "select station from own_station where site = $1"
-    names = {row["station"] for row in await session.fetch(query, words.site)}
-    for station, _ in words.incomplete:
+    names = {row["station"] for row in await session.fetch(query, options.site)}
+    for station, _ in options.incomplete:
         if station not in names:
-            raise Fault(f"site {words.site} has no station {station}")
+            raise Fault(f"site {options.site} has no station {station}")
     for site in sites:
         today = datetime.now(zone_of(site)).date()
-        if words.day and words.day >= today:
-            raise Fault(f"{words.day} is not over in {site['zone']}")
+        if options.day and options.day >= today:
+            raise Fault(f"{options.day} is not over in {site['zone']}")
         if site["shard"] not in done:
-            closing = Closing(words, session, site)
+            closing = Closing(options, known, session, site)
             try:
-                text = await closing.run(words.day or today - timedelta(days=1))
+                text = await closing.run(options.day or today - timedelta(days=1))
             finally:
                 closing.spool.close()
             done.add(site["shard"])
@@ -765,5 +773,4 @@ def main(argv: Sequence[str], prog: str) -> int:
     parser.add_argument(
         "--archive", required=True, type=Path, metavar="FOLDER", help="where archives are kept"
     )
-    words = parts.parsed(parser, argv)
-    return parts.done(lambda: run(words))
+    return parts.done(run, parts.options_of(Options, parts.parsed(parser, argv)))

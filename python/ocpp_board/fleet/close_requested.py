@@ -8,10 +8,10 @@ two hours. The archives of a site are in the folder of its name in FOLDER, as th
 timer calls it each minute. Exit status: 0; 1 if a closing failed.
 """
 
-import argparse
 import logging
 import subprocess
 from collections.abc import Sequence
+from dataclasses import dataclass
 from pathlib import Path
 from typing import Any
 
@@ -40,13 +40,20 @@ update own_closing_request set ended_at = now(), status = $2, told = $3 where re
 KEPT = 2_000
 
 
-async def closed(words: argparse.Namespace, row: Any) -> tuple[int, str]:
+@dataclass(frozen=True)
+class Options(parts.OfCell):
+    """What the words ask for: a cell, and where the folders of its sites' archives are."""
+
+    archives: Path
+
+
+async def closed(options: Options, row: Any) -> tuple[int, str]:
     """Closes a day, and gives the status with what it printed."""
-    folder = words.archives / row["site"]
-    if folder.parent != words.archives or folder.name in ("", ".", ".."):
+    folder = options.archives / row["site"]
+    if folder.parent != options.archives or folder.name in ("", ".", ".."):
         return Status.MISTAKEN, f"no folder can have the name {row['site']!r}"
     folder.mkdir(exist_ok=True)
-    command = ["ocpp_board", "close-day", "--db", words.db, "--program", words.program]
+    command = ["ocpp_board", "close-day", "--db", options.db, "--program", options.program]
     command += ["--archive", str(folder), "--site", row["site"], "--day", str(row["day"])]
     try:
         made = await parts.completed(command, PATIENCE, errors=subprocess.STDOUT)
@@ -55,23 +62,23 @@ async def closed(words: argparse.Namespace, row: Any) -> tuple[int, str]:
     return made.returncode, made.stdout.decode("utf-8", "replace").strip()[-KEPT:]
 
 
-async def asked(words: argparse.Namespace, query: str, *values: Any) -> Any:
+async def asked(options: Options, query: str, *values: Any) -> Any:
     """The first row of a statement, by a session of its own: a closing may take longer than the database is there."""
 
     async def work(session: Any) -> Any:
         return await session.fetchrow(query, *values)
 
-    return await begun_anew(words.db, work, application_name=NAME)
+    return await begun_anew(options.db, work, application_name=NAME)
 
 
-async def run(words: argparse.Namespace) -> int:
+async def run(options: Options) -> int:
     """Does all requests that wait. Raises Fault where archives have no folder."""
-    if not words.archives.is_dir():
-        raise Fault(f"{words.archives}: no folder for archives")
+    if not options.archives.is_dir():
+        raise Fault(f"{options.archives}: no folder for archives")
     failed = 0
-    while row := await asked(words, TAKE):
-        status, text = await closed(words, row)
-        await asked(words, DONE, row["request"], status, text)
+    while row := await asked(options, TAKE):
+        status, text = await closed(options, row)
+        await asked(options, DONE, row["request"], status, text)
         what = f"request {row['request']} of {row['operator']}: {row['site']} up to {row['day']}"
         if status:
             log.error("%s: status %d: %s", what, status, text.splitlines()[-1:])
@@ -93,5 +100,4 @@ def main(argv: Sequence[str], prog: str) -> int:
         metavar="FOLDER",
         help="where archives are kept, in a folder for each site",
     )
-    words = parts.parsed(parser, argv)
-    return parts.done(lambda: run(words))
+    return parts.done(run, parts.options_of(Options, parts.parsed(parser, argv)))

@@ -11,10 +11,10 @@ their own lines. Before it removes anything it replays the lines that are left, 
 reads a log in parts, and replays one in parts that is longer than a replay reads.
 """
 
-import argparse
 import logging
 import os
 from collections.abc import AsyncIterator, Awaitable, Callable, Collection, Iterator, Sequence
+from dataclasses import dataclass
 from tempfile import SpooledTemporaryFile
 from typing import IO, Any, NamedTuple
 
@@ -226,14 +226,21 @@ class Whole:
             self.gone.add(place)
 
 
-async def compact(words: argparse.Namespace, shard: int) -> None:
+@dataclass(frozen=True)
+class Options(parts.OfCell):
+    """What the words ask for: one shard, or each of the cell."""
+
+    shard: int | None
+
+
+async def compact(options: Options, shard: int) -> None:
     """Removes the repeats of a shard's log. Raises Fault where that would change a board."""
-    known = known_lines(words.program)
+    known = known_lines(options.program)
 
     def work(session: Any) -> Awaitable[str]:
-        return compacted(words.program, known, session, shard)
+        return compacted(options.program, known, session, shard)
 
-    print(await begun_anew(words.db, work, application_name=NAME), flush=True)
+    print(await begun_anew(options.db, work, application_name=NAME), flush=True)
 
 
 async def compacted(program: str, known: frozenset[str], session: Any, shard: int) -> str:
@@ -259,18 +266,18 @@ async def compacted(program: str, known: frozenset[str], session: Any, shard: in
     )
 
 
-async def run(words: argparse.Namespace) -> int:
+async def run(options: Options) -> int:
     """Compacts the shard, or all of the cell, one after the other: one that can't be is logged, and costs no other."""
-    if not words.all:
-        await compact(words, words.shard)
+    if options.shard is not None:
+        await compact(options, options.shard)
         return 0
-    session = await entered(words.db, application_name=NAME)
+    session = await entered(options.db, application_name=NAME)
     rows = await session.fetch("select shard from own_shard where moving_to is null order by 1")
     await session.close()
     wrong = 0
     for row in rows:
         try:
-            await compact(words, row["shard"])
+            await compact(options, row["shard"])
         except (Fault, ReplayEnded, asyncpg.PostgresError) as fault:
             log.error("%s", said(fault))
             wrong += 1
@@ -285,5 +292,4 @@ def main(argv: Sequence[str], prog: str) -> int:
     which = parser.add_mutually_exclusive_group(required=True)
     which.add_argument("--shard", type=int, help="which shard")
     which.add_argument("--all", action="store_true", help="each shard of the cell in turn")
-    words = parts.parsed(parser, argv)
-    return parts.done(lambda: run(words))
+    return parts.done(run, parts.options_of(Options, parts.parsed(parser, argv)))

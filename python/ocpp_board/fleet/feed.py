@@ -32,7 +32,7 @@ from collections.abc import Sequence
 from ocpp_board.fleet import metrics, parts
 from ocpp_board.fleet.database import Fault
 from ocpp_board.fleet.feed_log import Counts, Log
-from ocpp_board.fleet.feed_sources import FileSource, MqttSource, RabbitSource, Source
+from ocpp_board.fleet.feed_sources import FileSource, MqttSource, Options, RabbitSource, Source
 from ocpp_board.logs import logforms
 from ocpp_board.words import parser_of
 
@@ -46,19 +46,20 @@ CLIENTS = {
 SOURCES = {"file": FileSource, "rabbitmq": RabbitSource, "mqtt": MqttSource}
 
 
-async def run(words: argparse.Namespace) -> int:
+async def run(options: Options) -> int:
     """Appends what the source has until that or a signal ends it, and gives the exit status. Raises Fault."""
+    client_or_fault(options.source)
     counts = Counts()
-    ledger = Log(words.db, words.name, counts)
-    metrics.serve(words.metrics, metrics.feed_watch(ledger, counts))
-    source: Source = SOURCES[words.source](words, counts, ledger)
+    ledger = Log(options.db, options.name, counts)
+    metrics.serve(options.metrics, metrics.feed_watch(ledger, counts))
+    source: Source = SOURCES[options.source](options, counts, ledger)
 
     def end() -> None:
         """Ends with what came so far; where a database does not answer, without it: it comes again."""
         source.is_ending.set()
         asyncio.get_running_loop().call_later(LAST, os._exit, 0)
 
-    if words.source != "file" or words.path != "-":
+    if options.source != "file" or options.path != "-":
         for number in (signal.SIGTERM, signal.SIGINT):
             asyncio.get_running_loop().add_signal_handler(number, end)
     await ledger.open()
@@ -74,7 +75,7 @@ async def run(words: argparse.Namespace) -> int:
             reported = time.monotonic()
     counts.logged = ()
     counts.report()
-    return 1 if counts.wrong and words.source == "file" and not words.follow else 0
+    return 1 if counts.wrong and options.source == "file" and not options.follow else 0
 
 
 def add_file(parser: argparse.ArgumentParser) -> None:
@@ -97,8 +98,8 @@ def add_file(parser: argparse.ArgumentParser) -> None:
     logforms.add_options(parser, ("station", "time", "message"))
 
 
-def arguments(argv: Sequence[str], prog: str) -> argparse.Namespace:
-    """The words. Wrong ones end the program with status 2."""
+def arguments(argv: Sequence[str], prog: str) -> Options:
+    """What the words ask for. Wrong ones end the program with status 2."""
     parser = parser_of(prog, __doc__)
     parts.add_cells(parser)
     metrics.add_option(parser)
@@ -120,11 +121,13 @@ def arguments(argv: Sequence[str], prog: str) -> argparse.Namespace:
         help="the client's name, by which the broker keeps what was not taken",
     )
     words = parts.parsed(parser, argv)
-    if words.source == "file":
-        words.name = words.name or os.path.abspath(words.path)
-    elif words.source == "rabbitmq":
-        words.name = words.queue
-    return words
+    if words.source == "rabbitmq":
+        return parts.options_of(Options, words, name=words.queue)
+    if words.source == "mqtt":
+        return parts.options_of(Options, words)
+    shape = None if words.form == "script" else logforms.shape_of(words)
+    name = words.name or os.path.abspath(words.path)
+    return parts.options_of(Options, words, name=name, shape=shape)
 
 
 def client_or_fault(source: str) -> None:
@@ -138,10 +141,4 @@ def client_or_fault(source: str) -> None:
 
 def main(argv: Sequence[str], prog: str) -> int:
     """Runs the program with these words; gives its exit status."""
-    words = arguments(argv, prog)
-
-    async def feed() -> int:
-        client_or_fault(words.source)
-        return await run(words)
-
-    return parts.done(feed)
+    return parts.done(run, arguments(argv, prog))

@@ -1,12 +1,12 @@
 """Where a feed's messages come from: a file, a queue of RabbitMQ, a topic of an MQTT broker."""
 
-import argparse
 import asyncio
 import logging
 import os
 import stat
 import time
 from collections.abc import AsyncIterator, Awaitable, Callable
+from dataclasses import dataclass
 from pathlib import Path
 from typing import Any
 from urllib.parse import quote, unquote, urlsplit
@@ -17,7 +17,7 @@ from ocpp_board.fleet.events import Event, citrine_event, event_of, is_object, m
 from ocpp_board.fleet.feed_log import AGAIN, Batch, Counts, Log, nothing
 from ocpp_board.limits import LONGEST_LOG_LINE
 from ocpp_board.logs.followed import front_of, is_replaced, known
-from ocpp_board.logs.logforms import form_of
+from ocpp_board.logs.logforms import Shape
 from ocpp_board.messages.texts import Refused
 
 log = logging.getLogger(__name__)
@@ -31,11 +31,29 @@ LOOK = 30
 GONE = 4
 
 
+@dataclass(frozen=True)
+class Options:
+    """What the words ask for: a source, and what such a one has. `shape`: None for msg lines of a script."""
+
+    db: list[str]
+    metrics: tuple[str, int] | None
+    source: str
+    name: str
+    path: str = ""
+    form: str = ""
+    shape: Shape | None = None
+    follow: bool = False
+    copied: bool = False
+    url: str = ""
+    queue: str = ""
+    topic: str = ""
+
+
 class Source:
     """Where messages come from."""
 
-    def __init__(self, words: argparse.Namespace, counts: Counts, log: Log) -> None:
-        self.words, self.counts, self.log = words, counts, log
+    def __init__(self, options: Options, counts: Counts, log: Log) -> None:
+        self.options, self.counts, self.log = options, counts, log
         self.is_ending = asyncio.Event()
         self.last_told = ""
 
@@ -63,16 +81,16 @@ class Source:
 class FileSource(Source):
     """A log of a CSMS: one message a line."""
 
-    def __init__(self, words: argparse.Namespace, counts: Counts, log: Log) -> None:
-        super().__init__(words, counts, log)
-        self.form = None if words.form == "script" else form_of(words, has_site=False)
-        self.path = "standard input" if words.path == "-" else words.path
+    def __init__(self, options: Options, counts: Counts, log: Log) -> None:
+        super().__init__(options, counts, log)
+        self.form = options.shape.reader(has_site=False) if options.shape else None
+        self.path = "standard input" if options.path == "-" else options.path
         self.rest = b""
 
     def read(self, data: bytes) -> Event | None:
         """The event of a line. Raises Refused."""
         text = text_of(data)
-        if self.words.copied:
+        if self.options.copied:
             text = from_copy(text)
         if self.form is None:
             command, station, message = (text.rstrip("\r\n").split(" ", 2) + ["", ""])[:3]
@@ -90,7 +108,7 @@ class FileSource(Source):
             found += await cell.until_done(lambda: cell.within("fetch", FED, self.log.source)) or [
                 {"place": 0}
             ]
-        path, taken = Path(self.words.path), [row for row in found if row["place"]]
+        path, taken = Path(self.options.path), [row for row in found if row["place"]]
         file = known(path, ((row["place"], row["front"]) for row in taken))
         if file:
             return file, min(row["place"] for row in found)
@@ -121,28 +139,28 @@ class FileSource(Source):
 
     async def batches(self) -> AsyncIterator[Batch | None]:
         """The batches of the file, and of the next one of its name."""
-        is_kept = self.words.path != "-" and stat.S_ISREG(os.stat(self.words.path).st_mode)
+        is_kept = self.options.path != "-" and stat.S_ISREG(os.stat(self.options.path).st_mode)
         while not self.is_ending.is_set():
             if is_kept:
                 file, place = await self.opened()
             else:
-                file, place = open(0 if self.words.path == "-" else self.words.path, "rb"), 0
+                file, place = open(0 if self.options.path == "-" else self.options.path, "rb"), 0
             with file:
                 async for batch in self.batches_of(file, place, is_kept):
                     yield batch
-            if not self.words.follow:
+            if not self.options.follow:
                 return
             self.rest = b""
 
     async def batches_of(self, file: Any, place: int, is_kept: bool) -> AsyncIterator[Batch | None]:
         """The batches of a file from this place on, as long as it is the one of its name."""
         gone = 0
-        if place and self.words.form == "citrineos-csv" and self.form:
+        if place and self.options.form == "citrineos-csv" and self.form:
             self.form.read(text_of(file.readline()))  # It names the columns.
         if is_kept:
             file.seek(place)
         while not self.is_ending.is_set():
-            events, size, is_over = list[Event](), 0, not self.words.follow or gone == GONE
+            events, size, is_over = list[Event](), 0, not self.options.follow or gone == GONE
             while len(events) < BATCH and size < BATCH_BYTES:
                 line = (
                     self.line(file, is_over)
@@ -163,7 +181,7 @@ class FileSource(Source):
                     nothing,
                 )
             elif is_over:
-                if self.words.follow:
+                if self.options.follow:
                     log.info(
                         "%s is another file from here on, which is taken from its start", self.path
                     )
@@ -178,10 +196,10 @@ class FileSource(Source):
 class BrokerSource(Source):
     """A broker that is acknowledged to."""
 
-    def __init__(self, words: argparse.Namespace, counts: Counts, log: Log) -> None:
-        super().__init__(words, counts, log)
+    def __init__(self, options: Options, counts: Counts, log: Log) -> None:
+        super().__init__(options, counts, log)
         self.arrived: asyncio.Queue[Any] = asyncio.Queue()
-        parts = urlsplit(words.url)
+        parts = urlsplit(options.url)
         if parts.password is not None:
             raise Fault(
                 "a password in the address shows in the list of processes: put it into SOURCE_PASSWORD"
@@ -189,9 +207,9 @@ class BrokerSource(Source):
         try:
             self.host, self.port = parts.hostname or "", parts.port
         except ValueError as fault:
-            raise Fault(f"{words.url}: {fault}") from None
+            raise Fault(f"{options.url}: {fault}") from None
         if not self.host or parts.scheme not in self.schemes:
-            raise Fault(f"{words.url}: not of the form {self.schemes[0]}://USER@HOST:PORT")
+            raise Fault(f"{options.url}: not of the form {self.schemes[0]}://USER@HOST:PORT")
         self.user, self.scheme, self.path = (
             unquote(parts.username or ""),
             parts.scheme,
@@ -301,9 +319,9 @@ class RabbitSource(BrokerSource):
         try:
             channel = await connection.channel()
             await channel.set_qos(prefetch_count=AHEAD)
-            queue = await channel.get_queue(self.words.queue, ensure=True)
+            queue = await channel.get_queue(self.options.queue, ensure=True)
             await queue.consume(put)
-            self.tell_once(f"{self.where}: takes what comes to {self.words.queue}")
+            self.tell_once(f"{self.where}: takes what comes to {self.options.queue}")
             looked = time.monotonic()
             while not lost.done() and not self.is_ending.is_set():
                 if messages := await self.some(lost):
@@ -312,11 +330,11 @@ class RabbitSource(BrokerSource):
                 yield None
                 if time.monotonic() > looked + LOOK and not lost.done():
                     await channel.get_queue(
-                        self.words.queue, ensure=True
+                        self.options.queue, ensure=True
                     )  # If it were deleted, nobody would report it.
                     looked = time.monotonic()
         except aiormq.exceptions.ChannelNotFoundEntity:
-            raise Fault(f"{self.where} has no queue {self.words.queue!r}") from None
+            raise Fault(f"{self.where} has no queue {self.options.queue!r}") from None
         except aiormq.exceptions.ChannelAccessRefused as fault:
             raise Fault(f"{self.where}: {fault}") from None
         except (OSError, asyncio.TimeoutError, aiormq.exceptions.AMQPError) as fault:
@@ -327,7 +345,7 @@ class RabbitSource(BrokerSource):
 
     def batch(self, messages: list[Any]) -> Batch:
         """The events of these messages; the last is acknowledged with all before it."""
-        where = f"a message of {self.words.queue}"
+        where = f"a message of {self.options.queue}"
         events = [self.take(where, lambda: self.read(message)) for message in messages]
         return Batch(
             [event for event in events if event],
@@ -350,8 +368,8 @@ class MqttSource(BrokerSource):
 
     schemes = ("mqtt", "mqtts")
 
-    def __init__(self, words: argparse.Namespace, counts: Counts, log: Log) -> None:
-        super().__init__(words, counts, log)
+    def __init__(self, options: Options, counts: Counts, log: Log) -> None:
+        super().__init__(options, counts, log)
         self.loop = asyncio.get_running_loop()
         self.client: Any = None
         self.fault: Fault | None = None
@@ -372,7 +390,7 @@ class MqttSource(BrokerSource):
         """A client that acknowledges nothing by itself."""
         import paho.mqtt.client as mqtt
 
-        client: Any = mqtt.Client(client_id=self.words.name, clean_session=False)
+        client: Any = mqtt.Client(client_id=self.options.name, clean_session=False)
         # It acknowledges what is on disk, and nothing before: not by itself, but where `acknowledge` is called.
         client.acknowledge, client._send_puback = client._send_puback, lambda mid: 0
         if self.user:
@@ -396,7 +414,7 @@ class MqttSource(BrokerSource):
         elif code == 0:
             self.connections += 1
             self.is_connected = True
-            client.subscribe(self.words.topic, qos=1)
+            client.subscribe(self.options.topic, qos=1)
 
     def disconnected(self, _client: Any, _data: Any, code: int) -> None:
         """The connection is gone."""
@@ -406,10 +424,10 @@ class MqttSource(BrokerSource):
         """The broker granted the topic, or not."""
         if granted[0] not in (0, 1, 2):
             self.fault = Fault(
-                f"{self.where} does not let {self.user or 'nobody'} read {self.words.topic}"
+                f"{self.where} does not let {self.user or 'nobody'} read {self.options.topic}"
             )
         self.loop.call_soon_threadsafe(
-            self.tell_once, f"{self.where}: takes what comes to {self.words.topic}"
+            self.tell_once, f"{self.where}: takes what comes to {self.options.topic}"
         )
 
     def came(self, _client: Any, _data: Any, message: Any) -> None:

@@ -29,6 +29,7 @@ import os
 import subprocess
 import time
 from collections.abc import Mapping, Sequence
+from dataclasses import dataclass
 from datetime import datetime, timedelta, timezone
 from pathlib import Path
 from typing import Any
@@ -91,30 +92,43 @@ BRIEFLY = "set local lock_timeout = '1s'"
 HELD_UP = (asyncpg.LockNotAvailableError, asyncpg.DeadlockDetectedError)
 
 
+@dataclass(frozen=True)
+class Options(parts.OfCell):
+    """What the words ask for: how old tokens, one token, or how many years."""
+
+    archive: Path
+    after: int | None
+    token: str | None
+    years: int | None
+
+
 class Keeper:
     """Forgets tokens: all of what is old enough, or one wherever it is."""
 
-    def __init__(self, words: argparse.Namespace, session: Any, paths: Mapping[str, Path]) -> None:
-        self.words, self.session, self.paths = words, session, paths
+    def __init__(
+        self, options: Options, known: frozenset[str], session: Any, paths: Mapping[str, Path]
+    ) -> None:
+        """`known`: the lines that the program knows; `paths`: the archives by their names."""
+        self.options, self.known, self.session, self.paths = options, known, session, paths
         self.before: datetime | None = None
-        if words.token is None:
-            self.before = datetime.now(timezone.utc) - timedelta(days=words.after)
+        if options.after is not None:
+            self.before = datetime.now(timezone.utc) - timedelta(days=options.after)
         self.lines = self.files = self.wrong = 0
 
     def new(self, line: str) -> str:
         """A line without what is to be forgotten."""
-        return line_without(line, self.words.token)
+        return line_without(line, self.options.token)
 
     async def shard(self, number: int) -> None:
         """Forgets what a shard has. Raises Fault where it is in use, or where an answer or a board would change."""
         await reserve(self.session, number)
-        plan = await Plan.of(self.session.fetch, number, self.words.known)
+        plan = await Plan.of(self.session.fetch, number, self.known)
         await self.log(number, plan)
         for row in await self.session.fetch(CLOSINGS, number, self.before):
             closing = (number, row["site"], row["closing"])
             await self.archived(plan, closing)
             is_done = row["archive"] is None or self.file(row["archive"])
-            if is_done and self.words.token is None:
+            if is_done and self.options.token is None:
                 await self.session.execute(FORGOTTEN, *closing)
 
     async def log(self, number: int, plan: Plan) -> None:
@@ -147,11 +161,11 @@ class Keeper:
         """The new lines, once a replay of them gives what one of the old ones does. What is no JSON stays where that
         changes an answer. Raises Fault where something else does."""
         own = [place for place in range(len(old)) if place not in left]
-        was = await compact.replayed(self.words.program, plan, [old[n] for n in own])
-        if was == await compact.replayed(self.words.program, plan, [new[n] for n in own]):
+        was = await compact.replayed(self.options.program, plan, [old[n] for n in own])
+        if was == await compact.replayed(self.options.program, plan, [new[n] for n in own]):
             return new
         kept = [one if line.endswith(f" {NO_JSON}") else line for one, line in zip(old, new)]
-        if was != await compact.replayed(self.words.program, plan, [kept[n] for n in own]):
+        if was != await compact.replayed(self.options.program, plan, [kept[n] for n in own]):
             raise Fault(f"{what}: an answer or a board would change, so nothing was forgotten")
         log.warning("%s: lines that are no JSON keep what they have", what)
         return kept
@@ -165,7 +179,7 @@ class Keeper:
         if not changed:
             return
         was, now = ([line for row in changed for line in by[key_of(row)]] for by in (old, new))
-        wide = widest(plan, was, self.words.known)
+        wide = widest(plan, was, self.known)
         await self.checked(f"shard {number}, archived", wide, was, now, set())
         async with self.session.transaction():
             for row in changed:
@@ -183,14 +197,14 @@ class Keeper:
         """Rewrites an archive. Whether it is there."""
         path = self.paths.get(name)
         if path is None:
-            log.error("%s is not below %s; its tokens stay", name, self.words.archive)
+            log.error("%s is not below %s; its tokens stay", name, self.options.archive)
             self.wrong += 1
             return False
         old = path.read_bytes().decode().split("\n")
         new = [self.new(line) for line in old]
         if new == old:
             return True
-        if replayed(self.words.program, old) != replayed(self.words.program, new):
+        if replayed(self.options.program, old) != replayed(self.options.program, new):
             raise Fault(f"{path}: an answer or a board would change, so nothing was forgotten")
         write(path, "\n".join(new).encode())
         self.files += 1
@@ -256,22 +270,22 @@ def write(path: Path, data: bytes) -> None:
     os.replace(fresh, path)
 
 
-async def run(words: argparse.Namespace) -> int:
+async def run(options: Options) -> int:
     """Forgets in each shard of the cell; one that can't be is logged, and costs no other."""
-    words.known = known_lines(words.program)
-    if not words.archive.is_dir():
-        raise Fault(f"{words.archive}: no folder for archives")
-    if words.years is not None:
-        return await aged(words)
-    session = await connect(words.db, application_name=NAME)
+    known = known_lines(options.program)
+    if not options.archive.is_dir():
+        raise Fault(f"{options.archive}: no folder for archives")
+    if options.years is not None:
+        return await aged(options, options.years)
+    session = await connect(options.db, application_name=NAME)
     numbers = [row["shard"] for row in await session.fetch(SHARDS)]
     await session.close()
-    paths = {path.name: path for path in words.archive.rglob("*.script")}
+    paths = {path.name: path for path in options.archive.rglob("*.script")}
     lines = files = wrong = 0
     for number in [*numbers, None]:
         # What was reserved is free once the session ends.
-        session = await connect(words.db, application_name=NAME)
-        keeper = Keeper(words, session, paths)
+        session = await connect(options.db, application_name=NAME)
+        keeper = Keeper(options, known, session, paths)
         try:
             await (keeper.rest() if number is None else keeper.shard(number))
         except (Fault, ReplayEnded, OSError, UnicodeDecodeError, asyncpg.PostgresError) as fault:
@@ -286,10 +300,10 @@ async def run(words: argparse.Namespace) -> int:
     return Status.REPORTED if wrong else Status.DONE
 
 
-async def aged(words: argparse.Namespace) -> int:
+async def aged(options: Options, years: int) -> int:
     """Takes years of history out of the cell. Raises Fault where a shard is in use, or a file is there already."""
-    year = datetime.now(timezone.utc).year - words.years - 1
-    session = await connect(words.db, application_name=NAME)
+    year = datetime.now(timezone.utc).year - years - 1
+    session = await connect(options.db, application_name=NAME)
     try:
         for row in await session.fetch(SHARDS):
             await reserve(session, row["shard"])
@@ -298,7 +312,7 @@ async def aged(words: argparse.Namespace) -> int:
         for table, key, order in HISTORY:
             if await session.fetchval(f"select exists (select from {table} where {key} < $1)", end):
                 name = f"{table.removeprefix('own_')}.cell-{cell}.to-{year}.csv.gz"
-                rows += await copied(session, words.archive / name, table, key, order, end)
+                rows += await copied(session, options.archive / name, table, key, order, end)
         if rows:
             await remove(session, year)
     finally:
@@ -375,5 +389,4 @@ def main(argv: Sequence[str], prog: str) -> int:
         metavar="YEARS",
         help="history that is older than so many whole years",
     )
-    words = parts.parsed(parser, argv)
-    return parts.ended(lambda: asyncio.run(run(words)))
+    return parts.done(run, parts.options_of(Options, parts.parsed(parser, argv)))

@@ -12,7 +12,6 @@ A station comes by HTTP Basic, with its name and the password that `ocpp-board p
 --client-header it comes with a certificate of its name. With --open each station of the plan is let in.
 """
 
-import argparse
 import asyncio
 import hashlib
 import http
@@ -22,6 +21,7 @@ import secrets
 import time
 from collections import Counter, deque
 from collections.abc import Iterable, Sequence
+from dataclasses import dataclass
 from typing import Any, NamedTuple
 from urllib.parse import unquote, urlsplit
 
@@ -417,7 +417,7 @@ class Cell:
                 found = {row["station"]: row["shard"] for row in rows}
                 self.gateway.move_in(self, found, set())
                 stored = dict[str, list[Any]]()
-                if not (self.gateway.words.open or station_tls.is_asked(self.gateway.words)):
+                if not (self.gateway.options.open or station_tls.is_asked(self.gateway.options)):
                     for row in await within(ANSWER, session, "fetch", PASSWORDS, list(sought)):
                         stored.setdefault(row["station"], []).append(row)
             except BaseException:
@@ -562,9 +562,9 @@ class StationLink(Link):
         assert isinstance(event, Request)
         self.name = station_in(event.path)
         given = passwords.taken_from(event.headers, self.name)
-        is_open = self.gateway.words.open
-        if station_tls.is_asked(self.gateway.words):
-            own = station_tls.name_of(self.gateway.words, self.transport, event.headers)
+        is_open = self.gateway.options.open
+        if station_tls.is_asked(self.gateway.options):
+            own = station_tls.name_of(self.gateway.options, self.transport, event.headers)
             if own != self.name:
                 return self.reject(
                     http.HTTPStatus.FORBIDDEN, "the certificate is of another name\n"
@@ -603,7 +603,7 @@ class StationLink(Link):
         """Lets a station in if its password is right; a station that the plan lacks gets the answer to a wrong one."""
         name = self.name
         peer = str((self.transport.get_extra_info("peername") or ("",))[0])
-        address = passwords.address_of(peer, event.headers, self.gateway.words.proxy)
+        address = passwords.address_of(peer, event.headers, self.gateway.options.proxy)
         verdict = await self.gateway.door.judge(
             name, address, given, lambda: self.gateway.find(name)
         )
@@ -732,18 +732,29 @@ class StationLink(Link):
         self.resume()
 
 
+@dataclass(frozen=True)
+class Options(parts.OfCells, station_tls.Options):
+    """What the words ask for: where to listen, seconds that a station may wait, and whether each is let in."""
+
+    host: str
+    port: int
+    wait: float
+    metrics: tuple[str, int] | None
+    open: bool
+
+
 class Gateway:
     """Stations' connections, and where their events go."""
 
-    def __init__(self, words: argparse.Namespace) -> None:
-        self.words = words
+    def __init__(self, options: Options) -> None:
+        self.options = options
         self.name = f"gateway_{secrets.token_hex(6)}"
         # On which answers come. The name of the gateway is known to all who see sessions.
         self.channel = f"gateway_{secrets.token_hex(16)}"
-        self.cells = [Cell(self, dsn) for dsn in words.db]
-        self.own = OwnReplay(words.program)
+        self.cells = [Cell(self, dsn) for dsn in options.db]
+        self.own = OwnReplay(options.program)
         self.door = Passwords()
-        self.certificates = station_tls.Certificates(words, self.end_revoked)
+        self.certificates = station_tls.Certificates(options, self.end_revoked)
         # Where each station's events go: its cell and its shard.
         self.homes: dict[str, tuple[Cell, int]] = {}
         self.waiting: dict[int, Wait] = {}
@@ -867,7 +878,7 @@ class Gateway:
             await asyncio.sleep(1)
             now = time.monotonic()
             for token, wait in list(self.waiting.items()):
-                if wait.link.is_lost or wait.since < now - self.words.wait:
+                if wait.link.is_lost or wait.since < now - self.options.wait:
                     del self.waiting[token]
                     self.counts["sent_away"] += not wait.link.is_lost
                     wait.link.close(1013, "no answer yet, try again")
@@ -880,10 +891,10 @@ class Gateway:
 
     async def run(self) -> None:
         """Listens, once a cell is up, until a job fails."""
-        if self.words.open:
+        if self.options.open:
             log.warning("--open: each station of the plan is let in without a password")
         self.certificates.follow()
-        metrics.serve(self.words.metrics, metrics.gateway_watch(self))
+        metrics.serve(self.options.metrics, metrics.gateway_watch(self))
         jobs = [
             asyncio.create_task(job)
             for job in (*(cell.run() for cell in self.cells), self.own.run(), self.give_up())
@@ -896,16 +907,23 @@ class Gateway:
                     job.result()
         server = await asyncio.get_running_loop().create_server(
             lambda: StationLink(self),
-            self.words.host,
-            self.words.port,
+            self.options.host,
+            self.options.port,
             backlog=4096,
             ssl=self.certificates.first,
             ssl_handshake_timeout=HANDSHAKE if self.certificates.first else None,
         )
-        print(f"listening {self.words.host}:{server.sockets[0].getsockname()[1]}", flush=True)
+        print(f"listening {self.options.host}:{server.sockets[0].getsockname()[1]}", flush=True)
         done, _ = await asyncio.wait(jobs, return_when=asyncio.FIRST_EXCEPTION)
         for job in done:
             job.result()
+
+
+async def run(options: Options) -> None:
+    """Listens until a job fails. Raises Fault before anything begins, such as where the program is not there."""
+    known_lines(options.program)
+    station_tls.header_or_fault(options)
+    await Gateway(options).run()
 
 
 def main(argv: Sequence[str], prog: str) -> int:
@@ -934,14 +952,6 @@ def main(argv: Sequence[str], prog: str) -> int:
         action="store_true",
         help="let each station of the plan in without a password, as in a laboratory",
     )
-    words = parts.parsed(parser, argv)
-
-    async def run() -> None:
-        known_lines(
-            words.program
-        )  # That a program is not there is reported before anything begins.
-        station_tls.header_or_fault(words)
-        await Gateway(words).run()
-
+    options = parts.options_of(Options, parts.parsed(parser, argv))
     parts.use_uvloop()
-    return parts.done(run)
+    return parts.done(run, options)

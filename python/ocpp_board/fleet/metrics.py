@@ -308,7 +308,7 @@ def gateway_watch(gateway: "Gateway") -> Watch:
         yield family_by(
             "gateway_cell_up", "db", {cell_of(one.dsn): one.is_up for one in gateway.cells}
         )
-        yield family("gateway_open", bool(gateway.words.open))
+        yield family("gateway_open", bool(gateway.options.open))
 
     def health() -> Health:
         up = {cell_of(one.dsn): one.is_up for one in gateway.cells}

@@ -12,9 +12,9 @@ the other cell also answers what was not answered yet.
 It may end at any time: call it again, and it goes on.
 """
 
-import argparse
 import time
 from collections.abc import Iterable, Sequence
+from dataclasses import dataclass
 from typing import Any
 
 from ocpp_board.energies import FLOW
@@ -197,30 +197,40 @@ class Move:
             await session.execute("select tell('plan', $1)", str(self.shard))
 
 
-async def run(words: argparse.Namespace) -> None:
+@dataclass(frozen=True)
+class Options:
+    """What the words ask for: the two cells, which shard, and why."""
+
+    source: str
+    target: str
+    shard: int
+    reason: str
+
+
+async def run(options: Options) -> None:
     """Moves the shard, or goes on with it. Raises Fault where it is not there or on its way elsewhere."""
-    source = await connect(words.source, application_name=NAME)
-    target = await connect(words.target, application_name=NAME)
+    source = await connect(options.source, application_name=NAME)
+    target = await connect(options.target, application_name=NAME)
     for session in (source, target):
-        await parts.say_why(session, words.reason)
+        await parts.say_why(session, options.reason)
     here, there = [
         await session.fetchval("select cell from own_cell") for session in (source, target)
     ]
     if here == there:
         raise Fault(f"both are cell {here}")
-    await reserve(source, words.shard)
-    row = await source.fetchrow("select moving_to from own_shard where shard = $1", words.shard)
-    has_landed = await target.fetchval(LANDED, words.shard) > 0
+    await reserve(source, options.shard)
+    row = await source.fetchrow("select moving_to from own_shard where shard = $1", options.shard)
+    has_landed = await target.fetchval(LANDED, options.shard) > 0
     if row is None and has_landed:
-        print(f"shard {words.shard} is in cell {there} already")
+        print(f"shard {options.shard} is in cell {there} already")
         return
     if row is None:
-        raise Fault(f"no shard {words.shard} in cell {here}")
+        raise Fault(f"no shard {options.shard} in cell {here}")
     if row["moving_to"] not in (None, there):
-        raise Fault(f"shard {words.shard} moves to cell {row['moving_to']}: finish that first")
+        raise Fault(f"shard {options.shard} moves to cell {row['moving_to']}: finish that first")
     if has_landed and row["moving_to"] is None:
-        raise Fault(f"cell {there} has a shard {words.shard} of its own")
-    move, stopped = Move(source, target, words.shard), time.monotonic()
+        raise Fault(f"cell {there} has a shard {options.shard} of its own")
+    move, stopped = Move(source, target, options.shard), time.monotonic()
     if not has_landed:
         await move.begin()
         await move.carry(HISTORY)
@@ -232,7 +242,7 @@ async def run(words: argparse.Namespace) -> None:
     took = time.monotonic() - stopped
     await move.remove(source)
     print(
-        f"shard {words.shard}: {move.lines} lines, from cell {here} to {there}; it took no lines for {took:.2f} s"
+        f"shard {options.shard}: {move.lines} lines, from cell {here} to {there}; it took no lines for {took:.2f} s"
     )
 
 
@@ -248,5 +258,4 @@ def main(argv: Sequence[str], prog: str) -> int:
         )
     parser.add_argument("--shard", type=int, required=True, help="which shard")
     parts.add_reason(parser)
-    words = parts.parsed(parser, argv)
-    return parts.done(lambda: run(words))
+    return parts.done(run, parts.options_of(Options, parts.parsed(parser, argv)))

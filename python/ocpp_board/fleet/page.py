@@ -19,10 +19,10 @@ that where people come from is known. Without TLS, as in a laboratory, `--http` 
 It keeps nothing, and any number of it may run.
 """
 
-import argparse
 import asyncio
 import logging
 from collections.abc import Sequence
+from dataclasses import dataclass
 
 import asyncpg
 from starlette.routing import BaseRoute, Route
@@ -62,6 +62,18 @@ ROUTES: list[BaseRoute] = [
 ]
 
 
+@dataclass(frozen=True)
+class Options(parts.OfCells):
+    """What the words ask for: where to listen, which proxies are before it, and where what it shows comes from."""
+
+    host: str
+    port: int
+    metrics: tuple[str, int] | None
+    proxy: list[str]
+    http: bool
+    from_standby: bool
+
+
 async def watch(desk: page_app.Desk) -> None:
     """Looks again and again at which cells answer, and how many operators are locked."""
     seen = desk.seen
@@ -77,31 +89,32 @@ async def watch(desk: page_app.Desk) -> None:
         await asyncio.sleep(LOOKING)
 
 
-async def serve(words: argparse.Namespace) -> None:
+async def serve(options: Options) -> None:
     """Listens until a signal comes. Raises Fault where a cell lets nobody in, and OSError."""
-    cells = Cells(words.db, words.from_standby)
+    cells = Cells(options.db, options.from_standby)
     for cell in cells.cells:
         try:
             await cell.do("select 1")
         except Unreachable as fault:
             log.error("%s; tried again with each request", fault)
-    desk = page_app.Desk(cells, words.program, known_lines(words.program), words.proxy, words.http)
+    known = known_lines(options.program)
+    desk = page_app.Desk(cells, options.program, known, options.proxy, options.http)
     app = page_app.application(desk, ROUTES)
-    metrics.serve(words.metrics, desk.seen.watch())
+    metrics.serve(options.metrics, desk.seen.watch())
     watching = asyncio.create_task(watch(desk))
-    server = PageServer(app, listener_at(words.host, words.port), words.host, words.proxy)
+    server = PageServer(app, listener_at(options.host, options.port), options.host, options.proxy)
     try:
         await server.listen()
     finally:
         watching.cancel()
 
 
-def run(words: argparse.Namespace) -> None:
+def run(options: Options) -> None:
     """Listens until a signal comes."""
     # What strangers send that is no HTTP is not logged.
     logging.getLogger("uvicorn.error").setLevel(logging.ERROR)
     parts.use_uvloop()
-    asyncio.run(serve(words))
+    asyncio.run(serve(options))
 
 
 def main(argv: Sequence[str], prog: str) -> int:
@@ -126,5 +139,4 @@ def main(argv: Sequence[str], prog: str) -> int:
         action="store_true",
         help="what is shown comes from a standby among the hosts of --db, where one answers",
     )
-    words = parts.parsed(parser, argv)
-    return parts.ended(lambda: run(words))
+    return parts.ended(run, parts.options_of(Options, parts.parsed(parser, argv)))

@@ -8,8 +8,9 @@ import os
 import subprocess
 import sys
 from collections.abc import Callable, Coroutine, Sequence
+from dataclasses import dataclass, fields
 from pathlib import Path
-from typing import Any
+from typing import Any, TypeVar
 
 import asyncpg
 
@@ -24,6 +25,24 @@ log = logging.getLogger(__name__)
 ADDRESS = "postgresql://USER@HOST:PORT,HOST:PORT/DATABASE"
 # Characters of a password's line that are read at most: a longer one is no password.
 LONGEST_READ = 4096
+
+Kind = TypeVar("Kind")
+
+
+@dataclass(frozen=True)
+class OfCell:
+    """Options of a program that works on one cell: its database, and what replays."""
+
+    db: str
+    program: str
+
+
+@dataclass(frozen=True)
+class OfCells:
+    """The same of one that works on all cells."""
+
+    db: list[str]
+    program: str
 
 
 def add_cells(parser: argparse.ArgumentParser) -> None:
@@ -87,6 +106,12 @@ def parsed(parser: argparse.ArgumentParser, argv: Sequence[str]) -> argparse.Nam
     except OSError as fault:
         parser.error(f"{fault.filename}: {fault.strerror}")
     return words.parsed(parser, argv, logging.DEBUG)
+
+
+def options_of(kind: type[Kind], words: argparse.Namespace, **more: Any) -> Kind:
+    """The options of this kind that the words have, and more. One that the words may lack has a default."""
+    named = {one.name: getattr(words, one.name) for one in fields(kind) if one.name in words}
+    return kind(**named | more)
 
 
 def take_credentials() -> None:
@@ -155,11 +180,11 @@ def use_uvloop() -> None:
     uvloop.install()
 
 
-def ended(work: Callable[[], int | None]) -> int:
-    """Does a program's work and gives its exit status; a fault is reported in one line."""
+def ended(work: Callable[[Kind], int | None], options: Kind) -> int:
+    """Does a program's work by its options and gives its exit status; a fault is reported in one line."""
     try:
         password_or_fault()
-        return work() or Status.DONE
+        return work(options) or Status.DONE
     except (Fault, Mistaken, ReplayEnded, Unreachable, *LOST, asyncpg.PostgresError) as fault:
         log.error("%s", said(fault))
         return Status.MISTAKEN
@@ -167,6 +192,6 @@ def ended(work: Callable[[], int | None]) -> int:
         return Status.DONE
 
 
-def done(job: Callable[[], Coroutine[Any, Any, int | None]]) -> int:
+def done(job: Callable[[Kind], Coroutine[Any, Any, int | None]], options: Kind) -> int:
     """The same for work that is a coroutine."""
-    return ended(lambda: asyncio.run(job()))
+    return ended(lambda own: asyncio.run(job(own)), options)

@@ -16,6 +16,7 @@ the largest step first, and changes nothing.
 
 import argparse
 from collections.abc import Iterable, Sequence
+from dataclasses import dataclass
 from typing import Any, NamedTuple
 
 from ocpp_board.fleet import parts
@@ -35,6 +36,19 @@ NEAR = 0.2
 SHARDS = "select * from placement()"
 SITE = "select * from place_of($1, $2)"
 PLACE = "select place_station($1, $2, $3, $4, $5, $6, $7)"
+
+
+@dataclass(frozen=True)
+class Options:
+    """What the words ask for: a station with its site and a reason, or moves."""
+
+    db: list[str]
+    station: str | None
+    site: str | None
+    reason: str | None
+    order: str | None
+    settle: str | None
+    moves: bool
 
 
 class Load(NamedTuple):
@@ -107,9 +121,9 @@ def moves(cells: int, loads: Sequence[Load]) -> list[Move]:
     return found
 
 
-async def run(words: argparse.Namespace) -> None:
+async def run(options: Options) -> None:
     """Places the station, or proposes moves. Raises Fault where the station is in a cell already."""
-    sessions = [await connect(dsn, application_name=NAME) for dsn in words.db]
+    sessions = [await connect(dsn, application_name=NAME) for dsn in options.db]
     try:
         loads = [
             Load(
@@ -119,21 +133,21 @@ async def run(words: argparse.Namespace) -> None:
             for cell, session in enumerate(sessions)
             for row in await session.fetch(SHARDS)
         ]
-        if words.moves:
-            propose(words, loads)
+        if options.moves:
+            propose(options, loads)
         else:
-            await place(words, sessions, loads)
+            await place(options, sessions, loads)
     finally:
         for session in sessions:
             await session.close()
 
 
-def propose(words: argparse.Namespace, loads: Sequence[Load]) -> None:
+def propose(options: Options, loads: Sequence[Load]) -> None:
     """Writes the commands of moves."""
-    proposed = moves(len(words.db), loads)
+    proposed = moves(len(options.db), loads)
     for one in proposed:
         source, target = (
-            words.db[cell].replace("ledger_provisioner@", "ledger_mover@")
+            options.db[cell].replace("ledger_provisioner@", "ledger_mover@")
             for cell in (one.source, one.target)
         )
         print(
@@ -144,29 +158,30 @@ def propose(words: argparse.Namespace, loads: Sequence[Load]) -> None:
         print("# no move brings the cells nearer to the same load")
 
 
-async def place(words: argparse.Namespace, sessions: Sequence[Any], loads: list[Load]) -> None:
+async def place(options: Options, sessions: Sequence[Any], loads: list[Load]) -> None:
     """Places the station."""
-    pairs = (("order", words.order), ("settle", words.settle))
-    said = {name: word for name, word in pairs if word}
+    assert options.site and options.reason
+    pairs = (("order", options.order), ("settle", options.settle))
+    said: dict[str, Any] = {name: word for name, word in pairs if word}
     zone, reckoning, is_new = "UTC", NEW_SITE._replace(**said), True
     for session in sessions:
-        row = await session.fetchrow(SITE, words.site, words.station)
+        row = await session.fetchrow(SITE, options.site, options.station)
         if row["shard"] is not None:
             raise Fault(
-                f"station {words.station} is in shard {row['shard']} of cell {row['cell']} already"
+                f"station {options.station} is in shard {row['shard']} of cell {row['cell']} already"
             )
         if row["period"] is not None:
             zone, reckoning, is_new = row["zone"], Reckoning.of(row), False
     if reckoning._replace(**said) != reckoning:
-        raise Fault(f"site {words.site} has {reckoning.described()} already")
-    cell, shard = chosen(len(sessions), loads, words.site)
-    await parts.say_why(sessions[cell], words.reason)
+        raise Fault(f"site {options.site} has {reckoning.described()} already")
+    cell, shard = chosen(len(sessions), loads, options.site)
+    await parts.say_why(sessions[cell], options.reason)
     settings = (reckoning.period, zone, reckoning.order, reckoning.settle)
-    await sessions[cell].execute(PLACE, shard, words.site, words.station, *settings)
-    number = (await sessions[cell].fetchrow(SITE, words.site, words.station))["cell"]
-    print(f"{words.station}: site {words.site}, shard {shard} of cell {number}")
+    await sessions[cell].execute(PLACE, shard, options.site, options.station, *settings)
+    number = (await sessions[cell].fetchrow(SITE, options.site, options.station))["cell"]
+    print(f"{options.station}: site {options.site}, shard {shard} of cell {number}")
     if is_new:
-        print(f"site {words.site} is new, with {reckoning.described()}")
+        print(f"site {options.site} is new, with {reckoning.described()}")
 
 
 def name_of(text: str) -> str:
@@ -192,9 +207,9 @@ def main(argv: Sequence[str], prog: str) -> int:
         "--settle", choices=RULES, help=f"how a new site settles (default: {NEW_SITE.settle})"
     )
     parser.add_argument("--moves", action="store_true", help="propose moves of shards by load")
-    words = parts.parsed(parser, argv)
-    if words.moves == bool(words.station):
+    options = parts.options_of(Options, parts.parsed(parser, argv))
+    if options.moves == bool(options.station):
         parser.error("either a station with --site and --reason, or --moves")
-    if words.station and not (words.site and words.reason):
+    if options.station and not (options.site and options.reason):
         parser.error("a station needs --site and --reason")
-    return parts.done(lambda: run(words))
+    return parts.done(run, options)

@@ -8,9 +8,9 @@ folders have to be empty or not there, so that nothing is lost. Run it as the us
 the parts: workers read the log as it was, and write the boards anew. What came after the backup is not in it.
 """
 
-import argparse
 import shutil
 from collections.abc import Sequence
+from dataclasses import dataclass
 from pathlib import Path
 
 from ocpp_board.fleet import parts
@@ -20,20 +20,29 @@ from ocpp_board.statuses import Mistaken, ended
 from ocpp_board.words import parser_of
 
 
-def restore(words: argparse.Namespace) -> int:
+@dataclass(frozen=True)
+class Options:
+    """What the words ask for: a backup, and where its files and archives go."""
+
+    backup: Path
+    data: Path
+    archive: Path
+
+
+def restore(options: Options) -> int:
     """Restores it. Raises Fault where that can't be, before anything is written."""
-    for folder in (words.data, words.archive):
+    for folder in (options.data, options.archive):
         if folder.exists() and (not folder.is_dir() or any(folder.iterdir())):
             raise Fault(f"{folder}: not empty; nothing was restored")
-    if not (words.backup / CLUSTER).is_dir():
-        raise Fault(f"{words.backup}: no backup")
-    check(words.backup)
-    words.data.mkdir(mode=0o700, parents=True, exist_ok=True)
-    shutil.copytree(words.backup / CLUSTER, words.data, symlinks=True, dirs_exist_ok=True)
-    words.data.chmod(0o700)
-    count = copied(words.backup / ARCHIVES, words.archive)
+    if not (options.backup / CLUSTER).is_dir():
+        raise Fault(f"{options.backup}: no backup")
+    check(options.backup)
+    options.data.mkdir(mode=0o700, parents=True, exist_ok=True)
+    shutil.copytree(options.backup / CLUSTER, options.data, symlinks=True, dirs_exist_ok=True)
+    options.data.chmod(0o700)
+    count = copied(options.backup / ARCHIVES, options.archive)
     print(
-        f"{words.data} and {count} archives are as of {words.backup.name}: start the server, then the parts"
+        f"{options.data} and {count} archives are as of {options.backup.name}: start the server, then the parts"
     )
     return 0
 
@@ -48,11 +57,11 @@ def main(argv: Sequence[str], prog: str) -> int:
     parser.add_argument(
         "--archive", required=True, type=Path, metavar="FOLDER", help="where archives are kept"
     )
-    words = parts.parsed(parser, argv)
+    options = parts.options_of(Options, parts.parsed(parser, argv))
 
     def work() -> int:
         try:
-            return restore(words)
+            return restore(options)
         except Fault as fault:
             raise Mistaken(str(fault)) from None
 

@@ -21,6 +21,7 @@ import argparse
 import secrets
 import sys
 from collections.abc import Sequence
+from dataclasses import dataclass
 from datetime import datetime, timedelta, timezone
 from typing import Any
 
@@ -48,6 +49,24 @@ select name, roles, sites, disabled_at, (select count(*) from operator_session s
 from operator order by name
 """
 TOKENS = "select token, operator, label, roles, sites, ends, revoked_at, seen_at from api_token order by token"
+
+
+@dataclass(frozen=True)
+class Options:
+    """What the words ask for: a job, and what it has."""
+
+    db: str
+    job: str
+    operator: str = ""
+    roles: list[str] | None = None
+    sites: list[str] | None = None
+    all_sites: bool = False
+    password: bool = False
+    no_password: bool = False
+    label: str = ""
+    days: int = DAYS
+    token: int = 0
+    reason: str = ""
 
 
 def roles_of(text: str) -> list[str]:
@@ -84,30 +103,30 @@ def days_of(text: str) -> int:
     return int(text)
 
 
-async def set_one(session: Any, words: argparse.Namespace) -> None:
+async def set_one(session: Any, options: Options) -> None:
     """Makes an operator, or changes one."""
     query = "select from operator where name = $1"
-    is_new = not await session.fetch(query, words.operator)
-    is_all = words.all_sites or None
-    if is_new and (words.roles is None or not (words.sites or is_all)):
+    is_new = not await session.fetch(query, options.operator)
+    is_all = options.all_sites or None
+    if is_new and (options.roles is None or not (options.sites or is_all)):
         raise Fault(
-            f"no operator {words.operator}: a new one needs --roles, and --sites or --all-sites"
+            f"no operator {options.operator}: a new one needs --roles, and --sites or --all-sites"
         )
     hash_ = salt = None
-    if words.password or is_new and not words.no_password:
+    if options.password or is_new and not options.no_password:
         password, salt = parts.password_read(fault_of), secrets.token_bytes(SALT)
         hash_ = hashed(password.encode(), salt, OPERATOR)
-    values = (words.operator, words.roles, words.sites, is_all, hash_, salt)
+    values = (options.operator, options.roles, options.sites, is_all, hash_, salt)
     await session.execute("select set_operator($1, $2, $3, $4, $5, $6)", *values)
-    print(f"{words.operator}: {'made' if is_new else 'changed'}")
+    print(f"{options.operator}: {'made' if is_new else 'changed'}")
 
 
-async def make_token(session: Any, words: argparse.Namespace) -> None:
+async def make_token(session: Any, options: Options) -> None:
     """Makes a token, and writes it."""
-    secret, until = new_secret(), datetime.now(timezone.utc) + timedelta(days=words.days)
+    secret, until = new_secret(), datetime.now(timezone.utc) + timedelta(days=options.days)
     number = await session.fetchval(
         "select make_token($1, $2, $3, $4, $5, $6)",
-        *(words.operator, words.label, words.roles, words.sites, digest(secret), until),
+        *(options.operator, options.label, options.roles, options.sites, digest(secret), until),
     )
     print(f"token {number}, until {until:%Y-%m-%d %H:%M} UTC:", file=sys.stderr)
     print(secret)
@@ -132,24 +151,24 @@ def sites_said(sites: list[str] | None) -> str:
     return "all sites" if sites is None else ",".join(sites)
 
 
-async def run(words: argparse.Namespace) -> None:
+async def run(options: Options) -> None:
     """Does what the words say. Raises Fault where that can't be."""
-    session = await connect(words.db, application_name=PROGRAM)
-    if words.job != "list":
-        await parts.say_why(session, words.reason)
-    if words.job == "set":
-        await set_one(session, words)
-    elif words.job == "token":
-        await make_token(session, words)
-    elif words.job == "revoke":
-        await session.execute("select revoke_token($1)", words.token)
-        print(f"token {words.token}: revoked")
-    elif words.job == "list":
+    session = await connect(options.db, application_name=PROGRAM)
+    if options.job != "list":
+        await parts.say_why(session, options.reason)
+    if options.job == "set":
+        await set_one(session, options)
+    elif options.job == "token":
+        await make_token(session, options)
+    elif options.job == "revoke":
+        await session.execute("select revoke_token($1)", options.token)
+        print(f"token {options.token}: revoked")
+    elif options.job == "list":
         await show(session)
     else:
-        is_off = words.job == "disable"
-        await session.execute("select disable_operator($1, $2)", words.operator, is_off)
-        print(f"{words.operator}: {'disabled' if is_off else 'enabled'}")
+        is_off = options.job == "disable"
+        await session.execute("select disable_operator($1, $2)", options.operator, is_off)
+        print(f"{options.operator}: {'disabled' if is_off else 'enabled'}")
     await session.close()
 
 
@@ -188,7 +207,7 @@ def main(argv: Sequence[str], prog: str) -> int:
     for job in (setting, token, revoke):
         parts.add_reason(job)
     jobs.add_parser("list", help="shows operators and tokens")
-    words = parts.parsed(parser, argv)
-    if words.job == "set" and words.sites and words.all_sites:
+    options = parts.options_of(Options, parts.parsed(parser, argv))
+    if options.sites and options.all_sites:
         parser.error("--sites and --all-sites exclude one another")
-    return parts.done(lambda: run(words))
+    return parts.done(run, options)

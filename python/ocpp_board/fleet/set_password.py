@@ -8,9 +8,9 @@ station came with last stays good until it comes with the new one, and its conne
 password ends now, for one that others may know, and so does the connection that came with it.
 """
 
-import argparse
 import secrets
 from collections.abc import Sequence
+from dataclasses import dataclass
 
 from ocpp_board.fleet import parts
 from ocpp_board.fleet.database import connect
@@ -20,20 +20,30 @@ from ocpp_board.words import parser_of
 NAME = "ocpp-board password"
 
 
-async def run(words: argparse.Namespace) -> None:
+@dataclass(frozen=True)
+class Options:
+    """What the words ask for: a station, whether the password that it had ends now, and why."""
+
+    db: str
+    station: str
+    at_once: bool
+    reason: str
+
+
+async def run(options: Options) -> None:
     """Sets it. Raises Fault where the cell has no such station."""
     password, salt = parts.password_read(fault_of), secrets.token_bytes(SALT)
-    session = await connect(words.db, application_name=NAME)
-    await parts.say_why(session, words.reason)
+    session = await connect(options.db, application_name=NAME)
+    await parts.say_why(session, options.reason)
     await session.execute(
         "select set_password($1, $2, $3, $4)",
-        words.station,
+        options.station,
         hashed(password.encode(), salt),
         salt,
-        words.at_once,
+        options.at_once,
     )
     await session.close()
-    print(f"{words.station}: the password is set")
+    print(f"{options.station}: the password is set")
 
 
 def main(argv: Sequence[str], prog: str) -> int:
@@ -43,5 +53,4 @@ def main(argv: Sequence[str], prog: str) -> int:
     parser.add_argument("station", metavar="STATION", help="which station")
     parser.add_argument("--at-once", action="store_true", help="end the password that it had")
     parts.add_reason(parser)
-    words = parts.parsed(parser, argv)
-    return parts.done(lambda: run(words))
+    return parts.done(run, parts.options_of(Options, parts.parsed(parser, argv)))

@@ -12,6 +12,7 @@ import re
 import signal
 import ssl
 from collections.abc import Callable
+from dataclasses import dataclass
 from typing import Any
 
 from websockets.datastructures import Headers
@@ -28,6 +29,18 @@ PART = re.compile(r"(?:[^\\,+]|\\.)+")
 # Of TLS 1.2: those with a key of their own for each connection, and the two with only RSA that OCPP 2.0.1 lets a
 # station have and nothing else.
 SUITES = "ECDHE+AESGCM:ECDHE+CHACHA20:AES128-GCM-SHA256:AES256-GCM-SHA384"
+
+
+@dataclass(frozen=True)
+class Options:
+    """With which certificates, and who hands on those that it saw."""
+
+    certificate: str | None
+    key: str | None
+    client_ca: str | None
+    client_crl: str | None
+    client_header: str | None
+    proxy: list[str]
 
 
 def add_options(parser: argparse.ArgumentParser) -> None:
@@ -57,16 +70,16 @@ def add_options(parser: argparse.ArgumentParser) -> None:
     )
 
 
-def is_asked(words: argparse.Namespace) -> bool:
+def is_asked(options: Options) -> bool:
     """Whether stations need a certificate."""
-    return bool(words.client_ca or words.client_header)
+    return bool(options.client_ca or options.client_header)
 
 
-def header_or_fault(words: argparse.Namespace) -> None:
+def header_or_fault(options: Options) -> None:
     """Raises Fault where a header is named and not who may set it."""
-    if not words.client_header:
+    if not options.client_header:
         return
-    if not words.proxy:
+    if not options.proxy:
         raise Fault("--client-header needs --proxy, which sets it")
     if len(os.environ.get("PROXY_SECRET", "")) < SHORTEST:
         raise Fault(
@@ -74,19 +87,20 @@ def header_or_fault(words: argparse.Namespace) -> None:
         )
 
 
-def name_of(words: argparse.Namespace, transport: asyncio.Transport, headers: Headers) -> str:
+def name_of(options: Options, transport: asyncio.Transport, headers: Headers) -> str:
     """The common name of the certificate that a station has; nothing where it has none that counts."""
-    if words.client_ca:
+    if options.client_ca:
         return common_name(transport.get_extra_info("peercert"))
     peer = str((transport.get_extra_info("peername") or ("",))[0])
-    values = headers.get_all(words.client_header)
+    assert options.client_header
+    values = headers.get_all(options.client_header)
     if values:
         # A request lives as long as its connection.
-        del headers[words.client_header]
+        del headers[options.client_header]
     secret, _, rest = values[0].partition(" ") if len(values) == 1 else ("", "", "")
     is_ours = hmac.compare_digest(secret.encode(), os.environ["PROXY_SECRET"].encode())
     verdict, _, subject = rest.partition(" ")
-    if peer not in words.proxy or not is_ours or verdict != "SUCCESS":
+    if peer not in options.proxy or not is_ours or verdict != "SUCCESS":
         return ""
     names = [value for key, value in pairs_of(subject) if key.upper() in ("CN", "2.5.4.3")]
     return names[0] if len(names) == 1 else ""
@@ -109,27 +123,27 @@ def unescaped(found: "re.Match[bytes]") -> bytes:
     return bytes([int(found[1], 16)]) if len(found[1]) == 2 else found[1]
 
 
-def context_of(words: argparse.Namespace) -> ssl.SSLContext | None:
+def context_of(options: Options) -> ssl.SSLContext | None:
     """What connections begin with; nothing where TLS is not asked for. Raises Fault where it can't be had."""
-    if words.client_crl and not words.client_ca:
+    if options.client_crl and not options.client_ca:
         raise Fault("--client-crl needs --client-ca")
-    if words.certificate is None:
-        if words.key or words.client_ca:
+    if options.certificate is None:
+        if options.key or options.client_ca:
             raise Fault("--key and --client-ca need --certificate")
         return None
     context = ssl.SSLContext(ssl.PROTOCOL_TLS_SERVER)
     context.minimum_version = ssl.TLSVersion.TLSv1_2
     context.set_ciphers(SUITES)
     try:
-        context.load_cert_chain(words.certificate, words.key, "")
-        if words.client_ca:
-            context.load_verify_locations(words.client_ca)
+        context.load_cert_chain(options.certificate, options.key, "")
+        if options.client_ca:
+            context.load_verify_locations(options.client_ca)
             context.verify_mode = ssl.CERT_REQUIRED
-        if words.client_crl:
-            context.load_verify_locations(words.client_crl)
+        if options.client_crl:
+            context.load_verify_locations(options.client_crl)
             context.verify_flags |= ssl.VerifyFlags.VERIFY_CRL_CHECK_LEAF
     except (OSError, ValueError) as fault:
-        names = (words.certificate, words.key, words.client_ca, words.client_crl)
+        names = (options.certificate, options.key, options.client_ca, options.client_crl)
         files = ", ".join(filter(None, names))
         raise Fault(f"{files}: {fault}") from None
     return context
@@ -138,12 +152,12 @@ def context_of(words: argparse.Namespace) -> ssl.SSLContext | None:
 class Certificates:
     """What connections begin with: what the files had when they were read last."""
 
-    def __init__(self, words: argparse.Namespace, renewed: Callable[[], None]) -> None:
+    def __init__(self, options: Options, renewed: Callable[[], None]) -> None:
         """`renewed` is called once the files were read again."""
-        self.words, self.renewed = words, renewed
+        self.options, self.renewed = options, renewed
         # A server has one context for ever. To load a pair into it would leave one of another kind of key there.
-        self.first = self.latest = context_of(words)
-        self.revoked = revoked_of(words)
+        self.first = self.latest = context_of(options)
+        self.revoked = revoked_of(options)
         if self.first:
             self.first.sni_callback = self.hand_on
 
@@ -161,11 +175,11 @@ class Certificates:
         if self.first is None:
             return
         try:
-            self.latest, self.revoked = context_of(self.words), revoked_of(self.words)
+            self.latest, self.revoked = context_of(self.options), revoked_of(self.options)
         except Fault as fault:
             log.error("%s; the certificate stays as it was", fault)
         else:
-            log.warning("%s was read again", self.words.certificate)
+            log.warning("%s was read again", self.options.certificate)
             self.renewed()
 
     def is_revoked(self, transport: asyncio.Transport) -> bool:
@@ -175,12 +189,12 @@ class Certificates:
         return certificate is not None and named(certificate) in self.revoked
 
 
-def revoked_of(words: argparse.Namespace) -> frozenset[Named]:
+def revoked_of(options: Options) -> frozenset[Named]:
     """The certificates that the revocation lists name. Raises Fault where these can't be read."""
     try:
-        return revoked_in(words.client_crl) if words.client_crl else frozenset()
+        return revoked_in(options.client_crl) if options.client_crl else frozenset()
     except (OSError, ValueError) as fault:
-        raise Fault(f"{words.client_crl}: {fault}") from None
+        raise Fault(f"{options.client_crl}: {fault}") from None
 
 
 def common_name(certificate: Any) -> str:

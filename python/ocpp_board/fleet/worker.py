@@ -12,7 +12,6 @@ shards that changed again and again.
 A worker keeps nothing. You may kill it at any time, and it answers twice what comes twice.
 """
 
-import argparse
 import asyncio
 import itertools
 import logging
@@ -21,6 +20,7 @@ import random
 import secrets
 import time
 from collections.abc import Awaitable, Callable, Coroutine, Mapping, Sequence
+from dataclasses import dataclass
 from functools import partial
 from typing import Any
 
@@ -118,21 +118,42 @@ TAKEN, OPENING_TIME = 16, 60
 ANSWER, WAITING = 10.0, 1.0
 
 
+@dataclass(frozen=True)
+class Options(parts.OfCell):
+    """What the words ask for: seconds between beats and between boards, and after which a worker hangs."""
+
+    beat: float
+    hang: float
+    boards: float
+    metrics: tuple[str, int] | None
+
+
+class Worker:
+    """What a worker has over all its sessions. `known`: the lines that its program knows."""
+
+    def __init__(self, options: Options, known: frozenset[str]) -> None:
+        self.options, self.known = options, known
+        self.name = f"worker_{secrets.token_hex(4)}"
+        # What was reported once of stations near their limits.
+        self.reported = set[str]()
+        self.seen = metrics.WorkerSeen(options.hang)
+
+
 class Session:
     """Sessions with the database, and the shards that are held by one of them; what ends the one ends the others."""
 
-    def __init__(self, words: argparse.Namespace, databases: Sequence[Any]) -> None:
-        self.words, self.databases = words, databases
+    def __init__(self, worker: Worker, databases: Sequence[Any]) -> None:
+        self.worker, self.options, self.databases = worker, worker.options, databases
         # The server's process of the session that holds the shards, which a session that was ended no longer says.
         self.pid = databases[0].get_server_pid()
-        self.patience = max(ANSWER, words.hang)
-        self.seen: metrics.WorkerSeen = words.seen
+        self.patience = max(ANSWER, self.options.hang)
+        self.seen = worker.seen
         # One holds the shards, moves their lines and answers; its commits may wait for a standby. So beats have
         # another one, and boards, which are many rows, a third. A fourth listens, and is slow while many notifications
         # come.
         self.holder, self.beats, self.boards = (Asked(one, self.patience) for one in databases[:3])
         self.writer = BoardWriter(self.boards, self.is_answering)
-        self.late = KeptReplays(words.program, words.hang)
+        self.late = KeptReplays(self.options.program, self.options.hang)
         # When lines were read last.
         self.read_at = 0.0
         self.living = 0
@@ -176,7 +197,7 @@ class Session:
             await self.beat_once()
             self.seen.session = self
             jobs = [self.beat(), self.keep_share(), self.read(), self.show(), self.note()]
-            if self.words.metrics:
+            if self.options.metrics:
                 jobs.append(self.seen.look(self.boards.ask, lambda: list(self.shards)))
             for job in jobs:
                 self.spawn(job)
@@ -237,7 +258,7 @@ class Session:
 
     async def beat_once(self) -> None:
         """Notes that this worker lives, and looks how many do."""
-        rows = await self.beats.ask(BEAT, self.words.name, len(self.shards), self.pid)
+        rows = await self.beats.ask(BEAT, self.worker.name, len(self.shards), self.pid)
         self.living, self.seen.beat = rows[0]["living"], time.monotonic()
         self.seen.queue = rows[0]["queue"]
         self.is_queue_slow = self.seen.queue > SLOW_QUEUE
@@ -250,14 +271,14 @@ class Session:
         for beats in itertools.count():
             await self.beat_once()
             now = time.monotonic()
-            last, late = now, now if now > last + self.words.hang / 2 else late
-            if beats % FENCING == 0 and now > late + self.words.hang:
-                for row in await self.beats.ask(FENCE, self.words.hang):
+            last, late = now, now if now > last + self.options.hang / 2 else late
+            if beats % FENCING == 0 and now > late + self.options.hang:
+                for row in await self.beats.ask(FENCE, self.options.hang):
                     self.seen.counts["fenced"] += 1
                     log.warning(
                         "ended the sessions of the worker %s, which has not beaten", row["worker"]
                     )
-            await asyncio.sleep(self.words.beat)
+            await asyncio.sleep(self.options.beat)
 
     async def keep_share(self) -> None:
         """Takes its share of the shards, and looks at all that it holds again and again."""
@@ -272,7 +293,7 @@ class Session:
             if beats % SWEEP == 0 or self.is_queue_slow:
                 await self.sweep()
             try:
-                await asyncio.wait_for(self.planned.wait(), self.words.beat)
+                await asyncio.wait_for(self.planned.wait(), self.options.beat)
             except asyncio.TimeoutError:
                 pass
 
@@ -354,8 +375,8 @@ class Session:
     async def begun(self, state: Any, ask: Callable[..., Awaitable[Any]]) -> Shard:
         """A shard with its replay, which has not read the log. Raises Fault, ReplayEnded and OSError."""
         number = state["shard"]
-        plan = await Plan.of(ask, number, self.words.known)
-        replay = await Replay.start(self.words.program)
+        plan = await Plan.of(ask, number, self.worker.known)
+        replay = await Replay.start(self.options.program)
         try:
             await asyncio.wait_for(replay.open(plan), OPENING_TIME)
             late = Late(number, plan.rows, bool(await ask(HAS_ARCHIVED, number)))
@@ -363,7 +384,7 @@ class Session:
         except BaseException:
             replay.kill()
             raise
-        watched = Watched(number, plan.rows, standing, self.words.reported)
+        watched = Watched(number, plan.rows, standing, self.worker.reported)
         return Shard(state, replay, plan.sites, late, watched)
 
     def begin(self, shard: Shard) -> None:
@@ -566,7 +587,7 @@ class Session:
 
     async def compact(self, number: int) -> None:
         """Compacts a shard in a process of its own. Its plan then changes, and its replay begins anew."""
-        words = ["--db", self.words.db, "--program", self.words.program, "--shard", str(number)]
+        words = ["--db", self.options.db, "--program", self.options.program, "--shard", str(number)]
         made = await asyncio.to_thread(run_tool, "compact", words, b"")
         if made.returncode:
             self.seen.counts["compactions_failed"] += 1
@@ -582,7 +603,7 @@ class Session:
         live = [text for place, text in enumerate(texts) if place not in late] if late else texts
         answers = list[bytes]()
         if live:
-            async with shard.busy, asyncio.timeout(self.words.hang):
+            async with shard.busy, asyncio.timeout(self.options.hang):
                 shard.replay.write("\n".join([*live, ""]).encode())
                 answers = await shard.replay.answers(len(live))
         if late:
@@ -687,7 +708,7 @@ class Session:
                 async with shard.busy:
                     shard.changed, place = False, shard.read
                     texts = [
-                        await asyncio.wait_for(shard.replay.board(site), self.words.hang)
+                        await asyncio.wait_for(shard.replay.board(site), self.options.hang)
                         for site in shard.sites
                     ]
             except (ReplayEnded, OSError, asyncio.TimeoutError):
@@ -703,7 +724,7 @@ class Session:
                     if not await self.writer.write(board, shown) and had is not None:
                         # Another worker wrote some, or the plan changed: these whole next time.
                         shard.changed = True
-        shard.is_showing, shard.due = False, asyncio.get_running_loop().time() + self.words.boards
+        shard.is_showing, shard.due = False, asyncio.get_running_loop().time() + self.options.boards
 
 
 def payloads_of(answers: list[tuple[str, str]]) -> tuple[list[str], list[str]]:
@@ -726,18 +747,18 @@ def payloads_of(answers: list[tuple[str, str]]) -> tuple[list[str], list[str]]:
     return channels, payloads
 
 
-async def opened(words: argparse.Namespace) -> list[Any]:
+async def opened(worker: Worker) -> list[Any]:
     """The sessions of a worker, once those that it had before are ended."""
-    databases = list[Any]()
+    options, databases = worker.options, list[Any]()
     try:
         for _ in range(4):
             databases.append(
                 await connect(
-                    words.db, application_name=words.name, synchronous_commit="off", **BY_INDEX
+                    options.db, application_name=worker.name, synchronous_commit="off", **BY_INDEX
                 )
             )
             if len(databases) == 1:
-                await within(max(ANSWER, words.hang), databases[0], "fetch", FORMER, words.name)
+                await within(max(ANSWER, options.hang), databases[0], "fetch", FORMER, worker.name)
     except BaseException:
         for database in databases:
             database.terminate()
@@ -752,14 +773,14 @@ async def tell_doors(database: Any) -> None:
         log.warning("this role may enter other databases, too: %s; %s", names, SHUT)
 
 
-async def work(words: argparse.Namespace) -> None:
+async def work(worker: Worker) -> None:
     """Sessions, one after the other: where one is lost the next begins anew."""
-    metrics.serve(words.metrics, words.seen.watch())
+    metrics.serve(worker.options.metrics, worker.seen.watch())
     is_first, last = True, ""
     while True:
         has_sessions = False
         try:
-            databases = await opened(words)
+            databases = await opened(worker)
             has_sessions = True
             if is_first:
                 await tell_doors(databases[1])
@@ -767,10 +788,10 @@ async def work(words: argparse.Namespace) -> None:
             elif last:
                 log.info("connected")
             is_first, last = False, ""
-            await Session(words, databases).run()
+            await Session(worker, databases).run()
         except (*LOST, Unreachable, asyncpg.PostgresError) as fault:
             text = f"{said(fault)}; tried again and again"
-            words.seen.counts["sessions_lost"] += has_sessions
+            worker.seen.counts["sessions_lost"] += has_sessions
             if text != last:
                 log.error("%s", text)
             last = text
@@ -791,20 +812,15 @@ def main(argv: Sequence[str], prog: str) -> int:
             f"--{name}", type=float, default=default, help=f"{what} (default: {default:g})"
         )
     metrics.add_option(parser)
-    words = parts.parsed(parser, argv)
-    return parts.ended(lambda: run(words))
+    return parts.ended(run, parts.options_of(Options, parts.parsed(parser, argv)))
 
 
-def run(words: argparse.Namespace) -> int:
+def run(options: Options) -> int:
     """Works until a signal comes."""
-    words.name = f"worker_{secrets.token_hex(4)}"
-    words.known = known_lines(words.program)
-    # What was reported once of stations near their limits.
-    words.reported = set[str]()
-    words.seen = metrics.WorkerSeen(words.hang)
+    worker = Worker(options, known_lines(options.program))
     parts.use_uvloop()
     try:
-        asyncio.run(work(words))
+        asyncio.run(work(worker))
     except KeyboardInterrupt:
         os._exit(0)
     return 0

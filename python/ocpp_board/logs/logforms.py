@@ -460,8 +460,3 @@ def shape_of(words: argparse.Namespace) -> Shape:
         words.direction,
         words.json_message,
     )
-
-
-def form_of(words: argparse.Namespace, has_site: bool) -> Form:
-    """What reads the lines of the log that the words describe."""
-    return shape_of(words).reader(has_site)
