@@ -20,8 +20,8 @@ from typing import Any
 from urllib.parse import quote
 
 from ocpp_board.energies import FLOW
-from ocpp_board.fleet.api import cursor_of
-from ocpp_board.fleet.database import answers_in, connect
+from ocpp_board.fleet.web.api import cursor_of
+from ocpp_board.fleet.database.connections import answers_in, connect
 from tests.fleet.fleet import ended
 from tests.fleet.page_client import (
     Answer,

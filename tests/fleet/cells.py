@@ -26,7 +26,7 @@ from typing import Any
 
 import asyncpg
 
-from ocpp_board.fleet.database import Fault, connect
+from ocpp_board.fleet.database.connections import Fault, connect
 from tests.fleet.fleet import (
     BIN,
     PATIENCE,

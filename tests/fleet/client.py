@@ -7,7 +7,7 @@ import ssl
 from websockets.http11 import Request, Response
 from websockets.uri import parse_uri
 
-from ocpp_board.fleet.websocket import ClientLink
+from ocpp_board.fleet.gateway.websocket import ClientLink
 
 HANDSHAKE = (
     "GET /ocpp/{} HTTP/1.1\r\nHost: a\r\nUpgrade: websocket\r\nConnection: Upgrade\r\n"

@@ -13,7 +13,7 @@ from zoneinfo import ZoneInfo
 
 import asyncpg
 
-from ocpp_board.fleet.database import connect
+from ocpp_board.fleet.database.connections import connect
 from tests.fleet.fleet import PATIENCE, ended, tool
 from tests.fleet.trials import Trial, event
 

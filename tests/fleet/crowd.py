@@ -14,7 +14,7 @@ import asyncio
 import sys
 from contextlib import suppress
 
-from ocpp_board.fleet.parts import use_uvloop
+from ocpp_board.fleet.database.parts import use_uvloop
 from tests.fleet.client import handshake
 
 WRONG = "wrong-0123-4567-89ab"

@@ -39,7 +39,7 @@ from collections.abc import Awaitable, Callable
 from typing import Any
 
 import asyncpg
-from ocpp_board.fleet.database import Fault, Unreachable, connect
+from ocpp_board.fleet.database.connections import Fault, Unreachable, connect
 from tests.fleet.client import Client
 from tests.fleet.fleet import (
     BACKEND,
@@ -72,7 +72,7 @@ CLOCKS, TWICE = (0, 3, -400), 20
 # A worker that gives answers late.
 LATE = """
 import asyncio
-from ocpp_board.fleet.worker import Session
+from ocpp_board.fleet.worker.worker import Session
 
 tell = Session.tell
 

@@ -17,7 +17,7 @@ from typing import Any
 
 import asyncpg
 
-from ocpp_board.fleet.database import Fault, Unreachable, connect
+from ocpp_board.fleet.database.connections import Fault, Unreachable, connect
 from tests.fleet.client import Client
 from tests.fleet.fleet import PATIENCE
 from tests.fleet.trials import Trial, event, parsed, parser_of, tried

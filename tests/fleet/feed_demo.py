@@ -30,7 +30,7 @@ from typing import Any
 
 import asyncpg
 
-from ocpp_board.fleet.database import Fault, connect
+from ocpp_board.fleet.database.connections import Fault, connect
 from tests.fleet.fleet import Fleet, children, ended, free_port, tool
 from tests.fleet.trials import Trial, messages, parsed, parser_of, skipped, tried
 

@@ -19,10 +19,10 @@ from typing import Any
 from zoneinfo import ZoneInfo
 
 from ocpp_board.energies import FLOW, Flow, flow_of
-from ocpp_board.fleet.database import Fault, connect
-from ocpp_board.fleet.figures import Figures, added, figures, periods
-from ocpp_board.fleet.lines import COMMANDS, transaction_of
-from ocpp_board.fleet.plans import Plan, known_lines
+from ocpp_board.fleet.database.connections import Fault, connect
+from ocpp_board.fleet.database.figures import Figures, added, figures, periods
+from ocpp_board.fleet.database.lines import COMMANDS, transaction_of
+from ocpp_board.fleet.database.plans import Plan, known_lines
 from ocpp_board.replay.boards import TOTAL
 
 TOP = Path(__file__).resolve().parent.parent.parent

@@ -26,8 +26,8 @@ from zoneinfo import available_timezones
 
 import asyncpg
 
-from ocpp_board.fleet.database import connect
-from ocpp_board.fleet.gateway import BURST, BYTES
+from ocpp_board.fleet.database.connections import connect
+from ocpp_board.fleet.gateway.gateway import BURST, BYTES
 from tests.fleet.client import Client
 from tests.fleet.fleet import BIN, FILL, PATIENCE, Database, children, ended, tool
 from tests.fleet.trials import Trial, event, parsed, parser_of, tried
@@ -579,7 +579,7 @@ class Demo(Trial):
             "--program",
         )
         process = self.fleet.patched(
-            f"import ocpp_board.fleet.compact as one; one.PIECE = {size // 2}",
+            f"import ocpp_board.fleet.closing.compact as one; one.PIECE = {size // 2}",
             "compact", *words, self.fleet.program, "--shard", 900, stdout=-1, stderr=-2,
         )  # fmt: skip
         status, said = await ended(process)
@@ -589,7 +589,7 @@ class Demo(Trial):
         dsn = self.fleet.dsn("ledger_worker", self.fleet.databases[0].port)
         self.workers.append(
             self.fleet.patched(
-                f"import ocpp_board.fleet.worker as one; one.LONGEST_SCRIPT = {size // 2}",
+                f"import ocpp_board.fleet.worker.worker as one; one.LONGEST_SCRIPT = {size // 2}",
                 "worker", "--db", dsn, "--program", self.fleet.program, "--boards", 0.5,
             )  # fmt: skip
         )
@@ -612,7 +612,7 @@ class Demo(Trial):
         archives = self.fleet.folder / "archives"
         archives.mkdir()
         _, _, *words = self.fleet.closing("full", archives, "2026-03-02")
-        code = f"import ocpp_board.fleet.compact as one; one.PIECE = {most}"
+        code = f"import ocpp_board.fleet.closing.compact as one; one.PIECE = {most}"
         process = self.fleet.patched(code, *words, stdout=-1, stderr=-2)
         status, said = await ended(process)
         self.check(

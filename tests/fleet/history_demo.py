@@ -17,8 +17,8 @@ import time
 from datetime import datetime, timezone
 from typing import Any
 
-from ocpp_board.fleet.archives import packed
-from ocpp_board.fleet.database import connect
+from ocpp_board.fleet.database.archives import packed
+from ocpp_board.fleet.database.connections import connect
 from tests.fleet.closings import ClosingTrial, local, session
 from tests.fleet.fleet import FILL, UNSUMMED, ended
 from tests.fleet.trials import parsed, parser_of, tried
@@ -184,7 +184,7 @@ class Demo(ClosingTrial):
         """Has years leave, and gives the status and what is said."""
         words = ("--db", self.fleet.dsn("ledger_keeper"), "--program", self.fleet.program)
         more = ("--archive", self.archives, "--years", 2)
-        code = "import ocpp_board.fleet.forget as one; one.PATIENCE = 3"
+        code = "import ocpp_board.fleet.closing.forget as one; one.PATIENCE = 3"
         process = self.fleet.patched(code, "forget", *words, *more, stdout=-1, stderr=-2)
         return await ended(process)
 

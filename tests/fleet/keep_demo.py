@@ -21,7 +21,7 @@ from decimal import Decimal
 from pathlib import Path
 from typing import Any
 
-from ocpp_board.fleet.archives import unpacked
+from ocpp_board.fleet.database.archives import unpacked
 from tests.fleet.closings import ClosingTrial, local, session
 from tests.fleet.fleet import ended, tool
 from tests.fleet.trials import parsed, parser_of, tried

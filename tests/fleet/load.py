@@ -27,8 +27,8 @@ from websockets.connection import State
 from websockets.http11 import Request, Response
 
 from ocpp_board import reporting
-from ocpp_board.fleet.parts import use_uvloop
-from ocpp_board.fleet.websocket import MASKED, TWO_BYTES, WHOLE_TEXT, ClientLink
+from ocpp_board.fleet.database.parts import use_uvloop
+from ocpp_board.fleet.gateway.websocket import MASKED, TWO_BYTES, WHOLE_TEXT, ClientLink
 from tests.fleet.trials import messages
 
 log = logging.getLogger(__name__)

@@ -34,10 +34,10 @@ from collections.abc import Sequence
 from pathlib import Path
 from typing import Any
 
-from ocpp_board.fleet.database import Fault, said
-from ocpp_board.fleet.passwords import SALT, hashed
-from ocpp_board.fleet.plans import Plan, Reckoning
-from ocpp_board.fleet.replays import Replay
+from ocpp_board.fleet.database.connections import Fault, said
+from ocpp_board.fleet.gateway.passwords import SALT, hashed
+from ocpp_board.fleet.database.plans import Plan, Reckoning
+from ocpp_board.fleet.database.replays import Replay
 from tests.fleet.fleet import FILL, Fleet, children, ended
 from tests.fleet.page_client import Client, make_operator, make_token, start_page
 from tests.fleet.trials import FAULTS, MISTAKEN, messages, parsed, parser_of

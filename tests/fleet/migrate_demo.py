@@ -22,8 +22,8 @@ from typing import Any
 
 import asyncpg
 
-from ocpp_board.fleet.database import VERSION
-from ocpp_board.fleet.plans import NEW_SITE
+from ocpp_board.fleet.database.connections import VERSION
+from ocpp_board.fleet.database.plans import NEW_SITE
 from tests.fleet.closings import ClosingTrial, local, session
 from tests.fleet.fleet import BIN, FILL, SCHEMA, ended, tool
 from tests.fleet.trials import parsed, parser_of, tried

@@ -18,7 +18,7 @@ from typing import Any
 
 import asyncpg
 
-from ocpp_board.fleet.database import connect, session_of
+from ocpp_board.fleet.database.connections import connect, session_of
 from tests.fleet.fleet import ended, free_port, tool
 from tests.fleet.page_client import (
     PASSWORD,

@@ -15,10 +15,10 @@ from datetime import datetime
 from typing import Any
 
 
-from ocpp_board.fleet.database import connect
-from ocpp_board.fleet.figures import joined
-from ocpp_board.fleet.findings import REMEDY
-from ocpp_board.fleet.plans import Reckoning
+from ocpp_board.fleet.database.connections import connect
+from ocpp_board.fleet.database.figures import joined
+from ocpp_board.fleet.closing.findings import REMEDY
+from ocpp_board.fleet.database.plans import Reckoning
 from tests.fleet.closings import HEAD, ClosingTrial, local, session
 from tests.fleet.fleet import ended, tool
 from tests.fleet.trials import parsed, parser_of, tried

@@ -10,7 +10,7 @@ from html import unescape
 from typing import Any, NamedTuple
 from urllib.parse import urlencode, urlsplit
 
-from ocpp_board.fleet.database import Fault
+from ocpp_board.fleet.database.connections import Fault
 from tests.fleet.fleet import REASON, Fleet, tool
 
 PASSWORD = "an operator's password"

@@ -20,9 +20,9 @@ import time
 from pathlib import Path
 from typing import Any
 
-from ocpp_board.fleet.database import Fault
-from ocpp_board.fleet.figures import joined
-from ocpp_board.fleet.plans import Reckoning
+from ocpp_board.fleet.database.connections import Fault
+from ocpp_board.fleet.database.figures import joined
+from ocpp_board.fleet.database.plans import Reckoning
 from tests.fleet import chromium
 from tests.fleet.fleet import ended
 from tests.fleet.page_client import PASSWORD, Client, make_operator, start_page

@@ -21,8 +21,8 @@ import asyncpg
 from websockets.frames import OP_TEXT, Frame
 from websockets.http11 import Request, Response
 
-from ocpp_board.fleet.database import connect
-from ocpp_board.fleet.passwords import FREE, PAUSE, SALT, hashed
+from ocpp_board.fleet.database.connections import connect
+from ocpp_board.fleet.gateway.passwords import FREE, PAUSE, SALT, hashed
 from tests.fleet.client import Client, handshake
 from tests.fleet.fleet import REASON, tool
 from tests.fleet.trials import Trial, event, parsed, parser_of, tried

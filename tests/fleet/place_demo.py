@@ -11,9 +11,9 @@ import shlex
 import sys
 from typing import Any
 
-from ocpp_board.fleet.database import connect
-from ocpp_board.fleet.place import FILLED
-from ocpp_board.fleet.plans import NEW_SITE
+from ocpp_board.fleet.database.connections import connect
+from ocpp_board.fleet.admin.place import FILLED
+from ocpp_board.fleet.database.plans import NEW_SITE
 from tests.fleet.fleet import FILL, REASON, ended, tool
 from tests.fleet.trials import Trial, messages, parsed, parser_of, tried
 

@@ -15,7 +15,7 @@ from typing import Any
 
 import asyncpg
 
-from ocpp_board.fleet.database import connect
+from ocpp_board.fleet.database.connections import connect
 from tests.fleet.fleet import ended, tool
 from tests.fleet.page_client import Client, make_operator, operator, start_page
 from tests.fleet.trials import Trial, parsed, parser_of, tried

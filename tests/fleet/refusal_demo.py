@@ -14,7 +14,7 @@ import time
 
 import asyncpg
 
-from ocpp_board.fleet.database import connect
+from ocpp_board.fleet.database.connections import connect
 from tests.fleet.closings import ClosingTrial, line, local, session
 from tests.fleet.fleet import PATIENCE, ended
 from tests.fleet.trials import parsed, parser_of, tried

@@ -14,9 +14,9 @@ from collections.abc import Iterable
 from datetime import timedelta
 from typing import Any
 
-from ocpp_board.fleet.database import connect
-from ocpp_board.fleet.figures import joined
-from ocpp_board.fleet.plans import Reckoning
+from ocpp_board.fleet.database.connections import connect
+from ocpp_board.fleet.database.figures import joined
+from ocpp_board.fleet.database.plans import Reckoning
 from tests.fleet.closings import HEAD, ClosingTrial, line, local, session
 from tests.fleet.trials import parsed, parser_of, tried
 

@@ -33,8 +33,8 @@ from typing import Any
 
 import asyncpg
 
-from ocpp_board.fleet.database import LOST, Unreachable
-from ocpp_board.fleet.passwords import SALT, hashed
+from ocpp_board.fleet.database.connections import LOST, Unreachable
+from ocpp_board.fleet.gateway.passwords import SALT, hashed
 from tests.fleet.client import Client
 from tests.fleet.fleet import BACKEND, CLOCK, CRASHES, UNTOLD, children, ended, free_port, part
 from tests.fleet.measure import PASSWORD

@@ -20,8 +20,8 @@ from collections.abc import Awaitable
 
 from websockets.frames import OP_CONT, OP_PING, OP_PONG, OP_TEXT, Frame
 
-from ocpp_board.fleet.database import connect
-from ocpp_board.fleet.passwords import FREE, SALT, hashed
+from ocpp_board.fleet.database.connections import connect
+from ocpp_board.fleet.gateway.passwords import FREE, SALT, hashed
 from tests.fleet.client import Client, handshake
 from tests.fleet.crowd import WRONG, address_of
 from tests.fleet.fleet import ended, part

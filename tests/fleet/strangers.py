@@ -29,8 +29,8 @@ from urllib.parse import urlsplit
 import asyncpg
 from websockets.frames import OP_CONT, OP_PING, OP_PONG, OP_TEXT, Frame, Opcode
 
-from ocpp_board.fleet.database import LOST, Fault, Unreachable, connect
-from ocpp_board.fleet.parts import use_uvloop
+from ocpp_board.fleet.database.connections import LOST, Fault, Unreachable, connect
+from ocpp_board.fleet.database.parts import use_uvloop
 from tests.fleet.client import Client, handshake
 from tests.fleet.page_client import PASSWORD as PAGE_PASSWORD
 from tests.fleet.page_client import Client as Browser

@@ -26,9 +26,7 @@ REFUSED = (
 )
 # Bytes of a station's lines that the log keeps here: of those that changed nothing, and of those that wait for room.
 UNCHANGED, WAITING = 50_000, 100_000
-SMALL = (
-    f"import ocpp_board.fleet.surplus as one; one.UNCHANGED, one.WAITING = {UNCHANGED}, {WAITING}"
-)
+SMALL = f"import ocpp_board.fleet.worker.surplus as one; one.UNCHANGED, one.WAITING = {UNCHANGED}, {WAITING}"
 # Conflicting events of so many bytes more, and how often an archived session's two events come.
 CONFLICTS, SIZE, TURNS = 60, 4_000, 600
 # The log that could not be closed: events of 32 kB that are in conflict with one another.

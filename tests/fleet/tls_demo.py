@@ -22,8 +22,8 @@ import sys
 import time
 from pathlib import Path
 
-from ocpp_board.fleet.database import Fault
-from ocpp_board.fleet.passwords import SALT, hashed
+from ocpp_board.fleet.database.connections import Fault
+from ocpp_board.fleet.gateway.passwords import SALT, hashed
 from tests.fleet.client import Client
 from tests.fleet.fleet import TOP, children, free_port, is_alive, tool
 from tests.fleet.trials import Trial, parsed, parser_of, tried

@@ -15,7 +15,7 @@ from typing import Any
 import asyncpg
 
 from ocpp_board import reporting
-from ocpp_board.fleet.database import LOST, Fault, Unreachable, said
+from ocpp_board.fleet.database.connections import LOST, Fault, Unreachable, said
 from ocpp_board.limits import MOMENT
 from tests.fleet.fleet import Fleet
 

@@ -27,7 +27,7 @@ import sys
 import urllib.request
 from pathlib import Path
 
-from ocpp_board.fleet.database import Fault
+from ocpp_board.fleet.database.connections import Fault
 from tests.fleet.fleet import BIN, TOP, ended, free_port
 from tests.fleet.page_client import Client, make_operator
 from tests.fleet.trials import Trial, messages, parsed, parser_of, skipped, tried

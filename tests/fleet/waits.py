@@ -19,7 +19,7 @@ from typing import Any
 
 import asyncpg
 
-from ocpp_board.fleet.plans import Plan
+from ocpp_board.fleet.database.plans import Plan
 from tests.fleet.fleet import FILL, PATIENCE, ended
 from tests.fleet.trials import Trial, messages, parsed, parser_of, tried
 

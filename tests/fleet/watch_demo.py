@@ -20,7 +20,7 @@ import subprocess
 import sys
 import time
 
-from ocpp_board.fleet.metrics import FRONT, HELP
+from ocpp_board.fleet.database.metrics import FRONT, HELP
 from tests.fleet.fleet import SCHEMA
 from tests.fleet.trials import MISTAKEN, RIGHT, parsed, parser_of, skipped, tried
 from tests.fleet.watching import PROMETHEUS, WatchedTrial, asked

@@ -12,7 +12,7 @@ import urllib.error
 import urllib.request
 from collections.abc import Awaitable, Callable
 
-from ocpp_board.fleet.database import Fault, connect
+from ocpp_board.fleet.database.connections import Fault, connect
 from tests.fleet.client import Client
 from tests.fleet.fleet import BIN, HOLD_ALL, TOP, children, free_port, own_functions, part
 from tests.fleet.page_client import Client as Browser
@@ -30,7 +30,7 @@ PARTS = ("worker-1", "worker-2", "gateway-1", "gateway-2", "feed", "page")
 STUCK = "import signal, time; signal.signal(signal.SIGUSR1, lambda *_: time.sleep(20))"
 SMALL = "from ocpp_board import limits; limits.LONGEST_SCRIPT = {}"
 NEVER = """
-import subprocess, ocpp_board.fleet.worker as worker
+import subprocess, ocpp_board.fleet.worker.worker as worker
 worker.run_tool = lambda *words: subprocess.CompletedProcess(words, 1, b"", b"no room")"""
 # Parts that a fault begins otherwise.
 OTHERS = {

@@ -62,7 +62,7 @@ def made_stub(tmp_path: Path) -> str:
 @pytest.fixture(name="begun")
 def replays_begun(monkeypatch: pytest.MonkeyPatch) -> list[Any]:
     """The replays of the fleet that began."""
-    from ocpp_board.fleet.replays import Replay
+    from ocpp_board.fleet.database.replays import Replay
 
     found, start = list[Any](), Replay.start
 

@@ -12,10 +12,10 @@ import pytest
 
 pytest.importorskip("asyncpg")
 
-from ocpp_board.fleet import billing  # noqa: E402
-from ocpp_board.fleet.archives import packed  # noqa: E402
-from ocpp_board.fleet.billing import HEADS, Row, ShardSessions, ends_of  # noqa: E402
-from ocpp_board.fleet.database import Fault  # noqa: E402
+from ocpp_board.fleet.closing import billing  # noqa: E402
+from ocpp_board.fleet.database.archives import packed  # noqa: E402
+from ocpp_board.fleet.closing.billing import HEADS, Row, ShardSessions, ends_of  # noqa: E402
+from ocpp_board.fleet.database.connections import Fault  # noqa: E402
 from ocpp_board.messages.bills import Details, Signed  # noqa: E402
 from tests.traffic.troubles import FIRST, Session, messages, signed_differs  # noqa: E402
 

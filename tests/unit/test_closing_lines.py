@@ -7,10 +7,10 @@ import pytest
 
 pytest.importorskip("asyncpg")
 
-from ocpp_board.fleet.archives import each_unpacked, packed, unpacked  # noqa: E402
-from ocpp_board.fleet.closing_lines import Line, Sorted, named  # noqa: E402
-from ocpp_board.fleet.compact import pieces  # noqa: E402
-from ocpp_board.fleet.spooled import Spool, Texts  # noqa: E402
+from ocpp_board.fleet.database.archives import each_unpacked, packed, unpacked  # noqa: E402
+from ocpp_board.fleet.closing.closing_lines import Line, Sorted, named  # noqa: E402
+from ocpp_board.fleet.closing.compact import pieces  # noqa: E402
+from ocpp_board.fleet.database.spooled import Spool, Texts  # noqa: E402
 
 
 def test_lines_are_packed_one_by_one() -> None:

@@ -16,13 +16,14 @@ pytest.importorskip("websockets")
 import asyncpg  # noqa: E402
 
 from ocpp_board.energies import Flow  # noqa: E402
-from ocpp_board.fleet import begun_anew, database, parts, shards, worker  # noqa: E402
-from ocpp_board.fleet import watched as watching  # noqa: E402
-from ocpp_board.fleet.archives import Late, packed, unpacked, widened  # noqa: E402
-from ocpp_board.fleet.board_writer import Board, BoardWriter, chunks  # noqa: E402
-from ocpp_board.fleet.close_day import differences  # noqa: E402
-from ocpp_board.fleet.compact import pieces  # noqa: E402
-from ocpp_board.fleet.database import (  # noqa: E402
+from ocpp_board.fleet.database import begun_anew, connections as database, parts  # noqa: E402
+from ocpp_board.fleet.worker import shards, worker  # noqa: E402
+from ocpp_board.fleet.worker import watched as watching  # noqa: E402
+from ocpp_board.fleet.database.archives import Late, packed, unpacked, widened  # noqa: E402
+from ocpp_board.fleet.worker.board_writer import Board, BoardWriter, chunks  # noqa: E402
+from ocpp_board.fleet.closing.close_day import differences  # noqa: E402
+from ocpp_board.fleet.closing.compact import pieces  # noqa: E402
+from ocpp_board.fleet.database.connections import (  # noqa: E402
     Fault,
     SessionLost,
     Unreachable,
@@ -31,8 +32,8 @@ from ocpp_board.fleet.database import (  # noqa: E402
     said,
     wakes,
 )
-from ocpp_board.fleet.events import citrine_event, event_of, maeve_event  # noqa: E402
-from ocpp_board.fleet.figures import (  # noqa: E402
+from ocpp_board.fleet.feed.events import citrine_event, event_of, maeve_event  # noqa: E402
+from ocpp_board.fleet.database.figures import (  # noqa: E402
     added,
     blocks,
     figures,
@@ -40,7 +41,7 @@ from ocpp_board.fleet.figures import (  # noqa: E402
     new_rows,
     periods,
 )
-from ocpp_board.fleet.gateway import (  # noqa: E402
+from ocpp_board.fleet.gateway.gateway import (  # noqa: E402
     BURST,
     BYTES,
     FRAMES,
@@ -48,7 +49,7 @@ from ocpp_board.fleet.gateway import (  # noqa: E402
     empty_answer,
     station_in,
 )
-from ocpp_board.fleet.lines import (  # noqa: E402
+from ocpp_board.fleet.database.lines import (  # noqa: E402
     Unreadable,
     is_before,
     is_for_room,
@@ -57,10 +58,10 @@ from ocpp_board.fleet.lines import (  # noqa: E402
     readings_of,
     transaction_of,
 )
-from ocpp_board.fleet.orders import READ, STATE, WAITS  # noqa: E402
-from ocpp_board.fleet.plans import Plan, Reckoning, known_lines  # noqa: E402
-from ocpp_board.fleet.replays import Replay, ReplayEnded  # noqa: E402
-from ocpp_board.fleet.worker import Session, payloads_of  # noqa: E402
+from ocpp_board.fleet.worker.orders import READ, STATE, WAITS  # noqa: E402
+from ocpp_board.fleet.database.plans import Plan, Reckoning, known_lines  # noqa: E402
+from ocpp_board.fleet.database.replays import Replay, ReplayEnded  # noqa: E402
+from ocpp_board.fleet.worker.worker import Session, payloads_of  # noqa: E402
 from ocpp_board.messages.texts import Refused  # noqa: E402
 
 FLOW = "up=1 down=0 export_up=0 export_down=0"

@@ -10,10 +10,10 @@ import pytest
 for package in ("asyncpg", "starlette"):
     pytest.importorskip(package)
 
-from ocpp_board.fleet import histories  # noqa: E402
-from ocpp_board.fleet.archives import packed  # noqa: E402
-from ocpp_board.fleet.histories import History, history_of  # noqa: E402
-from ocpp_board.fleet.replays import Replay  # noqa: E402
+from ocpp_board.fleet.web import histories  # noqa: E402
+from ocpp_board.fleet.database.archives import packed  # noqa: E402
+from ocpp_board.fleet.web.histories import History, history_of  # noqa: E402
+from ocpp_board.fleet.database.replays import Replay  # noqa: E402
 from tests.fleet.trials import event  # noqa: E402
 
 AT = datetime(2026, 3, 2, 9, tzinfo=timezone.utc)

@@ -8,9 +8,9 @@ import pytest
 
 pytest.importorskip("asyncpg")
 
-from ocpp_board.fleet import archives  # noqa: E402
-from ocpp_board.fleet.archives import LATER, Begun, KeptReplays, Late, packed  # noqa: E402
-from ocpp_board.fleet.replays import Replay  # noqa: E402
+from ocpp_board.fleet.database import archives  # noqa: E402
+from ocpp_board.fleet.database.archives import LATER, Begun, KeptReplays, Late, packed  # noqa: E402
+from ocpp_board.fleet.database.replays import Replay  # noqa: E402
 from tests.fleet.trials import event  # noqa: E402
 
 ROW: dict[str, Any] = {

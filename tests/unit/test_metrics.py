@@ -10,8 +10,8 @@ import pytest
 
 pytest.importorskip("asyncpg")
 
-from ocpp_board.fleet import metrics  # noqa: E402
-from ocpp_board.fleet.metrics import (  # noqa: E402
+from ocpp_board.fleet.database import metrics  # noqa: E402
+from ocpp_board.fleet.database.metrics import (  # noqa: E402
     FRONT,
     HELP,
     Family,
@@ -24,7 +24,7 @@ from ocpp_board.fleet.metrics import (  # noqa: E402
     near_limits,
     place_of,
 )
-from ocpp_board.fleet.watched import Watched  # noqa: E402
+from ocpp_board.fleet.worker.watched import Watched  # noqa: E402
 from ocpp_board.limits import DEFAULT_LIMITS  # noqa: E402
 from ocpp_board.replay.near_limits import Counts  # noqa: E402
 

@@ -9,9 +9,10 @@ import pytest
 pytest.importorskip("asyncpg")
 pytest.importorskip("websockets")
 
-from ocpp_board.fleet import gateway, worker  # noqa: E402
-from ocpp_board.fleet.gateway import REPLANNED, Cell  # noqa: E402
-from ocpp_board.fleet.worker import Session  # noqa: E402
+from ocpp_board.fleet.gateway import gateway  # noqa: E402
+from ocpp_board.fleet.worker import worker  # noqa: E402
+from ocpp_board.fleet.gateway.gateway import REPLANNED, Cell  # noqa: E402
+from ocpp_board.fleet.worker.worker import Session  # noqa: E402
 
 MANY = 100_000
 

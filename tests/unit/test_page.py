@@ -14,8 +14,8 @@ import pytest
 for package in ("asyncpg", "starlette", "uvicorn", "jinja2", "yaml"):
     pytest.importorskip(package)
 
-from ocpp_board.fleet import operators  # noqa: E402
-from ocpp_board.fleet.api import (  # noqa: E402
+from ocpp_board.fleet.web import operators  # noqa: E402
+from ocpp_board.fleet.web.api import (  # noqa: E402
     ROUTES,
     Paging,
     cursor_of,
@@ -23,12 +23,12 @@ from ocpp_board.fleet.api import (  # noqa: E402
     key_of,
     moment_word,
 )
-from ocpp_board.fleet.api_schema import SCHEMAS  # noqa: E402
-from ocpp_board.fleet.billing import Row, month_in, month_of  # noqa: E402
-from ocpp_board.fleet.cells import Late, Site, Wrong, staying  # noqa: E402
-from ocpp_board.fleet.close_day import corrections_of  # noqa: E402
-from ocpp_board.fleet.histories import Entry, later, own_lines, without_archived  # noqa: E402
-from ocpp_board.fleet.operators import (  # noqa: E402
+from ocpp_board.fleet.web.api_schema import SCHEMAS  # noqa: E402
+from ocpp_board.fleet.closing.billing import Row, month_in, month_of  # noqa: E402
+from ocpp_board.fleet.web.cells import Late, Site, Wrong, staying  # noqa: E402
+from ocpp_board.fleet.closing.close_day import corrections_of  # noqa: E402
+from ocpp_board.fleet.web.histories import Entry, later, own_lines, without_archived  # noqa: E402
+from ocpp_board.fleet.web.operators import (  # noqa: E402
     OPERATOR,
     THREADS,
     WAITING,
@@ -42,9 +42,9 @@ from ocpp_board.fleet.operators import (  # noqa: E402
     form_token,
     new_secret,
 )
-from ocpp_board.fleet.page_app import local_path  # noqa: E402
-from ocpp_board.fleet.page_deeds import session_said  # noqa: E402
-from ocpp_board.fleet.page_render import (  # noqa: E402
+from ocpp_board.fleet.web.page_app import local_path  # noqa: E402
+from ocpp_board.fleet.web.page_deeds import session_said  # noqa: E402
+from ocpp_board.fleet.web.page_render import (  # noqa: E402
     Line,
     environment,
     heads_of,
@@ -53,7 +53,7 @@ from ocpp_board.fleet.page_render import (  # noqa: E402
     moment,
     rendered,
 )
-from ocpp_board.fleet.page_views import (  # noqa: E402
+from ocpp_board.fleet.web.page_views import (  # noqa: E402
     FILE,
     MOST_LETTERS,
     MOST_LINES,
@@ -61,12 +61,17 @@ from ocpp_board.fleet.page_views import (  # noqa: E402
     shown_of,
     site_line,
 )
-from ocpp_board.fleet.page_words import Words, meaning_of, reason_of  # noqa: E402
-from ocpp_board.fleet.passwords import FREE, SALT, address_by, hashed  # noqa: E402
-from ocpp_board.fleet.plans import NEW_SITE, Reckoning  # noqa: E402
-from ocpp_board.fleet.set_operator import days_of, operator_of, roles_of, sites_of  # noqa: E402
-from ocpp_board.fleet.site_pages import fragment_of, session_path  # noqa: E402
-from ocpp_board.fleet.states import (  # noqa: E402
+from ocpp_board.fleet.web.page_words import Words, meaning_of, reason_of  # noqa: E402
+from ocpp_board.fleet.gateway.passwords import FREE, SALT, address_by, hashed  # noqa: E402
+from ocpp_board.fleet.database.plans import NEW_SITE, Reckoning  # noqa: E402
+from ocpp_board.fleet.admin.set_operator import (  # noqa: E402
+    days_of,
+    operator_of,
+    roles_of,
+    sites_of,
+)
+from ocpp_board.fleet.web.site_pages import fragment_of, session_path  # noqa: E402
+from ocpp_board.fleet.database.states import (  # noqa: E402
     EVENTS,
     SESSIONS,
     energy_state,

@@ -9,8 +9,8 @@ import pytest
 for package in ("asyncpg", "uvicorn", "h11"):
     pytest.importorskip(package)
 
-from ocpp_board.fleet import page_server  # noqa: E402
-from ocpp_board.fleet.page_server import PageServer, Patient, listener_at  # noqa: E402
+from ocpp_board.fleet.web import page_server  # noqa: E402
+from ocpp_board.fleet.web.page_server import PageServer, Patient, listener_at  # noqa: E402
 
 WHOLE = b"GET / HTTP/1.1\r\nHost: a\r\n\r\n"
 # Parts of requests: somebody stops behind each.

@@ -17,9 +17,11 @@ pytest.importorskip("websockets")
 
 from websockets.datastructures import Headers  # noqa: E402
 
-from ocpp_board.fleet import operators, parts, passwords  # noqa: E402
-from ocpp_board.fleet.database import Fault  # noqa: E402
-from ocpp_board.fleet.passwords import (  # noqa: E402
+from ocpp_board.fleet.database import parts  # noqa: E402
+from ocpp_board.fleet.gateway import passwords  # noqa: E402
+from ocpp_board.fleet.web import operators  # noqa: E402
+from ocpp_board.fleet.database.connections import Fault  # noqa: E402
+from ocpp_board.fleet.gateway.passwords import (  # noqa: E402
     FREE,
     PAUSE,
     SALT,

@@ -4,8 +4,8 @@ import pytest
 
 pytest.importorskip("asyncpg")
 
-from ocpp_board.fleet import place  # noqa: E402
-from ocpp_board.fleet.place import FILLED, NEW, READINGS, SITES, Load, Move  # noqa: E402
+from ocpp_board.fleet.admin import place  # noqa: E402
+from ocpp_board.fleet.admin.place import FILLED, NEW, READINGS, SITES, Load, Move  # noqa: E402
 
 chosen, moves = place.chosen, place.moves
 

@@ -10,7 +10,7 @@ import pytest
 
 pytest.importorskip("asyncpg")
 
-from ocpp_board.fleet.revocations import named, revoked_in  # noqa: E402
+from ocpp_board.fleet.gateway.revocations import named, revoked_in  # noqa: E402
 
 if not shutil.which("openssl"):
     pytest.skip("openssl is not there", allow_module_level=True)

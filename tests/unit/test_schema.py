@@ -7,8 +7,8 @@ import pytest
 
 pytest.importorskip("asyncpg")
 
-from ocpp_board.fleet.database import VERSION  # noqa: E402
-from ocpp_board.fleet.plans import NEW_SITE  # noqa: E402
+from ocpp_board.fleet.database.connections import VERSION  # noqa: E402
+from ocpp_board.fleet.database.plans import NEW_SITE  # noqa: E402
 from ocpp_board.limits import RULES  # noqa: E402
 
 FLEET = Path(__file__).resolve().parent.parent.parent / "python/ocpp_board/fleet"

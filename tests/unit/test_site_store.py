@@ -13,9 +13,9 @@ import pytest
 for package in ("asyncpg", "starlette"):
     pytest.importorskip(package)
 
-from ocpp_board.fleet import site_pages, site_store  # noqa: E402
-from ocpp_board.fleet.cells import Wrong  # noqa: E402
-from ocpp_board.fleet.site_store import SMALL, SitePages, SiteStore  # noqa: E402
+from ocpp_board.fleet.web import site_pages, site_store  # noqa: E402
+from ocpp_board.fleet.web.cells import Wrong  # noqa: E402
+from ocpp_board.fleet.web.site_store import SMALL, SitePages, SiteStore  # noqa: E402
 
 AT = datetime(2026, 3, 1, 12, tzinfo=timezone.utc)
 FLOW = "down=0 export_up=0 export_down=0"

@@ -13,8 +13,8 @@ pytest.importorskip("websockets")
 
 from websockets.frames import OP_CONT, OP_PING, OP_PONG, OP_TEXT, Frame, Opcode  # noqa: E402
 
-from ocpp_board.fleet import gateway  # noqa: E402
-from ocpp_board.fleet.gateway import BURST, FRAMES, LONGEST_HEAD, StationLink  # noqa: E402
+from ocpp_board.fleet.gateway import gateway  # noqa: E402
+from ocpp_board.fleet.gateway.gateway import BURST, FRAMES, LONGEST_HEAD, StationLink  # noqa: E402
 from tests.fleet.client import handshake  # noqa: E402
 
 ABSENT = ("certificate", "key", "client_ca", "client_crl", "client_header", "metrics")
@@ -176,7 +176,7 @@ def test_frames_of_any_kind_have_a_pace(
     async def run() -> None:
         loop = asyncio.get_running_loop()
         clock = SimpleNamespace(monotonic=lambda: now[0])
-        monkeypatch.setattr("ocpp_board.fleet.gateway.time", clock)
+        monkeypatch.setattr("ocpp_board.fleet.gateway.gateway.time", clock)
         monkeypatch.setattr(loop, "call_later", lambda *words: later.append(words[1]))
         link, wire, own = connected()
         let_in(link, own)

@@ -9,8 +9,8 @@ import pytest
 
 pytest.importorskip("asyncpg")
 
-from ocpp_board.fleet.database import Fault  # noqa: E402
-from ocpp_board.fleet.station_tls import (  # noqa: E402
+from ocpp_board.fleet.database.connections import Fault  # noqa: E402
+from ocpp_board.fleet.gateway.station_tls import (  # noqa: E402
     Options,
     common_name,
     context_of,

@@ -7,8 +7,8 @@ import pytest
 
 pytest.importorskip("asyncpg")
 
-from ocpp_board.fleet import surplus  # noqa: E402
-from ocpp_board.fleet.surplus import MOST, UNCHANGED, UNKNOWN, WAITING, Surplus  # noqa: E402
+from ocpp_board.fleet.worker import surplus  # noqa: E402
+from ocpp_board.fleet.worker.surplus import MOST, UNCHANGED, UNKNOWN, WAITING, Surplus  # noqa: E402
 
 CONFLICT = b'[4,"1","PropertyConstraintViolation","ConflictingEvent",{}]'
 NO_ROOM = b'[4,"1","OccurrenceConstraintViolation","EventsFull",{}]'

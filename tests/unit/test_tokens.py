@@ -6,7 +6,7 @@ import pytest
 
 pytest.importorskip("asyncpg")
 
-from ocpp_board.fleet.tokens import line_without, without_token  # noqa: E402
+from ocpp_board.fleet.closing.tokens import line_without, without_token  # noqa: E402
 
 
 def message(token: str, more: str = "") -> str:

@@ -15,9 +15,10 @@ from ocpp_board.commands import log_to_script
 from ocpp_board.commands.explain import Plan, Run
 from tests.traffic.script import arguments, event, script, unchanging
 from ocpp_board.escapes import csv_cell, from_copy, shown
-from ocpp_board.fleet import forget, replays
-from ocpp_board.fleet.database import SECRETS
-from ocpp_board.fleet.plans import known_lines
+from ocpp_board.fleet.closing import forget
+from ocpp_board.fleet.database import replays
+from ocpp_board.fleet.database.connections import SECRETS
+from ocpp_board.fleet.database.plans import known_lines
 from ocpp_board.messages.message_faults import message_fault
 from ocpp_board.processes import TUNABLES
 from ocpp_board.replay import answered

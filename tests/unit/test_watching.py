@@ -10,7 +10,7 @@ import pytest
 
 pytest.importorskip("asyncpg")
 
-from ocpp_board.fleet.metrics import FRONT, HELP  # noqa: E402
+from ocpp_board.fleet.database.metrics import FRONT, HELP  # noqa: E402
 from tests.fleet import demo, watch_demo  # noqa: E402
 
 TOP = Path(__file__).resolve().parent.parent.parent

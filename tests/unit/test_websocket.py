@@ -13,7 +13,7 @@ from websockets import frames  # noqa: E402
 from websockets.server import ServerConnection  # noqa: E402
 from websockets.connection import State  # noqa: E402
 
-from ocpp_board.fleet.websocket import MOST, Link  # noqa: E402
+from ocpp_board.fleet.gateway.websocket import MOST, Link  # noqa: E402
 from tests.fleet.load import frame_of  # noqa: E402
 
 
