@@ -28,21 +28,20 @@ class Listed(NamedTuple):
     evse: int
 
 
-class ListedReading(NamedTuple):
-    """A reading with the number of its event and its place among that event's readings of this register."""
+class Placed(NamedTuple):
+    """A reading with the number of its event, and its place among that event's readings of this register."""
 
     number: int
     place: int
-    at: float
-    mwh: int
+    reading: Reading
 
 
 class Lists(NamedTuple):
     """What the lists of a transaction say. `flows`: by the beginnings of periods, in seconds since 1970."""
 
     events: list[Listed]
-    imported: list[ListedReading]
-    exported: list[ListedReading]
+    # Of the import register, and of the export register.
+    readings: tuple[list[Placed], list[Placed]]
     flows: dict[int, Flow]
 
 
@@ -124,82 +123,68 @@ def seconds_of(text: str) -> float:
     return (seconds * SECOND + int(part or 0)) / SECOND
 
 
-def number_of(word: str) -> int:
-    """The number of a word such as `up=3`."""
-    return int(word.partition("=")[2])
-
-
 def lists_of(events: bytes, readings: bytes) -> Lists:
     """What both lists of a transaction say; of an unknown one, whose lists are faults, nothing."""
-    found = Lists([], [], [], {})
+    found, sums, is_export = Lists([], ([], []), {}), dict[int, list[int]](), False
     for line in events.decode("ascii", "replace").split("\n"):
         if line.startswith("event ") and line.endswith(" live"):
             _, number, kind, at, evse, *_ = line.split(" ")
-            found.events.append(Listed(int(number), kind, seconds_of(at), number_of(evse)))
-    is_export = False
+            found.events.append(Listed(int(number), kind, seconds_of(at), int(evse[5:])))
     for line in readings.decode("ascii", "replace").split("\n"):
         word, *words = line.split(" ")
         if word == "part":
-            add_part(found.flows, int(seconds_of(words[0])), is_export, *map(number_of, words[1:]))
+            start, up, down = words
+            flow = sums.setdefault(int(seconds_of(start)), [0, 0, 0, 0])
+            flow[2 * is_export] += int(up[3:])
+            flow[2 * is_export + 1] += int(down[5:])
         elif word in REGISTERS:
             is_export = REGISTERS[word]
             number, _, place = words[0].partition(".")
-            one = ListedReading(int(number), int(place), seconds_of(words[1]), int(words[2]))
-            (found.exported if is_export else found.imported).append(one)
+            reading = Reading(seconds_of(words[1]), int(words[2]), is_export)
+            found.readings[is_export].append(Placed(int(number), int(place), reading))
+    found.flows.update((start, Flow(*flow)) for start, flow in sums.items())
     return found
-
-
-def add_part(flows: dict[int, Flow], start: int, is_export: bool, up: int, down: int) -> None:
-    """Adds what a register rose and fell by in a period."""
-    part = Flow(0, 0, up, down) if is_export else Flow(up, down)
-    had = flows.get(start)
-    flows[start] = had.plus(part) if had else part
 
 
 def counted(lists: Lists, whole: Transaction) -> LiveEvents:
     """The live events of a session by its lists, each with what its message has beside what the list says."""
-    own: dict[int, tuple[list[ListedReading], list[ListedReading]]] = {}
-    for is_export, readings in enumerate(lists[1:3]):
-        for one in readings:
-            own.setdefault(one.number, ([], []))[is_export].append(one)
-    events, places = dict[int, Event](), dict[int, tuple[tuple[Reading, ...], ...]]()
+    own = by_event(lists.readings[0]), by_event(lists.readings[1])
+    events = dict[int, Event]()
+    # By number, the readings of both registers that an event has.
+    sides = dict[int, Sides]()
     for listed in lists.events:
-        sides = own.get(listed.number, ([], []))
-        read = tuple(
-            tuple(Reading(one.at, one.mwh, bool(side)) for one in sorted(sides[side], key=placed))
-            for side in (0, 1)
-        )
+        read = own[0].get(listed.number, ()), own[1].get(listed.number, ())
         event = whole.events.get(listed.number)
-        if event is None or not is_same(event, listed, read):
+        if (
+            event is None
+            or event[:3] != listed[:3]
+            or event.evse != listed.evse
+            or sides_of(event) != read
+        ):
             event = (event or NO_EVENT)._replace(**listed._asdict(), readings=read[0] + read[1])
-        events[listed.number] = event
-        places[listed.number] = sides_of(event)
-    imported, exported = (
-        [(events[one.number], places[one.number][side][one.place]) for one in readings]
-        for side, readings in enumerate(lists[1:3])
-    )
-    return LiveEvents(events.values(), imported, exported, lists.flows)
+        events[listed.number], sides[listed.number] = event, sides_of(event)
+    orders = [
+        [(events[one.number], sides[one.number][side][one.place]) for one in readings]
+        for side, readings in enumerate(lists.readings)
+    ]
+    return LiveEvents(events.values(), orders[0], orders[1], lists.flows)
 
 
 NO_EVENT = Event(0, "", None, (), (), False, "")
+Sides = tuple[tuple[Reading, ...], tuple[Reading, ...]]
 
 
-def placed(one: ListedReading) -> int:
-    """The place of a reading in its event."""
-    return one.place
+def by_event(readings: Iterable[Placed]) -> dict[int, tuple[Reading, ...]]:
+    """The readings of each event by its number, by their places."""
+    found = dict[int, list[Placed]]()
+    for one in readings:
+        found.setdefault(one.number, []).append(one)
+    return {number: tuple(one.reading for one in sorted(some)) for number, some in found.items()}
 
 
-def sides_of(event: Event) -> tuple[tuple[Reading, ...], ...]:
+def sides_of(event: Event) -> Sides:
     """The readings of both registers."""
-    if not any(one.is_export for one in event.readings):
-        return event.readings, ()
-    return tuple(
-        tuple(one for one in event.readings if one.is_export == is_export)
-        for is_export in (False, True)
-    )
-
-
-def is_same(event: Event, listed: Listed, read: tuple[tuple[Reading, ...], ...]) -> bool:
-    """Whether a message was read as its event is listed."""
-    said = (event.number, event.kind, event.at, event.evse)
-    return said == listed and sides_of(event) == read
+    if any(one.is_export for one in event.readings):
+        imported = tuple(one for one in event.readings if not one.is_export)
+        return imported, tuple(one for one in event.readings if one.is_export)
+    return event.readings, ()
