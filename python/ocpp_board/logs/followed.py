@@ -48,7 +48,7 @@ def is_replaced(path: str | Path, file: IO[bytes], place: int) -> bool:
 
 
 def is_cut_short(file: IO[bytes], place: int) -> bool:
-    """Whether a file has less than what was read of it. Of a compressed one that can't be known."""
+    """Whether a file has less than what was read of it. A compressed one doesn't show that."""
     is_packed = isinstance(file, gzip.GzipFile)
     return not is_packed and os.fstat(file.fileno()).st_size < place
 
@@ -194,8 +194,8 @@ class Followed:
         return lines
 
     def is_cut(self) -> bool:
-        """Whether the file lacks what was read of it: it was cut short, and may have grown past that since. Of a
-        compressed one that can't be known."""
+        """Whether the file lacks what was read of it: it was cut short, and may have grown past that since. A
+        compressed one doesn't show that."""
         if isinstance(self.file, gzip.GzipFile):
             return False
         place = self.place

@@ -326,7 +326,7 @@ class LogFeed:
             raise Mistaken(f"{self.options.log} {fault}") from None
         self.last = self.reader.entry or self.last
         if taken.note:
-            # Of each kind the first.
+            # The first of each kind is reported.
             if taken.note.kind not in self.reported:
                 log.warning("%s: %s", self.options.log, taken.note)
             self.reported.add(taken.note.kind)

@@ -183,7 +183,7 @@ class Transactions:
             return
         self.changed.add(key)
         had = whole.events.get(event.number)
-        # Of an event that was sent again the first receipt is kept.
+        # An event that was sent again keeps its first receipt.
         if had is None or had[:4] != event[:4]:
             whole.events[event.number] = event
             whole.again.pop(event.number, None)

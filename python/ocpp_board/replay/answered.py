@@ -51,7 +51,7 @@ class Line(NamedTuple):
 
     # Its number in the script, from 1; 0 if it is none of the script's.
     number: int
-    # Its bytes, without what ends it. Of one that is too long only the beginning.
+    # Its bytes, without what ends it; only the beginning of one that is too long.
     line: bytes
     is_marked: bool
     # When it was received, as the line before it says.

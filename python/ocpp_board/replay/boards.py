@@ -237,7 +237,7 @@ def understood(line: str) -> tuple[str | None, tuple[str, ...]]:
 
 
 def lines(text: IO[bytes]) -> Iterator[tuple[int, str]]:
-    """Each line with its number, without its line feed. Of a long line only the beginning."""
+    """Each line with its number, without its line feed; only the beginning of a long line."""
     number = 0
     while line := text.readline(LONGEST_LINE):
         number += 1

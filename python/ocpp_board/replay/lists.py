@@ -40,7 +40,7 @@ class Lists(NamedTuple):
     """What the lists of a transaction say. `flows`: by the beginnings of periods, in seconds since 1970."""
 
     events: list[Listed]
-    # Of the import register, and of the export register.
+    # Those of the import register, and those of the export register.
     readings: tuple[list[Placed], list[Placed]]
     flows: dict[int, Flow]
 
@@ -71,7 +71,7 @@ class Counted(Protocol):
         """The next board of a site begins."""
 
     def __call__(self, key: Key, whole: Transaction, /) -> LiveEvents:
-        """Those of a session of that board. `whole`: what its messages have."""
+        """The events of a session on that board. `whole`: what its messages have."""
 
 
 class NothingCounted:
@@ -124,7 +124,7 @@ def seconds_of(text: str) -> float:
 
 
 def lists_of(events: bytes, readings: bytes) -> Lists:
-    """What both lists of a transaction say; of an unknown one, whose lists are faults, nothing."""
+    """What both lists of a transaction say. Those of an unknown one are faults, and say nothing."""
     found, sums, is_export = Lists([], ([], []), {}), dict[int, list[int]](), False
     for line in events.decode("ascii", "replace").split("\n"):
         if line.startswith("event ") and line.endswith(" live"):

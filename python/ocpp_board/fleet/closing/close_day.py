@@ -208,7 +208,7 @@ class Closing:
         answers = (await compact.replayed(self.options.program, plan, Texts(lines))).answers
         if not all(is_change for _, is_change in answers[: len(front)]):
             raise Fault(f"site {self.site}: what was archived is not taken again")
-        # Of what was taken the answer says no more than that.
+        # The answer to what was taken says no more than that.
         return [
             Line(row, SAID if answer.startswith(b"[3,") else answer, is_change)
             for row, (answer, is_change) in zip(rows, answers[len(front) :])

@@ -22,8 +22,8 @@ from ocpp_board.fleet.database.plans import Plan, Reckoning
 from ocpp_board.fleet.database.replays import CHUNK, Replay
 from ocpp_board.limits import GREATEST_LIMITS
 
-# Of these transactions those that are archived, with the site at which that was, and with their lines, or with the
-# archive that an earlier version wrote.
+# The archived ones of these transactions: where each was archived, and its lines or the archive that an earlier version
+# wrote.
 ARCHIVED = """
 select w.station, w.transaction, coalesce(l.site, t.site) as site, l.lines, c.archive
 from unnest($2::text[], $3::text[]) as w (station, transaction)
@@ -262,7 +262,7 @@ class Late:
         async def begin() -> Begun:
             rows = await fetch(LINES, self.shard, *one)
             values = (self.rows[one[0]], rows[0]["lines"], self.lines[one], texts)
-            # Of a long session this takes its time.
+            # A long session takes its time.
             return await asyncio.to_thread(begun, *values)
 
         said = await replays.said((self, one), texts, begin)

@@ -22,7 +22,7 @@ class Stored(NamedTuple):
     size: int
     station: str
     transaction: Transaction | None
-    # Of a line of the log: its place, when it came, and by which gateway.
+    # A line of the log has its place, when it came, and the gateway that took it.
     place: int = 0
     at: datetime | None = None
     gateway: str | None = None

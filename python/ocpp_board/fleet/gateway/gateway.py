@@ -143,11 +143,11 @@ with written as (
     on conflict (station) do update set gateway = excluded.gateway, number = excluded.number returning station)
 select tell('let_in', string_agg(station, ' ')) from written
 """
-# Of these stations those that are retired, and the hashes of those that have passwords.
+# The retired ones of these stations, and the hashes of those with passwords.
 RETIRED = "select station from own_station where station = any($1) and retired is not null"
 HASHES = "select station, hash from station_password where station = any($1)"
 SERVED = "select station, gateway, number from served where station = any($1)"
-# Also of a station whose shard moves: it is asked to come again, and its password is not wrong.
+# A station is known while its shard moves: it is asked to come again, and its password is not wrong.
 PASSWORDS = """
 select p.station, hash, salt, cost, seen_at from station_password p join own_station t using (station)
 where p.station = any($1) and t.retired is null order by p.station, set_at desc
@@ -261,7 +261,7 @@ class Cell:
                     )
                 ]
                 for job in jobs:
-                    # Of several that end together one says why.
+                    # If several end together, one says why.
                     job.add_done_callback(seen)
                 try:
                     done, _ = await asyncio.wait(jobs, return_when=asyncio.FIRST_EXCEPTION)
@@ -659,7 +659,7 @@ class StationLink(Link):
             return self.close(1007, "a text that is no UTF-8")
         self.unanswered += 1
         if len(data) > LONGEST_MESSAGE:
-            # Of a text that is too long the front is too long as well, and gets the same answer.
+            # The front of a text that is too long is too long as well, and gets the same answer.
             self.gateway.own.ask(
                 self, data[: LONGEST_MESSAGE + 4].decode("utf-8", "ignore").replace("\n", " ")
             )

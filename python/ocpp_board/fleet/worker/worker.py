@@ -437,7 +437,7 @@ class Session:
                 self.answering.difference_update(done)
                 await self.tell([answers for task in done if (answers := task.result())])
             if shards or done:
-                # Of these shards some may have more, and others may have waited for their turn.
+                # Some of these shards may have more, and others may have waited for their turn.
                 self.waking.set()
                 await asyncio.sleep(began + GATHERED - clock())
 
