@@ -16,14 +16,13 @@ from ocpp_board.fleet.database.metrics import (  # noqa: E402
     HELP,
     Family,
     Health,
-    PageSeen,
-    Replaced,
     Watch,
-    WorkerSeen,
     family,
-    near_limits,
     place_of,
 )
+from ocpp_board.fleet.gateway.metrics import LATELY, Replaced  # noqa: E402
+from ocpp_board.fleet.web.metrics import PageSeen  # noqa: E402
+from ocpp_board.fleet.worker.metrics import WorkerSeen, near_limits  # noqa: E402
 from ocpp_board.fleet.worker.watched import Watched  # noqa: E402
 from ocpp_board.limits import DEFAULT_LIMITS  # noqa: E402
 from ocpp_board.replay.near_limits import Counts  # noqa: E402
@@ -111,7 +110,7 @@ def test_stations_that_connect_again_and_again(monkeypatch: pytest.MonkeyPatch) 
     for station in ("CS-1", "CS-2", "CS-1"):
         seen.add(station)
     assert seen.often() == {"CS-1": 2} and seen.total == 3
-    now[0] += metrics.LATELY - 1
+    now[0] += LATELY - 1
     seen.add("CS-2")
     assert seen.often() == {"CS-1": 2, "CS-2": 2}
     now[0] += 1

@@ -3,5 +3,6 @@
     feed          the program
     feed_sources  a file, a queue of RabbitMQ, a topic of MQTT
     feed_log      batches of events, the cells' databases, strays
+    metrics       its figures
     events        the TransactionEvents among what came
 """

@@ -33,6 +33,7 @@ from ocpp_board.fleet.database import metrics, parts
 from ocpp_board.fleet.database.connections import Fault
 from ocpp_board.fleet.feed.feed_log import Counts, Log
 from ocpp_board.fleet.feed.feed_sources import FileSource, MqttSource, Options, RabbitSource, Source
+from ocpp_board.fleet.feed.metrics import feed_watch
 from ocpp_board.logs import logforms
 from ocpp_board.words import parser_of
 
@@ -51,7 +52,7 @@ async def run(options: Options) -> int:
     client_or_fault(options.source)
     counts = Counts()
     ledger = Log(options.db, options.name, counts)
-    metrics.serve(options.metrics, metrics.feed_watch(ledger, counts))
+    metrics.serve(options.metrics, feed_watch(ledger, counts))
     source: Source = SOURCES[options.source](options, counts, ledger)
 
     def end() -> None:

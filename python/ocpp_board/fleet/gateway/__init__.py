@@ -2,6 +2,7 @@
 
     gateway       the program: connections, batches of events, answers
     websocket     one end of a WebSocket connection
+    metrics       its figures
     passwords     who may speak as a station: HTTP Basic
     station_tls   TLS with stations, and certificates that are read again
     revocations   lists of revoked certificates

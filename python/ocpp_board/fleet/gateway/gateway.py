@@ -48,6 +48,7 @@ from ocpp_board.fleet.database.connections import (
     until_ended,
     within,
 )
+from ocpp_board.fleet.gateway.metrics import Replaced, gateway_watch
 from ocpp_board.fleet.gateway.own_replay import OwnReplay
 from ocpp_board.fleet.gateway.passwords import Given, Passwords, Stored, Verdict
 from ocpp_board.fleet.database.plans import known_lines
@@ -766,7 +767,7 @@ class Gateway:
         self.let_in = 0
         # For who watches.
         self.counts = Counter[str]()
-        self.replaced = metrics.Replaced()
+        self.replaced = Replaced()
         self.jobs: set[asyncio.Task[None]] = set()
 
     def spawn(self, job: Any) -> None:
@@ -895,7 +896,7 @@ class Gateway:
         if self.options.open:
             log.warning("--open: each station of the plan is let in without a password")
         self.certificates.follow()
-        metrics.serve(self.options.metrics, metrics.gateway_watch(self))
+        metrics.serve(self.options.metrics, gateway_watch(self))
         jobs = [
             asyncio.create_task(job)
             for job in (*(cell.run() for cell in self.cells), self.own.run(), self.give_up())

@@ -6,6 +6,7 @@
     templates                        Jinja2
     api, api_queries, api_schema     the read API
     cells                            the cells' databases, as pages ask them
+    metrics                          its figures
     operators                        who may use it
     histories                        the history of a transaction
     site_pages, site_store           pages and tables of a site, and how long they are kept

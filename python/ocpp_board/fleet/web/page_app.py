@@ -22,7 +22,7 @@ from starlette.types import ASGIApp, Message, Receive, Scope, Send
 
 from ocpp_board.fleet.web.cells import Cells, Wrong
 from ocpp_board.fleet.database.connections import Fault, Unreachable
-from ocpp_board.fleet.database.metrics import PageSeen
+from ocpp_board.fleet.web.metrics import PageSeen
 from ocpp_board.fleet.web.operators import (
     CLOSES,
     SEES,

@@ -47,6 +47,7 @@ from ocpp_board.fleet.database.connections import (
     within,
 )
 from ocpp_board.fleet.database.lines import Transaction
+from ocpp_board.fleet.worker.metrics import WorkerSeen
 from ocpp_board.fleet.worker.orders import (
     CONTESTED,
     INBOXES,
@@ -136,7 +137,7 @@ class Worker:
         self.name = f"worker_{secrets.token_hex(4)}"
         # What was reported once of stations near their limits.
         self.reported = set[str]()
-        self.seen = metrics.WorkerSeen(options.hang)
+        self.seen = WorkerSeen(options.hang)
 
 
 class Session:
