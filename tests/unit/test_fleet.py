@@ -2,6 +2,8 @@
 
 import argparse
 import asyncio
+import contextlib
+import gc
 import time
 from collections.abc import Coroutine
 from datetime import datetime, timezone
@@ -519,6 +521,30 @@ def anew(monkeypatch: pytest.MonkeyPatch, *given: Given | Exception) -> str:
     made = asyncio.run(begun_anew.begun_anew("postgresql://u@a/ledger", work))
     assert all(one.is_ended for one in given[: -len(left) or None] if isinstance(one, Given))
     return made
+
+
+def test_a_host_that_nobody_waits_for_any_more_leaves_nothing_behind(
+    monkeypatch: pytest.MonkeyPatch,
+) -> None:
+    ended, unseen = list[str](), list[object]()
+
+    async def enter(host: str, *_words: object) -> Any:
+        if host != "a":
+            with contextlib.suppress(asyncio.CancelledError):
+                await asyncio.sleep(9)
+        if host == "b":
+            raise Unreachable("b: a standby")
+        return argparse.Namespace(terminate=lambda: ended.append(host))
+
+    async def run() -> None:
+        asyncio.get_running_loop().set_exception_handler(lambda _, context: unseen.append(context))
+        await database.connect("postgresql://u@a,b,c/ledger")
+        await asyncio.sleep(0.01)
+        gc.collect()
+
+    monkeypatch.setattr(database, "enter", enter)
+    asyncio.run(run())
+    assert ended == ["c"] and not unseen
 
 
 def test_work_is_begun_anew_where_its_session_is_lost(monkeypatch: pytest.MonkeyPatch) -> None:

@@ -222,6 +222,7 @@ async def session_of(dsn: str, wants_standby: bool, settings: dict[str, str]) ->
                     faults.append(fault)
     finally:
         for one in waited:
+            one.add_done_callback(drop)
             one.cancel()
     if session is None and dsn not in LET_IN:
         for one_fault in faults:
@@ -231,6 +232,12 @@ async def session_of(dsn: str, wants_standby: bool, settings: dict[str, str]) ->
         raise Unreachable("; ".join([*reasons, *map(str, faults)]))
     LET_IN.add(dsn)
     return session
+
+
+def drop(entering: asyncio.Future[Any]) -> None:
+    """Ends the session of a host that nobody waits for any more, whatever came of it."""
+    if not entering.cancelled() and not entering.exception():
+        entering.result().terminate()
 
 
 def tokens() -> Iterator[int]:
