@@ -3,8 +3,8 @@
     PGPASSWORD=.. ocpp-board operator --db postgresql://ledger_administrator@a:5432,b:5432/ledger set jo \\
         --roles sees,voids --sites north,south --reason 'new in the team' < FILE
     .. set jo --roles sees ..          other roles; what is not named stays
-    .. set jo --password .. < FILE     another password, which ends the sessions
-    .. disable jo ..                   ends sessions and tokens; `enable` lets jo in again
+    .. set jo --password .. < FILE     another password, which ends jo's sessions in browsers
+    .. disable jo ..                   ends these and jo's tokens; `enable` lets jo in again
     .. token jo --label billing --roles sees --days 365 ..
     .. revoke 7 ..                     a token by its number
     .. list

@@ -1,11 +1,11 @@
-"""Writes the sessions of a site's month as CSV, for billing: one row a session, with OCPI's names of a CDR's fields.
+"""Writes the transactions of a site's month as CSV, for billing: a row for each, with OCPI's names of a CDR's fields.
 
     PGPASSWORD=.. ocpp-board billing --db postgresql://ledger_operator@a:5432,b:5432/ledger --site north --month 2026-03
 
-`--db` is given once for each cell. A session is of the month in which it began, in the site's zone; where its start did
-not come, by its earliest event. Sessions of the log are replayed for their times; archived ones have theirs as rows.
-With `--signed FOLDER` each session with signed values has a file FOLDER/STATION.ID.xml for the transparency software of
-S.A.F.E.: its first and its last signed value with the public key.
+Give `--db` once for each cell. A transaction belongs to the month in which it began, in the site's zone; its earliest
+event decides if its start did not come. The tool replays transactions of the log for their times; archived ones have
+them as rows. With `--signed FOLDER` each transaction with signed values has a file FOLDER/STATION.ID.xml for the
+transparency software of S.A.F.E.: its first and its last signed value with the public key.
 
     start_date_time, end_date_time   UTC; empty where the start or the end did not come
     session_id, location_id, station, evse_uid (the EVSE's number; empty where none was named)

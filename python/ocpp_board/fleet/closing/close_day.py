@@ -16,7 +16,7 @@ its own file. It books a correction at the site where the period was settled, ev
 It removes repeats, as `ocpp-board compact` does, and compacts a large log first. Before it takes anything from the log
 it replays the file and the lines that are left: together they have to have the figures of the log.
 
-It may end at any time: call it again. If it loses its session with the database it begins anew, up to five times, and
+It may end at any time: call it again. If it loses its connection to the database it starts again, up to five times, and
 tries for two minutes to get one. It waits as long for another program that has the shard. It reports a line that the
 ledger took and Python can't read, and leaves its transaction in the log.
 """

@@ -12,7 +12,7 @@ ledger looks into no token; so before anything is changed, replays of the old an
 same answers and the same boards. A station that sends the original once more is answered as before; that repeat has
 the token again, until the next compaction, closing or run of --after.
 
---years keeps so many whole years of periods and sessions beside the present one. It writes what is older into FOLDER,
+--years keeps so many whole years of periods and transactions beside the present one. It writes older ones into FOLDER,
 as CSV packed by gzip, and removes it from the tables and their sums. Archives stay as they are. If somebody reads the
 history in a database transaction that stays open, it tries for two minutes, each time for a second, in which others
 wait.

@@ -4,7 +4,7 @@
 
 Give `--db` once for each cell. The gateway appends events in batches: what comes while one batch is appended is the
 next one. A batch is one insert, which waits for no disk. A worker answers an event once the event's line is in the log
-on disk. If the gateway loses its session with the database, it appends again what has no answer. A `replay` of its own
+on disk. If the gateway loses its connection to the database, it appends again what has no answer. A `replay` of its own
 answers messages that surely are no events, and these are not kept. The gateway itself keeps nothing: stations send
 again what has no answer.
 

@@ -2,21 +2,21 @@
 
     PGPASSWORD=.. ocpp-board page --db postgresql://ledger_operator@a:5432,b:5432/ledger --port 9180
 
-`--db` is given once for each cell; the page names one that does not answer, and shows the others. The first
-one has the operators, whom `ocpp-board operator` makes. TLS is nginx's, before it; `--proxy` names its address, so
-that where people come from is known. Without TLS, as in a laboratory, `--http` lets browsers keep sessions. With
-`--from-standby` what is shown comes from a standby, and costs the host that takes writes nothing.
+Give `--db` once for each cell; the page names one that does not answer, and shows the others. The first cell has the
+operators, whom `ocpp-board operator` makes. Put nginx with TLS before the page; `--proxy` names its address, so that
+the page knows where people come from. Without TLS, as in a laboratory, `--http` lets browsers keep sessions. With
+`--from-standby` the page reads from a standby, which costs the host that takes writes nothing.
 
     /                      all sites with their figures
     /site/NAME/            a site's pages, days and tables, with what archives have, and a month for billing
-    /session/STATION/ID    a session's lines with their answers, and who did what to it
-    /lacking, /refused     sessions that lack messages; what was refused
+    /session/STATION/ID    a transaction's lines with their answers, and who did what to it
+    /lacking, /refused     transactions that lack messages; what was refused
     /operate               voids, restores or erases an event: asks why, asks again, and shows the answer
     /closings              asks for the closing of a day
     /changes               what operators did, and changes of the plan
     /api/v1/               the same for programs with a token; /api/v1/openapi.json describes it
 
-It keeps nothing, and any number of it may run.
+The page keeps nothing, and any number of them may run.
 """
 
 import asyncio
