@@ -196,7 +196,7 @@ class Session:
             await listen(listener, "plan", lambda *words: self.heard_plan(words[3]))
             self.spawn(until_ended(listener))
             await self.beat_once()
-            self.seen.session = self
+            self.seen.shards = self.shards
             jobs = [self.beat(), self.keep_share(), self.read(), self.show(), self.note()]
             if self.options.metrics:
                 jobs.append(self.seen.look(self.boards.ask, lambda: list(self.shards)))
@@ -204,7 +204,7 @@ class Session:
                 self.spawn(job)
             await self.lost
         finally:
-            self.seen.session = None
+            self.seen.shards = None
             for task in self.jobs:
                 task.cancel()
             for shard in self.shards.values():
