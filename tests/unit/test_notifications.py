@@ -90,12 +90,15 @@ def test_a_worker_is_woken_for_the_first_line_of_shards_that_it_holds() -> None:
         database = argparse.Namespace(get_server_pid=lambda: 7)
         session = Session(worker.Worker(options, frozenset()), [database] * 3)
         held: Any = None
-        session.shards[7] = held
+        session.common.shards[7] = held
         for number in range(8, 1000):
-            session.wake("wake", None, 0, "", f"{number}:1 x {number}:-1 {number}")
-        assert not session.waking.is_set() and not session.woken["wake"]
+            session.numbering.wake("wake", None, 0, "", f"{number}:1 x {number}:-1 {number}")
+        assert not session.numbering.waking.is_set() and not session.numbering.woken["wake"]
         for number in range(MANY):
-            session.wake("wake", None, 0, "", f"7:{MANY - number} 8:1")
-        assert session.woken == {"wake": {7: 1}, "wake_kept": {}} and session.waking.is_set()
+            session.numbering.wake("wake", None, 0, "", f"7:{MANY - number} 8:1")
+        assert (
+            session.numbering.woken == {"wake": {7: 1}, "wake_kept": {}}
+            and session.numbering.waking.is_set()
+        )
 
     asyncio.run(job())
