@@ -222,7 +222,7 @@ def test_a_shard_that_is_opened_anew_is_given_back_another_time() -> None:
         held = Held()
         session = holding(held)
         # It offered them for long enough.
-        session.shares.passing.over_since = time.monotonic() - 2 * shards.OFFERED
+        session.passing.over_since = time.monotonic() - 2 * shards.OFFERED
         assert not await session.shares.share(6)
         assert held.released == [1, 3] and list(session.common.shards) == [0]
 
@@ -234,24 +234,20 @@ def test_shards_above_the_share_are_offered_and_given_to_who_is_ready() -> None:
         held = Held()
         session = holding(held)
         # Nobody has more than its share here, so that nothing is given, whatever somebody says.
-        assert not session.shares.passing.heard("ready 3:1")
+        assert not session.passing.heard("ready 3:1")
         assert not await session.shares.share(1) and (held.told, held.released) == ([], [])
         assert await session.shares.share(3) and held.told == ["offer 2 3"] and not held.released
         # It offers them once a second, and not at each look.
         assert await session.shares.share(3) and held.told == ["offer 2 3"]
-        assert not session.shares.passing.heard("ready 5:1") and session.shares.passing.heard(
-            "ready 3:0 x 2"
-        )
+        assert not session.passing.heard("ready 5:1") and session.passing.heard("ready 3:0 x 2")
         # Who read the log under another plan would have to read it once more.
         assert await session.shares.share(3) and not held.released
-        assert session.shares.passing.heard("ready 3:1")
+        assert session.passing.heard("ready 3:1")
         assert await session.shares.share(3) and held.released == [3]
         assert list(session.common.shards) == [0, 1]
-        assert session.shares.passing.heard("4") and session.shares.passing.heard("")
+        assert session.passing.heard("4") and session.passing.heard("")
         # Its own offers, and what nobody is ready for here, are not looked at.
-        assert not session.shares.passing.heard("offer 0") and not session.shares.passing.heard(
-            "given 3"
-        )
+        assert not session.passing.heard("offer 0") and not session.passing.heard("given 3")
 
     asyncio.run(shared())
 
@@ -259,8 +255,8 @@ def test_shards_above_the_share_are_offered_and_given_to_who_is_ready() -> None:
 def test_a_shard_passes_only_between_rounds(monkeypatch: pytest.MonkeyPatch) -> None:
     async def rested() -> None:
         session, is_committed, killed = holding(Held()), asyncio.Event(), list[int]()
-        shard = session.common.shards[2]
-        shard.is_loaded, session.numbering.woken["wake"][2] = True, 0
+        shard, numbering = session.common.shards[2], session.numbering
+        shard.is_loaded, numbering.woken["wake"][2] = True, 0
         shard.replay = argparse.Namespace(kill=lambda: killed.append(2))  # type: ignore[assignment]
 
         async def numbered(*_: Any) -> list[Any]:
@@ -268,17 +264,13 @@ def test_a_shard_passes_only_between_rounds(monkeypatch: pytest.MonkeyPatch) -> 
             return []
 
         monkeypatch.setattr(session.common, "committed", numbered)
-        assert session.numbering.next_to_read() == [shard]
-        jobs = [session.common.spawn(session.numbering.hand_over([shard]))]
+        assert numbering.next_to_read() == [shard]
+        jobs = [session.common.spawn(numbering.hand_over([shard]))]
         await asyncio.sleep(0)
         # Its lines are getting their places, so nobody knows yet up to where its log goes.
-        jobs.append(session.common.spawn(session.shares.passing.give(2)))
+        jobs.append(session.common.spawn(session.passing.give(2)))
         await asyncio.sleep(0.02)
-        assert (
-            session.common.shards[2] is shard
-            and not killed
-            and not session.numbering.next_to_read()
-        )
+        assert session.common.shards[2] is shard and not killed and not numbering.next_to_read()
         is_committed.set()
         await asyncio.gather(*jobs)
         assert 2 not in session.common.shards and killed == [2]
@@ -291,6 +283,7 @@ def test_a_station_that_is_new_makes_no_replay_begin_anew_at_once(
 ) -> None:
     async def answered() -> None:
         session, plan = holding(Held()), 1
+        answer = session.answers.answer
         shard, seen, renewed = session.common.shards[2], list[int](), list[shards.Shard]()
         shard.is_loaded = True
         shard.replay = argparse.Namespace(  # type: ignore[assignment]
@@ -303,21 +296,18 @@ def test_a_station_that_is_new_makes_no_replay_begin_anew_at_once(
             return [{"plan": plan}]
 
         monkeypatch.setattr(session.common, "ask", asked)
-        monkeypatch.setattr(session.shares.passing, "renew", renewed.append)
+        monkeypatch.setattr(session.passing, "renew", renewed.append)
         row = {"place": 3, "rows": 3, "silent": 0, "places": [1, 2, 3], "tokens": [7, 8, 9]}
         row |= {"text": "msg A {}\nmsg NEW {}\nmsg A {}", "gateways": ["g"] * 3}
         # As long as the plan has no such station, that is the answer.
         texts = ["7 [3,1]", "8 fault UnknownStation", "9 [3,1]"]
-        assert await session.answers.answer(shard, row) == (shard, [("g", text) for text in texts])
+        assert await answer(shard, row) == (shard, [("g", text) for text in texts])
         assert not renewed and seen == [1, 2, 3]
         plan = 2
-        assert await session.answers.answer(shard, row) == (
-            shard,
-            [("g", texts[0]), ("g", texts[2])],
-        )
+        assert await answer(shard, row) == (shard, [("g", texts[0]), ("g", texts[2])])
         assert renewed == [shard] and seen == [1, 2, 3, 1, 3]
         # Nobody notes that the second line was answered, nor what is behind it.
-        await session.shares.passing.follow(shard, 1, 3, 0)
+        await session.passing.follow(shard, 1, 3, 0)
         assert (shard.read, shard.told) == (3, 1)
 
     async def told_by(count: int) -> list[bytes]:
@@ -333,12 +323,12 @@ def test_only_as_many_logs_are_read_as_are_lacking(monkeypatch: pytest.MonkeyPat
         async def made(number: int) -> None:
             read.append(number)
 
-        monkeypatch.setattr(session.shares.passing, "make_ready", made)
+        monkeypatch.setattr(session.passing, "make_ready", made)
         session.shares.refused[5] = 1
-        assert session.shares.passing.heard("offer 3 4 5 6 7 8")
-        session.shares.passing.look(0, dict.fromkeys(range(9), 1))
-        session.shares.passing.look(2, dict.fromkeys(range(8), 1))
-        session.shares.passing.look(2, dict.fromkeys(range(8), 1))
+        assert session.passing.heard("offer 3 4 5 6 7 8")
+        session.passing.look(0, dict.fromkeys(range(9), 1))
+        session.passing.look(2, dict.fromkeys(range(8), 1))
+        session.passing.look(2, dict.fromkeys(range(8), 1))
         await asyncio.gather(*session.common.jobs)
         assert len(read) == 2 and set(read) < {4, 6, 7}
 

@@ -4,7 +4,7 @@
     shards        its shards, what its parts share, and how a shard passes from a replay to the next
     shares        which shards it takes, keeps, opens and lets go
     numbering     rounds: how woken lines get their places, and their answers
-    orders        what such a round asks of the database
+    orders        what rounds ask of the database
     answers       how lines are replayed, and what comes of answers
     board_writer  boards as text and as rows
     metrics       its figures

@@ -54,9 +54,8 @@ class Shares:
         self.numbering, self.late = numbering, numbering.answers.late
         self.passing = Passing(common, numbering, self)
         self.living, self.planned = 0, asyncio.Event()
-        # Shards with a held lock that are not open yet.
-        self.opening: set[int] = set()
-        self.refused: dict[int, int] = {}
+        # Shards with a held lock that are not open yet, and those that did not open, each with its plan.
+        self.opening, self.refused = set[int](), dict[int, int]()
 
     def heard_plan(self, payload: str) -> None:
         """The plan changed, or another worker passes shards on."""

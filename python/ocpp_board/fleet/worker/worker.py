@@ -81,14 +81,13 @@ class Session:
 
     def __init__(self, worker: Worker, databases: Sequence[Any]) -> None:
         self.databases, self.common = databases, Common(worker.options, worker.seen, databases)
-        # What answers lead to is made after them.
+        # A line may have a replay begin anew, by parts that are made later.
         self.answers = Answers(
-            self.common,
-            lambda shard: self.shares.reopen(shard),
-            lambda shard: self.shares.passing.renew(shard),
+            self.common, lambda one: self.shares.reopen(one), lambda one: self.passing.renew(one)
         )
         self.numbering = Numbering(self.common, self.answers)
         self.shares = Shares(worker, self.common, self.numbering)
+        self.passing = self.shares.passing
         self.boards = BoardWriter(self.common, self.numbering.is_answering, self.shares.reopen)
 
     async def run(self) -> None:
@@ -115,7 +114,7 @@ class Session:
                 task.cancel()
             for shard in common.shards.values():
                 shard.replay.kill()
-            shares.passing.close()
+            self.passing.close()
             self.answers.late.close()
             for database in self.databases:
                 database.terminate()
@@ -124,13 +123,10 @@ class Session:
 async def opened(worker: Worker) -> list[Any]:
     """The sessions of a worker, once those that it had before are ended."""
     options, databases = worker.options, list[Any]()
+    settings = {"application_name": worker.name, "synchronous_commit": "off"} | BY_INDEX
     try:
         for _ in range(4):
-            databases.append(
-                await connect(
-                    options.db, application_name=worker.name, synchronous_commit="off", **BY_INDEX
-                )
-            )
+            databases.append(await connect(options.db, **settings))
             if len(databases) == 1:
                 await within(max(ANSWER, options.hang), databases[0], "fetch", FORMER, worker.name)
     except BaseException:
