@@ -72,15 +72,15 @@ CLOCKS, TWICE = (0, 3, -400), 20
 # A worker that gives answers late.
 LATE = """
 import asyncio
-from ocpp_board.fleet.worker.worker import Session
+from ocpp_board.fleet.worker.numbering import Numbering
 
-tell = Session.tell
+tell = Numbering.tell
 
 async def late(self, answered):
     await asyncio.sleep(0.2)
     await tell(self, answered)
 
-Session.tell = late
+Numbering.tell = late
 """
 # Sessions of workers that give lines their places at the moment.
 NUMBERING = """

@@ -589,7 +589,7 @@ class Demo(Trial):
         dsn = self.fleet.dsn("ledger_worker", self.fleet.databases[0].port)
         self.workers.append(
             self.fleet.patched(
-                f"import ocpp_board.fleet.worker.worker as one; one.LONGEST_SCRIPT = {size // 2}",
+                f"import ocpp_board.fleet.worker.answers as one; one.LONGEST_SCRIPT = {size // 2}",
                 "worker", "--db", dsn, "--program", self.fleet.program, "--boards", 0.5,
             )  # fmt: skip
         )

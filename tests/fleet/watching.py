@@ -30,8 +30,8 @@ PARTS = ("worker-1", "worker-2", "gateway-1", "gateway-2", "feed", "page")
 STUCK = "import signal, time; signal.signal(signal.SIGUSR1, lambda *_: time.sleep(20))"
 SMALL = "from ocpp_board import limits; limits.LONGEST_SCRIPT = {}"
 NEVER = """
-import subprocess, ocpp_board.fleet.worker.worker as worker
-worker.run_tool = lambda *words: subprocess.CompletedProcess(words, 1, b"", b"no room")"""
+import subprocess, ocpp_board.fleet.worker.answers as answers
+answers.run_tool = lambda *words: subprocess.CompletedProcess(words, 1, b"", b"no room")"""
 # Parts that a fault begins otherwise.
 OTHERS = {
     "network": ("gateway-1",),

@@ -19,9 +19,10 @@ import asyncpg  # noqa: E402
 
 from ocpp_board.energies import Flow  # noqa: E402
 from ocpp_board.fleet.database import begun_anew, connections as database, parts  # noqa: E402
-from ocpp_board.fleet.worker import shards, worker  # noqa: E402
+from ocpp_board.fleet.worker import shards, shares, worker  # noqa: E402
 from ocpp_board.fleet.worker import watched as watching  # noqa: E402
 from ocpp_board.fleet.database.archives import Late, packed, unpacked, widened  # noqa: E402
+from ocpp_board.fleet.worker.answers import payloads_of  # noqa: E402
 from ocpp_board.fleet.worker.board_writer import Board, BoardWriter, chunks  # noqa: E402
 from ocpp_board.fleet.closing.close_day import differences  # noqa: E402
 from ocpp_board.fleet.closing.compact import pieces  # noqa: E402
@@ -63,7 +64,7 @@ from ocpp_board.fleet.database.lines import (  # noqa: E402
 from ocpp_board.fleet.worker.orders import READ, STATE, WAITS  # noqa: E402
 from ocpp_board.fleet.database.plans import Plan, Reckoning, known_lines  # noqa: E402
 from ocpp_board.fleet.database.replays import Replay, ReplayEnded  # noqa: E402
-from ocpp_board.fleet.worker.worker import Session, payloads_of  # noqa: E402
+from ocpp_board.fleet.worker.worker import Session  # noqa: E402
 from ocpp_board.messages.texts import Refused  # noqa: E402
 
 FLOW = "up=1 down=0 export_up=0 export_down=0"
@@ -141,7 +142,7 @@ def test_a_worker_whose_session_is_ended_beats_until_it_is_reported() -> None:
         session = session_with(Ended(), Ended(), Ended())
         for _ in range(2):
             with pytest.raises(asyncpg.InterfaceError):
-                await session.beat_once()
+                await session.shares.beat_once()
 
     asyncio.run(beaten())
 
@@ -168,17 +169,17 @@ def test_a_commit_that_waits_for_a_standby_is_reported_at_once_and_waited_for(
 ) -> None:
     async def committed() -> None:
         session = session_with(*(Slow(0.5, waits) for _ in range(3)))
-        session.patience = 0.2
-        job = asyncio.ensure_future(session.committed("commit"))
+        session.common.patience = 0.2
+        job = asyncio.ensure_future(session.common.committed("commit"))
         await asyncio.sleep(0.1)
-        assert (session.seen.standby_since is not None) == waits and not job.done()
+        assert (session.common.seen.standby_since is not None) == waits and not job.done()
         if waits:
-            assert await job == [] and session.seen.standby_since is None
+            assert await job == [] and session.common.seen.standby_since is None
         else:
             with pytest.raises(asyncio.TimeoutError):
                 await job
 
-    monkeypatch.setattr(worker, "WAITING", 0.01)
+    monkeypatch.setattr(shards, "WAITING", 0.01)
     asyncio.run(committed())
 
 
@@ -198,13 +199,13 @@ class Held:
         if "release_shard" in query:
             self.released += values
             assert self.session
-            self.session.shards.pop(2, None)
+            self.session.common.shards.pop(2, None)
             return []
         if query == shards.TELL_PLAN:
             self.told += values
             return []
         # Others hold what it asks for.
-        return [] if query == worker.HOLD else [{"shard": number, "plan": 1} for number in range(6)]
+        return [] if query == shares.HOLD else [{"shard": number, "plan": 1} for number in range(6)]
 
 
 def holding(held: Held) -> Session:
@@ -214,7 +215,7 @@ def holding(held: Held) -> Session:
     for number in range(4):
         replay = argparse.Namespace(kill=lambda: None)
         values: Any = (replay, ["north"], Late(number, {}, False), None)
-        session.shards[number] = shards.Shard({"shard": number, **row}, *values)
+        session.common.shards[number] = shards.Shard({"shard": number, **row}, *values)
     return session
 
 
@@ -224,8 +225,8 @@ def test_a_shard_that_is_opened_anew_is_given_back_another_time() -> None:
         session = holding(held)
         # It offered them for long enough.
         session.passing.over_since = time.monotonic() - 2 * shards.OFFERED
-        assert not await session.share(6)
-        assert held.released == [1, 3] and list(session.shards) == [0]
+        assert not await session.shares.share(6)
+        assert held.released == [1, 3] and list(session.common.shards) == [0]
 
     asyncio.run(shared())
 
@@ -236,16 +237,16 @@ def test_shards_above_the_share_are_offered_and_given_to_who_is_ready() -> None:
         session = holding(held)
         # Nobody has more than its share here, so that nothing is given, whatever somebody says.
         assert not session.passing.heard("ready 3:1")
-        assert not await session.share(1) and (held.told, held.released) == ([], [])
-        assert await session.share(3) and held.told == ["offer 2 3"] and not held.released
+        assert not await session.shares.share(1) and (held.told, held.released) == ([], [])
+        assert await session.shares.share(3) and held.told == ["offer 2 3"] and not held.released
         # It offers them once a second, and not at each look.
-        assert await session.share(3) and held.told == ["offer 2 3"]
+        assert await session.shares.share(3) and held.told == ["offer 2 3"]
         assert not session.passing.heard("ready 5:1") and session.passing.heard("ready 3:0 x 2")
         # Who read the log under another plan would have to read it once more.
-        assert await session.share(3) and not held.released
+        assert await session.shares.share(3) and not held.released
         assert session.passing.heard("ready 3:1")
-        assert await session.share(3) and held.released == [3]
-        assert list(session.shards) == [0, 1]
+        assert await session.shares.share(3) and held.released == [3]
+        assert list(session.common.shards) == [0, 1]
         assert session.passing.heard("4") and session.passing.heard("")
         # Its own offers, and what nobody is ready for here, are not looked at.
         assert not session.passing.heard("offer 0") and not session.passing.heard("given 3")
@@ -256,25 +257,25 @@ def test_shards_above_the_share_are_offered_and_given_to_who_is_ready() -> None:
 def test_a_shard_passes_only_between_rounds(monkeypatch: pytest.MonkeyPatch) -> None:
     async def rested() -> None:
         session, is_committed, killed = holding(Held()), asyncio.Event(), list[int]()
-        shard = session.shards[2]
-        shard.is_loaded, session.woken["wake"][2] = True, 0
+        shard, numbering = session.common.shards[2], session.numbering
+        shard.is_loaded, numbering.woken["wake"][2] = True, 0
         shard.replay = argparse.Namespace(kill=lambda: killed.append(2))  # type: ignore[assignment]
 
         async def numbered(*_: Any) -> list[Any]:
             await is_committed.wait()
             return []
 
-        monkeypatch.setattr(session, "committed", numbered)
-        assert session.next_to_read() == [shard]
-        jobs = [session.spawn(session.hand_over([shard]))]
+        monkeypatch.setattr(session.common, "committed", numbered)
+        assert numbering.next_to_read() == [shard]
+        jobs = [session.common.spawn(numbering.hand_over([shard]))]
         await asyncio.sleep(0)
         # Its lines are getting their places, so nobody knows yet up to where its log goes.
-        jobs.append(session.spawn(session.passing.give(2)))
+        jobs.append(session.common.spawn(session.passing.give(2)))
         await asyncio.sleep(0.02)
-        assert session.shards[2] is shard and not killed and not session.next_to_read()
+        assert session.common.shards[2] is shard and not killed and not numbering.next_to_read()
         is_committed.set()
         await asyncio.gather(*jobs)
-        assert 2 not in session.shards and killed == [2]
+        assert 2 not in session.common.shards and killed == [2]
 
     asyncio.run(rested())
 
@@ -284,7 +285,8 @@ def test_a_station_that_is_new_makes_no_replay_begin_anew_at_once(
 ) -> None:
     async def answered() -> None:
         session, plan = holding(Held()), 1
-        shard, seen, renewed = session.shards[2], list[int](), list[shards.Shard]()
+        answer = session.answers.answer
+        shard, seen, renewed = session.common.shards[2], list[int](), list[shards.Shard]()
         shard.is_loaded = True
         shard.replay = argparse.Namespace(  # type: ignore[assignment]
             write=lambda data: None, answers=told_by, is_killed=False
@@ -295,16 +297,16 @@ def test_a_station_that_is_new_makes_no_replay_begin_anew_at_once(
             assert "plan" in query
             return [{"plan": plan}]
 
-        monkeypatch.setattr(session, "ask", asked)
+        monkeypatch.setattr(session.common, "ask", asked)
         monkeypatch.setattr(session.passing, "renew", renewed.append)
         row = {"place": 3, "rows": 3, "silent": 0, "places": [1, 2, 3], "tokens": [7, 8, 9]}
         row |= {"text": "msg A {}\nmsg NEW {}\nmsg A {}", "gateways": ["g"] * 3}
         # As long as the plan has no such station, that is the answer.
         texts = ["7 [3,1]", "8 fault UnknownStation", "9 [3,1]"]
-        assert await session.answer(shard, row) == (shard, [("g", text) for text in texts])
+        assert await answer(shard, row) == (shard, [("g", text) for text in texts])
         assert not renewed and seen == [1, 2, 3]
         plan = 2
-        assert await session.answer(shard, row) == (shard, [("g", texts[0]), ("g", texts[2])])
+        assert await answer(shard, row) == (shard, [("g", texts[0]), ("g", texts[2])])
         assert renewed == [shard] and seen == [1, 2, 3, 1, 3]
         # Nobody notes that the second line was answered, nor what is behind it.
         await session.passing.follow(shard, 1, 3, 0)
@@ -324,12 +326,12 @@ def test_only_as_many_logs_are_read_as_are_lacking(monkeypatch: pytest.MonkeyPat
             read.append(number)
 
         monkeypatch.setattr(session.passing, "make_ready", made)
-        session.refused[5] = 1
+        session.shares.refused[5] = 1
         assert session.passing.heard("offer 3 4 5 6 7 8")
         session.passing.look(0, dict.fromkeys(range(9), 1))
         session.passing.look(2, dict.fromkeys(range(8), 1))
         session.passing.look(2, dict.fromkeys(range(8), 1))
-        await asyncio.gather(*session.jobs)
+        await asyncio.gather(*session.common.jobs)
         assert len(read) == 2 and set(read) < {4, 6, 7}
 
     asyncio.run(looked())
@@ -345,6 +347,7 @@ class Reading:
         self.last, self.sent, self.killed = last, list[tuple[str, str]](), list[str]()
         self.shards: dict[int, shards.Shard] = {}
         self.reopened, self.jobs = list[shards.Shard](), list[asyncio.Task[Any]]()
+        self.common, self.answers, self.renewed = self, self, set[int]()
         self.boards, self.late = self, argparse.Namespace(forget=lambda *_: None)
         self.waking, self.planned = asyncio.Event(), asyncio.Event()
         self.refused: dict[int, int] = {}
@@ -388,7 +391,7 @@ class Reading:
 def test_a_replay_that_is_ready_answers_what_the_one_before_it_may_not_have() -> None:
     async def taken() -> None:
         own: Any = Reading(6)
-        passing = shards.Passing(own)
+        passing = shards.Passing(own, own, own)
         shard = await passing.read(1)
         assert shard and shard.read == 6 and not own.sent
         # Others noted that the fourth was answered; two more came since, which are read from the log.
@@ -404,7 +407,7 @@ def test_a_plan_that_the_program_refuses_is_tried_once(monkeypatch: pytest.Monke
     async def tried() -> None:
         own: Any = Reading(6)
         monkeypatch.setattr(own, "begun", refuse)
-        assert await shards.Passing(own).read(1) is None and own.refused == {1: 1}
+        assert await shards.Passing(own, own, own).read(1) is None and own.refused == {1: 1}
 
     async def refuse(*_: Any) -> None:
         raise Fault("the program knows no such lines")
@@ -415,7 +418,7 @@ def test_a_plan_that_the_program_refuses_is_tried_once(monkeypatch: pytest.Monke
 def test_a_replay_follows_another_one_once_that_has_answered_its_lines() -> None:
     async def renewed() -> None:
         own: Any = Reading(9)
-        passing = shards.Passing(own)
+        passing = shards.Passing(own, own, own)
         old = own.shards[1] = own.shard(dict(ROW, told=5, last=9), "old")
         old.read, old.told, old.is_loaded, old.is_answering = 9, 9, True, True
         passing.renew(old)
@@ -430,7 +433,7 @@ def test_a_replay_follows_another_one_once_that_has_answered_its_lines() -> None
         assert fresh is not old and own.killed == ["old"] and not own.reopened
         # It reads the tenth line from the log, which needs no answer.
         assert (fresh.taken, fresh.read, fresh.last, fresh.told) == (7, 9, 10, 10)
-        assert not own.sent and not passing.renewed
+        assert not own.sent and not own.renewed
 
     asyncio.run(renewed())
 
@@ -438,7 +441,7 @@ def test_a_replay_follows_another_one_once_that_has_answered_its_lines() -> None
 def test_a_line_of_a_station_that_is_new_is_answered_by_the_next_replay() -> None:
     async def answered() -> None:
         own: Any = Reading(6)
-        passing = shards.Passing(own)
+        passing = shards.Passing(own, own, own)
         old = own.shards[1] = own.shard(dict(ROW, told=2, last=6), "old")
         old.is_loaded = True
         # The fifth line is of a station that is new. What this replay answers behind it comes once more, too.
@@ -726,7 +729,8 @@ def test_a_statement_that_waits_for_its_turn_is_not_begun() -> None:
             return self.answered()
 
     async def run() -> object:
-        writer = BoardWriter(Session(), lambda: False)  # type: ignore[arg-type]
+        common: Any = argparse.Namespace(boards=Session(), shards={}, options=None)
+        writer = BoardWriter(common, lambda: False, lambda _: None)
         async with writer.turn:
             waiting = asyncio.create_task(writer.ask("first"))
             await asyncio.sleep(0)

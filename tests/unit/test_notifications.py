@@ -88,14 +88,14 @@ def test_a_worker_is_woken_for_the_first_line_of_shards_that_it_holds() -> None:
     async def job() -> None:
         options = worker.Options("", "none", beat=0.2, hang=1.0, boards=2.0, metrics=None)
         database = argparse.Namespace(get_server_pid=lambda: 7)
-        session = Session(worker.Worker(options, frozenset()), [database] * 3)
+        numbering = Session(worker.Worker(options, frozenset()), [database] * 3).numbering
         held: Any = None
-        session.shards[7] = held
+        numbering.shards[7] = held
         for number in range(8, 1000):
-            session.wake("wake", None, 0, "", f"{number}:1 x {number}:-1 {number}")
-        assert not session.waking.is_set() and not session.woken["wake"]
+            numbering.wake("wake", None, 0, "", f"{number}:1 x {number}:-1 {number}")
+        assert not numbering.waking.is_set() and not numbering.woken["wake"]
         for number in range(MANY):
-            session.wake("wake", None, 0, "", f"7:{MANY - number} 8:1")
-        assert session.woken == {"wake": {7: 1}, "wake_kept": {}} and session.waking.is_set()
+            numbering.wake("wake", None, 0, "", f"7:{MANY - number} 8:1")
+        assert numbering.woken == {"wake": {7: 1}, "wake_kept": {}} and numbering.waking.is_set()
 
     asyncio.run(job())

@@ -9,8 +9,9 @@ import asyncio
 from collections.abc import Callable, Coroutine, Mapping
 from typing import Any, NamedTuple, TypeVar
 
-from ocpp_board.fleet.database.connections import Asked
 from ocpp_board.fleet.database.figures import PARTS, Parts, blocks, new_rows
+from ocpp_board.fleet.database.replays import ReplayEnded
+from ocpp_board.fleet.worker.shards import Common, Shard
 
 BOARD = "select show_board($1, $2, $3, $4, $5, $6, $7) as is_shown"
 STATIONS = "select show_stations($1, $2, $3, $4, $5, $6, $7, $8, $9, $10, $11) as left_out"
@@ -20,6 +21,8 @@ MOST_ROWS = 1000
 # What was made or written is followed by a pause of so many times what that took, while answers are given and else:
 # answers come first, and where the machine is busy boards are written less often.
 PAUSE, IDLE_PAUSE = 9, 1
+# How many shards' boards are made at once.
+SHOWN = 8
 
 
 class Shown:
@@ -67,11 +70,50 @@ def chunks(board: Board, shown: Mapping[str, tuple[int, str]]) -> list[Chunk]:
 
 
 class BoardWriter:
-    """The session that writes boards."""
+    """Has the boards of shards that changed written. `reopen` begins a replay anew that ended meanwhile."""
 
-    def __init__(self, session: Asked, is_answering: Callable[[], bool]) -> None:
-        self.session, self.is_answering = session, is_answering
-        self.turn = asyncio.Lock()
+    def __init__(
+        self, common: Common, is_answering: Callable[[], bool], reopen: Callable[[Shard], None]
+    ) -> None:
+        self.common, self.shards, self.options = common, common.shards, common.options
+        self.is_answering, self.reopen = is_answering, reopen
+        self.turn, self.showing = asyncio.Lock(), asyncio.Semaphore(SHOWN)
+
+    async def show(self) -> None:
+        """Has the boards of shards that changed written."""
+        clock = asyncio.get_running_loop().time
+        while True:
+            await asyncio.sleep(0.1)
+            for shard in self.shards.values():
+                # A shard that has not read its log to the end once would show less than is known.
+                is_new = shard.changed and shard.is_loaded and not shard.is_showing
+                if is_new and clock() >= shard.due:
+                    shard.is_showing = True
+                    self.common.spawn(self.show_one(shard))
+
+    async def show_one(self, shard: Shard) -> None:
+        """Writes the boards of a shard, one after the other, by what is new since those that it wrote before."""
+        async with self.showing:
+            try:
+                async with shard.busy:
+                    shard.changed, place = False, shard.read
+                    texts = [
+                        await asyncio.wait_for(shard.replay.board(site), self.options.hang)
+                        for site in shard.sites
+                    ]
+            except (ReplayEnded, OSError, asyncio.TimeoutError):
+                self.common.seen.counts["replays_ended"] += self.shards.get(shard.number) is shard
+                self.reopen(shard)
+                return
+            for site, text in zip(shard.sites, texts):
+                if self.shards.get(shard.number) is shard:
+                    shown = shard.shown.setdefault(site, Shown())
+                    board = Board(shard.number, site, place, shard.plan, text.decode())
+                    had = shown.place
+                    if not await self.write(board, shown) and had is not None:
+                        # Another worker wrote some, or the plan changed: these whole next time.
+                        shard.changed = True
+        shard.is_showing, shard.due = False, asyncio.get_running_loop().time() + self.options.boards
 
     async def in_turn(self, job: Callable[[], Coroutine[Any, Any, T]]) -> T:
         """What a job gives, which is begun in its turn and is followed by a pause."""
@@ -85,7 +127,7 @@ class BoardWriter:
 
     async def ask(self, query: str, *values: object) -> Any:
         """What a statement gives."""
-        return (await self.in_turn(lambda: self.session.ask(query, *values)))[0][0]
+        return (await self.in_turn(lambda: self.common.boards.ask(query, *values)))[0][0]
 
     async def write(self, board: Board, shown: Shown) -> bool:
         """Writes a board, and notes in `shown` what it wrote. False where not all of it could be."""

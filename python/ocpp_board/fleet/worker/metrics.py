@@ -4,7 +4,7 @@ import asyncio
 import logging
 import time
 from collections import Counter
-from collections.abc import Awaitable, Callable, Iterable, Iterator
+from collections.abc import Awaitable, Callable, Iterable, Iterator, Mapping
 from typing import TYPE_CHECKING, Any
 
 import asyncpg
@@ -16,7 +16,6 @@ from ocpp_board.replay.near_limits import NAMES as LIMITS
 
 if TYPE_CHECKING:
     from ocpp_board.fleet.worker.shards import Shard
-    from ocpp_board.fleet.worker.worker import Session
 
 log = logging.getLogger(__name__)
 
@@ -38,7 +37,8 @@ class WorkerSeen:
     def __init__(self, hang: float) -> None:
         self.hang = hang
         self.counts = Counter[str]()
-        self.session: "Session | None" = None
+        # The shards that it holds; nothing where it has no sessions with the database.
+        self.shards: Mapping[int, Shard] | None = None
         self.beat = time.monotonic()
         self.standby_since: float | None = None
         self.queue = 0.0
@@ -84,18 +84,18 @@ class WorkerSeen:
 
     def health(self) -> Health:
         """A worker is well where it has its sessions, and noted lately that it lives."""
-        session, age = self.session, time.monotonic() - self.beat
-        shards = len(session.shards) if session else 0
-        is_well = session is not None and age < self.hang
+        held, age = self.shards, time.monotonic() - self.beat
+        is_well = held is not None and age < self.hang
         return Health(
-            is_well, {"connected": session is not None, "beat": round(age, 1), "shards": shards}
+            is_well,
+            {"connected": held is not None, "beat": round(age, 1), "shards": len(held or ())},
         )
 
     def figures(self) -> Iterator[Family]:
         """The figures of a worker, by what it holds and what it saw last."""
-        now, session = time.monotonic(), self.session
-        shards = list(session.shards.values()) if session else []
-        yield family("worker_connected", session is not None)
+        now, held = time.monotonic(), self.shards
+        shards = list((held or {}).values())
+        yield family("worker_connected", held is not None)
         yield family("worker_beat_age_seconds", now - self.beat)
         yield family("worker_shards", len(shards), cell=self.cell.get("cell", ""))
         waits = 0.0 if self.standby_since is None else now - self.standby_since
@@ -118,7 +118,7 @@ class WorkerSeen:
         yield family("shard_limit_bytes", LONGEST_SCRIPT)
         yield family_by("shard_plan", "shard", {shard.number: shard.plan for shard in shards})
         yield near_limits(shards)
-        if session:
+        if held is not None:
             yield from self.figures_of_database()
 
     def figures_of_database(self) -> Iterator[Family]:

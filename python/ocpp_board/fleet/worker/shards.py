@@ -1,4 +1,5 @@
-"""The shards that a worker holds, and how a shard passes from one replay to the next while its stations go on.
+"""The shards that a worker holds, by sessions with the database that all its parts share, and how a shard passes from
+one replay to the next while its stations go on.
 
 The replay of a shard begins anew if its plan changed, and a worker that has fewer than its share gets a shard of
 another one. Whoever answers goes on until the next replay has read the log, so stations wait for some lines, and not
@@ -19,19 +20,22 @@ import asyncio
 import logging
 import random
 import time
-from collections.abc import Iterable, Mapping
+from collections.abc import Coroutine, Iterable, Mapping, Sequence
 from typing import TYPE_CHECKING, Any
 
 from ocpp_board.fleet.database.archives import Late
-from ocpp_board.fleet.database.connections import Fault, by_shard, is_number
-from ocpp_board.fleet.worker.orders import END, PROGRESS, READ, STATE
+from ocpp_board.fleet.database.connections import Asked, Fault, by_shard, is_number, seen
+from ocpp_board.fleet.worker.orders import END, PROGRESS, READ, STATE, WAITS
 from ocpp_board.fleet.database.replays import Replay, ReplayEnded
 from ocpp_board.fleet.worker.surplus import Surplus
 from ocpp_board.fleet.worker.watched import Watched
 
 if TYPE_CHECKING:
     from ocpp_board.fleet.worker.board_writer import Shown
-    from ocpp_board.fleet.worker.worker import Session
+    from ocpp_board.fleet.worker.metrics import WorkerSeen
+    from ocpp_board.fleet.worker.numbering import Numbering
+    from ocpp_board.fleet.worker.shares import Shares
+    from ocpp_board.fleet.worker.worker import Options
 
 log = logging.getLogger(__name__)
 
@@ -42,6 +46,9 @@ OFFERED, OFFERS, HOLDS, READY = 30.0, 1.0, 3.0, 20.0
 READING, LOOKS = 2, 0.005
 # Shards that a worker remembers of offers, and those of one offer.
 REMEMBERED, MOST_OFFERED = 1_000, 100
+# Seconds that the database has for an answer at least, however soon workers that hang are ended; and seconds until a
+# worker looks whether a commit waits for a standby.
+ANSWER, WAITING = 10.0, 1.0
 GIVE = "select release_shard($1), tell('plan', 'given ' || $1::text)"
 TELL_PLAN = "select tell('plan', $1)"
 
@@ -88,17 +95,74 @@ class Shard:
         self.told = max(self.told, min(place, self.withheld - 1))
 
 
-Answers = tuple[Shard, list[tuple[str, str]]]
+# A shard, with answers that gateways wait for.
+Answered = tuple[Shard, list[tuple[str, str]]]
+
+
+class Common:
+    """Sessions with the database, the shards that one of them holds, and jobs; what ends the one ends the others."""
+
+    def __init__(self, options: "Options", seen: "WorkerSeen", databases: Sequence[Any]) -> None:
+        self.options, self.seen = options, seen
+        # The server's process of the session that holds the shards, which a session that was ended no longer says.
+        self.pid = databases[0].get_server_pid()
+        self.patience = max(ANSWER, options.hang)
+        # One holds the shards, moves their lines and answers; its commits may wait for a standby. So beats have
+        # another one, and boards, which are many rows, a third. A fourth listens, and is slow while many notifications
+        # come.
+        self.holder, self.beats, self.boards = (Asked(one, self.patience) for one in databases[:3])
+        # Whether the queue of notifications has so much in it that what goes there comes late.
+        self.is_queue_slow = False
+        self.shards: dict[int, Shard] = {}
+        self.jobs: set[asyncio.Task[Any]] = set()
+        self.lost: asyncio.Future[None] = asyncio.get_running_loop().create_future()
+
+    def spawn(self, job: Coroutine[Any, Any, Any]) -> asyncio.Task[Any]:
+        """A task; its fault ends the session."""
+        task = asyncio.create_task(job)
+        self.jobs.add(task)
+        task.add_done_callback(self.ended)
+        return task
+
+    def ended(self, task: asyncio.Task[Any]) -> None:
+        """A task ended; its fault ends the session."""
+        self.jobs.discard(task)
+        if not task.cancelled() and (fault := task.exception()) and not self.lost.done():
+            self.lost.set_exception(fault)
+
+    async def ask(self, query: str, *values: Any) -> Any:
+        """One statement of the session that holds the shards."""
+        return await self.holder.ask(query, *values)
+
+    async def committed(self, query: str, *values: Any) -> Any:
+        """The same, with a commit that is waited for as long as it waits for a standby: another session would wait
+        behind it, and one more each time. It is reported from the first second on that it waits."""
+        async with self.holder.using:
+            job = asyncio.ensure_future(self.holder.database.fetch(query, *values))
+            began = last = time.monotonic()
+            job.add_done_callback(seen)
+            while not (await asyncio.wait([job], timeout=WAITING))[0]:
+                if await self.beats.ask(WAITS, self.pid):
+                    last = time.monotonic()
+                    self.seen.waits_since(began)
+                elif time.monotonic() > last + self.patience:
+                    raise asyncio.TimeoutError(f"no answer in {self.patience:g} seconds")
+            self.seen.standby_since = None
+            return job.result()
+
+    async def read_state(self, numbers: list[int]) -> dict[int, Any]:
+        """The state of shards, once they are taken."""
+        return {row["shard"]: row for row in await self.ask(STATE, numbers)}
 
 
 class Passing:
     """What passes between the replays of a worker, and between workers."""
 
-    def __init__(self, session: "Session") -> None:
-        self.session = session
-        # Shards with a replay that begins anew, those of others with a log that is read, and those that are ready.
-        self.renewed, self.reading = set[int](), set[int]()
-        self.ready: dict[int, Shard] = {}
+    def __init__(self, common: Common, numbering: "Numbering", shares: "Shares") -> None:
+        self.common, self.held, self.shares = common, common.shards, shares
+        self.numbering, self.answers, self.renewed = numbering, numbering.answers, numbering.renewed
+        # Shards of others with a log that is read, and those that are ready.
+        self.reading, self.ready = set[int](), dict[int, Shard]()
         # Shards that others offer, each with the moment, and those of this worker that others are ready for, each with
         # the plan.
         self.offered: dict[int, float] = {}
@@ -115,12 +179,12 @@ class Passing:
             return True
         if kind == "ready":
             plans = by_shard(" ".join(words))
-            self.wanted |= {one: plans[one] for one in plans.keys() & self.session.shards.keys()}
+            self.wanted |= {one: plans[one] for one in plans.keys() & self.held.keys()}
             return bool(self.wanted) and self.over_since is not None
         numbers = {int(word) for word in words if is_number(word)}
         if kind == "given":
             return bool(numbers & self.ready.keys())
-        numbers -= self.session.shards.keys()
+        numbers -= self.held.keys()
         if len(self.offered) + len(numbers) < REMEMBERED:
             self.offered.update(dict.fromkeys(numbers, time.monotonic()))
         return bool(numbers)
@@ -129,17 +193,17 @@ class Passing:
 
     def renew(self, shard: Shard) -> None:
         """Begins the replay of a shard that is held anew; the earlier one answers until it has read the log."""
-        if self.session.shards.get(shard.number) is not shard or shard.number in self.renewed:
+        if self.held.get(shard.number) is not shard or shard.number in self.renewed:
             return
         if shard.is_opening:
-            self.session.reopen(shard)
+            self.shares.reopen(shard)
         else:
             self.renewed.add(shard.number)
-            self.session.spawn(self.renew_one(shard))
+            self.common.spawn(self.renew_one(shard))
 
     async def renew_one(self, shard: Shard) -> None:
         """The same, once its turn comes."""
-        number, held, fresh = shard.number, self.session.shards, None
+        number, held, fresh = shard.number, self.held, None
         try:
             async with self.places:
                 if held.get(number) is shard:
@@ -150,18 +214,18 @@ class Passing:
                 shard.replay.kill()
                 await self.follow(fresh, shard.taken, shard.last, shard.told)
             else:
-                self.session.reopen(shard)
+                self.shares.reopen(shard)
         finally:
             self.renewed.discard(number)
             # The plan may have changed once more.
-            self.session.planned.set()
+            self.shares.planned.set()
             if fresh and held.get(number) is not fresh:
                 fresh.replay.kill()
 
     async def rest(self, shard: Shard) -> None:
         """Has no more rounds have a shard, and waits for the end of the one that has it."""
         shard.is_passing = True
-        while shard.is_answering and self.session.shards.get(shard.number) is shard:
+        while shard.is_answering and self.held.get(shard.number) is shard:
             await asyncio.sleep(LOOKS)
 
     async def follow(self, shard: Shard, taken: int, last: int, told: int) -> None:
@@ -172,37 +236,37 @@ class Passing:
         unsaid = [one for place, part in shard.unsaid if place > told for one in part]
         shard.unsaid.clear()
         shard.has_followed = shard.is_answering = True
-        self.session.late.forget(shard.number, shard.late)
-        self.session.begin(shard)
-        await self.session.send(unsaid)
+        self.answers.late.forget(shard.number, shard.late)
+        self.shares.begin(shard)
+        await self.answers.send(unsaid)
         shard.answered_to(shard.read)
         shard.is_answering = False
-        self.session.waking.set()
+        self.numbering.waking.set()
 
     async def read(self, number: int) -> Shard | None:
         """A replay that has read a shard's log, while somebody else answers; nothing where that can't be."""
-        ask, shard = self.session.boards.ask, None
+        ask, shard = self.common.boards.ask, None
         try:
             for row in await ask(STATE, [number]):
-                shard = await self.session.begun(row, ask)
+                shard = await self.shares.begun(row, ask)
             clock = asyncio.get_running_loop().time
             while shard:
                 began = clock()
                 rows = await ask(READ, [number], [shard.read], [END], [shard.told])
                 if not rows:
                     return shard
-                if (found := await self.session.answer(shard, rows[0])) is None:
+                if (found := await self.answers.answer(shard, rows[0])) is None:
                     break
                 if found[1]:
                     shard.unsaid.append((shard.read, found[1]))
-                if self.session.is_answering():
+                if self.numbering.is_answering():
                     # There is no hurry, and answers come first.
                     await asyncio.sleep(clock() - began)
         except (Fault, ReplayEnded, OSError) as fault:
             log.warning("shard %d: no replay could be made ready: %s", number, fault)
             if isinstance(fault, Fault):
                 # It is left alone until its plan changes.
-                self.session.refused[number] = row["plan"]
+                self.shares.refused[number] = row["plan"]
         except BaseException:
             if shard:
                 shard.replay.kill()
@@ -223,7 +287,7 @@ class Passing:
             return False
         if self.over_since is None:
             self.over_since = now
-        wanted = [one for one in self.session.shards if self.wanted.get(one, -1) == plans.get(one)]
+        wanted = [one for one in self.held if self.wanted.get(one, -1) == plans.get(one)]
         leaving = over if now > self.over_since + OFFERED else wanted[: len(over)]
         if wanted:
             self.over_since = now
@@ -234,22 +298,21 @@ class Passing:
         if rest and now > self.next_offer:
             self.next_offer = now + OFFERS
             numbers = map(str, rest[:MOST_OFFERED])
-            await self.session.beats.ask(TELL_PLAN, " ".join(["offer", *numbers]))
+            await self.common.beats.ask(TELL_PLAN, " ".join(["offer", *numbers]))
         return bool(rest)
 
     async def give(self, number: int) -> None:
         """Gives a shard to whoever takes it. One that is just opened anew is left another time."""
-        session = self.session
-        if not (shard := session.shards.get(number)):
+        if not (shard := self.held.get(number)):
             return
         await self.rest(shard)
-        if session.shards.get(number) is not shard:
+        if self.held.get(number) is not shard:
             return
-        del session.shards[number]
+        del self.held[number]
         shard.replay.kill()
         if shard.told != shard.noted:
-            await session.ask(PROGRESS, [number], [shard.told], [shard.bytes])
-        await session.ask(GIVE, number)
+            await self.common.ask(PROGRESS, [number], [shard.told], [shard.bytes])
+        await self.common.ask(GIVE, number)
 
     def in_order(self, free: Iterable[int]) -> list[int]:
         """Shards as they are taken: first those that this worker is ready for."""
@@ -261,14 +324,14 @@ class Passing:
         now = time.monotonic()
         for number, shard in list(self.ready.items()):
             is_old = now > shard.ready_since + READY
-            if number in self.session.opening:
+            if number in self.shares.opening:
                 continue
             if lacking <= 0 or plans.get(number) != shard.plan or is_old:
                 del self.ready[number]
                 shard.replay.kill()
         self.offered = {one: at for one, at in self.offered.items() if now < at + HOLDS}
-        there = self.session.shards.keys() | self.session.opening | self.reading | self.ready.keys()
-        refused = self.session.refused
+        there = self.held.keys() | self.shares.opening | self.reading | self.ready.keys()
+        refused = self.shares.refused
         others = [
             one
             for one in self.offered
@@ -277,7 +340,7 @@ class Passing:
         random.shuffle(others)
         for number in others[: max(0, lacking - len(self.reading) - len(self.ready))]:
             self.reading.add(number)
-            self.session.spawn(self.make_ready(number))
+            self.common.spawn(self.make_ready(number))
 
     async def make_ready(self, number: int) -> None:
         """Reads the log of a shard that another worker offers."""
@@ -288,7 +351,7 @@ class Passing:
             self.reading.discard(number)
         if shard:
             self.ready[number], shard.ready_since = shard, time.monotonic()
-            await self.session.beats.ask(TELL_PLAN, f"ready {number}:{shard.plan}")
+            await self.common.beats.ask(TELL_PLAN, f"ready {number}:{shard.plan}")
 
     def close(self) -> None:
         """Ends what is ready."""
