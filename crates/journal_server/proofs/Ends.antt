@@ -129,6 +129,7 @@ its_script front sites stations firsts before left tells none of_plan restored e
           let long = length-map (of_station k log) (λ (x : Entry). x.command) in
           omega (arith, counted, more, held, long);
       texts = e.texts;
+      browsed = e.browsed;
       told = e.told;
       ended = ended;
       shown = record {
@@ -182,6 +183,7 @@ script_behind front sites stations firsts before begun head left tells begins s 
   each = s.each;
   given = s.given;
   texts = s.texts;
+  browsed = s.browsed;
   told = s.told;
   ended = s.ended;
   shown = s.shown;
@@ -200,6 +202,7 @@ telling front sites stations firsts before left tells more on s = record {
   each = s.each;
   given = s.given;
   texts = s.texts;
+  browsed = s.browsed;
   told = on s.log s.told;
   ended = s.ended;
   shown = s.shown;
@@ -226,7 +229,7 @@ pub ended_as : (name name' : ℕ → List ℕ) (first first' : ℕ → Content) 
 ended_as name name' first first' before before' sites stations left tells more n f b on e =
     subst (λ x. IsEnded name' first' x sites stations left more) b
     (subst (λ x. IsEnded name' x before sites stations left more) f (subst (λ x. IsEnded x first before sites stations left more) n
-    (record { cells = e.cells; seen = e.seen; written = e.written; texts = e.texts; told = on e.written.log e.told; given = e.given; count = e.count; limits = e.limits; is = e.is })))
+    (record { cells = e.cells; seen = e.seen; written = e.written; texts = e.texts; browsed = e.browsed; told = on e.written.log e.told; given = e.given; count = e.count; limits = e.limits; is = e.is })))
 
 -- what holds of each of two lists together holds of each of the first, and of the second
 pub all_front : {X : Type 0} (P : X → Type 0) (xs ys : List X) → All P (xs ++ ys) → All P xs

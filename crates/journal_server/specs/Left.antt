@@ -4,8 +4,8 @@ use Rattle.station_cell.specs.Cell.{Held}
 use Rattle.journal_server.specs.declared.run.Served.{Served}
 
 -- The result of a server: the bytes that the writer of its journal has, those that its buffer kept,
--- whether a write failed, the boards, the passes, and how many texts of stations were answered with
--- an accepted change.
+-- whether a write failed, the boards, the passes, how many texts of stations were answered with
+-- an accepted change, and how many boards browsers got.
 pub record Left : Type 0 where
   pub now : Option (List ℕ)
   pub buffer : List ℕ
@@ -13,6 +13,7 @@ pub record Left : Type 0 where
   pub boards : List ℕ
   pub passes : List Held
   pub answers : ℕ
+  pub browsed : ℕ
 
 -- The same of a value, at a writer of these contents.
 abbrev pub left_of : {W T : Type 0} → (W → Option (List ℕ)) → Served W T → Left
@@ -23,4 +24,5 @@ left_of contents s = record {
   boards = s.boards.items;
   passes = s.passes.items;
   answers = s.answers;
+  browsed = s.browsed;
 }

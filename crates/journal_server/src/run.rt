@@ -5,6 +5,8 @@ ghost use Rattle.kept_desk.specs.Opened.{contents_of, names_of};
 ghost use Rattle.site_book.specs.Tables.{HasTable, NamedBy};
 ghost use Rattle.site_desk.specs.Plan.{plan_fault};
 ghost use Rattle.site_desk.specs.Roster.{AreCellsOf, AreNewPlaces};
+ghost use Rattle.kept_desk.specs.Kept.{AreBoardsBehind};
+ghost use Rattle.live_server.specs.Browsing.{IsSeenWithBoards};
 ghost use Rattle.journal_server.specs.Left.{left_of};
 ghost use Rattle.live_server.specs.Told.{operator_input};
 ghost use Rattle.journal_server.specs.Served.{IsEnded, IsItsScript, IsKeptAnswer, Leaves, TellsNew};
@@ -43,6 +45,8 @@ pub struct Served<W, T> {
     pub passes: Vec<Pass>,
     /// How many texts of stations were answered with an accepted change.
     pub answers: usize,
+    /// How many boards browsers got.
+    pub browsed: usize,
     /// How the operator's lines ended.
     pub ended: Result<(), ServiceFault>,
     /// The console, which took the lines of the ports and the answers to the operator.
@@ -250,6 +254,7 @@ fn end_run<J: Naming + Send + Sync, K: Opening + Send + Sync, W: Write + Drop, T
     requires sites { kept.sites ≡ length plan.now.sites.items }
     requires faultless { plan_fault plan.now.sites.items plan.now.stations.items ≡ None }
     requires answered { All (IsAnswered (IsKeptAnswer K.first)) ran.answers.items }
+    requires browsed { All (IsSeenWithBoards (AreBoardsBehind K.first kept.stations)) ran.boards.items }
     ensures { IfOk result (λ s. IsEnded K.name K.first K.before plan.now.sites.items plan.now.stations.items (left_of W.contents s)
         (λ log. (s.console ≡ ran.output) × OnOk s.ended (IsOk ran.ended) × IfOk ran.ended (λ seen. All (λ m. IsPrefix m log) seen.items))) }
 {
@@ -257,12 +262,15 @@ fn end_run<J: Naming + Send + Sync, K: Opening + Send + Sync, W: Write + Drop, T
         passes,
         viewers,
         answers: texts,
+        boards: browsed_boards,
         ended,
         output: console,
     } = ran;
     let answers = texts.len();
+    let browsed = browsed_boards.len();
     let (ended, seen) = seen_of(alloc, ended);
-    let moments = with_more(seen, texts)?;
+    let more = with_more(seen, texts)?;
+    let moments = with_more(more, browsed_boards)?;
     let mut boards = Vec::new(alloc);
     let closed = match kept.close(passes, viewers, moments) {
         Ok(closed) => closed,
@@ -279,6 +287,7 @@ fn end_run<J: Naming + Send + Sync, K: Opening + Send + Sync, W: Write + Drop, T
         boards,
         passes: closed.closed.into_passes(),
         answers,
+        browsed,
         ended,
         console,
     })

@@ -70,6 +70,7 @@ pub fn simulate<R: AllocGlobal + Host + RandomSource, T: Write + Drop>(
         boards,
         passes,
         answers,
+        browsed,
         ended,
         console: _,
     } = served;
@@ -80,6 +81,7 @@ pub fn simulate<R: AllocGlobal + Host + RandomSource, T: Write + Drop>(
         boards,
         passes,
         answers,
+        browsed,
         ended,
         console,
     })

@@ -1,9 +1,9 @@
 //! Boards in a browser: a listener of its own, one request at a time, and no request changes anything.
-ghost use Rattle.std.specs.Prelude.{◌≡◌, ◌++◌, IfOk, OnOk};
+ghost use Rattle.std.specs.Prelude.{◌≡◌, ◌++◌, All, IfOk, IfSome, OnOk};
 ghost use Rattle.std.specs.List.{position};
 ghost use Rattle.std.specs.Str.{bytes_eq};
 ghost use Rattle.live_server.specs.declared.reply.Status.{Status};
-ghost use Rattle.live_server.specs.Browsing.{IsBoardAnswer, IsBrowsed, site_link, sites_page};
+ghost use Rattle.live_server.specs.Browsing.{IsBoardAnswer, IsBrowsed, IsSeenWithBoards, site_link, sites_page};
 ghost use Rattle.live_server.specs.Responses.{html, response_bytes, status_bytes};
 
 use crate::acceptor::Acceptor;
@@ -11,7 +11,6 @@ use crate::connection::{Connection, ConnectionStream, Patience};
 use crate::reply::{Status, response};
 use crate::request::{Request, read_request};
 use crate::shared::Shared;
-use board_report::running_board;
 use ledger_model::Name;
 use running_desk::{Running, Serves, site_of};
 use site_desk::Plan;
@@ -20,8 +19,10 @@ use std::alloc::{AllocError, Global};
 use std::io;
 use std::io::{ErrorKind, Read, Write};
 use std::net::TcpStream;
+use std::snapshot::Snapshot;
 use std::sync::Wait;
 use std::sync::atomic::AtomicBool;
+use std::thread::Promise;
 use std::time::Clock;
 
 // How many bytes the head of a request may have.
@@ -46,49 +47,102 @@ const NO_MEMORY: &[u8] =
     b"HTTP/1.1 503 Service Unavailable\r\nContent-Length: 0\r\nConnection: close\r\n\r\n";
 
 impl<S: Serves, R: Wait + Clock, L: Write + Drop> Shared<'_, S, R, L> {
-    // Answers one request after the other until the server closes.
-    pub(crate) fn serve_boards(&self, acceptor: &Acceptor<'_>) {
+    // Answers one request after the other until the server closes. Returns what was seen of the desk's journal with the
+    // boards; what finds no memory is let go.
+    pub(crate) fn serve_boards(&self, acceptor: &Acceptor<'_>) -> Vec<S::Seen>
+        ensures { All (IsSeenWithBoards (S.shows self.now.running.serves.now)) result.items }
+    {
+        let mut seen = Vec::new(self.alloc);
         for _ in self.rt.forever() {
             let Some(stream) = acceptor.next(self.rt, &self.workers.closing) else {
                 acceptor.leave();
-                return;
+                break;
             };
-            self.serve_request(stream);
+            if let Some(own) = self.serve_request(stream) {
+                keep(self.running.serves, &mut seen, own);
+            }
         }
+        seen
     }
 
-    // Reads a request and writes its answer.
-    fn serve_request(&self, stream: TcpStream) {
+    // Reads a request and writes its answer. Returns what was seen with a board.
+    fn serve_request(&self, stream: TcpStream) -> Option<S::Seen>
+        ensures { IfSome result (IsSeenWithBoards (S.shows self.now.running.serves.now)) }
+    {
         let unmarked = AtomicBool::new(false);
         let closing = &self.workers.closing;
         let Ok(connection) = Connection::open(self.rt, closing, &unmarked, PATIENCE) else {
-            return;
+            return None;
         };
-        if let Ok(mut stream) = ConnectionStream::open(&connection, stream) {
-            let _ = self.answer_request(&connection, &mut stream);
-        }
+        let Ok(mut stream) = ConnectionStream::open(&connection, stream) else {
+            return None;
+        };
+        self.answer_request(&connection, &mut stream)
     }
 
-    // Answers the request of a connection over its stream.
+    // Answers the request of a connection over its stream. Returns what was seen with a board.
     fn answer_request(
         &self,
         connection: &Connection<'_, R>,
         stream: &mut ConnectionStream<'_, R>,
-    ) -> io::Result<()> {
-        let request = request_of(self.alloc, stream)?;
+    ) -> Option<S::Seen>
+        ensures { IfSome result (IsSeenWithBoards (S.shows self.now.running.serves.now)) }
+    {
+        let Ok(request) = request_of(self.alloc, stream) else {
+            return None;
+        };
         connection.serves();
         match answer(self.rt, self.alloc, &self.running, request) {
-            Ok(bytes) => stream.write_all(&bytes)?,
-            Err(_) => stream.write_all(NO_MEMORY)?,
+            Ok((bytes, seen)) => {
+                let _ = write_answer(connection, stream, &bytes);
+                seen
+            }
+            Err(_) => {
+                let _ = write_answer(connection, stream, NO_MEMORY);
+                None
+            }
         }
-        stream.flush()?;
-        connection.leaves();
-        end_answer(stream)
     }
 }
 
-// Ends the output to a browser.
-fn end_answer<R: Clock>(stream: &mut ConnectionStream<'_, R>) -> io::Result<()> {
+// Adds what was seen with a board; if there is no memory for it, it is let go.
+fn keep<S: Serves>(serves: &S, seen: &mut Vec<S::Seen>, own: S::Seen)
+    requires all { All (IsSeenWithBoards (S.shows serves.now)) seen.old.items }
+    requires own { IsSeenWithBoards (S.shows serves.now) own }
+    ensures { All (IsSeenWithBoards (S.shows serves.now)) seen.new.items }
+{
+    let _ = seen.push(own);
+}
+
+// The promise that the thread that answers browsers returns what was seen with boards of this desk.
+#[derive(Drop)]
+pub(crate) struct SeenWithBoards<S: Serves>(Snapshot<S>);
+
+impl<S: Serves> SeenWithBoards<S> {
+    // That of this desk.
+    pub(crate) fn of(serves: &S) -> Self
+        ensures { result.0.value ≡ serves.now }
+    {
+        SeenWithBoards(Snapshot::of(serves))
+    }
+}
+
+impl<S: Serves> Promise<Vec<S::Seen>> for SeenWithBoards<S> {
+    ghost use Rattle.std.specs.Prelude.{All};
+    ghost use Rattle.live_server.specs.Browsing.{IsSeenWithBoards};
+
+    ghost kept_by = { λ p r. All (IsSeenWithBoards (S.shows p.0.value)) r.items };
+}
+
+// Writes an answer, and ends the output to the browser.
+fn write_answer<R: Wait + Clock>(
+    connection: &Connection<'_, R>,
+    stream: &mut ConnectionStream<'_, R>,
+    bytes: &[u8],
+) -> io::Result<()> {
+    stream.write_all(bytes)?;
+    stream.flush()?;
+    connection.leaves();
     stream.shut()?;
     read_rest(stream);
     Ok(())
@@ -141,17 +195,20 @@ fn read_rest<S: Read>(stream: &mut S) {
     }
 }
 
-// The bytes that answer a request.
+// The bytes of an answer, and what was seen of the desk's journal with a board.
+type Answered<M> = (Vec<u8>, Option<M>);
+
+// The bytes that answer a request, and what was seen with a board.
 fn answer<S: Serves, R: Wait>(
     rt: &R,
     alloc: Global,
     running: &Running<'_, S>,
     request: Request,
-) -> Result<Vec<u8>, AllocError>
-    ensures { IfOk result (λ bytes. IsBrowsed running.now.plan.now.sites.items running.now.desk.desk.now.stations request bytes.items) }
+) -> Result<Answered<S::Seen>, AllocError>
+    ensures { IfOk result (λ r. IsBrowsed (S.shows running.now.serves.now) running.now.plan.now.sites.items running.now.desk.desk.now.stations request r.0.items r.1) }
 {
     match request {
-        Request::Sites => answer_sites(alloc, running.plan),
+        Request::Sites => Ok((answer_sites(alloc, running.plan)?, None)),
         Request::Board(name) => answer_board(rt, alloc, running, &name),
         Request::Elsewhere => told(alloc, Status::NotFound),
         Request::NotAllowed => told(alloc, Status::NotAllowed),
@@ -161,27 +218,30 @@ fn answer<S: Serves, R: Wait>(
 }
 
 // An answer with only its status.
-fn told(alloc: Global, status: Status) -> Result<Vec<u8>, AllocError>
-    ensures { IfOk result (λ bytes. bytes.items ≡ status_bytes status) }
+fn told<M>(alloc: Global, status: Status) -> Result<Answered<M>, AllocError>
+    ensures { IfOk result (λ r. (r.0.items ≡ status_bytes status) × (r.1 ≡ None)) }
 {
-    response(alloc, status, TEXT, status.text().as_bytes())
+    Ok((
+        response(alloc, status, TEXT, status.text().as_bytes())?,
+        None,
+    ))
 }
 
-// The board of the site of this name. It waits for no journal, so a browser gets its answer while a journal's output
-// stalls.
+// The board of the site of this name. It waits for the locks of the site, and for a write to the journal that is under
+// way, as an operator's board does.
 fn answer_board<S: Serves, R: Wait>(
     rt: &R,
     alloc: Global,
     running: &Running<'_, S>,
     name: &Name,
-) -> Result<Vec<u8>, AllocError>
-    ensures { IfOk result (λ bytes. IsBoardAnswer running.now.plan.now.sites.items running.now.desk.desk.now.stations (position (λ s. bytes_eq name.now s.name) running.now.plan.now.sites.items) bytes.items) }
+) -> Result<Answered<S::Seen>, AllocError>
+    ensures { IfOk result (λ r. IsBoardAnswer (S.shows running.now.serves.now) running.now.plan.now.sites.items running.now.desk.desk.now.stations (position (λ s. bytes_eq name.now s.name) running.now.plan.now.sites.items) r.0.items r.1) }
 {
     let Some(site) = site_of(running.plan, name) else {
         return told(alloc, Status::NotFound);
     };
-    match running_board(rt, alloc, running.plan, running.desk.desk, site) {
-        Ok(text) => response(alloc, Status::Found, TEXT, &text),
+    match running.board(rt, alloc, site) {
+        Ok((text, seen)) => Ok((response(alloc, Status::Found, TEXT, &text)?, Some(seen))),
         Err(_) => told(alloc, Status::NoMemory),
     }
 }

@@ -1,14 +1,16 @@
 //! A live server at a desk that the caller hands in.
-ghost use Rattle.std.specs.Prelude.{◌≡◌, ◌≤◌, All, IfOk, sum_by};
+ghost use Rattle.std.specs.Prelude.{◌≡◌, ◌≤◌, All, IfOk, IfSome, sum_by};
 ghost use Rattle.std.specs.Thread.{IsSend, IsSync};
 ghost use Rattle.ledger_model.specs.Ranges.{most_plan_readings};
 ghost use Rattle.site_desk.specs.Roster.{AreNewPlaces};
 ghost use Rattle.station_link.specs.Attended.{IsAnswered};
+ghost use Rattle.live_server.specs.Browsing.{IsSeenWithBoards};
 ghost use Rattle.live_server.specs.Told.{Tells, operator_input};
 ghost use Rattle.running_desk.specs.Ordered.{lines_in};
 ghost use Rattle.running_desk.specs.Replies.{AddsReplies};
 
 use crate::acceptor::{Acceptor, Acceptors};
+use crate::boards::SeenWithBoards;
 use crate::listeners::Listeners;
 use crate::log::Log;
 use crate::shared::{Shared, Viewers};
@@ -26,7 +28,7 @@ use std::net::TcpListener;
 use std::sync::Wait;
 use std::sync::atomic::Ordering;
 use std::thread;
-use std::thread::{Scope, Threads};
+use std::thread::{PromisedHandle, Scope, Threads};
 use std::time::Clock;
 
 // The stack of a session's thread, in bytes of address space.
@@ -84,6 +86,8 @@ pub struct Ran<S: Serves, W: Write + Drop> {
     pub viewers: Vec<Viewer<S::Names>>,
     /// What came with the answers of sessions.
     pub answers: Vec<S::Seen>,
+    /// What was seen of the desk's journal with the boards in browsers.
+    pub boards: Vec<S::Seen>,
     /// How the operator's lines ended, or why no connection was served; after Ok, what was seen of the desk's journal
     /// with the answers to these lines.
     pub ended: Result<Vec<S::Seen>, ServiceFault>,
@@ -118,6 +122,7 @@ pub fn serve_plan_at<
     requires opened { AreNewPlaces run.plan.now.sites.items run.plan.now.stations.items (S.roster serves.now).stations }
     requires readings { sum_by (λ s. s.limits.readings) run.plan.now.stations.items ≤ most_plan_readings }
     ensures answered { IfOk result (λ r. All (IsAnswered S.gives) r.answers.items) }
+    ensures boards { IfOk result (λ r. All (IsSeenWithBoards (S.shows serves.now)) r.boards.items) }
     ensures tells { IfOk result (λ r. IfOk r.ended (λ seen. Tells S.gives (S.shows serves.now) run.entry.plan.now.sites.items (S.roster serves.now).stations
         (lines_in (operator_input run.entry.clients.connections (I.remaining input.old))) (W.contents output) (W.contents r.output) seen.items)) }
 {
@@ -158,11 +163,12 @@ fn serve_all<
     output: W,
 ) -> Ran<S, W>
     ensures answered { All (IsAnswered S.gives) result.answers.items }
+    ensures boards { All (IsSeenWithBoards (S.shows shared.entry.running.serves.now)) result.boards.items }
     ensures tells { IfOk result.ended (λ seen. AddsReplies S.gives (S.shows shared.entry.running.serves.now) shared.entry.running.plan.now.sites.items shared.entry.running.desk.desk.now.stations
         (lines_in (operator_input shared.entry.connections (I.remaining input.old))) (W.contents output) (W.contents result.output) seen.items) }
 {
     let acceptors = Acceptors::open(&listeners.stations, listeners.browsers.as_ref());
-    let (ended, viewers, output) = serve_beside(
+    let (ended, boards, viewers, output) = serve_beside(
         &shared, &acceptors, glances, viewers, input, output,
     );
     let (passes, answers) = shared.into_parts();
@@ -170,14 +176,17 @@ fn serve_all<
         passes,
         viewers,
         answers,
+        boards,
         ended,
         output,
     }
 }
 
-// The result at the end of the threads: how the operator's lines ended, the viewers, and the output.
+// The result at the end of the threads: how the operator's lines ended, what was seen with boards in browsers, the
+// viewers, and the output.
 type Ended<S, W> = (
     Result<Vec<<S as Delivers>::Seen>, ServiceFault>,
+    Vec<<S as Delivers>::Seen>,
     Viewers<S>,
     W,
 );
@@ -197,8 +206,9 @@ fn serve_beside<
     input: &mut I,
     output: W,
 ) -> Ended<S, W>
-    ensures { IfOk result.0 (λ seen. AddsReplies S.gives (S.shows shared.now.running.serves.now) shared.now.running.plan.now.sites.items shared.now.running.desk.desk.now.stations
-        (lines_in (operator_input shared.now.connections (I.remaining input.old))) (W.contents output) (W.contents result.2) seen.items) }
+    ensures tells { IfOk result.0 (λ seen. AddsReplies S.gives (S.shows shared.now.running.serves.now) shared.now.running.plan.now.sites.items shared.now.running.desk.desk.now.stations
+        (lines_in (operator_input shared.now.connections (I.remaining input.old))) (W.contents output) (W.contents result.3) seen.items) }
+    ensures boards { All (IsSeenWithBoards (S.shows shared.now.running.serves.now)) result.1.items }
 {
     thread::scope(
         thread::scope_env(),
@@ -206,21 +216,29 @@ fn serve_beside<
         |scope| -> Ended<S, W>
             requires { IsSync R.row × IsSend S.Names.row × IsSync S.Names.row × IsSend S.Cell.row × IsSend S.Seen.row × IsSync S.row × IsSend L.row }
             ensures { IfOk result.0 (λ seen. AddsReplies S.gives (S.shows shared.entry.now.running.serves.now) shared.entry.now.running.plan.now.sites.items shared.entry.now.running.desk.desk.now.stations
-                (lines_in (operator_input shared.entry.now.connections (I.remaining input.entry.now))) (W.contents output) (W.contents result.2) seen.items) }
+                (lines_in (operator_input shared.entry.now.connections (I.remaining input.entry.now))) (W.contents output) (W.contents result.3) seen.items)
+                × All (IsSeenWithBoards (S.shows shared.entry.now.running.serves.now)) result.1.items }
         {
             let mut own = output;
             let watching = Stack::new()
                 .stack_size(SMALL_STACK)
                 .spawn_scoped_with(scope, Anything, move || shared.watch(glances, viewers));
-            let ended = serve_until_end(scope, shared, acceptors, input, &mut own);
+            let (ended, boards) = serve_until_end(scope, shared, acceptors, input, &mut own);
             let viewers = match watching {
                 Ok(watching) => watching.join(shared.rt),
                 Err(refused) => (refused.value)(),
             };
-            (ended, viewers, own)
+            (ended, boards, viewers, own)
         },
     )
 }
+
+// How the operator's lines ended, with what was seen of the desk's journal with their answers, and what was seen with
+// boards in browsers.
+type Seen<S> = (
+    Result<Vec<<S as Delivers>::Seen>, ServiceFault>,
+    Vec<<S as Delivers>::Seen>,
+);
 
 // Starts the threads at both acceptors, answers the operator's lines or waits until as many connections have ended as
 // it serves, and then waits until the threads have left.
@@ -238,18 +256,37 @@ fn serve_until_end<
     acceptors: &'s Acceptors<'_>,
     input: &mut I,
     output: &mut W,
-) -> Result<Vec<S::Seen>, ServiceFault>
-    ensures { IfOk result (λ seen. AddsReplies S.gives (S.shows shared.now.running.serves.now) shared.now.running.plan.now.sites.items shared.now.running.desk.desk.now.stations
+) -> Seen<S>
+    ensures tells { IfOk result.0 (λ seen. AddsReplies S.gives (S.shows shared.now.running.serves.now) shared.now.running.plan.now.sites.items shared.now.running.desk.desk.now.stations
         (lines_in (operator_input shared.now.connections (I.remaining input.old))) (W.contents output.old) (W.contents output.new) seen.items) }
+    ensures boards { All (IsSeenWithBoards (S.shows shared.now.running.serves.now)) result.1.items }
 {
-    let ended = if start_all(scope, shared, acceptors) {
+    let (is_started, browsing) = start_all(scope, shared, acceptors);
+    let ended = if is_started {
         answer_lines(shared, input, output)
     } else {
         Err(ServiceFault::OutOfMemory)
     };
     shared.workers.closing.store(true, Ordering::SeqCst);
     acceptors.call_away(shared.rt);
-    ended
+    let boards = seen_with_boards(shared.rt, shared.alloc, shared.running.serves, browsing);
+    (ended, boards)
+}
+
+// What was seen with boards in browsers, once their thread has ended.
+fn seen_with_boards<S: Serves, R: Threads>(
+    rt: &R,
+    alloc: Global,
+    serves: &S,
+    browsing: Option<Browsing<S>>,
+) -> Vec<S::Seen>
+    requires { IfSome browsing (λ h. h.promise.0.value ≡ serves.now) }
+    ensures { All (IsSeenWithBoards (S.shows serves.now)) result.items }
+{
+    match browsing {
+        Some(browsing) => browsing.join(rt),
+        None => Vec::new(alloc),
+    }
 }
 
 // Answers the operator's lines to their end, or waits until as many connections have ended as it serves.
@@ -272,21 +309,27 @@ fn answer_lines<
     }
 }
 
-// Starts the threads at both acceptors, and returns whether all could start.
+// The thread that answers browsers.
+type Browsing<S> = PromisedHandle<Vec<<S as Delivers>::Seen>, SeenWithBoards<S>>;
+
+// Starts the threads at both acceptors. Returns whether all could start, and the thread that answers browsers.
 fn start_all<'s, E: 's, S: Serves + Sync, R: Threads + Wait + Clock + Sync, L: Write + Send + Drop>(
     scope: &'s Scope<'s, E>,
     shared: &'s Shared<'_, S, R, L>,
     acceptors: &'s Acceptors<'_>,
-) -> bool {
+) -> (bool, Option<Browsing<S>>)
+    ensures { IfSome result.1 (λ h. h.promise.0.value ≡ shared.now.running.serves.now) }
+{
     for worker in 0..shared.workers.marks.len() {
         if !start_worker(scope, shared, &acceptors.stations, worker) {
-            return false;
+            return (false, None);
         }
     }
-    match &acceptors.browsers {
-        Some(acceptor) => start_boards(scope, shared, acceptor),
-        None => true,
-    }
+    let Some(acceptor) = &acceptors.browsers else {
+        return (true, None);
+    };
+    let browsing = start_boards(scope, shared, acceptor);
+    (acceptor.is_entered(browsing.is_some()), browsing)
 }
 
 // Starts a worker, and returns whether it could start.
@@ -313,16 +356,30 @@ fn start_worker<
     acceptor.is_entered(started.is_ok())
 }
 
-// Starts the thread that answers browsers, and returns whether it could start.
+// Starts the thread that answers browsers; none if it can't start.
 fn start_boards<
     's,
     E: 's,
     S: Serves + Sync,
     R: Threads + Wait + Clock + Sync,
     L: Write + Send + Drop,
->(scope: &'s Scope<'s, E>, shared: &'s Shared<'_, S, R, L>, acceptor: &'s Acceptor<'_>) -> bool {
-    let started = Stack::new()
-        .stack_size(SMALL_STACK)
-        .spawn_scoped_with(scope, Anything, move || shared.serve_boards(acceptor));
-    acceptor.is_entered(started.is_ok())
+>(
+    scope: &'s Scope<'s, E>,
+    shared: &'s Shared<'_, S, R, L>,
+    acceptor: &'s Acceptor<'_>,
+) -> Option<Browsing<S>>
+    ensures { IfSome result (λ h. h.promise.0.value ≡ shared.now.running.serves.now) }
+{
+    let promise = SeenWithBoards::of(shared.running.serves);
+    let started = Stack::new().stack_size(SMALL_STACK).spawn_scoped_with(
+        scope,
+        promise,
+        move || -> Vec<S::Seen>
+            ensures { All (IsSeenWithBoards (S.shows shared.entry.now.running.serves.now)) result.items }
+        { shared.serve_boards(acceptor) },
+    );
+    match started {
+        Ok(browsing) => Some(browsing),
+        Err(_) => None,
+    }
 }

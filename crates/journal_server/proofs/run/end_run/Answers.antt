@@ -21,7 +21,10 @@ returns g c =
     let kept = c.in-Ok.ensures.kept in
     let contents = g.W.Write.contents in
     let buffer = c.into_parts-journal.result.1.items in
-    let begins = subst (λ ms. All (λ m. IsPrefix m kept.log) ms) c.in_ok-moments.ensures kept.begins in
+    let handed = c.seen_of-ended.result.1.items in
+    let texts = c.args.ran.answers.items in
+    let all = subst (λ ms. All (λ m. IsPrefix m kept.log) ms) (c.in_ok-moments.ensures ∙ ap (λ ms. ms ++ c.args.ran.boards.items) c.in_ok-more.ensures) kept.begins in
+    let begins = all_front (λ m. IsPrefix m kept.log) (handed ++ texts) c.args.ran.boards.items all in
     let closed = closed_of sites stations c.args.kept ended.closed c.args.ran.passes.items c.args.ran.viewers.items c.requires.sites c.requires.opened c.in-Ok.ensures.stations c.in-Ok.ensures.sites c.in-Ok.ensures.whole in
     record {
       cells = ended.closed.cells;
@@ -37,14 +40,22 @@ returns g c =
       texts = record {
         moments = c.args.ran.answers.items;
         count = sym (c.len-answers.ensures ∙ c.args.ran.answers.ok.0);
-        begin = all_back (λ m. IsPrefix m kept.log) c.seen_of-ended.result.1.items c.args.ran.answers.items begins;
+        begin = all_back (λ m. IsPrefix m kept.log) handed texts begins;
         each = c.requires.answered;
+      };
+      browsed = record {
+        places = c.args.kept.stations;
+        placed = c.requires.opened;
+        moments = c.args.ran.boards.items;
+        count = sym (c.len-browsed.ensures ∙ c.args.ran.boards.ok.0);
+        begin = all_back (λ m. IsPrefix m kept.log) (handed ++ texts) c.args.ran.boards.items all;
+        each = c.requires.browsed;
       };
       told = (
         refl,
         c.seen_of-ended.ensures.well,
-        begin_those c.args.ran.ended (λ seen. seen.items) c.seen_of-ended.result.1.items kept.log c.seen_of-ended.ensures.seen
-            (all_front (λ m. IsPrefix m kept.log) c.seen_of-ended.result.1.items c.args.ran.answers.items begins),
+        begin_those c.args.ran.ended (λ seen. seen.items) handed kept.log c.seen_of-ended.ensures.seen
+            (all_front (λ m. IsPrefix m kept.log) handed texts begins),
       );
       given = λ k d at. (c.in-Ok.ensures.whole.whole k d at).counted.changes ∙ ap (changes_of k) (sym (c.into_passes.ensures ∙ c.in-Ok.ensures.given));
       count = c.in-Ok.ensures.stations ∙ c.requires.opened.count;

@@ -1,10 +1,15 @@
-use Rattle.std.proofs.Common.{ap, ◌∙◌}
+use Rattle.std.proofs.Common.{All, ap, subst, ◌∙◌}
+use Rattle.live_server.specs.Browsing.{IsSeenWithBoards}
 use Rattle.running_desk.specs.Ordered.{lines_in}
 use Rattle.site_desk.specs.declared.plan.Plan.{Plan}
 use Rattle.site_desk.specs.Roster.{Roster}
 use Rattle.live_server.specs.Told.{operator_input}
 use Rattle.live_server.proofs.Told.{replies_along}
 use Rattle.live_server.proofs.service.serve_plan_at.Goals as goal
+
+pub returns-clause-boards : goal.returns-clause-boards
+returns-clause-boards g c =
+    subst (λ s. All (IsSeenWithBoards (g.S.Serves.shows s)) c.serve_all.result.boards.items) (c.in_ok-shared.ensures.serves ∙ c.open-running.ensures.serves) c.serve_all.ensures.boards
 
 pub returns-clause-tells : goal.returns-clause-tells
 returns-clause-tells g c =
