@@ -389,7 +389,8 @@ def two_threads_and_a_void(program: str) -> None:
 
 
 def stalled_journal(program: str) -> None:
-    """Nobody reads the journal: changes are held back, and viewers and questions about other stations are not."""
+    """Nobody reads the journal: changes and boards are held back, and viewers and questions about other stations are
+    not."""
     read, write = os.pipe()
     fcntl.fcntl(write, fcntl.F_SETPIPE_SZ, PIPE)
     try:
@@ -434,18 +435,27 @@ def stalled_journal(program: str) -> None:
         began = time.monotonic()
         other.sends(Frame(TEXT, b'[2,"h","StatusNotification",{}]').bytes())
         other.receives(Frame(TEXT, b'[3,"h",{}]', False).bytes())
-        south = boards(0, 0, 0).partition("board south")
-        found = answered(server.board_port, b"GET /board/south HTTP/1.1\r\n\r\n")
-        if not found.endswith((south[1] + south[2]).encode()):
-            raise Differs(f"a browser is answered {found!r} while the journal stalls")
         asks("total C", NONE + "\n")
         asks("total B", NONE + "\n")
+        found = list[bytes]()
+
+        def browse() -> None:
+            found.append(answered(server.board_port, b"GET /board/south HTTP/1.1\r\n\r\n"))
+
+        browser = threading.Thread(target=browse)
+        browser.start()
         for _ in range(2):
             next_of("live")
+        if found:
+            raise Differs(f"a browser is answered {found!r} while the journal stalls")
         if (took := time.monotonic() - began) > 8:
             raise Differs(f"what does not wait took {took:.1f} seconds while the journal stalls")
         reader = threading.Thread(target=take)
         reader.start()
+        browser.join(LONGEST_WAIT)
+        south = boards(0, 0, 0).partition("board south")
+        if not (found and found[0].endswith((south[1] + south[2]).encode())):
+            raise Differs(f"a browser is answered {found!r} once the journal goes on")
         station.receives(Frame(TEXT, f'[3,"{number + 1}",{{}}]'.encode(), False).bytes())
         for later in range(number + 1, number + 20):
             sends(station, rising(later), f'[3,"{later + 1}",{{}}]'.encode())
