@@ -104,7 +104,8 @@ pub record IsJournalRun {W C E : Type 0} (contents : W → Option (List ℕ)) (c
   pub broken : Bool
   pub boards : List ℕ
   pub answers : ℕ
-  pub journal : IfSome ran.ended.output (λ output. (answered : Option (List ℕ)) × holds (record { now = contents output; buffer = buffer; broken = broken; boards = boards; passes = ran.passes.items; answers = answers }) ended answered
+  pub browsed : ℕ
+  pub journal : IfSome ran.ended.output (λ output. (answered : Option (List ℕ)) × holds (record { now = contents output; buffer = buffer; broken = broken; boards = boards; passes = ran.passes.items; answers = answers; browsed = browsed }) ended answered
       × OnOk ended (HasOutput consoles ran.console (λ now. Appends answered now boards)))
   pub given : OnOk ended (is_some ran.ended.output ≡ true)
 
