@@ -198,8 +198,8 @@ class ScriptReplay(Replay):
             out.write(self.sendable(0, one))
 
     def ask(self, lines: bytes) -> Iterator[bytes]:
-        """The answers to lines behind the board that came last, all of which are read; fewer where the replay ended. It
-        is called once for each line `board`, if only with no lines."""
+        """The answers to lines behind the board that came last; fewer where the replay ended. The caller reads all of
+        them. It calls once for each line `board`, if only with no lines."""
         if self.asked is not None:
             self.asked.put(lines)
         return (text for _, text in islice(self.answers, lines.count(b"\n")))

@@ -64,9 +64,8 @@ HEADS = (
     *("sent_id", "id_token", "id_token_type", "remote_start_id"),
     *("first_signed_value", "first_public_key", "last_signed_value", "last_public_key"),
 )
-# Lines that are replayed at once, and transactions whose lists are read at once. For pages one table at once, and one
-# that waits; seconds for one.
-LINES, LISTED, PATIENCE = 5_000, 100, 80
+# Lines that are replayed at once. For pages one table at once, and one that waits; seconds for one.
+LINES, PATIENCE = 5_000, 80
 ROOM = Room(1, 1)
 # MiB of a table that a page holds at most: signed values are as long as stations make them.
 MOST_MIB = 64
@@ -224,12 +223,9 @@ class ShardSessions:
             for (station, kind, name), numbers in board.items()
             if kind == "tx"
         }
-        ones = list(sessions)
-        for at in range(0, len(ones), LISTED):
-            some = ones[at : at + LISTED]
-            for one, lists in zip(some, await replay.listed(some)):
-                sent = found.messages.of(self.site, *one).sent
-                yield self.row(one, sessions[one], found.events(one, lists), sent)
+        async for one, lists in replay.each_listed(list(sessions)):
+            sent = found.messages.of(self.site, *one).sent
+            yield self.row(one, sessions[one], found.events(one, lists), sent)
 
     async def replay(self, replay: Replay, plan: Plan, found: Findings) -> None:
         """Replays the log's lines, but for those that came for archived sessions."""

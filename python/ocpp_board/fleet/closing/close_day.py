@@ -62,8 +62,6 @@ log = logging.getLogger(__name__)
 NAME = "ocpp-board close-day"
 # Bytes of a log that is compacted before it is closed.
 LARGE = LONGEST_SCRIPT // 16
-# Transactions whose lists are read at once.
-LISTED = 100
 # A station, and when its period begins.
 Period = tuple[str, datetime]
 
@@ -188,18 +186,15 @@ class Closing:
             for (station, kind, name), numbers in whole.items()
             if kind == "tx"
         }
-        ones = list(complete)
-        for at in range(0, len(ones), LISTED):
-            some = ones[at : at + LISTED]
-            for one, lists in zip(some, await replay.listed(some)):
-                # One at a time, since each event takes half a kilobyte.
-                found = Findings(self.site, self.reckoning)
-                for line in own.get(one, ()):
-                    heard = line.stored.at if line.stored.gateway else None
-                    found.take(line.stored.text, line.answer.decode(), heard)
-                events = found.events(one, lists)
-                self.doubts += found.rows(one, events, complete[one])
-                self.times[one] = times_of(events)
+        async for one, lists in replay.each_listed(list(complete)):
+            # One at a time, since each event takes half a kilobyte.
+            found = Findings(self.site, self.reckoning)
+            for line in own.get(one, ()):
+                heard = line.stored.at if line.stored.gateway else None
+                found.take(line.stored.text, line.answer.decode(), heard)
+            events = found.events(one, lists)
+            self.doubts += found.rows(one, events, complete[one])
+            self.times[one] = times_of(events)
 
     async def sorted_out(self, rows: list[Stored], front: list[Stored]) -> list[Line]:
         """What these lines do behind those in front, which all have to change something."""

@@ -1,7 +1,7 @@
 """An `ocpp_board replay` that runs beside asyncio."""
 
 import asyncio
-from collections.abc import Iterator, Sequence
+from collections.abc import AsyncIterator, Iterator, Sequence
 from contextlib import contextmanager
 
 from ocpp_board.fleet.database.connections import Fault, seen, without_secrets
@@ -10,8 +10,8 @@ from ocpp_board.processes import replay_environment
 from ocpp_board.replay.answered import MARK
 from ocpp_board.replay.lists import asked, parted
 
-# Bytes that are read at once.
-CHUNK = 1 << 18
+# Bytes that are read at once, and transactions whose lists are.
+CHUNK, LISTED = 1 << 18, 100
 
 
 class ReplayEnded(Exception):
@@ -123,6 +123,15 @@ class Replay:
             self.rest = b""
         answers = parted(b"".join(chunks).removesuffix(MARK))
         return list(zip(answers, answers))
+
+    async def each_listed(
+        self, ones: Sequence[tuple[str, str]]
+    ) -> AsyncIterator[tuple[tuple[str, str], tuple[bytes, bytes]]]:
+        """Each of these transactions with its two lists; some are read at once. Raises ReplayEnded."""
+        for at in range(0, len(ones), LISTED):
+            some = ones[at : at + LISTED]
+            for one, lists in zip(some, await self.listed(some)):
+                yield one, lists
 
     def kill(self) -> None:
         """Ends it, whether it runs or not."""
