@@ -10,7 +10,9 @@ use Rattle.ledger_model.specs.declared.order.Order.{Order}
 use Rattle.ledger_model.specs.declared.reading.Direction.{Direction}
 use Rattle.ledger_model.specs.declared.reading.Direction.TheVariants.{Import, Export}
 use Rattle.ledger_model.specs.Content.{Entry, live, transactions_of}
-use Rattle.ledger_model.specs.Energy.{Flows, Pair, all_pairs_by, difference, flows_in_by, no_flows, plus_flows, pairs_by, energy_by, energy_of_by, energy_in_by, parts_of_both, parts_over, quarters_by}
+use Rattle.ledger_model.specs.ByDirection.{in_each, no_flows, plus_flows}
+use Rattle.ledger_model.specs.declared.by_direction.ByDirection.{ByDirection}
+use Rattle.ledger_model.specs.Energy.{Pair, all_pairs_by, difference, flows_in_by, pairs_by, energy_by, energy_of_by, energy_in_by, parts_of_both, parts_over, quarters_by}
 use Rattle.ledger_model.specs.Parts.{Part}
 use Rattle.ledger_model.specs.Evse.{evse_of, evses, energy_at_by, transactions_at}
 use Rattle.ledger_model.specs.Board.{Flowed, board_by, flows_under}
@@ -76,14 +78,14 @@ lines_sum : (g : ℕ → ℕ) (q : ℕ) (ks : List ℕ) → sum_by (λ k. cond (
 lines_sum g q ks = sum_by-same _ _ (taken_at g q) ks ∙ sum_by-times q (g q) ks
 
 -- a measure of energies that adds up
-module _ (measure : Flows → ℕ) (none : measure no_flows ≡ 0) (both : (a b : Flows) → measure (plus_flows a b) ≡ measure a + measure b) where
+module _ (measure : ByDirection Energy → ℕ) (none : measure no_flows ≡ 0) (both : (a b : ByDirection Energy) → measure (plus_flows a b) ≡ measure a + measure b) where
   -- the energies of a period over lines: the sum over those lines of it
   under-part : (quarter : ℕ) (lines : List Flowed) → measure (flows_under quarter lines) ≡ sum_by (λ line. cond (eqb line.0 quarter) (measure line.1) 0) lines
   under-part quarter [] = none
   under-part quarter (line ∷ lines) = step (eqb line.0 quarter) line.1 (flows_under quarter lines)
       ∙ ap (λ n. cond (eqb line.0 quarter) (measure line.1) 0 + n) (under-part quarter lines) ∙ sym (sum_by-cons (λ (l : Flowed). cond (eqb l.0 quarter) (measure l.1) 0) line lines)
     where
-      step : (b : Bool) (e rest : Flows) → measure (cond b (plus_flows e rest) rest) ≡ cond b (measure e) 0 + measure rest
+      step : (b : Bool) (e rest : ByDirection Energy) → measure (cond b (plus_flows e rest) rest) ≡ cond b (measure e) 0 + measure rest
       step true e rest = both e rest
       step false e rest = omega arith
 
@@ -106,16 +108,16 @@ module _ (measure : Flows → ℕ) (none : measure no_flows ≡ 0) (both : (a b 
       ∙ sum_by-same _ _ (λ es. station_part order d f period es (part es) quarter) stations
 
 pub site_quarter : (order : Order) (period : Periods) (quarter : ℕ) (stations : List (List Entry))
-    → flows_under quarter (flat_map (λ es. (board_by order period es).quarters) stations) ≡ record { flow = sum_of_energies (map (energy_in_by order Import period quarter) stations); export = sum_of_energies (map (energy_in_by order Export period quarter) stations) }
+    → flows_under quarter (flat_map (λ es. (board_by order period es).quarters) stations) ≡ in_each (λ d. sum_of_energies (map (energy_in_by order d period quarter) stations))
 site_quarter order period quarter stations =
     let all = flows_under quarter (flat_map (λ es. (board_by order period es).quarters) stations) in
-    let imported : all.flow ≡ sum_of_energies (map (energy_in_by order Import period quarter) stations) = same_energy _ _
-    (site_part (λ f. f.flow.up) refl (λ a b. refl) order Import (λ t. t.1.up) period quarter stations (λ es q. refl) ∙ sym (sum_of-up (energy_in_by order Import period quarter) stations))
-    (site_part (λ f. f.flow.down) refl (λ a b. refl) order Import (λ t. t.1.down) period quarter stations (λ es q. refl) ∙ sym (sum_of-down (energy_in_by order Import period quarter) stations)) in
+    let imported : all.import ≡ sum_of_energies (map (energy_in_by order Import period quarter) stations) = same_energy _ _
+    (site_part (λ f. f.import.up) refl (λ a b. refl) order Import (λ t. t.1.up) period quarter stations (λ es q. refl) ∙ sym (sum_of-up (energy_in_by order Import period quarter) stations))
+    (site_part (λ f. f.import.down) refl (λ a b. refl) order Import (λ t. t.1.down) period quarter stations (λ es q. refl) ∙ sym (sum_of-down (energy_in_by order Import period quarter) stations)) in
     let exported : all.export ≡ sum_of_energies (map (energy_in_by order Export period quarter) stations) = same_energy _ _
     (site_part (λ f. f.export.up) refl (λ a b. refl) order Export (λ t. t.1.up) period quarter stations (λ es q. refl) ∙ sym (sum_of-up (energy_in_by order Export period quarter) stations))
     (site_part (λ f. f.export.down) refl (λ a b. refl) order Export (λ t. t.1.down) period quarter stations (λ es q. refl) ∙ sym (sum_of-down (energy_in_by order Export period quarter) stations)) in
-    λ i. record { flow = imported i; export = exported i }
+    λ i. record { import = imported i; export = exported i }
 
 pub quarters_shown : (order : Order) (period : Periods) (es : List Entry) (quarter : ℕ) → IsIn quarter (quarters_by order period es) ↔ IsIn quarter (map own (parts_of_both order period es))
 quarters_shown order period es quarter = rising-IsIn quarter (map own (parts_of_both order period es))

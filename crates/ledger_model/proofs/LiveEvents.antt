@@ -10,6 +10,7 @@ use Rattle.ledger_model.specs.declared.reading.Direction.TheVariants.{Import, Ex
 use Rattle.ledger_model.specs.declared.order.Order.{Order}
 use Rattle.ledger_model.specs.declared.order.Order.TheVariants.{Sequence, Moment}
 use Rattle.ledger_model.specs.Event.{MeterReading, toward}
+use Rattle.ledger_model.specs.ByDirection.{in_each}
 use Rattle.ledger_model.specs.Board.{Board, Shown, board_by, figures_by, last_or_zero}
 use Rattle.ledger_model.specs.Complete.{starts_and_ends}
 use Rattle.ledger_model.specs.Content.{Entry, live, transactions_of}
@@ -57,8 +58,7 @@ shown_of rs l tx = record {
   last = last_or_zero (numbers tx l);
   complete = complete tx l;
   missing = missing (numbers tx l);
-  flow = energy_over (followed (rs Import tx));
-  export = energy_over (followed (rs Export tx));
+  energy = in_each (λ d. energy_over (followed (rs d tx)));
   gaps = gaps (numbers tx l);
 }
 
@@ -77,8 +77,9 @@ of_live rs period voided l = record {
     export_up = (energy_over (pairs_over rs Export (transactions_of l))).up;
     export_down = (energy_over (pairs_over rs Export (transactions_of l))).down;
   };
-  evses = map (λ at. (at, record { flow = at_evse rs Import at l; export = at_evse rs Export at l })) (rising (map (λ tx. evse tx l) (transactions_of l)));
-  quarters = map (λ quarter. (quarter, record { flow = in_quarter rs Import period quarter l; export = in_quarter rs Export period quarter l })) (rising (map (λ t. t.0) (parts_over period (pairs_over rs Import (transactions_of l)) ++ parts_over period (pairs_over rs Export (transactions_of l)))));
+  evses = map (λ at. (at, in_each (λ d. at_evse rs d at l))) (rising (map (λ tx. evse tx l) (transactions_of l)));
+  quarters = map (λ quarter. (quarter, in_each (λ d. in_quarter rs d period quarter l)))
+      (rising (map (λ t. t.0) (parts_over period (pairs_over rs Import (transactions_of l)) ++ parts_over period (pairs_over rs Export (transactions_of l)))));
   transactions = map (shown_of rs l) (transactions_of l);
 }
 

@@ -8,7 +8,9 @@ use Rattle.ledger_model.specs.Figures.{no_figures}
 use Rattle.ledger_model.specs.Content.{Entry, live, live_of, transactions_of}
 use Rattle.ledger_model.specs.declared.order.Order.{Order}
 use Rattle.ledger_model.specs.declared.order.Order.TheVariants.{Sequence}
-use Rattle.ledger_model.specs.Energy.{Flows, energy_by, energy_of_by, flows_in_by, no_flows, plus_flows, quarters_by, rising}
+use Rattle.ledger_model.specs.Energy.{energy_by, flows_in_by, flows_of_by, quarters_by, rising}
+use Rattle.ledger_model.specs.ByDirection.{no_flows, plus_flows}
+use Rattle.ledger_model.specs.declared.by_direction.ByDirection.{ByDirection}
 use Rattle.ledger_model.specs.Evse.{evse_of, evses, flows_at_by, first_or_zero}
 use Rattle.ledger_model.specs.Gaps.{Gap, numbers_of, gaps, missing}
 use Rattle.ledger_model.specs.Complete.{is_complete}
@@ -54,7 +56,7 @@ sum_of_figures (f ∷ fs) = plus_figures f (sum_of_figures fs)
 
 -- An EVSE or a period, with its energies.
 abbrev pub Flowed : Type 0
-Flowed = ℕ × Flows
+Flowed = ℕ × ByDirection Energy
 
 -- What a board shows of a transaction.
 pub record Shown : Type 0 where
@@ -65,8 +67,7 @@ pub record Shown : Type 0 where
   pub last : ℕ
   pub complete : Bool
   pub missing : ℕ
-  pub flow : Energy
-  pub export : Energy
+  pub energy : ByDirection Energy
   pub gaps : List Gap
 
 -- The last of a list, or 0 if it is empty.
@@ -85,8 +86,7 @@ shown_by order es tx = record {
   last = last_or_zero (numbers_of tx es);
   complete = is_complete tx es;
   missing = missing (numbers_of tx es);
-  flow = energy_of_by order Import tx es;
-  export = energy_of_by order Export tx es;
+  energy = flows_of_by order tx es;
   gaps = gaps (numbers_of tx es);
 }
 
@@ -114,7 +114,7 @@ abbrev pub board : Periods → List Entry → Board
 board period es = board_by Sequence period es
 
 -- The energies of a period, summed over the lines of several stations.
-abbrev pub flows_under : ℕ → List Flowed → Flows
+abbrev pub flows_under : ℕ → List Flowed → ByDirection Energy
 flows_under quarter [] = no_flows
 flows_under quarter (line ∷ lines) = if line.0 == quarter then plus_flows line.1 (flows_under quarter lines) else flows_under quarter lines
 

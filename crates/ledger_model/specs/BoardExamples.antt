@@ -1,5 +1,5 @@
 use Rattle.std.specs.Prelude.{ℕ, List, [], ◌∷◌, ◌+◌, ◌*◌, Option, None, Some, true, false, codes}
-use Rattle.energy_flow.specs.Flow.{Energy, no_energy}
+use Rattle.energy_flow.specs.Flow.{Energy}
 use Rattle.ledger_model.specs.declared.kind.Kind.{Kind}
 use Rattle.ledger_model.specs.declared.kind.Kind.TheVariants.{Started, Updated, Ended}
 use Rattle.ledger_model.specs.declared.reading.Direction.TheVariants.{Import, Export}
@@ -11,7 +11,8 @@ use Rattle.ledger_model.specs.Moment.{first_moment}
 use Rattle.ledger_model.specs.Quarter.{default_period}
 use Rattle.ledger_model.specs.Settling.{default_periods}
 use Rattle.ledger_model.specs.Content.{Entry}
-use Rattle.ledger_model.specs.Energy.{Flows, flows_toward}
+use Rattle.ledger_model.specs.ByDirection.{flows_toward}
+use Rattle.ledger_model.specs.declared.by_direction.ByDirection.{ByDirection}
 use Rattle.ledger_model.specs.Board.{Board, Flowed, SiteBoard}
 
 -- So many minutes after 2026-03-01T10:00:00Z, in nanoseconds from 1970.
@@ -43,7 +44,7 @@ abbrev pub rise : ℕ → Energy
 rise mwh = record { up = mwh; down = 0 }
 
 -- Only rises of the import register.
-abbrev pub took : ℕ → Flows
+abbrev pub took : ℕ → ByDirection Energy
 took mwh = flows_toward Import (rise mwh)
 
 -- The period of 900 seconds that begins at 10:00 on that day; the next ones follow it.
@@ -60,7 +61,7 @@ first_run_board = record {
   figures = record { events = 2; voided = 0; transactions = 1; complete = 0; missing = 1; up = 600_000; down = 0; export_up = 0; export_down = 0 };
   evses = (0, took 600_000) ∷ [];
   quarters = (ten + 2, took 600_000) ∷ [];
-  transactions = record { tx = codes "t1"; evse = 0; events = 2; first = 0; last = 2; complete = false; missing = 1; flow = rise 600_000; export = no_energy; gaps = (1, 1) ∷ [] } ∷ [];
+  transactions = record { tx = codes "t1"; evse = 0; events = 2; first = 0; last = 2; complete = false; missing = 1; energy = took 600_000; gaps = (1, 1) ∷ [] } ∷ [];
 }
 
 -- The board of a site that has only this station.
@@ -77,7 +78,7 @@ late_event_board = record {
   figures = record { events = 3; voided = 0; transactions = 1; complete = 0; missing = 0; up = 600_000; down = 0; export_up = 0; export_down = 0 };
   evses = (0, took 600_000) ∷ [];
   quarters = (ten, took 200_000) ∷ (ten + 2, took 400_000) ∷ [];
-  transactions = record { tx = codes "t1"; evse = 0; events = 3; first = 0; last = 2; complete = false; missing = 0; flow = rise 600_000; export = no_energy; gaps = [] } ∷ [];
+  transactions = record { tx = codes "t1"; evse = 0; events = 3; first = 0; last = 2; complete = false; missing = 0; energy = took 600_000; gaps = [] } ∷ [];
 }
 
 -- Then that one is voided: the board is that of the first run except for the voided event. After a restoration the

@@ -6,10 +6,11 @@ use Rattle.ledger_model.specs.declared.figures.Figures.{Figures}
 use Rattle.ledger_model.specs.declared.kind.Kind.{Kind}
 use Rattle.ledger_model.specs.declared.kind.Kind.TheVariants.{Started, Ended}
 use Rattle.ledger_model.specs.declared.order.Order.{Order}
-use Rattle.ledger_model.specs.declared.reading.Direction.TheVariants.{Import, Export}
 use Rattle.ledger_model.specs.Board.{Board, Flowed, board_by}
 use Rattle.ledger_model.specs.Content.{Entry}
-use Rattle.ledger_model.specs.Energy.{Flows, energy_in_by}
+use Rattle.ledger_model.specs.ByDirection.{in_each}
+use Rattle.ledger_model.specs.declared.by_direction.ByDirection.{ByDirection}
+use Rattle.ledger_model.specs.Energy.{energy_in_by}
 use Rattle.ledger_model.specs.Gaps.{Gap}
 
 -- Rising numbers: each is below the next.
@@ -64,11 +65,8 @@ abbrev pub quarters_over : Order → Periods → List (List Entry) → List Flow
 quarters_over order period stations = flat_map (λ es. (board_by order period es).quarters) stations
 
 -- The energies of several stations in a period, added up in each direction.
-abbrev pub flows_over : Order → Periods → ℕ → List (List Entry) → Flows
-flows_over order period quarter stations = record {
-  flow = sum_of_energies (map (energy_in_by order Import period quarter) stations);
-  export = sum_of_energies (map (energy_in_by order Export period quarter) stations);
-}
+abbrev pub flows_over : Order → Periods → ℕ → List (List Entry) → ByDirection Energy
+flows_over order period quarter stations = in_each (λ d. sum_of_energies (map (energy_in_by order d period quarter) stations))
 
 -- The board with this number of voided events.
 abbrev pub with_voided : ℕ → Board → Board

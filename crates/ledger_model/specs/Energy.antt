@@ -1,6 +1,8 @@
 use Rattle.std.specs.Prelude.{ℕ, List, [], ◌∷◌, ◌++◌, ◌==◌, nat_lt, if◌then◌else◌, map, filter, sum_by, drop}
 use Rattle.std.specs.List.{flat_map, zip}
-use Rattle.energy_flow.specs.Flow.{Energy, difference_of, minus, no_energy, plus}
+use Rattle.energy_flow.specs.Flow.{Energy, difference_of}
+use Rattle.ledger_model.specs.ByDirection.{in_each}
+use Rattle.ledger_model.specs.declared.by_direction.ByDirection.{ByDirection}
 use Rattle.ledger_model.specs.Periods.{Periods}
 use Rattle.ledger_model.specs.declared.reading.Direction.{Direction}
 use Rattle.ledger_model.specs.declared.reading.Direction.TheVariants.{Import, Export}
@@ -101,31 +103,13 @@ energy_in_by order d period quarter es = energy_within period quarter (all_pairs
 abbrev pub energy_in : Direction → Periods → ℕ → List Entry → Energy
 energy_in d period quarter es = energy_in_by Sequence d period quarter es
 
--- The energies of both directions.
-pub record Flows : Type 0 where
-  pub flow : Energy
-  pub export : Energy
-
--- No energy in either direction.
-abbrev pub no_flows : Flows
-no_flows = record { flow = no_energy; export = no_energy }
-
--- An energy in one direction, and none in the other.
-abbrev pub flows_toward : Direction → Energy → Flows
-flows_toward Import e = record { flow = e; export = no_energy }
-flows_toward Export e = record { flow = no_energy; export = e }
-
--- The sum of both, direction by direction.
-abbrev pub plus_flows : Flows → Flows → Flows
-plus_flows a b = record { flow = plus a.flow b.flow; export = plus a.export b.export }
-
--- The first without the second, direction by direction.
-abbrev pub minus_flows : Flows → Flows → Flows
-minus_flows a b = record { flow = minus a.flow b.flow; export = minus a.export b.export }
+-- The energies of a transaction, with its readings in the given order.
+abbrev pub flows_of_by : Order → List ℕ → List Entry → ByDirection Energy
+flows_of_by order tx es = in_each (λ d. energy_of_by order d tx es)
 
 -- The energies of a period of a station, with readings in the given order.
-abbrev pub flows_in_by : Order → Periods → ℕ → List Entry → Flows
-flows_in_by order period quarter es = record { flow = energy_in_by order Import period quarter es; export = energy_in_by order Export period quarter es }
+abbrev pub flows_in_by : Order → Periods → ℕ → List Entry → ByDirection Energy
+flows_in_by order period quarter es = in_each (λ d. energy_in_by order d period quarter es)
 
 -- A number put into a rising list, if it is not in it already.
 abbrev pub put_in : ℕ → List ℕ → List ℕ

@@ -3,9 +3,10 @@ use Rattle.std.specs.List.{flat_map, filter_map}
 use Rattle.energy_flow.specs.Flow.{Energy}
 use Rattle.ledger_model.specs.Content.{Entry, live, live_of, transactions_of}
 use Rattle.ledger_model.specs.declared.reading.Direction.{Direction}
-use Rattle.ledger_model.specs.declared.reading.Direction.TheVariants.{Import, Export}
 use Rattle.ledger_model.specs.declared.order.Order.{Order}
-use Rattle.ledger_model.specs.Energy.{Flows, pairs_by, energy_over, rising}
+use Rattle.ledger_model.specs.ByDirection.{in_each}
+use Rattle.ledger_model.specs.declared.by_direction.ByDirection.{ByDirection}
+use Rattle.ledger_model.specs.Energy.{pairs_by, energy_over, rising}
 
 -- The first of a list, or 0 if it is empty.
 abbrev pub first_or_zero : List ℕ → ℕ
@@ -27,8 +28,8 @@ abbrev pub energy_at_by : Order → Direction → ℕ → List Entry → Energy
 energy_at_by order d evse es = energy_over (flat_map (λ tx. pairs_by order d tx es) (transactions_at evse es))
 
 -- The energies of an EVSE, with readings in the given order.
-abbrev pub flows_at_by : Order → ℕ → List Entry → Flows
-flows_at_by order evse es = record { flow = energy_at_by order Import evse es; export = energy_at_by order Export evse es }
+abbrev pub flows_at_by : Order → ℕ → List Entry → ByDirection Energy
+flows_at_by order evse es = in_each (λ d. energy_at_by order d evse es)
 
 -- The EVSEs that a station shows: each that has a transaction with a live event.
 abbrev pub evses : List Entry → List ℕ

@@ -8,9 +8,10 @@ ghost use Rattle.ledger_model.specs.Periods.{Periods};
 ghost use Rattle.ledger_model.specs.BoardExamples.{first_run, first_run_board, first_run_site, late_event, late_event_board, void_and_restore, void_and_restore_board, quarter_boundary, closing_periods, quarter_closed, at_first_moment, readings_again_at_end, readings_again_counts, readings_again_quarters, evse_moves, evse_voided, start_voided, widest_gap, widest_gap_counts, exported, in_turn, rise, took, ten};
 ghost use Rattle.ledger_model.specs.BoardLaws.{AreRising, AreGaps, AreComplete, AreSums, IsIn, flows_over, quarters_over, sum_of_energies};
 ghost use Rattle.ledger_model.specs.Board.{Board, board, board_by, figures, flows_under, last_or_zero, plus_figures, site_board, sum_of_figures};
+ghost use Rattle.ledger_model.specs.ByDirection.{flows_toward};
 ghost use Rattle.ledger_model.specs.Complete.{is_complete, kinds_of};
 ghost use Rattle.ledger_model.specs.Content.{Content, Entry, entries, has_transaction, live, transactions_of};
-ghost use Rattle.ledger_model.specs.Energy.{energy_by, energy_in_by, energy_of_by, flows_toward, parts_of_both, quarters_by};
+ghost use Rattle.ledger_model.specs.Energy.{energy_by, energy_in_by, energy_of_by, parts_of_both, quarters_by};
 ghost use Rattle.ledger_model.specs.Evse.{energy_at_by, evse_of, evses, first_or_zero};
 ghost use Rattle.ledger_model.specs.Gaps.{Gap, gaps, missing, numbers_of};
 ghost use Rattle.ledger_model.specs.Settling.{default_periods};
@@ -110,5 +111,5 @@ pub fn board_examples()
     ensures widest_gap_figures { figures widest_gap ≡ widest_gap_counts }
     ensures exported { (board default_periods exported).quarters ≡ (ten, took 100_000) ∷ (ten + 1, flows_toward Export (rise 30_000)) ∷ [] }
     ensures exported_figures { figures exported ≡ record { events = 3; voided = 0; transactions = 1; complete = 1; missing = 0; up = 100_000; down = 0; export_up = 30_000; export_down = 0 } }
-    ensures in_turn { (board default_periods in_turn).quarters ≡ (ten, record { flow = rise 20_000; export = record { up = 0; down = 10_000 } }) ∷ [] }
+    ensures in_turn { (board default_periods in_turn).quarters ≡ (ten, record { import = rise 20_000; export = record { up = 0; down = 10_000 } }) ∷ [] }
 {}
