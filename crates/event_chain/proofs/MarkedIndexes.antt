@@ -4,6 +4,7 @@ use Rattle.std.proofs.lemmas.Bool.Decides.{Decides-eqb}
 use Rattle.std.proofs.lemmas.List.{map-append}
 use Rattle.std.proofs.lemmas.List.Elements.{filter-append}
 use Rattle.std.specs.Ordering.{is_eq, nat_cmp}
+use Rattle.ledger_model.proofs.Directions.{each_way}
 use Rattle.ledger_model.specs.ByDirection.{in_direction}
 use Rattle.ledger_model.specs.declared.by_direction.ByDirection.{ByDirection}
 use Rattle.ledger_model.specs.declared.reading.Direction.{Direction}
@@ -233,11 +234,6 @@ module _ (o : Option Mark) (r : ℕ) (f : Filed ℕ) (es : List (Entry ℕ)) (h 
             | true ↦ λ e. let found : Some f.value ≡ None = sym (ap (λ b. cond b (Some f.value) None) ((Decides-eqb r r).1 refl)) ∙ sym (ap (filed_at r) e) ∙ absent in cc
             | false ↦ λ e. e
           ] left_is
-
--- Of two, one for each direction.
-each_way : (P : Direction → Type 0) → P Import → P Export → (d : Direction) → P d
-each_way P a b Import = a
-each_way P a b Export = b
 
 -- The marks of a live event.
 abbrev pub live_marks : ByDirection Bool → Bool → Marks

@@ -18,6 +18,7 @@ pub mod NumberLemmas
 pub mod CompleteLemmas
 pub mod SumLemmas
 pub mod PartLemmas
+pub mod Directions
 pub mod EnergyLemmas
 pub mod FigureLemmas
 pub mod PostLemmas

@@ -11,7 +11,10 @@ use Rattle.ledger_model.specs.declared.reading.Direction.{Direction}
 use Rattle.ledger_model.specs.declared.reading.Direction.TheVariants.{Import, Export}
 use Rattle.ledger_model.specs.Board.{Flowed, board_by}
 use Rattle.ledger_model.specs.Content.{Entry}
-use Rattle.ledger_model.specs.Energy.{Flows, Pair, all_pairs_by, change_of, difference, flows_in_by, flows_toward, parts_of_both, parts_over, quarters_by, rising}
+use Rattle.ledger_model.specs.ByDirection.{flows_toward}
+use Rattle.ledger_model.specs.declared.by_direction.ByDirection.{ByDirection}
+use Rattle.energy_flow.specs.Flow.{Energy}
+use Rattle.ledger_model.specs.Energy.{Pair, all_pairs_by, change_of, difference, flows_in_by, parts_of_both, parts_over, quarters_by, rising}
 use Rattle.ledger_model.specs.Parts.{Part, parts_by, whole}
 use Rattle.ledger_model.specs.Settling.{settled_by}
 use Rattle.ledger_model.specs.declared.settle.Settle.{Settle}
@@ -25,7 +28,7 @@ map_map f g [] = refl
 map_map f g (x ∷ xs) = ap (λ ys. f (g x) ∷ ys) (map_map f g xs)
 
 -- What the parts of a period in one direction add up to, by a measure of what they show.
-quarter_sum : (measure : Flows → ℕ) (d : Direction) (q : ℕ) (ts : List Part)
+quarter_sum : (measure : ByDirection Energy → ℕ) (d : Direction) (q : ℕ) (ts : List Part)
     → sum_by (λ f. measure f.1) (filter (λ f. f.0 == q) (parts_toward d ts)) ≡ sum_by (λ t. measure (flows_toward d t.1)) (filter (λ t. t.0 == q) ts)
 quarter_sum measure d q ts =
     passed_sum (λ (f : Flowed). measure f.1) (λ f. f.0 == q) (parts_toward d ts)
@@ -40,7 +43,7 @@ abbrev of_quarter : Order → Periods → ℕ → Direction → List Entry → L
 of_quarter order period q d es = filter (λ t. t.0 == q) (side order period d es)
 
 -- The same of both directions: each adds up by itself.
-part_sum : (order : Order) (measure : Flows → ℕ) (period : Periods) (q : ℕ) (es : List Entry) → sum_by (λ f. measure f.1) (filter (λ f. f.0 == q) (board_flows_by order period es))
+part_sum : (order : Order) (measure : ByDirection Energy → ℕ) (period : Periods) (q : ℕ) (es : List Entry) → sum_by (λ f. measure f.1) (filter (λ f. f.0 == q) (board_flows_by order period es))
     ≡ sum_by (λ t. measure (flows_toward Import t.1)) (of_quarter order period q Import es) + sum_by (λ t. measure (flows_toward Export t.1)) (of_quarter order period q Export es)
 part_sum order measure period q es =
     let a = parts_toward Import (side order period Import es) in let b = parts_toward Export (side order period Export es) in
@@ -49,7 +52,7 @@ part_sum order measure period q es =
     ∙ (λ i. quarter_sum measure Import q (side order period Import es) i + quarter_sum measure Export q (side order period Export es) i)
 
 -- The line of a period with these energies.
-abbrev line : ℕ → Flows → Flowed
+abbrev line : ℕ → ByDirection Energy → Flowed
 line q flows = (q, flows)
 
 -- The sums over a period's parts are the energies of the period: parts of one direction count nothing in the other.
@@ -57,11 +60,11 @@ quarter_flows : (order : Order) (period : Periods) (es : List Entry) (q : ℕ) �
 quarter_flows order period es q =
     let own = filter (λ f. f.0 == q) (board_flows_by order period es) in
     let none_in = sum_by-none (of_quarter order period q Import es) in let none_out = sum_by-none (of_quarter order period q Export es) in
-    let up : (total own).flow.up ≡ (flows_in_by order period q es).flow.up = omega (arith, part_sum order (λ f. f.flow.up) period q es, none_out) in
-    let down : (total own).flow.down ≡ (flows_in_by order period q es).flow.down = omega (arith, part_sum order (λ f. f.flow.down) period q es, none_out) in
+    let up : (total own).import.up ≡ (flows_in_by order period q es).import.up = omega (arith, part_sum order (λ f. f.import.up) period q es, none_out) in
+    let down : (total own).import.down ≡ (flows_in_by order period q es).import.down = omega (arith, part_sum order (λ f. f.import.down) period q es, none_out) in
     let export_up : (total own).export.up ≡ (flows_in_by order period q es).export.up = omega (arith, part_sum order (λ f. f.export.up) period q es, none_in) in
     let export_down : (total own).export.down ≡ (flows_in_by order period q es).export.down = omega (arith, part_sum order (λ f. f.export.down) period q es, none_in) in
-    λ i. record { flow = record { up = up i; down = down i }; export = record { up = export_up i; down = export_down i } }
+    λ i. record { import = record { up = up i; down = down i }; export = record { up = export_up i; down = export_down i } }
 
 -- The periods of a station's parts, of both directions.
 quarters_of : (order : Order) (period : Periods) (es : List Entry) → map (λ f. f.0) (board_flows_by order period es) ≡ map (λ t. t.0) (parts_of_both order period es)

@@ -4,13 +4,18 @@ use Rattle.std.specs.List.{filter, sum_by}
 use Rattle.std.proofs.lemmas.Bool.{cases_order}
 use Rattle.std.proofs.lemmas.List.{length-map}
 use Rattle.std.proofs.lemmas.List.Sums.{sum_by-le-sum_by, length-filter, count_by-le-length}
-use Rattle.energy_flow.specs.Flow.{Energy, no_energy, plus, CanMinus}
+use Rattle.energy_flow.specs.Flow.{Energy}
+use Rattle.ledger_model.specs.ByDirection.{in_direction, plus_flows, CanMinusFlows}
+use Rattle.ledger_model.specs.declared.by_direction.ByDirection.{ByDirection}
+use Rattle.ledger_model.specs.declared.reading.Direction.{Direction}
+use Rattle.ledger_model.specs.declared.reading.Direction.TheVariants.{Import, Export}
 use Rattle.ledger_model.specs.Board.{Flowed}
-use Rattle.ledger_model.specs.Energy.{Flows, put_in, rising}
+use Rattle.ledger_model.specs.Energy.{put_in, rising}
 use Rattle.ledger_model.proofs.Callers.{passed_sum, put_in-same, put_in-below, put_in-above}
 use Rattle.quarter_table.specs.declared.row.QuarterRow.{QuarterRow}
 use Rattle.quarter_table.specs.Rows.{no_row, row_at, with_pair}
 use Rattle.quarter_table.specs.Pairs.{total, row_of, rows_of}
+use Rattle.quarter_table.proofs.Parts.{plus_none}
 use Rattle.quarter_table.proofs.Made.{made_row, none_made, row_with_pair}
 
 -- A number put in makes a list longer by one at most.
@@ -49,54 +54,37 @@ part_le : (measure : Flowed → ℕ) (p : Flowed → Bool) (fs : List Flowed) �
 part_le measure p fs = omega (arith, passed_sum measure p fs, sum_by-le-sum_by (λ f. cond (p f) (measure f) 0) measure fs (λ f. taken_le (p f) (measure f)))
 
 -- A row adds up to no more than all pairs do.
-pub row_up_le : (q : ℕ) (fs : List Flowed) → (row_of q fs).flow.up ≤ (total fs).flow.up
-row_up_le q fs = part_le (λ f. f.1.flow.up) (λ f. f.0 == q) fs
+pub row_up_le : (d : Direction) (q : ℕ) (fs : List Flowed) → (in_direction d (row_of q fs).energy).up ≤ (in_direction d (total fs)).up
+row_up_le Import q fs = part_le (λ f. f.1.import.up) (λ f. f.0 == q) fs
+row_up_le Export q fs = part_le (λ f. f.1.export.up) (λ f. f.0 == q) fs
 
-pub row_down_le : (q : ℕ) (fs : List Flowed) → (row_of q fs).flow.down ≤ (total fs).flow.down
-row_down_le q fs = part_le (λ f. f.1.flow.down) (λ f. f.0 == q) fs
-
-pub row_export_up_le : (q : ℕ) (fs : List Flowed) → (row_of q fs).export.up ≤ (total fs).export.up
-row_export_up_le q fs = part_le (λ f. f.1.export.up) (λ f. f.0 == q) fs
-
-pub row_export_down_le : (q : ℕ) (fs : List Flowed) → (row_of q fs).export.down ≤ (total fs).export.down
-row_export_down_le q fs = part_le (λ f. f.1.export.down) (λ f. f.0 == q) fs
+pub row_down_le : (d : Direction) (q : ℕ) (fs : List Flowed) → (in_direction d (row_of q fs).energy).down ≤ (in_direction d (total fs)).down
+row_down_le Import q fs = part_le (λ f. f.1.import.down) (λ f. f.0 == q) fs
+row_down_le Export q fs = part_le (λ f. f.1.export.down) (λ f. f.0 == q) fs
 
 -- The row that a pair is in.
-abbrev its_row : List Flowed → ℕ → Flows → List Flowed → QuarterRow
+abbrev its_row : List Flowed → ℕ → ByDirection Energy → List Flowed → QuarterRow
 its_row front q flow back = row_at q (rows_of (front ++ (q, flow) ∷ back))
 
-its_row_is : (front : List Flowed) (q : ℕ) (flow : Flows) (back : List Flowed) → its_row front q flow back ≡ with_pair flow (row_of q (front ++ back))
+its_row_is : (front : List Flowed) (q : ℕ) (flow : ByDirection Energy) (back : List Flowed) → its_row front q flow back ≡ with_pair flow (row_of q (front ++ back))
 its_row_is front q flow back = made_row q (front ++ (q, flow) ∷ back) ∙ row_with_pair front q flow back
 
 -- The row of a pair that is there counts it.
-pub pair_counted : (front : List Flowed) (q : ℕ) (flow : Flows) (back : List Flowed) → 0 < (its_row front q flow back).pairs
+pub pair_counted : (front : List Flowed) (q : ℕ) (flow : ByDirection Energy) (back : List Flowed) → 0 < (its_row front q flow back).pairs
 pair_counted front q flow back = subst (λ (r : QuarterRow). 0 < r.pairs) (sym (its_row_is front q flow back)) (omega arith)
 
 -- Its sums hold the pair's difference.
-pub pair_held : (front : List Flowed) (q : ℕ) (flow : Flows) (back : List Flowed) → CanMinus (its_row front q flow back).flow flow.flow
-pair_held front q flow back = subst (λ (r : QuarterRow). CanMinus r.flow flow.flow) (sym (its_row_is front q flow back)) (record { up = omega arith; down = omega arith })
-
-pub export_held : (front : List Flowed) (q : ℕ) (flow : Flows) (back : List Flowed) → CanMinus (its_row front q flow back).export flow.export
-export_held front q flow back = subst (λ (r : QuarterRow). CanMinus r.export flow.export) (sym (its_row_is front q flow back)) (record { up = omega arith; down = omega arith })
-
--- An energy added to none is itself.
-none_plus : (a flow : Energy) → a ≡ no_energy → plus a flow ≡ flow
-none_plus a flow none =
-    let up : a.up + flow.up ≡ flow.up = let z : a.up ≡ 0 = ap (λ (x : Energy). x.up) none in omega arith in
-    let down : a.down + flow.down ≡ flow.down = let z : a.down ≡ 0 = ap (λ (x : Energy). x.down) none in omega arith in
-    λ i. record { up = up i; down = down i }
+pub pair_held : (front : List Flowed) (q : ℕ) (flow : ByDirection Energy) (back : List Flowed) → CanMinusFlows (its_row front q flow back).energy flow
+pair_held front q flow back =
+    subst (λ (r : QuarterRow). CanMinusFlows r.energy flow) (sym (its_row_is front q flow back)) (record { import = record { up = omega arith; down = omega arith }; export = record { up = omega arith; down = omega arith } })
 
 -- Where no other pair is left, the others make no row.
-none_else : (front : List Flowed) (q : ℕ) (flow : Flows) (back : List Flowed) → (its_row front q flow back).pairs ≡ 1 → row_of q (front ++ back) ≡ no_row q
+none_else : (front : List Flowed) (q : ℕ) (flow : ByDirection Energy) (back : List Flowed) → (its_row front q flow back).pairs ≡ 1 → row_of q (front ++ back) ≡ no_row q
 none_else front q flow back one =
     let counted : (row_of q (front ++ back)).pairs + 1 ≡ 1 = sym (ap (λ (r : QuarterRow). r.pairs) (its_row_is front q flow back)) ∙ one in
     none_made q (front ++ back) (omega arith)
 
 -- The sums are all of it then.
-pub last_pair : (front : List Flowed) (q : ℕ) (flow : Flows) (back : List Flowed) → (its_row front q flow back).pairs ≡ 1 → (its_row front q flow back).flow ≡ flow.flow
+pub last_pair : (front : List Flowed) (q : ℕ) (flow : ByDirection Energy) (back : List Flowed) → (its_row front q flow back).pairs ≡ 1 → (its_row front q flow back).energy ≡ flow
 last_pair front q flow back one =
-    ap (λ (r : QuarterRow). r.flow) (its_row_is front q flow back) ∙ none_plus (row_of q (front ++ back)).flow flow.flow (ap (λ (r : QuarterRow). r.flow) (none_else front q flow back one))
-
-pub last_export : (front : List Flowed) (q : ℕ) (flow : Flows) (back : List Flowed) → (its_row front q flow back).pairs ≡ 1 → (its_row front q flow back).export ≡ flow.export
-last_export front q flow back one =
-    ap (λ (r : QuarterRow). r.export) (its_row_is front q flow back) ∙ none_plus (row_of q (front ++ back)).export flow.export (ap (λ (r : QuarterRow). r.export) (none_else front q flow back one))
+    ap (λ (r : QuarterRow). r.energy) (its_row_is front q flow back) ∙ ap (λ (r : QuarterRow). plus_flows r.energy flow) (none_else front q flow back one) ∙ plus_none flow

@@ -5,7 +5,10 @@ use Rattle.std.proofs.lemmas.Bool.{eq-eqb, ne_eqb, cases_eq}
 use Rattle.std.proofs.lemmas.List.Sums.{sum_by-cons, sum_by-append, length-filter}
 use Rattle.ledger_model.specs.Board.{Flowed}
 use Rattle.ledger_model.specs.BoardLaws.{AreRising, IsIn}
-use Rattle.ledger_model.specs.Energy.{Flows, minus_flows, plus_flows, rising}
+use Rattle.energy_flow.specs.Flow.{Energy}
+use Rattle.ledger_model.specs.ByDirection.{minus_flows, plus_flows}
+use Rattle.ledger_model.specs.declared.by_direction.ByDirection.{ByDirection}
+use Rattle.ledger_model.specs.Energy.{rising}
 use Rattle.ledger_model.proofs.Callers.{passed_sum, rising-AreRising, rising-IsIn}
 use Rattle.quarter_table.specs.declared.row.QuarterRow.{QuarterRow}
 use Rattle.quarter_table.specs.Rows.{no_row, row_at, with_pair, without_pair, set_row, AreAfter, AreInOrder, HavePairs}
@@ -21,7 +24,7 @@ own q flows = filter (λ f. f.0 == q) flows
 
 -- A row with these pairs.
 abbrev row_with : ℕ → List Flowed → QuarterRow
-row_with q flows = record { quarter = q; pairs = length flows; flow = (total flows).flow; export = (total flows).export }
+row_with q flows = record { quarter = q; pairs = length flows; energy = total flows }
 
 -- A pair of the period is its own.
 own_same : (q : ℕ) (f : Flowed) (fs : List Flowed) → f.0 ≡ q → own q (f ∷ fs) ≡ f ∷ own q fs
@@ -115,11 +118,11 @@ none_made q fs none = ⊎_elim
     (in_or_none q fs)
 
 -- A row of these numbers.
-abbrev row_as : ℕ → ℕ → Flows → QuarterRow
-row_as q pairs flows = record { quarter = q; pairs = pairs; flow = flows.flow; export = flows.export }
+abbrev row_as : ℕ → ℕ → ByDirection Energy → QuarterRow
+row_as q pairs flows = record { quarter = q; pairs = pairs; energy = flows }
 
 -- Rows with the same numbers.
-same_row : (q m n : ℕ) (a b : Flows) → m ≡ n → ((p : Part) → p.measure a ≡ p.measure b) → row_as q m a ≡ row_as q n b
+same_row : (q m n : ℕ) (a b : ByDirection Energy) → m ≡ n → ((p : Part) → p.measure a ≡ p.measure b) → row_as q m a ≡ row_as q n b
 same_row q m n a b pairs each = let flows = same_flows a b each in λ i. row_as q (pairs i) (flows i)
 
 -- Pairs that add up the same, by whatever measure, have the same row for each period.
@@ -135,21 +138,20 @@ made_alike xs ys same =
     rows_alike (rows_of xs) (rows_of ys) (made_in_order xs) (made_have_pairs xs) (made_in_order ys) (made_have_pairs ys) (λ q. made_row q xs ∙ row_alike q xs ys same ∙ sym (made_row q ys))
 
 -- A pair more, in front, in the row of its period.
-row_more : (q : ℕ) (flow : Flows) (fs : List Flowed) → row_of q ((q, flow) ∷ fs) ≡ with_pair flow (row_of q fs)
+row_more : (q : ℕ) (flow : ByDirection Energy) (fs : List Flowed) → row_of q ((q, flow) ∷ fs) ≡ with_pair flow (row_of q fs)
 row_more q flow fs =
     let mine = own q fs in
     ap (row_with q) (own_same q (q, flow) fs refl) ∙ same_row q (suc (length mine)) (length mine + 1) (total ((q, flow) ∷ mine)) (plus_flows (total mine) flow) (omega arith)
     (λ p. omega (arith, p.total_of ((q, flow) ∷ mine), sum_by-cons (λ (f : Flowed). p.measure f.1) (q, flow) mine, p.plus_of (total mine) flow, p.total_of mine))
 
 -- A pair more, in front, in the row of another period.
-row_else : (k q : ℕ) (flow : Flows) (fs : List Flowed) → k ≢ q → row_of k ((q, flow) ∷ fs) ≡ row_of k fs
+row_else : (k q : ℕ) (flow : ByDirection Energy) (fs : List Flowed) → k ≢ q → row_of k ((q, flow) ∷ fs) ≡ row_of k fs
 row_else k q flow fs apart = ap (row_with k) (own_other k (q, flow) fs (λ e. apart (sym e)))
 
 -- A pair less in a row that has it.
-less_more : (flow : Flows) (row : QuarterRow) → without_pair flow (with_pair flow row) ≡ row
+less_more : (flow : ByDirection Energy) (row : QuarterRow) → without_pair flow (with_pair flow row) ≡ row
 less_more flow row =
-    let has : Flows = record { flow = row.flow; export = row.export } in
-    same_row row.quarter (row.pairs + 1 - 1) row.pairs (minus_flows (plus_flows has flow) flow) has (omega arith) (λ p. omega (arith, p.minus_of (plus_flows has flow) flow, p.plus_of has flow))
+    same_row row.quarter (row.pairs + 1 - 1) row.pairs (minus_flows (plus_flows row.energy flow) flow) row.energy (omega arith) (λ p. omega (arith, p.minus_of (plus_flows row.energy flow) flow, p.plus_of row.energy flow))
 
 -- A pair between others adds up as one in front.
 pub moved_front : (front : List Flowed) (f : Flowed) (back : List Flowed) (measure : Flowed → ℕ) → sum_by measure (front ++ f ∷ back) ≡ sum_by measure (f ∷ (front ++ back))
@@ -158,11 +160,11 @@ moved_front front f back measure =
     omega (arith, a, b, d, e)
 
 -- A pair more among others, in the row of its period.
-pub row_with_pair : (front : List Flowed) (q : ℕ) (flow : Flows) (back : List Flowed) → row_of q (front ++ (q, flow) ∷ back) ≡ with_pair flow (row_of q (front ++ back))
+pub row_with_pair : (front : List Flowed) (q : ℕ) (flow : ByDirection Energy) (back : List Flowed) → row_of q (front ++ (q, flow) ∷ back) ≡ with_pair flow (row_of q (front ++ back))
 row_with_pair front q flow back = row_alike q (front ++ (q, flow) ∷ back) ((q, flow) ∷ (front ++ back)) (moved_front front (q, flow) back) ∙ row_more q flow (front ++ back)
 
 -- A pair more among others, in the row of another period.
-pub row_without_pair : (front : List Flowed) (k q : ℕ) (flow : Flows) (back : List Flowed) → k ≢ q → row_of k (front ++ (q, flow) ∷ back) ≡ row_of k (front ++ back)
+pub row_without_pair : (front : List Flowed) (k q : ℕ) (flow : ByDirection Energy) (back : List Flowed) → k ≢ q → row_of k (front ++ (q, flow) ∷ back) ≡ row_of k (front ++ back)
 row_without_pair front k q flow back apart = row_alike k (front ++ (q, flow) ∷ back) ((q, flow) ∷ (front ++ back)) (moved_front front (q, flow) back) ∙ row_else k q flow (front ++ back) apart
 
 -- The rows with one set are those of other pairs, where that is so for its period and no other is touched.
@@ -177,13 +179,13 @@ set_made q row xs ys is others =
     rows_alike (set_row row (rows_of xs)) (rows_of ys) (order_set row (rows_of xs) (made_in_order xs)) (pairs_set row (rows_of xs) (made_have_pairs xs)) (made_in_order ys) (made_have_pairs ys) at
 
 -- The rows of pairs, with one pair added, are those of the pairs with that one among them.
-pub made_added : (front : List Flowed) (q : ℕ) (flow : Flows) (back : List Flowed)
+pub made_added : (front : List Flowed) (q : ℕ) (flow : ByDirection Energy) (back : List Flowed)
     → set_row (with_pair flow (row_at q (rows_of (front ++ back)))) (rows_of (front ++ back)) ≡ rows_of (front ++ (q, flow) ∷ back)
 made_added front q flow back =
     set_made q (with_pair flow (row_at q (rows_of (front ++ back)))) (front ++ back) (front ++ (q, flow) ∷ back) (ap (with_pair flow) (made_row q (front ++ back)) ∙ sym (row_with_pair front q flow back)) (λ k apart. sym (row_without_pair front k q flow back apart))
 
 -- The rows of pairs, with one of them taken out, are those of the other pairs.
-pub made_removed : (front : List Flowed) (q : ℕ) (flow : Flows) (back : List Flowed)
+pub made_removed : (front : List Flowed) (q : ℕ) (flow : ByDirection Energy) (back : List Flowed)
     → set_row (without_pair flow (row_at q (rows_of (front ++ (q, flow) ∷ back)))) (rows_of (front ++ (q, flow) ∷ back)) ≡ rows_of (front ++ back)
 made_removed front q flow back =
     let there = made_row q (front ++ (q, flow) ∷ back) ∙ row_with_pair front q flow back in

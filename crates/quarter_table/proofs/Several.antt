@@ -9,7 +9,8 @@ use Rattle.ledger_model.specs.declared.reading.Direction.TheVariants.{Import, Ex
 use Rattle.ledger_model.specs.Board.{Flowed}
 use Rattle.ledger_model.specs.Content.{Entry}
 use Rattle.ledger_model.specs.Deltas.{IsOneMore, came_by, gone_by, kept_by}
-use Rattle.ledger_model.specs.Energy.{Pair, difference, flows_toward, pairs, quarter_of}
+use Rattle.ledger_model.specs.ByDirection.{flows_toward}
+use Rattle.ledger_model.specs.Energy.{Pair, difference, pairs, quarter_of}
 use Rattle.ledger_model.specs.Parts.{Part}
 use Rattle.ledger_model.proofs.Callers.{sum_by-map, less_kept, more_kept}
 use Rattle.quarter_table.specs.Pairs.{parts_toward, rows_of, rows_plus, rows_with, rows_without, flows_of, station_flows, gone_flows, came_flows}

@@ -1,6 +1,8 @@
 -- The rows that pairs make.
 use Rattle.std.specs.Prelude.{◌≡◌, ◌<◌, ℕ, ◌==◌, List, [], ◌∷◌, ◌++◌, map, filter, length, sum_by}
-use Rattle.energy_flow.specs.Flow.{CanMinus}
+use Rattle.energy_flow.specs.Flow.{Energy}
+use Rattle.ledger_model.specs.ByDirection.{in_direction, in_each, flows_toward, CanMinusFlows}
+use Rattle.ledger_model.specs.declared.by_direction.ByDirection.{ByDirection}
 use Rattle.ledger_model.specs.Periods.{Periods}
 use Rattle.ledger_model.specs.declared.order.Order.{Order}
 use Rattle.ledger_model.specs.declared.order.Order.TheVariants.{Sequence}
@@ -9,23 +11,20 @@ use Rattle.ledger_model.specs.declared.reading.Direction.TheVariants.{Import, Ex
 use Rattle.ledger_model.specs.Board.{Flowed}
 use Rattle.ledger_model.specs.Content.{Entry}
 use Rattle.ledger_model.specs.Deltas.{came_by, gone_by}
-use Rattle.ledger_model.specs.Energy.{Flows, Pair, all_pairs_by, difference, flows_toward, parts_over, quarter_of, rising}
+use Rattle.ledger_model.specs.Energy.{Pair, all_pairs_by, difference, parts_over, quarter_of, rising}
 use Rattle.ledger_model.specs.Parts.{Part}
 use Rattle.quarter_table.specs.declared.row.QuarterRow.{QuarterRow}
 use Rattle.quarter_table.specs.Rows.{row_at, set_row, with_pair, without_pair}
 
 -- Differences added up, field by field, in each direction.
-abbrev pub total : List Flowed → Flows
-total flows = record {
-  flow = record { up = sum_by (λ f. f.1.flow.up) flows; down = sum_by (λ f. f.1.flow.down) flows };
-  export = record { up = sum_by (λ f. f.1.export.up) flows; down = sum_by (λ f. f.1.export.down) flows };
-}
+abbrev pub total : List Flowed → ByDirection Energy
+total flows = in_each (λ d. record { up = sum_by (λ (f : Flowed). (in_direction d f.1).up) flows; down = sum_by (λ (f : Flowed). (in_direction d f.1).down) flows })
 
 -- The row of a period: how many of the pairs belong to it, and their sums.
 abbrev pub row_of : ℕ → List Flowed → QuarterRow
 row_of quarter flows =
     let own = filter (λ f. f.0 == quarter) flows in
-    record { quarter = quarter; pairs = length own; flow = (total own).flow; export = (total own).export }
+    record { quarter = quarter; pairs = length own; energy = total own }
 
 -- The rows of pairs: one for each period that has a pair, in rising order. A pair is given by its period and its
 -- difference.
@@ -63,7 +62,7 @@ came_flows period front e back = flows_of period Import (came_by Import front e 
 
 -- What a board shows of a row.
 abbrev pub line_of : QuarterRow → Flowed
-line_of row = (row.quarter, record { flow = row.flow; export = row.export })
+line_of row = (row.quarter, row.energy)
 
 -- Rows after a pair was added.
 abbrev pub rows_plus : Flowed → List QuarterRow → List QuarterRow
@@ -85,12 +84,10 @@ rows_without (f ∷ fs) rows = rows_without fs (rows_minus f rows)
 
 -- A row has a pair of this difference: it counts the pair, its sums include the difference in each direction, and are
 -- just that difference if it counts no other pair.
-pub record HasPair (flows : Flows) (row : QuarterRow) : Type 0 where
+pub record HasPair (flows : ByDirection Energy) (row : QuarterRow) : Type 0 where
   pub there : 0 < row.pairs
-  pub within : CanMinus row.flow flows.flow
-  pub within_export : CanMinus row.export flows.export
-  pub last : row.pairs ≡ 1 → row.flow ≡ flows.flow
-  pub last_export : row.pairs ≡ 1 → row.export ≡ flows.export
+  pub within : CanMinusFlows row.energy flows
+  pub last : row.pairs ≡ 1 → row.energy ≡ flows
 
 -- With one more live event, the new rows are the old ones with the pairs that go taken out and
 -- those that come added; with one less, the other way round.

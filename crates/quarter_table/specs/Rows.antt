@@ -1,12 +1,13 @@
 -- Rows of a table, one for each settlement period that has a pair.
 use Rattle.std.specs.Prelude.{ℕ, ◌+◌, ◌-◌, ◌<◌, ◌==◌, nat_lt, if◌then◌else◌, List, [], ◌∷◌, ◌++◌, filter}
-use Rattle.energy_flow.specs.Flow.{no_energy, plus, minus}
-use Rattle.ledger_model.specs.Energy.{Flows}
+use Rattle.energy_flow.specs.Flow.{Energy}
+use Rattle.ledger_model.specs.ByDirection.{no_flows, plus_flows, minus_flows}
+use Rattle.ledger_model.specs.declared.by_direction.ByDirection.{ByDirection}
 use Rattle.quarter_table.specs.declared.row.QuarterRow.{QuarterRow}
 
 -- The row of a period that has no pair.
 abbrev pub no_row : ℕ → QuarterRow
-no_row quarter = record { quarter = quarter; pairs = 0; flow = no_energy; export = no_energy }
+no_row quarter = record { quarter = quarter; pairs = 0; energy = no_flows }
 
 -- The row of a period.
 abbrev pub row_at : ℕ → List QuarterRow → QuarterRow
@@ -14,12 +15,12 @@ row_at quarter [] = no_row quarter
 row_at quarter (row ∷ rows) = if row.quarter == quarter then row else row_at quarter rows
 
 -- A row with one pair more, of this difference in each direction.
-abbrev pub with_pair : Flows → QuarterRow → QuarterRow
-with_pair flows row = record { quarter = row.quarter; pairs = row.pairs + 1; flow = plus row.flow flows.flow; export = plus row.export flows.export }
+abbrev pub with_pair : ByDirection Energy → QuarterRow → QuarterRow
+with_pair flows row = record { quarter = row.quarter; pairs = row.pairs + 1; energy = plus_flows row.energy flows }
 
 -- A row with one pair less, of this difference in each direction.
-abbrev pub without_pair : Flows → QuarterRow → QuarterRow
-without_pair flows row = record { quarter = row.quarter; pairs = row.pairs - 1; flow = minus row.flow flows.flow; export = minus row.export flows.export }
+abbrev pub without_pair : ByDirection Energy → QuarterRow → QuarterRow
+without_pair flows row = record { quarter = row.quarter; pairs = row.pairs - 1; energy = minus_flows row.energy flows }
 
 -- The rows of earlier periods.
 abbrev pub earlier : ℕ → List QuarterRow → List QuarterRow

@@ -7,7 +7,10 @@ ghost use Rattle.ledger_model.specs.declared.settle.Settle.{Settle};
 ghost use Rattle.ledger_model.specs.Board.{Flowed, board_by};
 ghost use Rattle.ledger_model.specs.Content.{Entry};
 ghost use Rattle.ledger_model.specs.Deltas.{IsOneMore};
-ghost use Rattle.ledger_model.specs.Energy.{Flows};
+ghost use Rattle.energy_flow.specs.Flow.{Energy};
+ghost use Rattle.ledger_model.specs.ByDirection.{in_direction};
+ghost use Rattle.ledger_model.specs.declared.by_direction.ByDirection.{ByDirection};
+ghost use Rattle.ledger_model.specs.declared.reading.Direction.{Direction};
 ghost use Rattle.quarter_table.specs.Pairs.{total, row_of, rows_of, rows_minus, rows_plus, rows_with, rows_without, board_flows_by, station_flows_by, line_of, HasPair, RowsFollow};
 ghost use Rattle.quarter_table.specs.Rows.{no_row, row_at, with_pair};
 
@@ -26,8 +29,8 @@ pub fn rows_follow_pairs()
 /// energy if it has no pair.
 pub fn each_row_is_of_its_pairs()
     ensures row { (quarter : ℕ) (flows : List Flowed) → row_at quarter (rows_of flows) ≡ row_of quarter flows }
-    ensures same_quarter { (front : List Flowed) (quarter : ℕ) (flow : Flows) (back : List Flowed) → row_of quarter (front ++ (quarter, flow) ∷ back) ≡ with_pair flow (row_of quarter (front ++ back)) }
-    ensures other_quarter { (front : List Flowed) (quarter other : ℕ) (flow : Flows) (back : List Flowed) → quarter ≢ other → row_of quarter (front ++ (other, flow) ∷ back) ≡ row_of quarter (front ++ back) }
+    ensures same_quarter { (front : List Flowed) (quarter : ℕ) (flow : ByDirection Energy) (back : List Flowed) → row_of quarter (front ++ (quarter, flow) ∷ back) ≡ with_pair flow (row_of quarter (front ++ back)) }
+    ensures other_quarter { (front : List Flowed) (quarter other : ℕ) (flow : ByDirection Energy) (back : List Flowed) → quarter ≢ other → row_of quarter (front ++ (other, flow) ∷ back) ≡ row_of quarter (front ++ back) }
     ensures none { (quarter : ℕ) (flows : List Flowed) → (row_of quarter flows).pairs ≡ 0 → row_of quarter flows ≡ no_row quarter }
 {}
 
@@ -41,10 +44,8 @@ pub fn pair_may_be_taken_out()
 pub fn rows_are_within_pairs()
     ensures rows { (flows : List Flowed) → length (rows_of flows) ≤ length flows }
     ensures pairs { (quarter : ℕ) (flows : List Flowed) → (row_of quarter flows).pairs ≤ length flows }
-    ensures up { (quarter : ℕ) (flows : List Flowed) → (row_of quarter flows).flow.up ≤ (total flows).flow.up }
-    ensures down { (quarter : ℕ) (flows : List Flowed) → (row_of quarter flows).flow.down ≤ (total flows).flow.down }
-    ensures export_up { (quarter : ℕ) (flows : List Flowed) → (row_of quarter flows).export.up ≤ (total flows).export.up }
-    ensures export_down { (quarter : ℕ) (flows : List Flowed) → (row_of quarter flows).export.down ≤ (total flows).export.down }
+    ensures up { (d : Direction) (quarter : ℕ) (flows : List Flowed) → (in_direction d (row_of quarter flows).energy).up ≤ (in_direction d (total flows)).up }
+    ensures down { (d : Direction) (quarter : ℕ) (flows : List Flowed) → (in_direction d (row_of quarter flows).energy).down ≤ (in_direction d (total flows)).down }
 {}
 
 /// The rows of a station's pairs, of both directions, follow its events. With one more live event, the

@@ -1,5 +1,5 @@
 use energy_flow::Flow;
-use ledger_model::Quarter;
+use ledger_model::{ByDirection, Quarter};
 
 /// A settlement period with the number of its pairs in both directions together, and the sums of their
 /// differences in each. In a table the number is above 0.
@@ -9,8 +9,6 @@ pub struct QuarterRow {
     pub quarter: Quarter,
     /// How many pairs there are.
     pub pairs: u32,
-    /// The rises and the falls of the import register, in milliwatt-hours.
-    pub flow: Flow,
-    /// The rises and the falls of the export register, in milliwatt-hours.
-    pub export: Flow,
+    /// The rises and the falls of each register, in milliwatt-hours.
+    pub energy: ByDirection<Flow>,
 }

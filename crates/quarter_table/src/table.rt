@@ -1,6 +1,6 @@
 ghost use Rattle.std.specs.Prelude.{◌≡◌, ◌↔◌, ◌<◌, ◌+◌, ◌^◌, [], IfErr, IfOk, IsTrue, length};
-ghost use Rattle.energy_flow.specs.Flow.{CanPlus, CanMinus};
-ghost use Rattle.ledger_model.specs.Energy.{change_of, flows_toward};
+ghost use Rattle.ledger_model.specs.ByDirection.{flows_toward, CanPlusFlows, CanMinusFlows};
+ghost use Rattle.ledger_model.specs.Energy.{change_of};
 ghost use Rattle.ledger_model.specs.Parts.{parts_by};
 ghost use Rattle.ledger_model.specs.declared.settle.Settle.{Settle};
 ghost use Rattle.quarter_table.specs.Pairs.{parts_toward, rows_with};
@@ -11,7 +11,7 @@ use crate::place::place_near;
 use crate::row::QuarterRow;
 use crate::shares::even_parts;
 use energy_flow::Flow;
-use ledger_model::{Direction, Period, Quarter, Reading};
+use ledger_model::{ByDirection, Direction, Period, Quarter, Reading};
 use std::alloc::{AllocError, Global};
 use std::marker::Model;
 
@@ -75,8 +75,7 @@ impl QuarterTable {
             Err(_) => QuarterRow {
                 quarter,
                 pairs: 0,
-                flow: Flow::zero(),
-                export: Flow::zero(),
+                energy: ByDirection::zero(),
             },
         }
     }
@@ -94,23 +93,20 @@ impl QuarterTable {
     pub fn add(&mut self, quarter: Quarter, direction: Direction, flow: Flow)
         requires room { (row_at quarter self.old.rows).pairs ≡ 0 → length self.old.rows < self.old.capacity }
         requires number { (row_at quarter self.old.rows).pairs + 1 < 2 ^ 32 }
-        requires import { CanPlus (row_at quarter self.old.rows).flow (flows_toward direction flow).flow }
-        requires export { CanPlus (row_at quarter self.old.rows).export (flows_toward direction flow).export }
+        requires sums { CanPlusFlows (row_at quarter self.old.rows).energy (flows_toward direction flow) }
         ensures rows { self.new.rows ≡ set_row (with_pair (flows_toward direction flow) (row_at quarter self.old.rows)) self.old.rows }
         ensures capacity { self.new.capacity ≡ self.old.capacity }
     {
-        let (imported, exported) = parted(direction, flow);
+        let more = ByDirection::toward(direction, flow);
         match place_near(&self.rows, self.near, quarter) {
             Ok(at) => {
                 self.near = at;
                 let row = self.rows[at];
-                let flow = row.flow.plus(imported);
-                let export = row.export.plus(exported);
+                let energy = row.energy.plus(more);
                 self.rows[at] = QuarterRow {
                     quarter,
                     pairs: row.pairs + 1,
-                    flow,
-                    export,
+                    energy,
                 };
             }
             Err(at) => {
@@ -118,8 +114,7 @@ impl QuarterTable {
                 let row = QuarterRow {
                     quarter,
                     pairs: 1,
-                    flow: imported,
-                    export: exported,
+                    energy: more,
                 };
                 match self.rows.insert(at, row) {
                     Ok(()) => (),
@@ -141,8 +136,8 @@ impl QuarterTable {
         ensures kept { IfErr result (λ _. self.new.rows ≡ self.old.rows) }
     {
         let row = self.row(quarter);
-        let (imported, exported) = parted(direction, flow);
-        if row.pairs == u32::MAX || !row.flow.can_plus(imported) || !row.export.can_plus(exported) {
+        let energy = ByDirection::toward(direction, flow);
+        if row.pairs == u32::MAX || !row.energy.can_plus(energy) {
             return Err(AllocError);
         }
         self.make_room()?;
@@ -190,14 +185,12 @@ impl QuarterTable {
     /// just that. [`QuarterTable::row`] shows this.
     pub fn remove(&mut self, quarter: Quarter, direction: Direction, flow: Flow)
         requires there { 0 < (row_at quarter self.old.rows).pairs }
-        requires import { CanMinus (row_at quarter self.old.rows).flow (flows_toward direction flow).flow }
-        requires export { CanMinus (row_at quarter self.old.rows).export (flows_toward direction flow).export }
-        requires last_import { (row_at quarter self.old.rows).pairs ≡ 1 → (row_at quarter self.old.rows).flow ≡ (flows_toward direction flow).flow }
-        requires last_export { (row_at quarter self.old.rows).pairs ≡ 1 → (row_at quarter self.old.rows).export ≡ (flows_toward direction flow).export }
+        requires sums { CanMinusFlows (row_at quarter self.old.rows).energy (flows_toward direction flow) }
+        requires last { (row_at quarter self.old.rows).pairs ≡ 1 → (row_at quarter self.old.rows).energy ≡ flows_toward direction flow }
         ensures rows { self.new.rows ≡ set_row (without_pair (flows_toward direction flow) (row_at quarter self.old.rows)) self.old.rows }
         ensures capacity { self.new.capacity ≡ self.old.capacity }
     {
-        let (imported, exported) = parted(direction, flow);
+        let less = ByDirection::toward(direction, flow);
         match place_near(&self.rows, self.near, quarter) {
             Ok(at) => {
                 self.near = at;
@@ -205,28 +198,15 @@ impl QuarterTable {
                 if row.pairs == 1 {
                     self.rows.remove(at);
                 } else {
-                    let flow = row.flow.minus(imported);
-                    let export = row.export.minus(exported);
+                    let energy = row.energy.minus(less);
                     self.rows[at] = QuarterRow {
                         quarter,
                         pairs: row.pairs - 1,
-                        flow,
-                        export,
+                        energy,
                     };
                 }
             }
             Err(_) => unreachable!(),
         }
-    }
-}
-
-// What a difference of this direction adds to imports, and what to exports.
-fn parted(direction: Direction, flow: Flow) -> (Flow, Flow)
-    ensures import { result.0 ≡ (flows_toward direction flow).flow }
-    ensures export { result.1 ≡ (flows_toward direction flow).export }
-{
-    match direction {
-        Direction::Import => (flow, Flow::zero()),
-        Direction::Export => (Flow::zero(), flow),
     }
 }

@@ -3,10 +3,11 @@ use Rattle.std.proofs.Common.{◌==◌, ℕ, ◌≤◌, List, [], ◌∷◌, map
 use Rattle.std.specs.List.{All}
 use Rattle.std.proofs.lemmas.List.Elements.{All-nil, All-cons}
 use Rattle.energy_flow.specs.Flow.{Energy}
+use Rattle.ledger_model.specs.declared.by_direction.ByDirection.{ByDirection}
 use Rattle.ledger_model.specs.Periods.{Periods}
 use Rattle.ledger_model.specs.Board.{Flowed, board_by}
 use Rattle.ledger_model.specs.Content.{Entry}
-use Rattle.ledger_model.specs.Energy.{Flows, all_pairs_by, flows_in_by, energy_by, energy_in_by, energy_of_by, parts_of_both, parts_over, quarters_by}
+use Rattle.ledger_model.specs.Energy.{all_pairs_by, flows_in_by, flows_of_by, energy_by, energy_in_by, energy_of_by, parts_of_both, parts_over, quarters_by}
 use Rattle.ledger_model.specs.Parts.{Part}
 use Rattle.ledger_model.proofs.PartLemmas.{parts_down, parts_up}
 use Rattle.ledger_model.specs.Evse.{energy_at_by, evses, flows_at_by}
@@ -29,8 +30,11 @@ module _ (order : Order) (limits : Bounds) (es : List Entry) (within : AreAllowe
     down = omega (arith, down, few_down order d limits es within, within.most_readings_within);
   }
 
-  pub own_flow : (d : Direction) (tx : List ℕ) → IsStationFlow (energy_of_by order d tx es)
+  own_flow : (d : Direction) (tx : List ℕ) → IsStationFlow (energy_of_by order d tx es)
   own_flow d tx = small d (energy_of_by order d tx es) (own_up_le order d tx es) (own_down_le order d tx es)
+
+  pub own_flows : (tx : List ℕ) → AreStationFlows (flows_of_by order tx es)
+  own_flows tx = record { import = own_flow Import tx; export = own_flow Export tx }
 
   evse_flow : (d : Direction) (n : ℕ) → IsStationFlow (energy_at_by order d n es)
   evse_flow d n = small d (energy_at_by order d n es) (evse_up_le order d n es) (evse_down_le order d n es)
@@ -42,18 +46,18 @@ module _ (order : Order) (limits : Bounds) (es : List Entry) (within : AreAllowe
       (let some = part_le (λ (t : Part). t.1.up) (λ t. t.0 == q) ts in let all = parts_up period (all_pairs_by order d es) in omega (arith, some, all))
       (let some = part_le (λ (t : Part). t.1.down) (λ t. t.0 == q) ts in let all = parts_down period (all_pairs_by order d es) in omega (arith, some, all))
 
-  all_lines : (f : ℕ → Flows) (ns : List ℕ) → ((n : ℕ) → AreStationFlows (f n)) → All (λ line. AreStationFlows line.1) (map {B = Flowed} (λ n. (n, f n)) ns)
+  all_lines : (f : ℕ → ByDirection Energy) (ns : List ℕ) → ((n : ℕ) → AreStationFlows (f n)) → All (λ line. AreStationFlows line.1) (map {B = Flowed} (λ n. (n, f n)) ns)
   all_lines f [] each = All-nil (λ line. AreStationFlows line.1)
   all_lines f (n ∷ ns) each = All-cons (λ line. AreStationFlows line.1) (n, f n) (map {B = Flowed} (λ k. (k, f k)) ns) (each n) (all_lines f ns each)
 
-  own_lines : (f : ℕ → Flows) (period : ℕ) (ns : List ℕ) → ((n : ℕ) → IsIn n ns → IsQuarterOf period n) → All (λ line. IsQuarterOf period line.0) (map {B = Flowed} (λ n. (n, f n)) ns)
+  own_lines : (f : ℕ → ByDirection Energy) (period : ℕ) (ns : List ℕ) → ((n : ℕ) → IsIn n ns → IsQuarterOf period n) → All (λ line. IsQuarterOf period line.0) (map {B = Flowed} (λ n. (n, f n)) ns)
   own_lines f period [] each = All-nil (λ line. IsQuarterOf period line.0)
   own_lines f period (n ∷ ns) each = All-cons (λ line. IsQuarterOf period line.0) (n, f n) (map {B = Flowed} (λ k. (k, f k)) ns) (each n (inl refl)) (own_lines f period ns (λ k h. each k (inr h)))
 
   -- no line has more than the readings of a station can show, and each period has the given length
   pub lines_within : (period : Periods) → IsPeriod period.length → AreStationLines period (board_by order period es).evses (board_by order period es).quarters
   lines_within period is = record {
-    evse_flows = all_lines (λ n. flows_at_by order n es) (evses es) (λ n. record { flow = evse_flow Import n; export = evse_flow Export n });
-    quarter_flows = all_lines (λ q. flows_in_by order period q es) (quarters_by order period es) (λ q. record { flow = quarter_flow Import period q; export = quarter_flow Export period q });
+    evse_flows = all_lines (λ n. flows_at_by order n es) (evses es) (λ n. record { import = evse_flow Import n; export = evse_flow Export n });
+    quarter_flows = all_lines (λ q. flows_in_by order period q es) (quarters_by order period es) (λ q. record { import = quarter_flow Import period q; export = quarter_flow Export period q });
     own_quarters = own_lines (λ q. flows_in_by order period q es) period.length (quarters_by order period es) (λ q h. in_period order period es q within.in_range is ((rising-IsIn q (map (λ (t : Part). t.0) (parts_of_both order period es))).0 h));
   }

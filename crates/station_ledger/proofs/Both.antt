@@ -2,6 +2,7 @@
 use Rattle.std.proofs.Common.{ℕ, ◌≡◌, List, ◌++◌, length, refl, sym, ap, ◌∙◌, arith}
 use Rattle.std.proofs.lemmas.List.{append_assoc}
 use Rattle.energy_flow.specs.Flow.{Energy}
+use Rattle.ledger_model.proofs.Directions.{each_way}
 use Rattle.ledger_model.specs.Periods.{Periods}
 use Rattle.ledger_model.specs.ByDirection.{in_direction}
 use Rattle.ledger_model.specs.declared.reading.Direction.{Direction}
@@ -30,11 +31,6 @@ module _ {period : Periods} (ps : Direction → List Pair) {t new : Table} {befo
 
   pub holds_second : HoldsBoth period ps t → IsTaken period Import (ps Import) t new before after import_flow → HoldsPairs period Export (ps Export) new
   holds_second has e = (has.0, rows_less (quartered period Export (ps Export) ++ has.0) (has.1 ∙ regrouped period ps has.0) e.quarters)
-
--- of two, one for each direction
-each_way : (P : Direction → Type 0) → P Import → P Export → (d : Direction) → P d
-each_way P a b Import = a
-each_way P a b Export = b
 
 module _ {period : Periods} (ps : Direction → List Pair) {t new last : Table} {before after end : ℕ} {import_flow export_flow : Energy} where
   pub added_both : IsAdded period Import (ps Import) t new before after import_flow → IsAdded period Export (ps Export) new last after end export_flow → AreAdded period ps t last before end (record { import = import_flow; export = export_flow })

@@ -8,7 +8,7 @@ use Rattle.ledger_model.specs.declared.order.Order.{Order}
 use Rattle.ledger_model.specs.declared.order.Order.TheVariants.{Sequence, Moment}
 use Rattle.ledger_model.specs.Complete.{starts_and_ends}
 use Rattle.ledger_model.specs.Content.{Entry, Stored, live, transactions_of}
-use Rattle.ledger_model.specs.ByDirection.{in_direction}
+use Rattle.ledger_model.specs.ByDirection.{in_direction, in_each}
 use Rattle.ledger_model.specs.declared.by_direction.ByDirection.{ByDirection}
 use Rattle.ledger_model.specs.Deltas.{IsOneMore, before_key, behind_key, own_events, most_for}
 use Rattle.ledger_model.specs.Energy.{energy_over, followed}
@@ -203,7 +203,7 @@ summed_same {limits = limits} {es = es} new {sums = sums} same s = record {
   };
   at_evses = record {
     all = s.at_evses.all;
-    each = λ n le. s.at_evses.each n le ∙ ap (λ l. record { transactions = length (at_over n l); flow = energy_over (flat_map (λ tx. own_pairs (order_in sums) Import tx l) (at_over n l)); export = energy_over (flat_map (λ tx. own_pairs (order_in sums) Export tx l) (at_over n l)) }) (sym same);
+    each = λ n le. s.at_evses.each n le ∙ ap (λ l. record { transactions = length (at_over n l); energy = in_each (λ d. energy_over (flat_map (λ tx. own_pairs (order_in sums) d tx l) (at_over n l))) }) (sym same);
   };
   by_quarter = record {
     rows = s.by_quarter.rows ∙ ap (λ l. rows_of (both_quartered sums.period (λ d. flat_map (λ tx. own_pairs (order_in sums) d tx l) (transactions_of l)))) (sym same);

@@ -2,6 +2,7 @@
 use Rattle.std.proofs.Common.{◌≡◌, ◌==◌, ◌&&◌, Bool, true, false, cond, ℕ, suc, ◌+◌, ◌-◌, ◌<◌, List, [], ◌∷◌, Some, None, length, slice_get, refl, sym, ap, ◌∙◌, arith}
 use Rattle.std.proofs.lemmas.Bool.{eq-eqb, ne_eqb}
 use Rattle.energy_flow.specs.Flow.{Energy}
+use Rattle.ledger_model.specs.declared.by_direction.ByDirection.{ByDirection}
 use Rattle.ledger_model.specs.Content.{Entry, live_of}
 use Rattle.station_ledger.specs.Standing.{standing_with, kept_with}
 use Rattle.ledger_model.specs.Board.{last_or_zero}
@@ -44,9 +45,9 @@ pub some_missing : (b : Bool) (n : ℕ) → (n ≡ 0 → ⊥) → false ≡ (b &
 some_missing b n some = elim b as (λ x. false ≡ (x && (n == 0))) [ true ↦ sym (ne_eqb n 0 some) | false ↦ refl ]
 
 -- a transaction with a live event is kept
-pub kept_some : (flow export : Energy) (tx : List ℕ) (es : List Entry) → 0 < length (live_of tx es) → Some (standing_with flow export tx es) ≡ kept_with flow export tx es
-kept_some flow export tx es some = ap (λ b. cond b None (Some (standing_with flow export tx es))) (sym (ne_eqb (length (live_of tx es)) 0 (λ e. absurd (omega arith))))
+pub kept_some : (energy : ByDirection Energy) (tx : List ℕ) (es : List Entry) → 0 < length (live_of tx es) → Some (standing_with energy tx es) ≡ kept_with energy tx es
+kept_some energy tx es some = ap (λ b. cond b None (Some (standing_with energy tx es))) (sym (ne_eqb (length (live_of tx es)) 0 (λ e. absurd (omega arith))))
 
 -- one without is not
-pub kept_none : (flow export : Energy) (tx : List ℕ) (es : List Entry) → length (live_of tx es) ≡ 0 → None ≡ kept_with flow export tx es
-kept_none flow export tx es none = ap (λ b. cond b None (Some (standing_with flow export tx es))) (sym (eq-eqb (length (live_of tx es)) 0 none))
+pub kept_none : (energy : ByDirection Energy) (tx : List ℕ) (es : List Entry) → length (live_of tx es) ≡ 0 → None ≡ kept_with energy tx es
+kept_none energy tx es none = ap (λ b. cond b None (Some (standing_with energy tx es))) (sym (eq-eqb (length (live_of tx es)) 0 none))

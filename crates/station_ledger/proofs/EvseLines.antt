@@ -5,7 +5,8 @@ use Rattle.std.proofs.lemmas.Bool.{eq-eqb, lt-ltb, le-ltb, ltb-true}
 use Rattle.std.proofs.lemmas.Bool.Decides.{Decides-eqb}
 use Rattle.std.proofs.lemmas.List.{append-nil, map-append}
 use Rattle.ledger_model.specs.declared.order.Order.{Order}
-use Rattle.ledger_model.specs.Energy.{Flows}
+use Rattle.energy_flow.specs.Flow.{Energy}
+use Rattle.ledger_model.specs.declared.by_direction.ByDirection.{ByDirection}
 use Rattle.ledger_model.specs.Board.{Flowed}
 use Rattle.ledger_model.specs.BoardLaws.{AreRising, IsIn}
 use Rattle.ledger_model.specs.Content.{Entry, live, transactions_of}
@@ -27,13 +28,9 @@ abbrev pub shown_below : ℕ → List EvseSum → List ℕ
 shown_below zero sums = []
 shown_below (suc n) sums = shown_below n sums ++ shown_at sums n
 
--- the energies of a sum
-abbrev pub flows_of_sum : EvseSum → Flows
-flows_of_sum s = record { flow = s.flow; export = s.export }
-
 -- the line of a number
 abbrev pub line_at : List EvseSum → ℕ → Flowed
-line_at sums n = (n, flows_of_sum (sum_at sums n))
+line_at sums n = (n, (sum_at sums n).energy)
 
 -- no rising number is below the first
 first_is_lowest : (n : ℕ) (ns : List ℕ) → AreRising (n ∷ ns) → (k : ℕ) → IsIn k (n ∷ ns) → n ≤ k
@@ -147,7 +144,7 @@ module _ (sums : List EvseSum) where
   line_same n none = next_line n false (le-ltb 0 (sum_at sums n).transactions (omega (arith, none))) ∙ append-nil (map (line_at sums) (shown_below n sums))
 
 -- lines of the same energies
-lines_alike : (f g : ℕ → Flows) (ns : List ℕ) → ((k : ℕ) → IsIn k ns → f k ≡ g k) → map {B = Flowed} (λ k. (k, f k)) ns ≡ map {B = Flowed} (λ k. (k, g k)) ns
+lines_alike : (f g : ℕ → ByDirection Energy) (ns : List ℕ) → ((k : ℕ) → IsIn k ns → f k ≡ g k) → map {B = Flowed} (λ k. (k, f k)) ns ≡ map {B = Flowed} (λ k. (k, g k)) ns
 lines_alike f g [] same = refl
 lines_alike f g (n ∷ ns) same = let first = same n (inl refl) in let rest = lines_alike f g ns (λ k h. same k (inr h)) in λ i. (n, first i) ∷ rest i
 
@@ -172,4 +169,4 @@ module _ (order : Order) (sums : List EvseSum) (es : List Entry) (in_range : Are
 
   -- the lines of all numbers are those of the board
   pub all_lines : map (line_at sums) (shown_below (greatest_evse + 1) sums) ≡ map (λ evse. (evse, flows_at_by order evse es)) (evses es)
-  all_lines = ap (map (line_at sums)) same_evses ∙ lines_alike (λ k. flows_of_sum (sum_at sums k)) (λ k. flows_at_by order k es) (evses es) (λ k h. ap flows_of_sum (are.each k (few k h)))
+  all_lines = ap (map (line_at sums)) same_evses ∙ lines_alike (λ k. (sum_at sums k).energy) (λ k. flows_at_by order k es) (evses es) (λ k h. ap (λ (s : EvseSum). s.energy) (are.each k (few k h)))

@@ -4,16 +4,18 @@ use Rattle.std.specs.List.{filter, flat_map, list_any, sum_by}
 use Rattle.std.specs.Str.{bytes_eq}
 use Rattle.std.proofs.lemmas.List.Sums.{sum_by-append, sum_by-cons}
 use Rattle.energy_flow.specs.Flow.{Energy, plus}
+use Rattle.ledger_model.proofs.Directions.{each_way}
+use Rattle.ledger_model.specs.declared.by_direction.ByDirection.{ByDirection}
 use Rattle.ledger_model.specs.Periods.{Periods}
 use Rattle.ledger_model.specs.declared.order.Order.TheVariants.{Moment}
 use Rattle.ledger_model.specs.declared.reading.Direction.{Direction}
 use Rattle.ledger_model.specs.declared.reading.Direction.TheVariants.{Import, Export}
 use Rattle.ledger_model.specs.Board.{Flowed}
 use Rattle.ledger_model.specs.BoardLaws.{AreRising}
-use Rattle.ledger_model.specs.ByDirection.{in_direction}
+use Rattle.ledger_model.specs.ByDirection.{in_direction, flows_toward}
 use Rattle.ledger_model.specs.Content.{Entry, live, transactions_of}
 use Rattle.ledger_model.specs.Deltas.{before_key, behind_key, IsOneMore}
-use Rattle.ledger_model.specs.Energy.{Flows, Pair, all_pairs_by, difference, energy_by, energy_of_by, energy_over, flows_toward, followed, pairs_by, quarter_of}
+use Rattle.ledger_model.specs.Energy.{Pair, all_pairs_by, difference, energy_by, energy_of_by, energy_over, followed, pairs_by, quarter_of}
 use Rattle.ledger_model.specs.Event.{MeterReading, toward}
 use Rattle.ledger_model.specs.Gaps.{numbers_of}
 use Rattle.ledger_model.specs.InTime.{in_time, runs, runs_behind}
@@ -96,19 +98,19 @@ few_beside period most Import mine others ps up down small =
     let a = quartered period Import others in let b = quartered period Export ps in
     let one = total_quartered period Import others in let two = total_quartered period Export ps in
     record {
-      up = omega (arith, up, sum_by-append (λ (f : Flowed). f.1.flow.up) a b, ap (λ (e : Flows). e.flow.up) one, ap (λ (e : Flows). e.flow.up) two);
-      down = omega (arith, down, sum_by-append (λ (f : Flowed). f.1.flow.down) a b, ap (λ (e : Flows). e.flow.down) one, ap (λ (e : Flows). e.flow.down) two);
-      export_up = omega (arith, small.up, sum_by-append (λ (f : Flowed). f.1.export.up) a b, ap (λ (e : Flows). e.export.up) one, ap (λ (e : Flows). e.export.up) two);
-      export_down = omega (arith, small.down, sum_by-append (λ (f : Flowed). f.1.export.down) a b, ap (λ (e : Flows). e.export.down) one, ap (λ (e : Flows). e.export.down) two);
+      up = omega (arith, up, sum_by-append (λ (f : Flowed). f.1.import.up) a b, ap (λ (e : ByDirection Energy). e.import.up) one, ap (λ (e : ByDirection Energy). e.import.up) two);
+      down = omega (arith, down, sum_by-append (λ (f : Flowed). f.1.import.down) a b, ap (λ (e : ByDirection Energy). e.import.down) one, ap (λ (e : ByDirection Energy). e.import.down) two);
+      export_up = omega (arith, small.up, sum_by-append (λ (f : Flowed). f.1.export.up) a b, ap (λ (e : ByDirection Energy). e.export.up) one, ap (λ (e : ByDirection Energy). e.export.up) two);
+      export_down = omega (arith, small.down, sum_by-append (λ (f : Flowed). f.1.export.down) a b, ap (λ (e : ByDirection Energy). e.export.down) one, ap (λ (e : ByDirection Energy). e.export.down) two);
     }
 few_beside period most Export mine others ps up down small =
     let a = quartered period Export others in let b = quartered period Import ps in
     let one = total_quartered period Export others in let two = total_quartered period Import ps in
     record {
-      up = omega (arith, small.up, sum_by-append (λ (f : Flowed). f.1.flow.up) a b, ap (λ (e : Flows). e.flow.up) one, ap (λ (e : Flows). e.flow.up) two);
-      down = omega (arith, small.down, sum_by-append (λ (f : Flowed). f.1.flow.down) a b, ap (λ (e : Flows). e.flow.down) one, ap (λ (e : Flows). e.flow.down) two);
-      export_up = omega (arith, up, sum_by-append (λ (f : Flowed). f.1.export.up) a b, ap (λ (e : Flows). e.export.up) one, ap (λ (e : Flows). e.export.up) two);
-      export_down = omega (arith, down, sum_by-append (λ (f : Flowed). f.1.export.down) a b, ap (λ (e : Flows). e.export.down) one, ap (λ (e : Flows). e.export.down) two);
+      up = omega (arith, small.up, sum_by-append (λ (f : Flowed). f.1.import.up) a b, ap (λ (e : ByDirection Energy). e.import.up) one, ap (λ (e : ByDirection Energy). e.import.up) two);
+      down = omega (arith, small.down, sum_by-append (λ (f : Flowed). f.1.import.down) a b, ap (λ (e : ByDirection Energy). e.import.down) one, ap (λ (e : ByDirection Energy). e.import.down) two);
+      export_up = omega (arith, up, sum_by-append (λ (f : Flowed). f.1.export.up) a b, ap (λ (e : ByDirection Energy). e.export.up) one, ap (λ (e : ByDirection Energy). e.export.up) two);
+      export_down = omega (arith, down, sum_by-append (λ (f : Flowed). f.1.export.down) a b, ap (λ (e : ByDirection Energy). e.export.down) one, ap (λ (e : ByDirection Energy). e.export.down) two);
     }
 
 -- How many pairs are in a row.
@@ -134,11 +136,6 @@ one_entry (x ∷ front) e back all = one_entry front e back all.1
 
 either_way : (Q : List Pair → Type 0) (ps qs rs : List Pair) → Q qs → Q rs → (ps ≡ qs) ⊎ (ps ≡ rs) → Q ps
 either_way Q ps qs rs a b h = ⊎_elim (λ (is : ps ≡ qs). subst Q (sym is) a) (λ (is : ps ≡ rs). subst Q (sym is) b) h
-
--- Of two, one for each direction.
-each_way : (P : Direction → Type 0) → P Import → P Export → (d : Direction) → P d
-each_way P a b Import = a
-each_way P a b Export = b
 
 -- Runs by rank are runs of the numbers of events.
 runs_shown : (seq : ℕ) (front : Bool) (ts : List Timed) → runs_behind front (own_timed seq) ts ≡ runs_behind front (is_own seq) (map (λ (t : Timed). (number_of t.0, t.1)) ts)

@@ -6,10 +6,11 @@ use Rattle.std.proofs.lemmas.List.{map-append, length-map}
 use Rattle.std.proofs.lemmas.List.Elements.{filter-append}
 use Rattle.std.proofs.lemmas.List.Sums.{sum_by-append}
 use Rattle.energy_flow.specs.Flow.{Energy}
+use Rattle.ledger_model.specs.declared.by_direction.ByDirection.{ByDirection}
 use Rattle.ledger_model.specs.Periods.{Periods}
 use Rattle.ledger_model.specs.Board.{Flowed}
 use Rattle.ledger_model.specs.Deltas.{pairs_between, first_reading, last_reading}
-use Rattle.ledger_model.specs.Energy.{Flows, Pair, energy_over, followed}
+use Rattle.ledger_model.specs.Energy.{Pair, energy_over, followed}
 use Rattle.ledger_model.specs.declared.reading.Direction.{Direction}
 use Rattle.ledger_model.specs.declared.reading.Direction.TheVariants.{Import, Export}
 use Rattle.ledger_model.specs.Event.{MeterReading}
@@ -79,18 +80,18 @@ pub has_room : (period : Periods) (d : Direction) (ps : List Pair) (rest : List 
 has_room period d ps rest n most t rows room few_rows few small =
     let mine = quartered period d ps in
     let own = total_quartered period d ps in
-    let ups = sum_by-append (λ (f : Flowed). f.1.flow.up) mine rest in
-    let downs = sum_by-append (λ (f : Flowed). f.1.flow.down) mine rest in
+    let ups = sum_by-append (λ (f : Flowed). f.1.import.up) mine rest in
+    let downs = sum_by-append (λ (f : Flowed). f.1.import.down) mine rest in
     let export_ups = sum_by-append (λ (f : Flowed). f.1.export.up) mine rest in
     let export_downs = sum_by-append (λ (f : Flowed). f.1.export.down) mine rest in (
       mine ++ rest,
       record {
         rows = rows;
         room = omega (arith, room, length-append mine rest, long period d ps);
-        up = omega (arith, ups, ap (λ (e : Flows). e.flow.up) own, few.up, small);
-        down = omega (arith, downs, ap (λ (e : Flows). e.flow.down) own, few.down, small);
-        export_up = omega (arith, export_ups, ap (λ (e : Flows). e.export.up) own, few.export_up, small);
-        export_down = omega (arith, export_downs, ap (λ (e : Flows). e.export.down) own, few.export_down, small);
+        up = omega (arith, ups, ap (λ (e : ByDirection Energy). e.import.up) own, few.up, small);
+        down = omega (arith, downs, ap (λ (e : ByDirection Energy). e.import.down) own, few.down, small);
+        export_up = omega (arith, export_ups, ap (λ (e : ByDirection Energy). e.export.up) own, few.export_up, small);
+        export_down = omega (arith, export_downs, ap (λ (e : ByDirection Energy). e.export.down) own, few.export_down, small);
         few = few_rows;
       },
     )

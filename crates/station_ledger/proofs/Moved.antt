@@ -8,18 +8,21 @@ use Rattle.energy_flow.specs.Flow.{Energy, no_energy, plus}
 use Rattle.ledger_model.specs.declared.order.Order.{Order}
 use Rattle.ledger_model.specs.declared.reading.Direction.{Direction}
 use Rattle.ledger_model.specs.declared.reading.Direction.TheVariants.{Import, Export}
+use Rattle.ledger_model.specs.ByDirection.{in_direction, in_each, no_flows}
+use Rattle.ledger_model.specs.declared.by_direction.ByDirection.{ByDirection}
+use Rattle.ledger_model.proofs.Directions.{each_is}
 use Rattle.ledger_model.specs.Event.{MeterReading, toward}
 use Rattle.ledger_model.specs.Complete.{is_complete, starts_and_ends}
 use Rattle.ledger_model.specs.Content.{Entry, live, live_of, transactions_of, has_transaction}
 use Rattle.ledger_model.specs.Deltas.{IsOneMore, flow_if, own_events}
-use Rattle.ledger_model.specs.Energy.{energy_of_by, energy_over, followed}
+use Rattle.ledger_model.specs.Energy.{energy_of_by, energy_over, flows_of_by, followed}
 use Rattle.ledger_model.specs.Evse.{evse_of, energy_at_by, first_or_zero}
 use Rattle.ledger_model.specs.Gaps.{numbers_of, missing}
 use Rattle.ledger_model.specs.InTime.{in_order}
 use Rattle.ledger_model.proofs.Callers.{events_more, transactions_more, complete_more, missing_more, energy_at_more, evse_counts, live_with, live_without, live_else, order-nil}
 use Rattle.station_ledger.specs.declared.standing.Standing.{Standing}
 use Rattle.station_ledger.specs.Standing.{standing_with, kept_with, kept_of}
-use Rattle.station_ledger.specs.Moved.{flow_toward, live_in, one_in, complete_in, missing_in, flow_in, one_at, flow_at, IsMoved}
+use Rattle.station_ledger.specs.Moved.{live_in, one_in, complete_in, missing_in, flows_in, one_at, flows_at, IsMoved}
 
 -- a list without elements
 pub none_long : {X : Type 0} (xs : List X) → length xs ≡ 0 → xs ≡ []
@@ -44,8 +47,8 @@ none_live tx es none = none_long (live_of tx es) (zero_if (length (live_of tx es
   ] refl h
 
 -- what is kept, where there is no live event and where there is
-kept_cases : (P : Option Standing → Type 0) (flow export : Energy) (tx : List ℕ) (es : List Entry) → (live_of tx es ≡ [] → P None) → (0 < length (live_of tx es) → P (Some (standing_with flow export tx es))) → P (kept_with flow export tx es)
-kept_cases P flow export tx es none some = elim (length (live_of tx es) == 0) as (λ b. (length (live_of tx es) == 0) ≡ b → P (cond b None (Some (standing_with flow export tx es)))) [
+kept_cases : (P : Option Standing → Type 0) (energy : ByDirection Energy) (tx : List ℕ) (es : List Entry) → (live_of tx es ≡ [] → P None) → (0 < length (live_of tx es) → P (Some (standing_with energy tx es))) → P (kept_with energy tx es)
+kept_cases P energy tx es none some = elim (length (live_of tx es) == 0) as (λ b. (length (live_of tx es) == 0) ≡ b → P (cond b None (Some (standing_with energy tx es)))) [
   | true ↦ λ h. none (none_long (live_of tx es) ((Decides-eqb (length (live_of tx es)) 0).0 h))
   | false ↦ λ h. some (positive (length (live_of tx es)) h)
 ] refl where
@@ -57,6 +60,15 @@ none_if : (b : Bool) → flow_if b no_energy ≡ no_energy
 none_if true = refl
 none_if false = refl
 
+at_if : (d : Direction) (b : Bool) (e : ByDirection Energy) → in_direction d (cond b e no_flows) ≡ flow_if b (in_direction d e)
+at_if d true e = refl
+at_if Import false e = refl
+at_if Export false e = refl
+
+no_flow : (d : Direction) → in_direction d no_flows ≡ no_energy
+no_flow Import = refl
+no_flow Export = refl
+
 -- one transaction more, where it is new
 counted : (b : Bool) (n m : ℕ) → m ≡ cond b n (n + 1) → m + cond b 1 0 ≡ n + 1
 counted true n m h = omega (arith, h)
@@ -64,25 +76,25 @@ counted false n m h = omega (arith, h)
 
 module _ (order : Order) where
   pub live_kept : (tx : List ℕ) (es : List Entry) → live_in (kept_of order tx es) ≡ length (live_of tx es)
-  live_kept tx es = kept_cases (λ o. live_in o ≡ length (live_of tx es)) (energy_of_by order Import tx es) (energy_of_by order Export tx es) tx es (λ none. sym (ap length none)) (λ _. refl)
+  live_kept tx es = kept_cases (λ o. live_in o ≡ length (live_of tx es)) (flows_of_by order tx es) tx es (λ none. sym (ap length none)) (λ _. refl)
 
   one_kept : (tx : List ℕ) (es : List Entry) → one_in (kept_of order tx es) ≡ cond (has_transaction tx (live es)) 1 0
   one_kept tx es = ones (length (live_of tx es) == 0) ∙ ap (λ b. cond {A = ℕ} b 1 0) (sym (has_own tx (live es))) where
-    ones : (b : Bool) → one_in (cond b None (Some (standing_with (energy_of_by order Import tx es) (energy_of_by order Export tx es) tx es))) ≡ cond (not b) 1 0
+    ones : (b : Bool) → one_in (cond b None (Some (standing_with (flows_of_by order tx es) tx es))) ≡ cond (not b) 1 0
     ones true = refl
     ones false = refl
 
   complete_kept : (tx : List ℕ) (es : List Entry) → complete_in (kept_of order tx es) ≡ cond (is_complete tx es) 1 0
-  complete_kept tx es = kept_cases (λ o. complete_in o ≡ cond (is_complete tx es) 1 0) (energy_of_by order Import tx es) (energy_of_by order Export tx es) tx es
+  complete_kept tx es = kept_cases (λ o. complete_in o ≡ cond (is_complete tx es) 1 0) (flows_of_by order tx es) tx es
       (λ none. sym (ap (λ (xs : List Entry). cond {A = ℕ} (starts_and_ends (map (λ (e : Entry). e.1.event.kind) xs) && (missing (numbers_of tx es) == 0)) 1 0) none)) (λ _. refl)
 
   pub missing_kept : (tx : List ℕ) (es : List Entry) → missing_in (kept_of order tx es) ≡ missing (numbers_of tx es)
-  missing_kept tx es = kept_cases (λ o. missing_in o ≡ missing (numbers_of tx es)) (energy_of_by order Import tx es) (energy_of_by order Export tx es) tx es
+  missing_kept tx es = kept_cases (λ o. missing_in o ≡ missing (numbers_of tx es)) (flows_of_by order tx es) tx es
       (λ none. sym (ap (λ (xs : List Entry). missing (map (λ (e : Entry). e.0.seq) xs)) none)) (λ _. refl)
 
   at_kept : (n : ℕ) (tx : List ℕ) (es : List Entry) → one_at n (kept_of order tx es) ≡ cond (has_transaction tx (live es)) (cond (evse_of tx es == n) 1 0) 0
   at_kept n tx es = ones (length (live_of tx es) == 0) ∙ ap (λ b. cond {A = ℕ} b (cond (evse_of tx es == n) 1 0) 0) (sym (has_own tx (live es))) where
-    ones : (b : Bool) → one_at n (cond b None (Some (standing_with (energy_of_by order Import tx es) (energy_of_by order Export tx es) tx es))) ≡ cond (not b) (cond (evse_of tx es == n) 1 0) 0
+    ones : (b : Bool) → one_at n (cond b None (Some (standing_with (flows_of_by order tx es) tx es))) ≡ cond (not b) (cond (evse_of tx es == n) 1 0) 0
     ones true = refl
     ones false = refl
 
@@ -91,14 +103,13 @@ module _ (order : Order) where
       ap (λ (xs : List Entry). energy_over (followed (in_order order (λ (r : MeterReading). r.moment) (flat_map (λ (e : Entry). toward d e.1.event.readings) xs)))) none
       ∙ ap (λ rs. energy_over (followed rs)) (order-nil (λ (r : MeterReading). r.moment) order)
 
-  -- the energy of a transaction's standing
-  toward_is : (d : Direction) (tx : List ℕ) (es : List Entry) → flow_toward d (standing_with (energy_of_by order Import tx es) (energy_of_by order Export tx es) tx es) ≡ energy_of_by order d tx es
-  toward_is Import tx es = refl
-  toward_is Export tx es = refl
+  toward_is : (d : Direction) (tx : List ℕ) (es : List Entry) → in_direction d (flows_of_by order tx es) ≡ energy_of_by order d tx es
+  toward_is d tx es = each_is (λ k. energy_of_by order k tx es) d
 
-  pub flow_kept : (d : Direction) (n : ℕ) (tx : List ℕ) (es : List Entry) → flow_at d n (kept_of order tx es) ≡ flow_if (evse_of tx es == n) (energy_of_by order d tx es)
-  flow_kept d n tx es = kept_cases (λ o. flow_at d n o ≡ flow_if (evse_of tx es == n) (energy_of_by order d tx es)) (energy_of_by order Import tx es) (energy_of_by order Export tx es) tx es
-      (λ none. sym (ap (flow_if (evse_of tx es == n)) (energy_none d tx es none) ∙ none_if (evse_of tx es == n))) (λ _. ap (flow_if (evse_of tx es == n)) (toward_is d tx es))
+  pub flow_kept : (d : Direction) (n : ℕ) (tx : List ℕ) (es : List Entry) → in_direction d (flows_at n (kept_of order tx es)) ≡ flow_if (evse_of tx es == n) (energy_of_by order d tx es)
+  flow_kept d n tx es = kept_cases (λ o. in_direction d (flows_at n o) ≡ flow_if (evse_of tx es == n) (energy_of_by order d tx es)) (flows_of_by order tx es) tx es
+      (λ none. no_flow d ∙ sym (ap (flow_if (evse_of tx es == n)) (energy_none d tx es none) ∙ none_if (evse_of tx es == n)))
+      (λ _. at_if d (evse_of tx es == n) (flows_of_by order tx es) ∙ ap (flow_if (evse_of tx es == n)) (toward_is d tx es))
 
   -- one more live event
   pub moved_more : (es more front : List Entry) (e : Entry) (back : List Entry) → IsOneMore es more front e back → IsMoved order e.0.tx es more
@@ -129,10 +140,10 @@ module _ (order : Order) where
     flow_at_evse = λ d n. sym (m.flow_at_evse d n);
   }
 
-  -- the energy of what is kept
-  pub flow_in_kept : (d : Direction) (tx : List ℕ) (es : List Entry) → flow_in d (kept_of order tx es) ≡ energy_of_by order d tx es
-  flow_in_kept d tx es = kept_cases (λ o. flow_in d o ≡ energy_of_by order d tx es) (energy_of_by order Import tx es) (energy_of_by order Export tx es) tx es
-      (λ none. sym (energy_none d tx es none)) (λ _. toward_is d tx es)
+  -- the energies of what is kept
+  pub flow_in_kept : (d : Direction) (tx : List ℕ) (es : List Entry) → in_direction d (flows_in (kept_of order tx es)) ≡ energy_of_by order d tx es
+  flow_in_kept d tx es = kept_cases (λ o. in_direction d (flows_in o) ≡ energy_of_by order d tx es) (flows_of_by order tx es) tx es
+      (λ none. no_flow d ∙ sym (energy_none d tx es none)) (λ _. toward_is d tx es)
 
 -- what is kept depends only on the transaction's live events
 kept_over : Order → List ℕ → List Entry → Option Standing
@@ -142,8 +153,7 @@ kept_over order tx own = cond (length own == 0) None (Some (record {
   evse = first_or_zero (filter_map (λ e. e.1.event.evse) own);
   complete = starts_and_ends (map (λ e. e.1.event.kind) own) && (missing (map (λ e. e.0.seq) own) == 0);
   missing = missing (map (λ e. e.0.seq) own);
-  flow = energy_over (followed (in_order order (λ r. r.moment) (flat_map (λ e. toward Import e.1.event.readings) own)));
-  export = energy_over (followed (in_order order (λ r. r.moment) (flat_map (λ e. toward Export e.1.event.readings) own)));
+  energy = in_each (λ d. energy_over (followed (in_order order (λ r. r.moment) (flat_map (λ e. toward d e.1.event.readings) own))));
 }))
 
 pub kept_same : (order : Order) (u : List ℕ) (es new : List Entry) → live_of u new ≡ live_of u es → kept_of order u new ≡ kept_of order u es
@@ -168,10 +178,11 @@ one_at_le n None = omega arith
 one_at_le n (Some s) = one_if (s.evse == n)
 
 -- at an EVSE there is no more than all
-flow_if_le : (b : Bool) (e : Energy) → ((flow_if b e).up ≤ e.up) × ((flow_if b e).down ≤ e.down)
-flow_if_le true e = (omega arith, omega arith)
-flow_if_le false e = (omega arith, omega arith)
+flow_if_le : (d : Direction) (b : Bool) (e : ByDirection Energy) → ((in_direction d (cond b e no_flows)).up ≤ (in_direction d e).up) × ((in_direction d (cond b e no_flows)).down ≤ (in_direction d e).down)
+flow_if_le d true e = (omega arith, omega arith)
+flow_if_le Import false e = (omega arith, omega arith)
+flow_if_le Export false e = (omega arith, omega arith)
 
-pub flow_at_le : (d : Direction) (n : ℕ) (o : Option Standing) → ((flow_at d n o).up ≤ (flow_in d o).up) × ((flow_at d n o).down ≤ (flow_in d o).down)
+pub flow_at_le : (d : Direction) (n : ℕ) (o : Option Standing) → ((in_direction d (flows_at n o)).up ≤ (in_direction d (flows_in o)).up) × ((in_direction d (flows_at n o)).down ≤ (in_direction d (flows_in o)).down)
 flow_at_le d n None = (omega arith, omega arith)
-flow_at_le d n (Some s) = flow_if_le (s.evse == n) (flow_toward d s)
+flow_at_le d n (Some s) = flow_if_le d (s.evse == n) s.energy

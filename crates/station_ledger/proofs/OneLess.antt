@@ -84,8 +84,8 @@ passed [] e back none = ap (λ (o : Option ℕ). cons_option o (filter_map (λ (
 passed (f ∷ front) e back none = ap (cons_option f.1.event.evse) (passed front e back none)
 
 -- What is kept, where something is.
-kept_is : (flow export : Energy) (tx : List ℕ) (es : List Entry) (was : Standing) → Some was ≡ kept_with flow export tx es → was ≡ standing_with flow export tx es
-kept_is flow export tx es was h = elim (length (live_of tx es) == 0) as (λ b. Some was ≡ cond b None (Some (standing_with flow export tx es)) → was ≡ standing_with flow export tx es) [ true ↦ λ x. cc | false ↦ λ x. cc ] h
+kept_is : (energy : ByDirection Energy) (tx : List ℕ) (es : List Entry) (was : Standing) → Some was ≡ kept_with energy tx es → was ≡ standing_with energy tx es
+kept_is energy tx es was h = elim (length (live_of tx es) == 0) as (λ b. Some was ≡ cond b None (Some (standing_with energy tx es)) → was ≡ standing_with energy tx es) [ true ↦ λ x. cc | false ↦ λ x. cc ] h
 
 -- Only a transaction with a live event has a standing.
 some_kept : (n : ℕ) (s was : Standing) → Some was ≡ cond (n == 0) None (Some s) → 0 < n
@@ -94,11 +94,11 @@ some_kept (suc n) s was h = omega arith
 
 -- The standing of a transaction, compared with its events after one more has come.
 pub one_less : (es : List Entry) (chains : Chained) (key : KeyName) (place : ByDirection Sides) (names : Bool) → IsToCome es chains key place names → AreRising (numbers_of key.tx (stored chains))
-    → (flow export : Energy) (was : Standing) → Some was ≡ kept_with flow export key.tx es → IsOneLess was key.tx key.seq names (stored chains)
-one_less es chains key place names come up flow export was kept =
+    → (energy : ByDirection Energy) (was : Standing) → Some was ≡ kept_with energy key.tx es → IsOneLess was key.tx key.seq names (stored chains)
+one_less es chains key place names come up energy was kept =
     let new = stored chains in let tx = key.tx in let e : Entry = (key, come.event) in let front = before_key key es in let back = behind_key key es in
     let own = own_events tx front in let rest = own_events tx back in
-    let is = kept_is flow export tx es was kept in
+    let is = kept_is energy tx es was kept in
     let with = live_with es new front e back come.one in let without = live_without es new front e back come.one in
     let seq_of = λ (x : Entry). x.0.seq in
     let now : numbers_of tx new ≡ map seq_of own ++ key.seq ∷ map seq_of rest = ap (map seq_of) with ∙ map-append seq_of own (e ∷ rest) in
@@ -109,7 +109,7 @@ one_less es chains key place names come up flow export was kept =
     record {
       live = omega (arith, ap length with, length-append own (e ∷ rest), ap (λ (s : Standing). s.live) is, ap length without, length-append own rest);
       first = λ lt. ap (λ ns. slice_get ns 0) now ∙ keeps_first (map seq_of own) (map seq_of rest) key.seq was.first rises (ap (λ (s : Standing). s.first) is ∙ ap (λ ns. unwrap_or (slice_get ns 0) 0) before)
-          (omega (arith, lives, ap (λ (s : Standing). s.live) is, some_kept (length (live_of tx es)) (standing_with flow export tx es) was kept)) lt;
+          (omega (arith, lives, ap (λ (s : Standing). s.live) is, some_kept (length (live_of tx es)) (standing_with energy tx es) was kept)) lt;
       evse = λ none. ap (λ xs. first_or_zero (filter_map (λ (x : Entry). x.1.event.evse) xs)) with ∙ ap first_or_zero (passed own e rest (come.evse none))
           ∙ sym (ap (λ (s : Standing). s.evse) is ∙ ap (λ xs. first_or_zero (filter_map (λ (x : Entry). x.1.event.evse) xs)) without);
       within = λ first at lt le. let so = (filled (map seq_of own) (map seq_of rest) key.seq first rises (ap (λ ns. slice_get ns 0) (sym now) ∙ at) lt).0 (omega (arith, le, lives, gone)) in omega (arith, so, ap missing now, gone);
@@ -118,8 +118,8 @@ one_less es chains key place names come up flow export was kept =
 
 -- The same, where anything was kept.
 pub all_less : (es : List Entry) (chains : Chained) (key : KeyName) (place : ByDirection Sides) (names : Bool) → IsToCome es chains key place names → AreRising (numbers_of key.tx (stored chains))
-    → (tx : List ℕ) (seq : ℕ) → tx ≡ key.tx → seq ≡ key.seq → (flow export : Energy) (was : Option Standing) → was ≡ kept_with flow export tx es → IfSome was (λ w. IsOneLess w tx seq names (stored chains))
-all_less es chains key place names come up tx seq tx_is seq_is flow export None kept = tt
-all_less es chains key place names come up tx seq tx_is seq_is flow export (Some was) kept =
+    → (tx : List ℕ) (seq : ℕ) → tx ≡ key.tx → seq ≡ key.seq → (energy : ByDirection Energy) (was : Option Standing) → was ≡ kept_with energy tx es → IfSome was (λ w. IsOneLess w tx seq names (stored chains))
+all_less es chains key place names come up tx seq tx_is seq_is energy None kept = tt
+all_less es chains key place names come up tx seq tx_is seq_is energy (Some was) kept =
     subst (λ t. IsOneLess was t seq names (stored chains)) (sym tx_is) (subst (λ n. IsOneLess was key.tx n names (stored chains)) (sym seq_is)
-    (one_less es chains key place names come up flow export was (kept ∙ ap (λ t. kept_with flow export t es) tx_is)))
+    (one_less es chains key place names come up energy was (kept ∙ ap (λ t. kept_with energy t es) tx_is)))

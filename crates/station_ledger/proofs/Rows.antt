@@ -2,10 +2,12 @@
 use Rattle.std.proofs.Common.{◌≡◌, ℕ, ◌+◌, ◌*◌, ◌<◌, ◌≤◌, List, [], ◌∷◌, ◌++◌, length, sym, ap, subst, ◌∙◌, arith, length-append}
 use Rattle.std.proofs.lemmas.List.{length-map}
 use Rattle.std.proofs.lemmas.List.Sums.{sum_by-append}
-use Rattle.energy_flow.specs.Flow.{Energy, CanPlus, CanMinus}
+use Rattle.energy_flow.specs.Flow.{Energy}
 use Rattle.ledger_model.specs.Periods.{Periods}
 use Rattle.ledger_model.specs.Board.{Flowed}
-use Rattle.ledger_model.specs.Energy.{Flows, flows_toward, Pair, difference, energy_over, quarter_of}
+use Rattle.ledger_model.specs.ByDirection.{flows_toward, CanPlusFlows, CanMinusFlows}
+use Rattle.ledger_model.specs.declared.by_direction.ByDirection.{ByDirection}
+use Rattle.ledger_model.specs.Energy.{Pair, difference, energy_over, quarter_of}
 use Rattle.ledger_model.proofs.Callers.{sum_by-map}
 use Rattle.ledger_model.proofs.SumLemmas.{sum_by-none}
 use Rattle.ledger_model.specs.declared.reading.Direction.{Direction}
@@ -14,15 +16,15 @@ use Rattle.ledger_model.specs.Ranges.{greatest_reading, most_readings}
 use Rattle.quarter_table.specs.Table.{Table}
 use Rattle.quarter_table.specs.Rows.{row_at}
 use Rattle.quarter_table.specs.Pairs.{row_of, rows_of, rows_with, rows_without, total}
-use Rattle.quarter_table.proofs.Held.{few_rows, few_pairs, row_up_le, row_down_le, row_export_up_le, row_export_down_le, pair_counted, pair_held, export_held, last_pair, last_export}
+use Rattle.quarter_table.proofs.Held.{few_rows, few_pairs, row_up_le, row_down_le, pair_counted, pair_held, last_pair}
 use Rattle.quarter_table.proofs.Made.{made_row}
 use Rattle.quarter_table.proofs.Several.{made_with, made_without}
 use Rattle.station_ledger.specs.Quarters.{IsDifference, AreRows, HasRoom, IsSumOf, IsWith, IsWithout, quartered}
 
 -- energies of both directions that are at most so much
-pub record AreAtMost (n : ℕ) (f : Flows) : Type 0 where
-  pub up : f.flow.up ≤ n
-  pub down : f.flow.down ≤ n
+pub record AreAtMost (n : ℕ) (f : ByDirection Energy) : Type 0 where
+  pub up : f.import.up ≤ n
+  pub down : f.import.down ≤ n
   pub export_up : f.export.up ≤ n
   pub export_down : f.export.down ≤ n
 
@@ -35,18 +37,18 @@ at_most Export e n up down = record { up = omega arith; down = omega arith; expo
 pub total_quartered : (period : Periods) (d : Direction) (ps : List Pair) → total (quartered period d ps) ≡ flows_toward d (energy_over ps)
 total_quartered period Import ps =
     let shown : Pair → Flowed = λ p. (quarter_of period p, flows_toward Import (difference p)) in
-    let up = sum_by-map (λ (f : Flowed). f.1.flow.up) shown ps in
-    let down = sum_by-map (λ (f : Flowed). f.1.flow.down) shown ps in
+    let up = sum_by-map (λ (f : Flowed). f.1.import.up) shown ps in
+    let down = sum_by-map (λ (f : Flowed). f.1.import.down) shown ps in
     let export_up = sum_by-map (λ (f : Flowed). f.1.export.up) shown ps ∙ sum_by-none ps in
     let export_down = sum_by-map (λ (f : Flowed). f.1.export.down) shown ps ∙ sum_by-none ps in
-    λ i. record { flow = record { up = up i; down = down i }; export = record { up = export_up i; down = export_down i } }
+    λ i. record { import = record { up = up i; down = down i }; export = record { up = export_up i; down = export_down i } }
 total_quartered period Export ps =
     let shown : Pair → Flowed = λ p. (quarter_of period p, flows_toward Export (difference p)) in
     let export_up = sum_by-map (λ (f : Flowed). f.1.export.up) shown ps in
     let export_down = sum_by-map (λ (f : Flowed). f.1.export.down) shown ps in
-    let up = sum_by-map (λ (f : Flowed). f.1.flow.up) shown ps ∙ sum_by-none ps in
-    let down = sum_by-map (λ (f : Flowed). f.1.flow.down) shown ps ∙ sum_by-none ps in
-    λ i. record { flow = record { up = up i; down = down i }; export = record { up = export_up i; down = export_down i } }
+    let up = sum_by-map (λ (f : Flowed). f.1.import.up) shown ps ∙ sum_by-none ps in
+    let down = sum_by-map (λ (f : Flowed). f.1.import.down) shown ps ∙ sum_by-none ps in
+    λ i. record { import = record { up = up i; down = down i }; export = record { up = export_up i; down = export_down i } }
 
 pub long : (period : Periods) (d : Direction) (ps : List Pair) → length (quartered period d ps) ≡ length ps
 long period d ps = length-map {B = Flowed} ps (λ p. (quarter_of period p, flows_toward d (difference p)))
@@ -64,46 +66,32 @@ module _ (t : Table) (more : ℕ) (has : HasRoom more t) where
   pub room_for_pair : (q : ℕ) → (row_at q t.rows).pairs + 1 < 4294967296
   room_for_pair q = omega (arith, few_in_row q)
 
-  pub room_for_flow : (q : ℕ) (d : Direction) (flow : Energy) → IsDifference flow → CanPlus (row_at q t.rows).flow (flows_toward d flow).flow
+  pub room_for_flow : (q : ℕ) (d : Direction) (flow : Energy) → IsDifference flow → CanPlusFlows (row_at q t.rows).energy (flows_toward d flow)
   room_for_flow q d flow small =
       let few = at_most d flow greatest_reading small.up small.down in
-      subst (λ r. CanPlus r.flow (flows_toward d flow).flow) (sym (row_is q)) (record {
-        up = omega (arith, row_up_le q has.0, has.1.up, few.up);
-        down = omega (arith, row_down_le q has.0, has.1.down, few.down);
-      })
-
-  pub room_for_export : (q : ℕ) (d : Direction) (flow : Energy) → IsDifference flow → CanPlus (row_at q t.rows).export (flows_toward d flow).export
-  room_for_export q d flow small =
-      let few = at_most d flow greatest_reading small.up small.down in
-      subst (λ r. CanPlus r.export (flows_toward d flow).export) (sym (row_is q)) (record {
-        up = omega (arith, row_export_up_le q has.0, has.1.export_up, few.export_up);
-        down = omega (arith, row_export_down_le q has.0, has.1.export_down, few.export_down);
+      subst (λ r. CanPlusFlows r.energy (flows_toward d flow)) (sym (row_is q)) (record {
+        import = record { up = omega (arith, row_up_le Import q has.0, has.1.up, few.up); down = omega (arith, row_down_le Import q has.0, has.1.down, few.down) };
+        export = record { up = omega (arith, row_up_le Export q has.0, has.1.export_up, few.export_up); down = omega (arith, row_down_le Export q has.0, has.1.export_down, few.export_down) };
       })
 
 -- what is there may be taken out
-module _ (q : ℕ) (flow : Flows) (others : List Flowed) (t : Table) (is : t.rows ≡ rows_of ((q, flow) ∷ others)) where
+module _ (q : ℕ) (flow : ByDirection Energy) (others : List Flowed) (t : Table) (is : t.rows ≡ rows_of ((q, flow) ∷ others)) where
   pub there : 0 < (row_at q t.rows).pairs
   there = subst (λ rows. 0 < (row_at q rows).pairs) (sym is) (pair_counted [] q flow others)
 
-  pub held : CanMinus (row_at q t.rows).flow flow.flow
-  held = subst (λ rows. CanMinus (row_at q rows).flow flow.flow) (sym is) (pair_held [] q flow others)
+  pub held : CanMinusFlows (row_at q t.rows).energy flow
+  held = subst (λ rows. CanMinusFlows (row_at q rows).energy flow) (sym is) (pair_held [] q flow others)
 
-  pub held_export : CanMinus (row_at q t.rows).export flow.export
-  held_export = subst (λ rows. CanMinus (row_at q rows).export flow.export) (sym is) (export_held [] q flow others)
-
-  pub last : (row_at q t.rows).pairs ≡ 1 → (row_at q t.rows).flow ≡ flow.flow
-  last = subst (λ rows. (row_at q rows).pairs ≡ 1 → (row_at q rows).flow ≡ flow.flow) (sym is) (last_pair [] q flow others)
-
-  pub last_of_export : (row_at q t.rows).pairs ≡ 1 → (row_at q t.rows).export ≡ flow.export
-  last_of_export = subst (λ rows. (row_at q rows).pairs ≡ 1 → (row_at q rows).export ≡ flow.export) (sym is) (last_export [] q flow others)
+  pub last : (row_at q t.rows).pairs ≡ 1 → (row_at q t.rows).energy ≡ flow
+  last = subst (λ rows. (row_at q rows).pairs ≡ 1 → (row_at q rows).energy ≡ flow) (sym is) (last_pair [] q flow others)
 
 -- the rows with several pairs more
 pub rows_more : (period : Periods) (d : Direction) {ps : List Pair} {e : Energy} {t new : Table} (others : List Flowed) (more less : ℕ) → AreRows others more t → length ps + less ≡ more
     → IsSumOf ps e → IsWith (quartered period d ps) t new → AreRows (quartered period d ps ++ others) less new
 rows_more period d {ps = ps} {t = t} {new = new} others more less was n sum put =
     let mine = quartered period d ps in
-    let ups = sum_by-append (λ (f : Flowed). f.1.flow.up) mine others in
-    let downs = sum_by-append (λ (f : Flowed). f.1.flow.down) mine others in
+    let ups = sum_by-append (λ (f : Flowed). f.1.import.up) mine others in
+    let downs = sum_by-append (λ (f : Flowed). f.1.import.down) mine others in
     let export_ups = sum_by-append (λ (f : Flowed). f.1.export.up) mine others in
     let export_downs = sum_by-append (λ (f : Flowed). f.1.export.down) mine others in
     let up : (energy_over ps).up ≤ greatest_reading * length ps = omega (arith, sum.up, ap (λ (f : Energy). f.up) sum.is) in
@@ -113,10 +101,10 @@ rows_more period d {ps = ps} {t = t} {new = new} others more less was n sum put 
     record {
       rows = put.rows ∙ ap (rows_with mine) was.rows ∙ made_with mine others;
       room = omega (arith, was.room, length-append mine others, put.capacity, n, long period d ps);
-      up = omega (arith, was.up, ups, few.up, n, ap (λ (e : Flows). e.flow.up) own);
-      down = omega (arith, was.down, downs, few.down, n, ap (λ (e : Flows). e.flow.down) own);
-      export_up = omega (arith, was.export_up, export_ups, few.export_up, n, ap (λ (e : Flows). e.export.up) own);
-      export_down = omega (arith, was.export_down, export_downs, few.export_down, n, ap (λ (e : Flows). e.export.down) own);
+      up = omega (arith, was.up, ups, few.up, n, ap (λ (e : ByDirection Energy). e.import.up) own);
+      down = omega (arith, was.down, downs, few.down, n, ap (λ (e : ByDirection Energy). e.import.down) own);
+      export_up = omega (arith, was.export_up, export_ups, few.export_up, n, ap (λ (e : ByDirection Energy). e.export.up) own);
+      export_down = omega (arith, was.export_down, export_downs, few.export_down, n, ap (λ (e : ByDirection Energy). e.export.down) own);
       few = omega (arith, was.few, put.capacity);
     }
 

@@ -1,15 +1,16 @@
 -- All sums after the pairs of one event came or went.
-use Rattle.std.proofs.Common.{◌≡◌, ℕ, Bool, List, Option, IfSome, sym, ap, subst, ◌∙◌, arith}
+use Rattle.std.proofs.Common.{◌≡◌, ◌≤◌, ℕ, Bool, List, Option, IfSome, sym, ap, subst, ◌∙◌, arith}
 use Rattle.std.specs.FinMap.{find}
-use Rattle.energy_flow.specs.Flow.{Energy, plus, minus}
+use Rattle.energy_flow.specs.Flow.{Energy, plus}
 use Rattle.ledger_model.specs.Periods.{Periods}
-use Rattle.ledger_model.specs.ByDirection.{in_direction}
+use Rattle.ledger_model.specs.ByDirection.{in_direction, in_each, plus_flows, minus_flows}
+use Rattle.ledger_model.proofs.Directions.{each_is}
 use Rattle.ledger_model.specs.declared.by_direction.ByDirection.{ByDirection}
 use Rattle.ledger_model.specs.declared.order.Order.TheVariants.{Sequence}
 use Rattle.ledger_model.specs.declared.reading.Direction.{Direction}
 use Rattle.ledger_model.specs.declared.reading.Direction.TheVariants.{Import, Export}
 use Rattle.ledger_model.specs.Content.{Entry}
-use Rattle.ledger_model.specs.Energy.{Pair, energy_by, energy_of_by}
+use Rattle.ledger_model.specs.Energy.{Pair, energy_by, energy_of_by, flows_of_by}
 use Rattle.ledger_model.specs.Key.{KeyName}
 use Rattle.ledger_model.specs.Limits.{Bounds}
 use Rattle.event_chain.specs.Chains.{Chained, stored}
@@ -19,14 +20,14 @@ use Rattle.transaction_map.specs.Map.{Mapped, id_cmp}
 use Rattle.station_ledger.specs.declared.standing.Standing.{Standing}
 use Rattle.station_ledger.specs.declared.sums.Sums.{Sums}
 use Rattle.station_ledger.specs.ByMoment.{AreByMoment}
-use Rattle.station_ledger.specs.Moved.{CanTrade, IsExchanged, IsMoved, flow_in}
+use Rattle.station_ledger.specs.Moved.{CanExchange, IsExchanged, IsMoved, flows_in}
 use Rattle.station_ledger.specs.Quarters.{HasRoom, HoldsBoth, IsSumOf, IsWith, IsWithout, both_length, both_quartered}
 use Rattle.station_ledger.specs.Standing.{kept_of, kept_with}
 use Rattle.station_ledger.specs.Sums.{AreAllowed, AreCounts, AreEvseSums, AreGrowing, ArePairsMoved, AreQuarterRows, AreShrinking, AreStanding, AreSummed, CanReplace, IsReplaced, order_in, order_of}
 use Rattle.station_ledger.proofs.Bounded.{own_up_le, own_down_le}
 use Rattle.station_ledger.proofs.Changes.{IsChange, come_moved, go_moved}
 use Rattle.station_ledger.proofs.Stands.{own_flow, was_kept, place, stands, room_at, counts_at, sums_stand, have_room, do_count, counts_stand}
-use Rattle.station_ledger.proofs.Trades.{station_exchanged, own_exchanged, may_trade, is_left, holds, room, filled}
+use Rattle.station_ledger.proofs.Trades.{station_exchanged, own_exchanged, may_exchange, is_left, holds, room, filled}
 
 -- by sequence
 module _ {limits : Bounds} {tx : List ℕ} {es new : List Entry} {gone came : Direction → List Pair} {most : ℕ} (ch : IsChange limits tx es new gone came most) where
@@ -72,28 +73,32 @@ module _ {limits : Bounds} {tx : List ℕ} {es new : List Entry} {sums mid : Sum
   all_was : (d : Direction) → in_direction d mid.energies ≡ energy_by (order_in sums) d es
   all_was d = ap (λ (e : ByDirection Energy). in_direction d e) x.pairs.energies ∙ x.summed.energies_are d
 
-  -- the station's energies
-  pub all_may : (d : Direction) → CanTrade (in_direction d mid.energies) (in_direction d less) (in_direction d more)
-  all_may d = may_trade (order_in sums) d limits es x.before (energy_by (order_in sums) d new) (in_direction d less) (in_direction d more) (all_was d) (omega arith) (omega arith) (x.energies.station d) (x.energies.up_few d) (x.energies.down_few d)
+  -- what the pairs move of energies of which no more than the station's are in a direction
+  exchange : {energies : ByDirection Energy} (was now : Direction → Energy) → ((d : Direction) → in_direction d energies ≡ was d)
+      → ((d : Direction) → (was d).up ≤ (energy_by (order_in sums) d es).up) → ((d : Direction) → (was d).down ≤ (energy_by (order_in sums) d es).down)
+      → ((d : Direction) → plus (now d) (in_direction d less) ≡ plus (was d) (in_direction d more)) → CanExchange energies less more × (minus_flows (plus_flows energies more) less ≡ in_each now)
+  exchange was now is up down moved =
+      let may = λ (d : Direction). may_exchange (order_in sums) d limits es x.before (now d) (in_direction d less) (in_direction d more) (is d) (up d) (down d) (moved d) (x.energies.up_few d) (x.energies.down_few d) in
+      let left = λ (d : Direction). is_left (order_in sums) d limits es x.before (now d) (in_direction d less) (in_direction d more) (is d) (up d) (down d) (moved d) (x.energies.up_few d) (x.energies.down_few d) in
+      let imported = left Import in let exported = left Export in (
+        record { room = record { import = (may Import).0; export = (may Export).0 }; holds = record { import = (may Import).1; export = (may Export).1 } },
+        λ i. record { import = imported i; export = exported i },
+      )
 
-  all_then : (d : Direction) → minus (plus (in_direction d mid.energies) (in_direction d more)) (in_direction d less) ≡ energy_by (order_in sums) d new
-  all_then d = is_left (order_in sums) d limits es x.before (energy_by (order_in sums) d new) (in_direction d less) (in_direction d more) (all_was d) (omega arith) (omega arith) (x.energies.station d) (x.energies.up_few d) (x.energies.down_few d)
+  -- the station's energies
+  pub all_may : CanExchange mid.energies less more × (minus_flows (plus_flows mid.energies more) less ≡ in_each (λ d. energy_by (order_in sums) d new))
+  all_may = exchange (λ d. energy_by (order_in sums) d es) (λ d. energy_by (order_in sums) d new) all_was (λ d. omega arith) (λ d. omega arith) x.energies.station
 
   -- the transaction's
-  module _ {was : Option Standing} (was_is : was ≡ find id_cmp tx sums.kept.rows) {own : ByDirection Energy} (own_is : (d : Direction) → in_direction d own ≡ flow_in d was) where
-    own_was : (d : Direction) → in_direction d own ≡ energy_of_by (order_in sums) d tx es
-    own_was d = own_is d ∙ own_flow (order_in sums) d limits es tx sums.kept was was_is x.summed.standing
-
-    pub own_may : (d : Direction) → CanTrade (in_direction d own) (in_direction d less) (in_direction d more)
-    own_may d = may_trade (order_in sums) d limits es x.before (energy_of_by (order_in sums) d tx new) (in_direction d less) (in_direction d more) (own_was d) (own_up_le (order_in sums) d tx es) (own_down_le (order_in sums) d tx es) (x.energies.own d) (x.energies.up_few d) (x.energies.down_few d)
-
-    own_then : (d : Direction) → minus (plus (in_direction d own) (in_direction d more)) (in_direction d less) ≡ energy_of_by (order_in sums) d tx new
-    own_then d = is_left (order_in sums) d limits es x.before (energy_of_by (order_in sums) d tx new) (in_direction d less) (in_direction d more) (own_was d) (own_up_le (order_in sums) d tx es) (own_down_le (order_in sums) d tx es) (x.energies.own d) (x.energies.up_few d) (x.energies.down_few d)
+  module _ {was : Option Standing} (was_is : was ≡ find id_cmp tx sums.kept.rows) {own : ByDirection Energy} (own_is : own ≡ flows_in was) where
+    pub own_may : CanExchange own less more × (minus_flows (plus_flows own more) less ≡ flows_of_by (order_in sums) tx new)
+    own_may = exchange (λ d. energy_of_by (order_in sums) d tx es) (λ d. energy_of_by (order_in sums) d tx new) (λ d. ap (in_direction d) own_is ∙ own_flow (order_in sums) d limits es tx sums.kept was was_is x.summed.standing)
+        (λ d. own_up_le (order_in sums) d tx es) (λ d. own_down_le (order_in sums) d tx es) x.energies.own
 
     -- what is kept of it, in all sums
-    module _ {left : ByDirection Energy} (left_is : (d : Direction) → in_direction d left ≡ minus (plus (in_direction d own) (in_direction d more)) (in_direction d less)) {is : Option Standing} (is_with : is ≡ kept_with left.import left.export tx new) where
+    module _ {left : ByDirection Energy} (left_is : left ≡ minus_flows (plus_flows own more) less) {is : Option Standing} (is_with : is ≡ kept_with left tx new) where
       is_kept : is ≡ kept_of (order_in sums) tx new
-      is_kept = let one = left_is Import ∙ own_then Import in let other = left_is Export ∙ own_then Export in is_with ∙ (λ i. kept_with (one i) (other i) tx new)
+      is_kept = is_with ∙ ap (λ e. kept_with e tx new) (left_is ∙ own_may.1)
 
       was_at : was ≡ kept_of (order_in sums) tx es
       was_at = was_kept (order_in sums) limits tx es new x.moved x.before x.after was is is_kept sums.kept x.summed.standing was_is
@@ -121,7 +126,7 @@ module _ {limits : Bounds} {tx : List ℕ} {es new : List Entry} {sums mid : Sum
       }
 
       pub replaced : {energies : ByDirection Energy} {next : Sums} → AreQuarterRows (order_in sums) limits new sums.period mid.quarters → IfSome mid.by_moment (AreByMoment limits new)
-          → ((d : Direction) → in_direction d energies ≡ minus (plus (in_direction d mid.energies) (in_direction d more)) (in_direction d less))
+          → energies ≡ minus_flows (plus_flows mid.energies more) less
           → IsReplaced tx (record { was = was; is = is }) (record mid { energies = energies }) next → AreSummed limits new next
       replaced {next = next} rows timed all r =
           let same = sym (ap order_of r.by_moment ∙ x.pairs.order) in
@@ -129,7 +134,7 @@ module _ {limits : Bounds} {tx : List ℕ} {es new : List Entry} {sums mid : Sum
             standing = subst (λ o. AreStanding o limits new next.kept) same (stands (order_in sums) limits tx es new x.moved x.before x.after was is is_kept mid.kept kept_stands was_found next.kept r.kept r.room);
             at_evses = subst (λ o. AreEvseSums o new next.evses.items) same (sums_stand (order_in sums) limits tx es new x.moved x.before x.after was is is_kept was_at mid.evses.items evses_stand next.evses.items r.all r.evses);
             by_quarter = subst (λ o. AreQuarterRows o limits new next.period next.quarters) same (subst (λ p. AreQuarterRows (order_in sums) limits new p next.quarters) (sym (r.period ∙ x.pairs.period)) (subst (AreQuarterRows (order_in sums) limits new sums.period) (sym r.quarters) rows));
-            energies_are = λ d. ap (λ (e : ByDirection Energy). in_direction d e) r.energies ∙ all d ∙ all_then d ∙ ap (λ o. energy_by o d new) same;
+            energies_are = λ d. ap (in_direction d) (r.energies ∙ all ∙ all_may.1) ∙ each_is (λ k. energy_by (order_in sums) k new) d ∙ ap (λ o. energy_by o d new) same;
             counts = counts_stand (order_in sums) limits tx es new x.moved x.before x.after was is is_kept was_at mid.figures counts_were next.figures r.figures;
             timed = subst (λ b. IfSome b (AreByMoment limits new)) (sym r.by_moment) timed;
           }

@@ -32,7 +32,7 @@ use Rattle.ledger_model.specs.Gaps.{numbers_of}
 use Rattle.ledger_model.specs.Key.{key_cmp}
 use Rattle.ledger_model.specs.declared.reading.Direction.{Direction}
 use Rattle.ledger_model.proofs.Callers.{find_below, first, in_time-map, second}
-use Rattle.ledger_model.specs.Energy.{flows_toward}
+use Rattle.ledger_model.specs.ByDirection.{flows_toward}
 use Rattle.ledger_model.specs.Parts.{Part}
 use Rattle.ledger_model.specs.declared.settle.Settle.{Settle}
 use Rattle.ledger_model.specs.declared.settle.Settle.TheVariants.{Later, Closing, Even}

@@ -6,6 +6,7 @@ use Rattle.std.specs.Ordering.{eq_by_cmp}
 use Rattle.std.proofs.lemmas.Slice.Eq.{bytes_eq-Decides}
 use Rattle.energy_flow.specs.Flow.{Energy, plus, minus, CanPlus, CanMinus}
 use Rattle.ledger_model.specs.declared.figures.Figures.{Figures}
+use Rattle.ledger_model.specs.ByDirection.{in_direction}
 use Rattle.ledger_model.specs.Content.{Entry, live, transactions_of}
 use Rattle.ledger_model.specs.Energy.{energy_of_by}
 use Rattle.ledger_model.specs.Evse.{energy_at_by, transactions_at}
@@ -21,7 +22,7 @@ use Rattle.transaction_map.proofs.Found.{found_put, found_out, rising_put, risin
 use Rattle.station_ledger.specs.declared.standing.Standing.{Standing}
 use Rattle.station_ledger.specs.declared.totals.EvseSum.{EvseSum}
 use Rattle.station_ledger.specs.Standing.{kept_of}
-use Rattle.station_ledger.specs.Moved.{live_in, one_in, complete_in, missing_in, flow_in, one_at, flow_at, IsMoved, sum_at, with_one, without_one, with_figures, without_figures, HasRoomAt, CountsAt, HaveRoom, DoCount}
+use Rattle.station_ledger.specs.Moved.{live_in, one_in, complete_in, missing_in, flows_in, one_at, flows_at, IsMoved, sum_at, with_one, without_one, with_figures, without_figures, HasRoomAt, CountsAt, HaveRoom, DoCount}
 use Rattle.station_ledger.specs.Sums.{AreStanding, AreEvseSums, AreCounts, AreAllowed, keep}
 use Rattle.station_ledger.proofs.Moved.{live_kept, missing_kept, flow_in_kept, kept_same, one_in_le, complete_in_le, one_at_le, flow_at_le}
 use Rattle.station_ledger.proofs.Bounded.{few_up, few_down, live_le, at_evse_le, evse_up_le, evse_down_le, own_up_le, own_down_le, own_missing_le}
@@ -83,11 +84,11 @@ module _ (order : Order) (limits : Bounds) (tx : List ℕ) (es new : List Entry)
       counted (Some s) now = omega (arith, length_put tx s kept.rows standing.rising, standing.number, moved.transactions, was_one, ap one_in now, grown (is_some (find id_cmp tx kept.rows)) (length kept.rows))
 
   module _ (was_at : was ≡ kept_of order tx es) where
-    flow_is : (d : Direction) → flow_in d is ≡ energy_of_by order d tx new
-    flow_is d = ap (flow_in d) is_is ∙ flow_in_kept order d tx new
+    flow_is : (d : Direction) → in_direction d (flows_in is) ≡ energy_of_by order d tx new
+    flow_is d = ap (λ o. in_direction d (flows_in o)) is_is ∙ flow_in_kept order d tx new
 
     module _ (evses : List EvseSum) (sums : AreEvseSums order es evses) where
-      room_for : (d : Direction) (n : ℕ) → CanPlus (energy_at_by order d n es) (flow_at d n is)
+      room_for : (d : Direction) (n : ℕ) → CanPlus (energy_at_by order d n es) (in_direction d (flows_at n is))
       room_for d n = record {
         up = omega (arith, evse_up_le order d n es, few_up order d limits es before, before.most_readings_within, (flow_at_le d n is).0, ap (λ (e : Energy). e.up) (flow_is d), own_up_le order d tx new, few_up order d limits new after);
         down = omega (arith, evse_down_le order d n es, few_down order d limits es before, before.most_readings_within, (flow_at_le d n is).1, ap (λ (e : Energy). e.down) (flow_is d), own_down_le order d tx new, few_down order d limits new after);
@@ -96,31 +97,29 @@ module _ (order : Order) (limits : Bounds) (tx : List ℕ) (es new : List Entry)
       pub room_at : (n : ℕ) → n ≤ greatest_evse → HasRoomAt n is (sum_at evses n)
       room_at n le = subst (HasRoomAt n is) (sym (sums.each n le)) (record {
         number = omega (arith, at_evse_le n es, before.figures_within.transactions, before.most_transactions_within, one_at_le n is);
-        energy = room_for Import n;
-        export = room_for Export n;
+        energy = record { import = room_for Import n; export = room_for Export n };
       })
 
       -- what it was and what it is, at an EVSE
       ones : (n : ℕ) → length (transactions_at n new) + one_at n was ≡ length (transactions_at n es) + one_at n is
       ones n = ap (λ o. length (transactions_at n new) + one_at n o) was_at ∙ moved.at_evse n ∙ ap (λ o. length (transactions_at n es) + one_at n o) (sym is_is)
 
-      flows : (d : Direction) (n : ℕ) → plus (energy_at_by order d n new) (flow_at d n was) ≡ plus (energy_at_by order d n es) (flow_at d n is)
-      flows d n = ap (λ o. plus (energy_at_by order d n new) (flow_at d n o)) was_at ∙ moved.flow_at_evse d n ∙ ap (λ o. plus (energy_at_by order d n es) (flow_at d n o)) (sym is_is)
+      flows : (d : Direction) (n : ℕ) → plus (energy_at_by order d n new) (in_direction d (flows_at n was)) ≡ plus (energy_at_by order d n es) (in_direction d (flows_at n is))
+      flows d n = ap (λ o. plus (energy_at_by order d n new) (in_direction d (flows_at n o))) was_at ∙ moved.flow_at_evse d n ∙ ap (λ o. plus (energy_at_by order d n es) (in_direction d (flows_at n o))) (sym is_is)
 
-      holds_for : (d : Direction) (n : ℕ) → CanMinus (plus (energy_at_by order d n es) (flow_at d n is)) (flow_at d n was)
+      holds_for : (d : Direction) (n : ℕ) → CanMinus (plus (energy_at_by order d n es) (in_direction d (flows_at n is))) (in_direction d (flows_at n was))
       holds_for d n = record { up = omega (arith, ap (λ (e : Energy). e.up) (flows d n)); down = omega (arith, ap (λ (e : Energy). e.down) (flows d n)) }
 
       pub counts_at : (n : ℕ) → n ≤ greatest_evse → CountsAt n was (with_one n is (sum_at evses n))
       counts_at n le = subst (λ s. CountsAt n was (with_one n is s)) (sym (sums.each n le)) (record {
         number = omega (arith, ones n);
-        energy = holds_for Import n;
-        export = holds_for Export n;
+        energy = record { import = holds_for Import n; export = holds_for Export n };
       })
 
-      left_at : (d : Direction) (n : ℕ) → minus (plus (energy_at_by order d n es) (flow_at d n is)) (flow_at d n was) ≡ energy_at_by order d n new
+      left_at : (d : Direction) (n : ℕ) → minus (plus (energy_at_by order d n es) (in_direction d (flows_at n is))) (in_direction d (flows_at n was)) ≡ energy_at_by order d n new
       left_at d n =
-          let up : ((energy_at_by order d n es).up + (flow_at d n is).up) - (flow_at d n was).up ≡ (energy_at_by order d n new).up = omega (arith, ap (λ (e : Energy). e.up) (flows d n)) in
-          let down : ((energy_at_by order d n es).down + (flow_at d n is).down) - (flow_at d n was).down ≡ (energy_at_by order d n new).down = omega (arith, ap (λ (e : Energy). e.down) (flows d n)) in
+          let up : ((energy_at_by order d n es).up + (in_direction d (flows_at n is)).up) - (in_direction d (flows_at n was)).up ≡ (energy_at_by order d n new).up = omega (arith, ap (λ (e : Energy). e.up) (flows d n)) in
+          let down : ((energy_at_by order d n es).down + (in_direction d (flows_at n is)).down) - (in_direction d (flows_at n was)).down ≡ (energy_at_by order d n new).down = omega (arith, ap (λ (e : Energy). e.down) (flows d n)) in
           λ i. record { up = up i; down = down i }
 
       pub sums_stand : (next : List EvseSum) → length next ≡ greatest_evse + 1 → ((n : ℕ) → sum_at next n ≡ without_one n was (with_one n is (sum_at evses n))) → AreEvseSums order new next
@@ -128,7 +127,7 @@ module _ (order : Order) (limits : Bounds) (tx : List ℕ) (es new : List Entry)
         all = all;
         each = λ n le.
             let one : (length (transactions_at n es) + one_at n is) - one_at n was ≡ length (transactions_at n new) = omega (arith, ones n) in
-            each n ∙ ap (λ s. without_one n was (with_one n is s)) (sums.each n le) ∙ (λ i. record { transactions = one i; flow = left_at Import n i; export = left_at Export n i });
+            each n ∙ ap (λ s. without_one n was (with_one n is s)) (sums.each n le) ∙ (λ i. record { transactions = one i; energy = record { import = left_at Import n i; export = left_at Export n i } });
       }
 
     module _ (f : Figures) (counts : AreCounts es f) where
@@ -157,5 +156,5 @@ module _ (order : Order) (limits : Bounds) (tx : List ℕ) (es new : List Entry)
       }
 
 -- the energy of what was kept
-pub own_flow : (order : Order) (d : Direction) (limits : Bounds) (es : List Entry) (tx : List ℕ) (kept : Mapped Standing) (was : Option Standing) → was ≡ find id_cmp tx kept.rows → AreStanding order limits es kept → flow_in d was ≡ energy_of_by order d tx es
-own_flow order d limits es tx kept was was_is standing = ap (flow_in d) (was_is ∙ standing.each tx) ∙ flow_in_kept order d tx es
+pub own_flow : (order : Order) (d : Direction) (limits : Bounds) (es : List Entry) (tx : List ℕ) (kept : Mapped Standing) (was : Option Standing) → was ≡ find id_cmp tx kept.rows → AreStanding order limits es kept → in_direction d (flows_in was) ≡ energy_of_by order d tx es
+own_flow order d limits es tx kept was was_is standing = ap (λ o. in_direction d (flows_in o)) (was_is ∙ standing.each tx) ∙ flow_in_kept order d tx es

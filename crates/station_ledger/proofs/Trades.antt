@@ -2,12 +2,14 @@
 use Rattle.std.proofs.Common.{◌≡◌, ℕ, ◌+◌, ◌-◌, ◌*◌, ◌≤◌, List, [], ◌∷◌, ◌++◌, length, refl, sym, ap, ◌∙◌, arith, length-append}
 use Rattle.std.specs.List.{sum_by}
 use Rattle.std.proofs.lemmas.List.Sums.{sum_by-append, sum_by-cons}
-use Rattle.energy_flow.specs.Flow.{Energy, plus, minus}
+use Rattle.energy_flow.specs.Flow.{Energy, plus, minus, CanPlus, CanMinus}
+use Rattle.ledger_model.specs.declared.by_direction.ByDirection.{ByDirection}
+use Rattle.ledger_model.specs.ByDirection.{in_direction, in_each, plus_flows, minus_flows}
 use Rattle.ledger_model.specs.Periods.{Periods}
 use Rattle.ledger_model.specs.Board.{Flowed}
 use Rattle.ledger_model.specs.Content.{Entry}
 use Rattle.ledger_model.specs.Deltas.{IsOneMore, came_by, gone_by, kept_by}
-use Rattle.ledger_model.specs.Energy.{Flows, Pair, difference, energy, energy_by, energy_of, energy_over, pairs, pairs_of}
+use Rattle.ledger_model.specs.Energy.{Pair, difference, energy, energy_by, energy_of, energy_over, pairs, pairs_of}
 use Rattle.ledger_model.specs.declared.order.Order.{Order}
 use Rattle.ledger_model.specs.declared.order.Order.TheVariants.{Sequence}
 use Rattle.ledger_model.specs.declared.reading.Direction.{Direction}
@@ -23,7 +25,7 @@ use Rattle.station_ledger.specs.Quarters.{HasRoom, HoldsBoth, IsWith, IsWithout,
 use Rattle.station_ledger.specs.Sums.{AreAllowed, AreQuarterRows}
 use Rattle.station_ledger.proofs.Bounded.{few_up, few_down, few_pairs}
 use Rattle.station_ledger.proofs.Rows.{long, rows_less, total_quartered}
-use Rattle.station_ledger.specs.Moved.{CanTrade}
+use Rattle.station_ledger.specs.Moved.{CanExchange}
 
 -- The pairs of a direction before and after, and those of one transaction.
 pub record IsTraded (d : Direction) (tx : List ℕ) (es new : List Entry) (gone came kept : List Pair) : Type 0 where
@@ -81,14 +83,14 @@ module _ (order : Order) (d : Direction) (limits : Bounds) (es : List Entry) (be
   downs : is.down + less.down ≡ was.down + more.down
   downs = ap (λ (e : Energy). e.down) exchanged
 
-  pub may_trade : CanTrade flow less more
-  may_trade = record {
-    room = record {
+  pub may_exchange : CanPlus flow more × CanMinus (plus flow more) less
+  may_exchange = (
+    record {
       up = omega (arith, up_was, up_le, few_up order d limits es before, before.most_readings_within, up_few);
       down = omega (arith, down_was, down_le, few_down order d limits es before, before.most_readings_within, down_few);
-    };
-    holds = record { up = omega (arith, up_was, ups); down = omega (arith, down_was, downs) };
-  }
+    },
+    record { up = omega (arith, up_was, ups); down = omega (arith, down_was, downs) },
+  )
 
   pub is_left : minus (plus flow more) less ≡ is
   is_left =
@@ -96,15 +98,15 @@ module _ (order : Order) (d : Direction) (limits : Bounds) (es : List Entry) (be
       let down : (flow.down + more.down) - less.down ≡ is.down = omega (arith, down_was, downs) in
       λ i. record { up = up i; down = down i }
 
-total_both : (period : Periods) (ps : Direction → List Pair) → total (both_quartered period ps) ≡ record { flow = energy_over (ps Import); export = energy_over (ps Export) }
+total_both : (period : Periods) (ps : Direction → List Pair) → total (both_quartered period ps) ≡ in_each (λ d. energy_over (ps d))
 total_both period ps =
     let a = quartered period Import (ps Import) in let b = quartered period Export (ps Export) in
     let one = total_quartered period Import (ps Import) in let other = total_quartered period Export (ps Export) in
-    let up : (total (a ++ b)).flow.up ≡ (energy_over (ps Import)).up = omega (arith, sum_by-append (λ (f : Flowed). f.1.flow.up) a b, ap (λ (e : Flows). e.flow.up) one, ap (λ (e : Flows). e.flow.up) other) in
-    let down : (total (a ++ b)).flow.down ≡ (energy_over (ps Import)).down = omega (arith, sum_by-append (λ (f : Flowed). f.1.flow.down) a b, ap (λ (e : Flows). e.flow.down) one, ap (λ (e : Flows). e.flow.down) other) in
-    let export_up : (total (a ++ b)).export.up ≡ (energy_over (ps Export)).up = omega (arith, sum_by-append (λ (f : Flowed). f.1.export.up) a b, ap (λ (e : Flows). e.export.up) one, ap (λ (e : Flows). e.export.up) other) in
-    let export_down : (total (a ++ b)).export.down ≡ (energy_over (ps Export)).down = omega (arith, sum_by-append (λ (f : Flowed). f.1.export.down) a b, ap (λ (e : Flows). e.export.down) one, ap (λ (e : Flows). e.export.down) other) in
-    λ i. record { flow = record { up = up i; down = down i }; export = record { up = export_up i; down = export_down i } }
+    let up : (total (a ++ b)).import.up ≡ (energy_over (ps Import)).up = omega (arith, sum_by-append (λ (f : Flowed). f.1.import.up) a b, ap (λ (e : ByDirection Energy). e.import.up) one, ap (λ (e : ByDirection Energy). e.import.up) other) in
+    let down : (total (a ++ b)).import.down ≡ (energy_over (ps Import)).down = omega (arith, sum_by-append (λ (f : Flowed). f.1.import.down) a b, ap (λ (e : ByDirection Energy). e.import.down) one, ap (λ (e : ByDirection Energy). e.import.down) other) in
+    let export_up : (total (a ++ b)).export.up ≡ (energy_over (ps Export)).up = omega (arith, sum_by-append (λ (f : Flowed). f.1.export.up) a b, ap (λ (e : ByDirection Energy). e.export.up) one, ap (λ (e : ByDirection Energy). e.export.up) other) in
+    let export_down : (total (a ++ b)).export.down ≡ (energy_over (ps Export)).down = omega (arith, sum_by-append (λ (f : Flowed). f.1.export.down) a b, ap (λ (e : ByDirection Energy). e.export.down) one, ap (λ (e : ByDirection Energy). e.export.down) other) in
+    λ i. record { import = record { up = up i; down = down i }; export = record { up = export_up i; down = export_down i } }
 
 -- pairs of both directions that add up as those that go or come and those that are kept
 parted : (period : Periods) (all some rest : Direction → List Pair) → ((d : Direction) (f : Pair → ℕ) → sum_by f (all d) ≡ sum_by f (some d ++ rest d)) → rows_of (both_quartered period all) ≡ rows_of (both_quartered period some ++ both_quartered period rest)
@@ -142,10 +144,10 @@ module _ (limits : Bounds) (tx : List ℕ) (es new : List Entry) (gone came kept
             record {
               rows = left_rows;
               room = omega (arith, n, long period Import (kept Import), long period Export (kept Export), count Import, count Export, few_pairs Sequence new, after.readings_within, taken.capacity, rows.room);
-              up = omega (arith, ap (λ (e : Flows). e.flow.up) sum, kept_up Import, before.most_readings_within, few);
-              down = omega (arith, ap (λ (e : Flows). e.flow.down) sum, kept_down Import, before.most_readings_within, few);
-              export_up = omega (arith, ap (λ (e : Flows). e.export.up) sum, kept_up Export, before.most_readings_within, few);
-              export_down = omega (arith, ap (λ (e : Flows). e.export.down) sum, kept_down Export, before.most_readings_within, few);
+              up = omega (arith, ap (λ (e : ByDirection Energy). e.import.up) sum, kept_up Import, before.most_readings_within, few);
+              down = omega (arith, ap (λ (e : ByDirection Energy). e.import.down) sum, kept_down Import, before.most_readings_within, few);
+              export_up = omega (arith, ap (λ (e : ByDirection Energy). e.export.up) sum, kept_up Export, before.most_readings_within, few);
+              export_down = omega (arith, ap (λ (e : ByDirection Energy). e.export.down) sum, kept_down Export, before.most_readings_within, few);
               few = omega (arith, taken.capacity, rows.room, before.most_readings_within);
             },
           )

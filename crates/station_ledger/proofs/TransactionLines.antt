@@ -15,7 +15,7 @@ use Rattle.ledger_model.specs.Board.{last_or_zero}
 use Rattle.ledger_model.specs.Content.{Entry, live, transactions_of, has_transaction}
 use Rattle.ledger_model.specs.declared.order.Order.{Order}
 use Rattle.ledger_model.specs.declared.reading.Direction.TheVariants.{Import, Export}
-use Rattle.ledger_model.specs.Energy.{energy_of_by}
+use Rattle.ledger_model.specs.Energy.{flows_of_by}
 use Rattle.ledger_model.specs.Evse.{first_or_zero}
 use Rattle.ledger_model.specs.Limits.{Bounds}
 use Rattle.ledger_model.proofs.Rising.{both}
@@ -73,8 +73,8 @@ some_own tx (e ∷ es) h = elim (bytes_eq tx e.0.tx) as (λ b. (b || has_transac
 -- it is kept just where it has a live event
 kept_has : (order : Order) (tx : List ℕ) (es : List Entry) → is_some (kept_of order tx es) ≡ has_transaction tx (live es)
 kept_has order tx es = elim (has_transaction tx (live es)) as (λ b. has_transaction tx (live es) ≡ b → is_some (kept_of order tx es) ≡ b) [
-  | true ↦ λ e. ap is_some (sym (kept_some (energy_of_by order Import tx es) (energy_of_by order Export tx es) tx es (some_own tx (live es) e)))
-  | false ↦ λ e. ap is_some (sym (kept_none (energy_of_by order Import tx es) (energy_of_by order Export tx es) tx es (ap length (none_live tx es e))))
+  | true ↦ λ e. ap is_some (sym (kept_some (flows_of_by order tx es) tx es (some_own tx (live es) e)))
+  | false ↦ λ e. ap is_some (sym (kept_none (flows_of_by order tx es) tx es (ap length (none_live tx es e))))
 ] refl
 
 -- an id at a place is one of them
@@ -97,7 +97,7 @@ module _ (order : Order) (limits : Bounds) (c : Chained) (kept : Mapped Standing
   found_at n tx at =
       let es = stored c in
       let any = is_any (transactions_of (live es)) n tx (ap (λ ts. slice_get ts n) (sym kept_ids) ∙ at) in
-      standing.each tx ∙ sym (kept_some (energy_of_by order Import tx es) (energy_of_by order Export tx es) tx es (some_own tx (live es) (sym (transactions-any tx (live es)) ∙ any)))
+      standing.each tx ∙ sym (kept_some (flows_of_by order tx es) tx es (some_own tx (live es) (sym (transactions-any tx (live es)) ∙ any)))
 
 -- the lines with that of the next id
 pub line_more : {X : Type 0} (line : List ℕ → X) (ids : List (List ℕ)) (n : ℕ) (tx : List ℕ) → slice_get ids n ≡ Some tx → map line (take (n + 1) ids) ≡ map line (take n ids) ++ line tx ∷ []

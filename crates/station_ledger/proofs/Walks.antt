@@ -5,7 +5,8 @@ use Rattle.std.proofs.lemmas.List.Sums.{sum_by-append}
 use Rattle.energy_flow.specs.Flow.{Energy, plus}
 use Rattle.ledger_model.specs.Periods.{Periods}
 use Rattle.ledger_model.specs.Board.{Flowed}
-use Rattle.ledger_model.specs.Energy.{Pair, difference, energy_over, flows_toward, quarter_of}
+use Rattle.ledger_model.specs.Energy.{Pair, difference, energy_over, quarter_of}
+use Rattle.ledger_model.specs.ByDirection.{flows_toward}
 use Rattle.ledger_model.specs.declared.reading.Direction.{Direction}
 use Rattle.ledger_model.specs.declared.reading.Direction.TheVariants.{Import, Export}
 use Rattle.ledger_model.specs.Event.{MeterReading, same_direction, toward}

@@ -3,7 +3,7 @@ use Rattle.std.specs.Prelude.{ℕ, ◌*◌, ◌<◌, ◌≤◌, List, All}
 use Rattle.energy_flow.specs.Flow.{Energy}
 use Rattle.ledger_model.specs.Periods.{Periods}
 use Rattle.ledger_model.specs.Board.{Flowed}
-use Rattle.ledger_model.specs.Energy.{Flows}
+use Rattle.ledger_model.specs.declared.by_direction.ByDirection.{ByDirection}
 use Rattle.ledger_model.specs.Quarter.{IsQuarterOf}
 use Rattle.ledger_model.specs.Ranges.{greatest_reading, most_readings, sequence_end}
 
@@ -13,16 +13,15 @@ pub record IsStationFlow (flow : Energy) : Type 0 where
   pub down : flow.down ≤ greatest_reading * most_readings
 
 -- Energies that the readings of one station can show, in each direction.
-pub record AreStationFlows (flows : Flows) : Type 0 where
-  pub flow : IsStationFlow flows.flow
+pub record AreStationFlows (flows : ByDirection Energy) : Type 0 where
+  pub import : IsStationFlow flows.import
   pub export : IsStationFlow flows.export
 
 -- What a board shows of a transaction is in range: its lowest and highest number, and its energies.
-pub record IsShown (first last : ℕ) (flow export : Energy) : Type 0 where
+pub record IsShown (first last : ℕ) (energy : ByDirection Energy) : Type 0 where
   pub first_number : first < sequence_end
   pub last_number : last < sequence_end
-  pub flow_in_range : IsStationFlow flow
-  pub export_in_range : IsStationFlow export
+  pub energy_in_range : AreStationFlows energy
 
 -- No line has more energy than the readings of one station can show, and each settlement period is of
 -- this length.

@@ -3,7 +3,7 @@ use Rattle.std.specs.Prelude.{◌≡◌, ℕ, ◌+◌, List, [], ◌∷◌}
 use Rattle.std.specs.List.{flat_map}
 use Rattle.event_chain.specs.EventLines.{events_of}
 use Rattle.ledger_model.specs.Content.{Entry, live_of}
-use Rattle.ledger_model.specs.Energy.{energy_of_by}
+use Rattle.ledger_model.specs.Energy.{flows_of_by}
 use Rattle.ledger_model.specs.Event.{MeterReading, toward}
 use Rattle.ledger_model.specs.InTime.{in_order}
 use Rattle.ledger_model.specs.Periods.{Periods}
@@ -38,8 +38,7 @@ listing_by order period tx es = record {
   order = order;
   period = period;
   events = events_of tx es;
-  flow = energy_of_by order Import tx es;
-  export = energy_of_by order Export tx es;
+  energy = flows_of_by order tx es;
   imported = placed_by order Import tx es;
   exported = placed_by order Export tx es;
 }

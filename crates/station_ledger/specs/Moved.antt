@@ -1,15 +1,13 @@
 -- What changes with one transaction's live events.
 use Rattle.std.specs.Prelude.{◌≡◌, ℕ, ◌+◌, ◌-◌, ◌*◌, ◌<◌, ◌≤◌, ◌^◌, ◌==◌, false, unwrap_or, slice_get, if◌then◌else◌, List, Option, None, Some, length, count_by, sum_by}
 use Rattle.std.specs.Str.{bytes_eq}
-use Rattle.energy_flow.specs.Flow.{Energy, no_energy, plus, minus, CanPlus, CanMinus}
+use Rattle.energy_flow.specs.Flow.{Energy, plus}
 use Rattle.ledger_model.specs.declared.reading.Direction.{Direction}
-use Rattle.ledger_model.specs.declared.reading.Direction.TheVariants.{Import, Export}
 use Rattle.ledger_model.specs.Complete.{is_complete}
 use Rattle.ledger_model.specs.Content.{Entry, live, live_of, transactions_of}
-use Rattle.ledger_model.specs.Deltas.{flow_if}
 use Rattle.ledger_model.specs.declared.order.Order.{Order}
-use Rattle.ledger_model.specs.Evse.{energy_at_by, transactions_at}
-use Rattle.ledger_model.specs.ByDirection.{in_direction}
+use Rattle.ledger_model.specs.Evse.{energy_at_by, flows_at_by, transactions_at}
+use Rattle.ledger_model.specs.ByDirection.{in_direction, no_flows, plus_flows, minus_flows, CanPlusFlows, CanMinusFlows}
 use Rattle.ledger_model.specs.declared.by_direction.ByDirection.{ByDirection}
 use Rattle.ledger_model.specs.Energy.{energy_by, energy_of_by}
 use Rattle.ledger_model.specs.Ranges.{greatest_reading, most_readings}
@@ -36,25 +34,20 @@ abbrev pub missing_in : Option Standing → ℕ
 missing_in None = 0
 missing_in (Some s) = s.missing
 
--- The energy of a standing in one direction.
-abbrev pub flow_toward : Direction → Standing → Energy
-flow_toward Import s = s.flow
-flow_toward Export s = s.export
-
--- Its energy in one direction.
-abbrev pub flow_in : Direction → Option Standing → Energy
-flow_in d None = no_energy
-flow_in d (Some s) = flow_toward d s
+-- Its energies.
+abbrev pub flows_in : Option Standing → ByDirection Energy
+flows_in None = no_flows
+flows_in (Some s) = s.energy
 
 -- Whether it counts at an EVSE: 1 or 0.
 abbrev pub one_at : ℕ → Option Standing → ℕ
 one_at n None = 0
 one_at n (Some s) = if s.evse == n then 1 else 0
 
--- Its energy at an EVSE in one direction.
-abbrev pub flow_at : Direction → ℕ → Option Standing → Energy
-flow_at d n None = no_energy
-flow_at d n (Some s) = flow_if (s.evse == n) (flow_toward d s)
+-- Its energies at an EVSE.
+abbrev pub flows_at : ℕ → Option Standing → ByDirection Energy
+flows_at n None = no_flows
+flows_at n (Some s) = if s.evse == n then s.energy else no_flows
 
 -- The live events of one transaction changed: those of no other did, and each sum changed by that
 -- transaction's part, with readings in the given order.
@@ -65,11 +58,11 @@ pub record IsMoved (order : Order) (tx : List ℕ) (es new : List Entry) : Type 
   pub complete : count_by (λ u. is_complete u new) (transactions_of (live new)) + complete_in (kept_of order tx es) ≡ count_by (λ u. is_complete u es) (transactions_of (live es)) + complete_in (kept_of order tx new)
   pub missing_are : sum_by (λ u. missing (numbers_of u new)) (transactions_of (live new)) + missing_in (kept_of order tx es) ≡ sum_by (λ u. missing (numbers_of u es)) (transactions_of (live es)) + missing_in (kept_of order tx new)
   pub at_evse : (n : ℕ) → length (transactions_at n new) + one_at n (kept_of order tx es) ≡ length (transactions_at n es) + one_at n (kept_of order tx new)
-  pub flow_at_evse : (d : Direction) (n : ℕ) → plus (energy_at_by order d n new) (flow_at d n (kept_of order tx es)) ≡ plus (energy_at_by order d n es) (flow_at d n (kept_of order tx new))
+  pub flow_at_evse : (d : Direction) (n : ℕ) → plus (energy_at_by order d n new) (in_direction d (flows_at n (kept_of order tx es))) ≡ plus (energy_at_by order d n es) (in_direction d (flows_at n (kept_of order tx new)))
 
 -- An EVSE without transactions.
 abbrev pub no_sum : EvseSum
-no_sum = record { transactions = 0; flow = no_energy; export = no_energy }
+no_sum = record { transactions = 0; energy = no_flows }
 
 -- The sum of an EVSE among those of all, by its number.
 abbrev pub sum_at : List EvseSum → ℕ → EvseSum
@@ -77,27 +70,25 @@ sum_at sums n = unwrap_or (slice_get sums n) no_sum
 
 -- The sum of an EVSE from scratch, with readings in the given order.
 abbrev pub evse_sum : Order → ℕ → List Entry → EvseSum
-evse_sum order n es = record { transactions = length (transactions_at n es); flow = energy_at_by order Import n es; export = energy_at_by order Export n es }
+evse_sum order n es = record { transactions = length (transactions_at n es); energy = flows_at_by order n es }
 
 -- The sum of an EVSE with the part of a transaction added.
 abbrev pub with_one : ℕ → Option Standing → EvseSum → EvseSum
-with_one n o sum = record { transactions = sum.transactions + one_at n o; flow = plus sum.flow (flow_at Import n o); export = plus sum.export (flow_at Export n o) }
+with_one n o sum = record { transactions = sum.transactions + one_at n o; energy = plus_flows sum.energy (flows_at n o) }
 
 -- The sum of an EVSE with that part taken away.
 abbrev pub without_one : ℕ → Option Standing → EvseSum → EvseSum
-without_one n o sum = record { transactions = sum.transactions - one_at n o; flow = minus sum.flow (flow_at Import n o); export = minus sum.export (flow_at Export n o) }
+without_one n o sum = record { transactions = sum.transactions - one_at n o; energy = minus_flows sum.energy (flows_at n o) }
 
 -- There is room for the part of a transaction at an EVSE.
 pub record HasRoomAt (n : ℕ) (o : Option Standing) (sum : EvseSum) : Type 0 where
   pub number : sum.transactions + one_at n o < 2 ^ 32
-  pub energy : CanPlus sum.flow (flow_at Import n o)
-  pub export : CanPlus sum.export (flow_at Export n o)
+  pub energy : CanPlusFlows sum.energy (flows_at n o)
 
 -- The sum of an EVSE includes the part of a transaction.
 pub record CountsAt (n : ℕ) (o : Option Standing) (sum : EvseSum) : Type 0 where
   pub number : one_at n o ≤ sum.transactions
-  pub energy : CanMinus sum.flow (flow_at Import n o)
-  pub export : CanMinus sum.export (flow_at Export n o)
+  pub energy : CanMinusFlows sum.energy (flows_at n o)
 
 -- The figures with the part of a transaction added, its energy apart.
 abbrev pub with_figures : Option Standing → Figures → Figures
@@ -121,10 +112,10 @@ pub record DoCount (o : Option Standing) (f : Figures) : Type 0 where
   pub complete : complete_in o ≤ f.complete
   pub missing_fit : missing_in o ≤ f.missing
 
--- The new part may be added to an energy, and the old part taken from the result.
-pub record CanTrade (flow less more : Energy) : Type 0 where
-  pub room : CanPlus flow more
-  pub holds : CanMinus (plus flow more) less
+-- What came may be added to energies, and what went taken from the result.
+pub record CanExchange (energies less more : ByDirection Energy) : Type 0 where
+  pub room : CanPlusFlows energies more
+  pub holds : CanMinusFlows (plus_flows energies more) less
 
 -- The energies that went and came, of a station and of one of its transactions, in each direction.
 pub record IsExchanged (order : Order) (tx : List ℕ) (es new : List Entry) (less more : ByDirection Energy) : Type 0 where

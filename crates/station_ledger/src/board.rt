@@ -1,18 +1,17 @@
 ghost use Rattle.std.specs.Prelude.{◌≡◌, ◌<◌, All};
 ghost use Rattle.ledger_model.specs.Quarter.{IsQuarterOf};
 ghost use Rattle.ledger_model.specs.Ranges.{sequence_end};
-ghost use Rattle.station_ledger.specs.Lines.{AreStationFlows, IsStationFlow};
+ghost use Rattle.station_ledger.specs.Lines.{AreStationFlows};
 
 use energy_flow::Flow;
-use ledger_model::{EvseId, Figures, Listed, Periods, Quarter, TxId};
+use ledger_model::{ByDirection, EvseId, Figures, Listed, Periods, Quarter, TxId};
 use std::marker::Model;
 
 /// An EVSE of a station, 0 for no EVSE, with the energies of its transactions.
 #[derive(Clone, Copy, Debug, PartialEq, Eq)]
 pub struct EvseLine {
     evse: EvseId,
-    flow: Flow,
-    export: Flow,
+    energy: ByDirection<Flow>,
 }
 
 impl Model for EvseLine {
@@ -20,19 +19,17 @@ impl Model for EvseLine {
 
     ghost Value = { Flowed };
 
-    ghost view = { λ l. (l.evse, record { flow = l.flow; export = l.export }) };
+    ghost view = { λ l. (l.evse, l.energy) };
 
-    ghost inverse = { λ f. record { evse = f.0; flow = f.1.flow; export = f.1.export } };
+    ghost inverse = { λ f. record { evse = f.0; energy = f.1 } };
 }
 
 impl EvseLine {
-    /// The line of this EVSE and these energies: imported, and exported.
-    pub fn new(evse: EvseId, flow: Flow, export: Flow) -> Self
-        ensures evse { result.0 ≡ evse }
-        ensures flow { result.1.flow ≡ flow }
-        ensures export { result.1.export ≡ export }
+    /// The line of this EVSE and these energies.
+    pub fn new(evse: EvseId, energy: ByDirection<Flow>) -> Self
+        ensures { result ≡ (evse, energy) }
     {
-        EvseLine { evse, flow, export }
+        EvseLine { evse, energy }
     }
 
     /// The EVSE.
@@ -42,18 +39,11 @@ impl EvseLine {
         self.evse
     }
 
-    /// Its imported energy, in milliwatt-hours.
-    pub fn flow(self) -> Flow
-        ensures { result ≡ self.1.flow }
+    /// Its energies, in milliwatt-hours.
+    pub fn energy(self) -> ByDirection<Flow>
+        ensures { result ≡ self.1 }
     {
-        self.flow
-    }
-
-    /// Its exported energy, in milliwatt-hours.
-    pub fn export(self) -> Flow
-        ensures { result ≡ self.1.export }
-    {
-        self.export
+        self.energy
     }
 }
 
@@ -62,8 +52,7 @@ impl EvseLine {
 #[derive(Clone, Copy, Debug, PartialEq, Eq)]
 pub struct QuarterLine {
     quarter: Quarter,
-    flow: Flow,
-    export: Flow,
+    energy: ByDirection<Flow>,
 }
 
 impl Model for QuarterLine {
@@ -71,23 +60,17 @@ impl Model for QuarterLine {
 
     ghost Value = { Flowed };
 
-    ghost view = { λ l. (l.quarter, record { flow = l.flow; export = l.export }) };
+    ghost view = { λ l. (l.quarter, l.energy) };
 
-    ghost inverse = { λ f. record { quarter = f.0; flow = f.1.flow; export = f.1.export } };
+    ghost inverse = { λ f. record { quarter = f.0; energy = f.1 } };
 }
 
 impl QuarterLine {
-    /// The line of this period and these energies: imported, and exported.
-    pub fn new(quarter: Quarter, flow: Flow, export: Flow) -> Self
-        ensures quarter { result.0 ≡ quarter }
-        ensures flow { result.1.flow ≡ flow }
-        ensures export { result.1.export ≡ export }
+    /// The line of this period and these energies.
+    pub fn new(quarter: Quarter, energy: ByDirection<Flow>) -> Self
+        ensures { result ≡ (quarter, energy) }
     {
-        QuarterLine {
-            quarter,
-            flow,
-            export,
-        }
+        QuarterLine { quarter, energy }
     }
 
     /// The settlement period.
@@ -97,18 +80,11 @@ impl QuarterLine {
         self.quarter
     }
 
-    /// Its imported energy, in milliwatt-hours.
-    pub fn flow(self) -> Flow
-        ensures { result ≡ self.1.flow }
+    /// Its energies, in milliwatt-hours.
+    pub fn energy(self) -> ByDirection<Flow>
+        ensures { result ≡ self.1 }
     {
-        self.flow
-    }
-
-    /// Its exported energy, in milliwatt-hours.
-    pub fn export(self) -> Flow
-        ensures { result ≡ self.1.export }
-    {
-        self.export
+        self.energy
     }
 }
 
@@ -122,8 +98,7 @@ pub struct TxLine {
     pub(crate) last: u32,
     pub(crate) complete: bool,
     pub(crate) missing: u64,
-    pub(crate) flow: Flow,
-    pub(crate) export: Flow,
+    pub(crate) energy: ByDirection<Flow>,
     pub(crate) gaps: Listed<(u32, u32)>,
 }
 
@@ -133,9 +108,9 @@ impl Model for TxLine {
 
     ghost Value = { Shown };
 
-    ghost view = { λ l. record { tx = l.tx; evse = l.evse; events = l.events; first = l.first; last = l.last; complete = l.complete; missing = l.missing; flow = l.flow; export = l.export; gaps = l.gaps } };
+    ghost view = { λ l. record { tx = l.tx; evse = l.evse; events = l.events; first = l.first; last = l.last; complete = l.complete; missing = l.missing; energy = l.energy; gaps = l.gaps } };
 
-    ghost invariant = { λ l. IsShown l.first l.last l.flow l.export };
+    ghost invariant = { λ l. IsShown l.first l.last l.energy };
 }
 
 impl TxLine {
@@ -191,20 +166,12 @@ impl TxLine {
         self.missing
     }
 
-    /// Its imported energy, in milliwatt-hours.
-    pub fn flow(&self) -> Flow
-        ensures value { result ≡ self.now.flow }
-        ensures range { IsStationFlow result }
+    /// Its energies, in milliwatt-hours.
+    pub fn energy(&self) -> ByDirection<Flow>
+        ensures value { result ≡ self.now.energy }
+        ensures range { AreStationFlows result }
     {
-        self.flow
-    }
-
-    /// Its exported energy, in milliwatt-hours.
-    pub fn export(&self) -> Flow
-        ensures value { result ≡ self.now.export }
-        ensures range { IsStationFlow result }
-    {
-        self.export
+        self.energy
     }
 
     /// The ranges of missing sequence numbers, each with its first and its last, in rising order.

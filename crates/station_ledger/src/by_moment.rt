@@ -339,6 +339,7 @@ pub(crate) struct ByMoment {
 }
 
 // The energies that went and those that came, in each direction.
+#[derive(Clone, Copy)]
 pub(crate) struct Exchange {
     pub(crate) less: Energies,
     pub(crate) more: Energies,

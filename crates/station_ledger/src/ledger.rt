@@ -249,7 +249,7 @@ impl StationLedger {
     pub fn evse(&self, evse: EvseId) -> Flow
         ensures { result ≡ energy_at_by self.now.order Import evse (entries self.now.content) }
     {
-        self.sums.evses[usize::from(evse.number())].flow
+        self.sums.evses[usize::from(evse.number())].energy.import
     }
 
     /// The rises and falls of the export register over the transactions of an EVSE, in
@@ -257,7 +257,7 @@ impl StationLedger {
     pub fn evse_export(&self, evse: EvseId) -> Flow
         ensures { result ≡ energy_at_by self.now.order Export evse (entries self.now.content) }
     {
-        self.sums.evses[usize::from(evse.number())].export
+        self.sums.evses[usize::from(evse.number())].energy.export
     }
 
     /// The events of a transaction, live and voided; its live readings, in the order of the ledger, each with the

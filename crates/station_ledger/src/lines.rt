@@ -33,7 +33,7 @@ pub(crate) fn quarter_lines(
 {
     let mut lines = Vec::new(alloc);
     for row in quarters.rows() {
-        lines.push(QuarterLine::new(row.quarter, row.flow, row.export))?;
+        lines.push(QuarterLine::new(row.quarter, row.energy))?;
     }
     Ok(lines)
 }
@@ -49,7 +49,7 @@ pub(crate) fn evse_lines(alloc: Global, evses: &[EvseSum]) -> Result<Vec<EvseLin
         if sum.transactions > 0 {
             // An EVSE's number is at most 64.
             let evse = EvseId::new(number).unwrap();
-            lines.push(EvseLine::new(evse, sum.flow, sum.export))?;
+            lines.push(EvseLine::new(evse, sum.energy))?;
         }
     }
     Ok(lines)
@@ -83,8 +83,7 @@ fn transaction_line(
         last: chains.last(tx).unwrap_or(0),
         complete: standing.complete,
         missing: u64::from(standing.missing),
-        flow: standing.flow,
-        export: standing.export,
+        energy: standing.energy,
         gaps: Listed::of(gaps(alloc, chains, tx)?),
     })
 }

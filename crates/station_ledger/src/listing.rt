@@ -3,7 +3,7 @@ ghost use Rattle.std.specs.Prelude.{◌≡◌, ◌++◌, All, List, IfOk, IfSome
 ghost use Rattle.std.specs.List.{flat_map};
 ghost use Rattle.event_chain.specs.Chains.{stored};
 ghost use Rattle.ledger_model.specs.Content.{Entry};
-ghost use Rattle.ledger_model.specs.Energy.{energy_of_by, parts_of};
+ghost use Rattle.ledger_model.specs.Energy.{flows_of_by, parts_of};
 ghost use Rattle.ledger_model.specs.Limits.{Bounds};
 ghost use Rattle.ledger_model.specs.Quarter.{IsQuarterOf};
 ghost use Rattle.ledger_model.specs.declared.order.Order.{Order};
@@ -20,7 +20,7 @@ use crate::sums::Sums;
 use energy_flow::Flow;
 use event_chain::{Chains, EventLine};
 use gap_list::NumberWalk;
-use ledger_model::{Direction, Key, Listed, Order, Periods, Quarter, Reading, Settle, TxId};
+use ledger_model::{ByDirection, Direction, Key, Listed, Order, Periods, Quarter, Reading, Settle, TxId};
 use quarter_table::even_parts;
 use reading_decimal::settled_quarter;
 use reading_index::PlacedReading;
@@ -35,10 +35,8 @@ pub struct TxListing {
     pub period: Periods,
     /// The events, live and voided, by rising number.
     pub events: Listed<EventLine>,
-    /// The imported energy, in milliwatt-hours.
-    pub flow: Flow,
-    /// The exported energy, in milliwatt-hours.
-    pub export: Flow,
+    /// The energies, in milliwatt-hours.
+    pub energy: ByDirection<Flow>,
     /// The live readings of the import register, in the site's order.
     pub imported: Listed<PlacedReading>,
     /// The live readings of the export register, in the site's order.
@@ -138,14 +136,13 @@ pub(crate) fn readings_in_order(
     }
 }
 
-// The energies of a transaction, none if it has no live event: imported, and exported.
-fn energies_of(sums: &Sums, tx: &TxId) -> (Flow, Flow)
-    ensures { (order : Order) (limits : Bounds) (es : List Entry) → AreStanding order limits es sums.now.kept
-        → (result.0 ≡ energy_of_by order Import tx.now es) × (result.1 ≡ energy_of_by order Export tx.now es) }
+// The energies of a transaction, none if it has no live event.
+fn energies_of(sums: &Sums, tx: &TxId) -> ByDirection<Flow>
+    ensures { (order : Order) (limits : Bounds) (es : List Entry) → AreStanding order limits es sums.now.kept → result ≡ flows_of_by order tx.now es }
 {
     match sums.kept.get(tx) {
-        Some(standing) => (standing.flow, standing.export),
-        None => (Flow::zero(), Flow::zero()),
+        Some(standing) => standing.energy,
+        None => ByDirection::zero(),
     }
 }
 
@@ -164,13 +161,11 @@ pub(crate) fn listing_of(
     let events = chains.events(alloc, tx)?;
     let imported = readings_in_order(alloc, chains, sums, tx, Direction::Import)?;
     let exported = readings_in_order(alloc, chains, sums, tx, Direction::Export)?;
-    let (flow, export) = energies_of(sums, tx);
     Ok(TxListing {
         order: sums.order(),
         period: sums.period,
         events: Listed::of(events),
-        flow,
-        export,
+        energy: energies_of(sums, tx),
         imported: Listed::of(imported),
         exported: Listed::of(exported),
     })

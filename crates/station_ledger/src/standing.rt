@@ -9,7 +9,7 @@ ghost use Rattle.station_ledger.specs.Standing.{kept_with, standing_with, starts
 use crate::pairs::Energies;
 use energy_flow::Flow;
 use event_chain::Chains;
-use ledger_model::{EvseId, Kind, TxId};
+use ledger_model::{ByDirection, EvseId, Kind, TxId};
 
 /// What the ledger keeps of a transaction with a live event.
 #[derive(Clone, Copy, Debug, PartialEq, Eq)]
@@ -24,10 +24,8 @@ pub struct Standing {
     pub complete: bool,
     /// How many numbers are missing between its live events.
     pub missing: u32,
-    /// Its imported energy, in milliwatt-hours.
-    pub flow: Flow,
-    /// Its exported energy, in milliwatt-hours.
-    pub export: Flow,
+    /// Its energies, in milliwatt-hours.
+    pub energy: ByDirection<Flow>,
 }
 
 // Returns whether a transaction's lowest live event is Started, its highest is Ended, and no other
@@ -42,8 +40,8 @@ fn starts_and_ends(events: &event_chain::TxStanding) -> bool
 
 // The standing of a transaction with these energies; none if it has no live event.
 #[inline(never)]
-pub(crate) fn standing_of(chains: &Chains, tx: &TxId, energies: Energies) -> Option<Standing>
-    ensures { result ≡ kept_with energies.import energies.export tx.now (stored chains.now) }
+pub(crate) fn standing_of(chains: &Chains, tx: &TxId, energy: Energies) -> Option<Standing>
+    ensures { result ≡ kept_with energy tx.now (stored chains.now) }
 {
     let events = chains.standing(tx);
     match (events.first, events.last) {
@@ -55,8 +53,7 @@ pub(crate) fn standing_of(chains: &Chains, tx: &TxId, energies: Energies) -> Opt
                 evse: events.evse,
                 complete: missing == 0 && starts_and_ends(&events),
                 missing,
-                flow: energies.import,
-                export: energies.export,
+                energy,
             })
         }
         _ => None,
@@ -89,11 +86,11 @@ fn is_whole(chains: &Chains, tx: &TxId, lacking: u32) -> bool
 }
 
 // The standing of a transaction after the event of this number came, behind its first one.
-fn one_more(chains: &Chains, tx: &TxId, seq: u32, was: Standing, energies: Energies) -> Standing
+fn one_more(chains: &Chains, tx: &TxId, seq: u32, was: Standing, energy: Energies) -> Standing
     requires less { IsOneLess was tx.now seq false (stored chains.now) }
     requires behind { was.first < seq }
     requires bounded { was.live ≤ 65536 }
-    ensures { result ≡ standing_with energies.import energies.export tx.now (stored chains.now) }
+    ensures { result ≡ standing_with energy tx.now (stored chains.now) }
 {
     // The number just behind the last one that was live before.
     let behind = u64::from(was.first) + u64::from(was.live) + u64::from(was.missing);
@@ -108,8 +105,7 @@ fn one_more(chains: &Chains, tx: &TxId, seq: u32, was: Standing, energies: Energ
         evse: was.evse,
         complete: is_whole(chains, tx, lacking),
         missing: lacking,
-        flow: energies.import,
-        export: energies.export,
+        energy,
     }
 }
 
@@ -121,15 +117,15 @@ pub(crate) fn standing_after(
     seq: u32,
     names: bool,
     was: Option<Standing>,
-    energies: Energies,
+    energy: Energies,
 ) -> Option<Standing>
     requires { IfSome was (λ w. IsOneLess w tx.now seq names (stored chains.now)) }
-    ensures { result ≡ kept_with energies.import energies.export tx.now (stored chains.now) }
+    ensures { result ≡ kept_with energy tx.now (stored chains.now) }
 {
     match was {
         Some(was) if !names && was.live <= MOST_LIVE && was.first < seq => {
-            Some(one_more(chains, tx, seq, was, energies))
+            Some(one_more(chains, tx, seq, was, energy))
         }
-        _ => standing_of(chains, tx, energies),
+        _ => standing_of(chains, tx, energy),
     }
 }

@@ -1,9 +1,8 @@
 //! The sums over a station's live events, kept so that no figure needs a walk.
 ghost use Rattle.std.specs.Prelude.{◌≡◌, ℕ, ◌+◌, ◌<◌, Bool, List, [], None, length, IfOk, IfSome};
 ghost use Rattle.std.specs.FinMap.{find};
-ghost use Rattle.energy_flow.specs.Flow.{no_energy, plus, minus};
 ghost use Rattle.event_chain.specs.Chains.{stored};
-ghost use Rattle.ledger_model.specs.ByDirection.{in_direction};
+ghost use Rattle.ledger_model.specs.ByDirection.{no_flows, plus_flows, minus_flows};
 ghost use Rattle.ledger_model.specs.Content.{Entry};
 ghost use Rattle.ledger_model.specs.declared.reading.Direction.{Direction};
 ghost use Rattle.ledger_model.specs.Event.{toward};
@@ -11,7 +10,7 @@ ghost use Rattle.ledger_model.specs.Figures.{no_figures};
 ghost use Rattle.ledger_model.specs.Ranges.{greatest_evse};
 ghost use Rattle.transaction_map.specs.Map.{id_cmp};
 ghost use Rattle.transaction_map.specs.Places.{IsAt};
-ghost use Rattle.station_ledger.specs.Moved.{sum_at, CanTrade, IsExchanged, flow_in};
+ghost use Rattle.station_ledger.specs.Moved.{sum_at, CanExchange, IsExchanged, flows_in};
 ghost use Rattle.station_ledger.specs.Quarters.{readings_at, IsWork};
 ghost use Rattle.station_ledger.specs.ByMoment.{AreByMoment};
 ghost use Rattle.station_ledger.specs.Spent.{most_less, most_more};
@@ -46,15 +45,14 @@ pub(crate) struct Sums {
 // The sums of no events, one for each EVSE.
 fn no_sums(alloc: Global) -> Result<Vec<EvseSum>, AllocError>
     ensures all { IfOk result (λ evses. length evses.items ≡ greatest_evse + 1) }
-    ensures none { IfOk result (λ evses. (n : ℕ) → sum_at evses.items n ≡ record { transactions = 0; flow = no_energy; export = no_energy }) }
+    ensures none { IfOk result (λ evses. (n : ℕ) → sum_at evses.items n ≡ record { transactions = 0; energy = no_flows }) }
 {
     let count = usize::from(GREATEST_EVSE) + 1;
     let mut evses = Vec::with_capacity(alloc, count)?;
     for _ in 0..count {
         evses.push_reserved(EvseSum {
             transactions: 0,
-            flow: Flow::zero(),
-            export: Flow::zero(),
+            energy: ByDirection::zero(),
         });
     }
     Ok(evses)
@@ -104,10 +102,7 @@ impl Sums {
             evses: no_sums(alloc)?,
             period,
             quarters: QuarterTable::reserve(alloc, limits.readings())?,
-            energies: ByDirection {
-                import: Flow::zero(),
-                export: Flow::zero(),
-            },
+            energies: ByDirection::zero(),
             figures: Figures::zero(),
             by_moment: by_moment_in(alloc, limits, order)?,
         })
@@ -116,36 +111,21 @@ impl Sums {
 
 // The energies of a transaction's standing.
 fn energies_of(was: &Option<Standing>) -> Energies
-    ensures { (d : Direction) → in_direction d result ≡ flow_in d was.now }
+    ensures { result ≡ flows_in was.now }
 {
     match was {
-        Some(s) => ByDirection {
-            import: s.flow,
-            export: s.export,
-        },
-        None => ByDirection {
-            import: Flow::zero(),
-            export: Flow::zero(),
-        },
+        Some(s) => s.energy,
+        None => ByDirection::zero(),
     }
 }
 
-// An energy with the new part added and the old part taken away.
-fn traded(flow: Flow, less: Flow, more: Flow) -> Flow
-    requires { CanTrade flow less more }
-    ensures { result ≡ minus (plus flow more) less }
-{
-    flow.plus(more).minus(less)
-}
-
-// The energies with the new part added and the old part taken away, in each direction.
-fn trade(energies: Energies, less: &Energies, more: &Energies) -> Energies
-    requires { (d : Direction) → CanTrade (in_direction d energies) (in_direction d less.now) (in_direction d more.now) }
-    ensures { (d : Direction) → in_direction d result ≡ minus (plus (in_direction d energies) (in_direction d more.now)) (in_direction d less.now) }
-{
-    ByDirection {
-        import: traded(energies.import, less.import, more.import),
-        export: traded(energies.export, less.export, more.export),
+impl Exchange {
+    // Energies with what came added and what went taken away.
+    fn applied(&self, energies: Energies) -> Energies
+        requires { CanExchange energies self.now.less self.now.more }
+        ensures { result ≡ minus_flows (plus_flows energies self.now.more) self.now.less }
+    {
+        energies.plus(self.more).minus(self.less)
     }
 }
 
@@ -283,9 +263,9 @@ pub(crate) fn add_event(
 {
     let tx = key.tx();
     let (at, was) = found(&sums.kept, tx);
-    let Exchange { less, more } = add_pairs_of(chains, sums, key, own, place, work);
-    sums.energies = trade(sums.energies, &less, &more);
-    let own = trade(energies_of(&was), &less, &more);
+    let exchange = add_pairs_of(chains, sums, key, own, place, work);
+    sums.energies = exchange.applied(sums.energies);
+    let own = exchange.applied(energies_of(&was));
     let is = standing_after(chains, tx, key.seq(), names, was, own);
     replace_standing(sums, at, tx, &Change { was, is });
 }
@@ -308,9 +288,9 @@ pub(crate) fn take_event(
 {
     let tx = key.tx();
     let was = sums.kept.get(tx);
-    let Exchange { less, more } = take_pairs_of(chains, sums, key, place, work);
-    sums.energies = trade(sums.energies, &less, &more);
-    let own = trade(energies_of(&was), &less, &more);
+    let exchange = take_pairs_of(chains, sums, key, place, work);
+    sums.energies = exchange.applied(sums.energies);
+    let own = exchange.applied(energies_of(&was));
     let is = standing_of(chains, tx, own);
     replace_standing(sums, None, tx, &Change { was, is });
 }

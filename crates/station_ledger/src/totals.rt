@@ -5,7 +5,7 @@ ghost use Rattle.station_ledger.specs.Moved.{sum_at, with_one, without_one, with
 
 use crate::standing::Standing;
 use energy_flow::Flow;
-use ledger_model::Figures;
+use ledger_model::{ByDirection, Figures};
 
 // The standing of a transaction before and after.
 #[derive(Clone, Copy)]
@@ -19,10 +19,8 @@ pub(crate) struct Change {
 pub struct EvseSum {
     /// How many transactions it has.
     pub transactions: u32,
-    /// Their imported energy, in milliwatt-hours.
-    pub flow: Flow,
-    /// Their exported energy, in milliwatt-hours.
-    pub export: Flow,
+    /// Their energies, in milliwatt-hours.
+    pub energy: ByDirection<Flow>,
 }
 
 // Counts a transaction at its EVSE.
@@ -37,8 +35,7 @@ fn add_at_evse(evses: &mut Vec<EvseSum>, s: Standing)
     let sum = evses[at];
     evses[at] = EvseSum {
         transactions: sum.transactions + 1,
-        flow: sum.flow.plus(s.flow),
-        export: sum.export.plus(s.export),
+        energy: sum.energy.plus(s.energy),
     };
 }
 
@@ -54,8 +51,7 @@ fn take_at_evse(evses: &mut Vec<EvseSum>, s: Standing)
     let sum = evses[at];
     evses[at] = EvseSum {
         transactions: sum.transactions - 1,
-        flow: sum.flow.minus(s.flow),
-        export: sum.export.minus(s.export),
+        energy: sum.energy.minus(s.energy),
     };
 }
 

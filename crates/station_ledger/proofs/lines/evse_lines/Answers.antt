@@ -16,10 +16,7 @@ loop-number-preserved c =
     elim c.if-sum-gt0.branch [
       | then-sum-gt0+in_ok-push w ↦
           let number = subst (λ o. IfSome o (λ e. e ≡ n)) w.unwrap-evse.ensures w.new.ensures.value in
-          let evse = w.new-then-sum-gt0.ensures.evse ∙ number in
-          let flow = w.new-then-sum-gt0.ensures.flow ∙ ap (λ s. s.flow) (sym at) in
-          let export = w.new-then-sum-gt0.ensures.export ∙ ap (λ s. s.export) (sym at) in
-          let line : w.new-then-sum-gt0.result ≡ line_at evses n = λ i. (evse i, record { flow = flow i; export = export i }) in
+          let line : w.new-then-sum-gt0.result ≡ line_at evses n = w.new-then-sum-gt0.ensures ∙ (λ i. (number i, (sym at i).energy)) in
           ap (λ v. v.items) w.lines-is ∙ w.in_ok-push.ensures.items
           ∙ (λ i. c.loop-number.invariant i ++ line i ∷ [])
           ∙ sym (line_more evses n (subst (λ s. 0 < s.transactions) (sym at) w.if-sum-gt0.true))

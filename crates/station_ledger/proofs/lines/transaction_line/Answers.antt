@@ -4,9 +4,9 @@ use Rattle.ledger_model.specs.declared.reading.Direction.TheVariants.{Import, Ex
 use Rattle.ledger_model.specs.Gaps.{numbers_of}
 use Rattle.ledger_model.specs.Ranges.{sequence_end}
 use Rattle.station_ledger.specs.declared.standing.Standing.{Standing}
-use Rattle.station_ledger.specs.Lines.{IsStationFlow}
+use Rattle.station_ledger.specs.Lines.{AreStationFlows}
 use Rattle.station_ledger.specs.Sums.{order_in}
-use Rattle.station_ledger.proofs.BoardLines.{own_flow}
+use Rattle.station_ledger.proofs.BoardLines.{own_flows}
 use Rattle.station_ledger.proofs.Numbered.{first_few, last_few}
 use Rattle.station_ledger.proofs.TransactionLines.{first_is_or, last_is_or}
 use Rattle.station_ledger.proofs.lines.transaction_line.Goals as goal
@@ -28,8 +28,7 @@ invariant_of-result c =
     record {
       first_number = subst (λ n. n < sequence_end) (sym first) (first_few tx es c.requires.numbered);
       last_number = subst (λ n. n < sequence_end) (sym last) (last_few tx es c.requires.numbered);
-      flow_in_range = subst IsStationFlow (ap (λ s. s.flow) (sym s)) (own_flow order c.args.chains.now.limits es c.requires.within Import tx);
-      export_in_range = subst IsStationFlow (ap (λ s. s.export) (sym s)) (own_flow order c.args.chains.now.limits es c.requires.within Export tx);
+      energy_in_range = subst AreStationFlows (ap (λ s. s.energy) (sym s)) (own_flows order c.args.chains.now.limits es c.requires.within tx);
     }
 
 -- the standing is what is shown, with its first and its last number
@@ -50,7 +49,6 @@ returns c =
       last = last i;
       complete = (s i).complete;
       missing = missing i;
-      flow = (s i).flow;
-      export = (s i).export;
+      energy = (s i).energy;
       gaps = gaps i;
     }

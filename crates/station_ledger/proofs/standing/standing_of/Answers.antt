@@ -48,14 +48,14 @@ returns-after-missing-eq0 c =
       | then-missing-eq0 w ↦ w.result-is ∙ w.starts_and_ends.ensures ∙ ends ∙ none_missing (starts_and_ends (kinds_of tx es)) (missing ns) (sym none ∙ w.if-missing-eq0.true)
       | else-missing-eq0 w ↦ w.result-is ∙ ne_eqb ((c.in-Some-Some.last - c.in-Some-Some.first) - (c.standing-events.result.live - 1)) 0 w.if-missing-eq0.false ∙ some_missing (starts_and_ends (kinds_of tx es)) (missing ns) (λ z. w.if-missing-eq0.false (none ∙ z))
     ] in
-    (λ i. Some (record { first = head i; live = e.live i; evse = e.evse i; complete = complete i; missing = none i; flow = c.args.energies.import; export = c.args.energies.export }))
-    ∙ kept_some c.args.energies.import c.args.energies.export tx es (omega (arith, some, count))
+    (λ i. Some (record { first = head i; live = e.live i; evse = e.evse i; complete = complete i; missing = none i; energy = c.args.energy }))
+    ∙ kept_some c.args.energy tx es (omega (arith, some, count))
 
 pub returns-in_default : goal.returns-in_default
 returns-in_default c =
     let tx = c.args.tx.now in let es = stored c.args.chains.now in let ns = numbers_of tx es in let e = c.standing-events.ensures in
     let count = length-map (live_of tx es) (λ (x : Entry). x.0.seq) in
     elim c.in_default.branch [
-      | in_default-via-in-Some+in_default w ↦ kept_none c.args.energies.import c.args.energies.export tx es (sym count ∙ none_last ns (sym e.last ∙ w.in_default.is-1))
-      | in_default-via-in_default w ↦ kept_none c.args.energies.import c.args.energies.export tx es (sym count ∙ none_first ns (sym e.first ∙ w.in_default.is-0))
+      | in_default-via-in-Some+in_default w ↦ kept_none c.args.energy tx es (sym count ∙ none_last ns (sym e.last ∙ w.in_default.is-1))
+      | in_default-via-in_default w ↦ kept_none c.args.energy tx es (sym count ∙ none_first ns (sym e.first ∙ w.in_default.is-0))
     ]

@@ -14,7 +14,7 @@ none_more (s ∷ sums) sum (suc n) none is = none_more sums sum n (λ k. none (s
 pub loop-preserved : goal.loop-preserved
 loop-preserved c =
     let was = c.loop.invariant in let pushed = c.push_reserved.ensures in
-    let sum : EvseSum = record { transactions = 0; flow = c.zero.result; export = c.zero-in-loop.result } in
+    let sum : EvseSum = record { transactions = 0; energy = c.zero.result } in
     let nothing : sum ≡ no_sum = cc in
     record {
       all = ap length pushed.items ∙ length_push c.loop.evses.items sum ∙ ap (λ n. n + 1) was.all;

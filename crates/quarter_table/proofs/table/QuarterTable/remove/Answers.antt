@@ -1,6 +1,5 @@
 use Rattle.std.proofs.Common.{◌≡◌, ◌<◌, subst, sym, ap, ◌∙◌, arith, length-set}
-use Rattle.energy_flow.specs.Flow.{CanMinus, Energy, minus}
-use Rattle.ledger_model.specs.Energy.{flows_toward}
+use Rattle.ledger_model.specs.ByDirection.{flows_toward, minus_flows, CanMinusFlows}
 use Rattle.quarter_table.specs.declared.row.QuarterRow.{QuarterRow}
 use Rattle.quarter_table.specs.Rows.{row_at, without_pair, set_row, AreInOrder, HavePairs}
 use Rattle.quarter_table.proofs.Replaced.{order_set, pairs_set}
@@ -27,15 +26,11 @@ overflow_sub-row c =
     let there : 0 < c.index-row.result.now.pairs = subst (λ (r : QuarterRow). 0 < r.pairs) (sym (same ∙ ap (λ t. row_at c.args.quarter t.rows) c.self.view_is)) c.requires.there in
     omega (arith, there)
 
-pub minus-flow-requires : goal.minus-flow-requires
-minus-flow-requires c =
+pub minus-energy-requires : goal.minus-energy-requires
+minus-energy-requires c =
     let same = row_read c.args.quarter c.self.inside.rows.items c.in-Ok.at c.index-row.result.now c.in-Ok.ensures.stands c.index-row.ensures in
-    subst (CanMinus c.index-row.result.now.flow) (sym c.parted-imported.ensures.import) (subst (λ (r : QuarterRow). CanMinus r.flow (flows_toward c.args.direction c.args.flow).flow) (sym (same ∙ ap (λ t. row_at c.args.quarter t.rows) c.self.view_is)) c.requires.import)
-
-pub minus-export-requires : goal.minus-export-requires
-minus-export-requires c =
-    let same = row_read c.args.quarter c.self.inside.rows.items c.in-Ok.at c.index-row.result.now c.in-Ok.ensures.stands c.index-row.ensures in
-    subst (CanMinus c.index-row.result.now.export) (sym c.parted-imported.ensures.export) (subst (λ (r : QuarterRow). CanMinus r.export (flows_toward c.args.direction c.args.flow).export) (sym (same ∙ ap (λ t. row_at c.args.quarter t.rows) c.self.view_is)) c.requires.export)
+    subst (CanMinusFlows c.index-row.result.now.energy) (sym c.toward-less.ensures)
+      (subst (λ (r : QuarterRow). CanMinusFlows r.energy (flows_toward c.args.direction c.args.flow)) (sym (same ∙ ap (λ t. row_at c.args.quarter t.rows) c.self.view_is)) c.requires.sums)
 
 pub invariant_of-self-else-row-eq1 : goal.invariant_of-self-else-row-eq1
 invariant_of-self-else-row-eq1 c =
@@ -44,7 +39,8 @@ invariant_of-self-else-row-eq1 c =
     let there : 0 < (row_at c.args.quarter rs).pairs = subst (λ t. 0 < (row_at c.args.quarter t.rows).pairs) (sym c.self.view_is) c.requires.there in
     let pairs = ap (λ (r : QuarterRow). r.pairs) same in
     let more : 1 < (row_at c.args.quarter rs).pairs = omega (arith, there, pairs, c.if-row-eq1.false) in
-    let e = removed_there c.args.quarter (flows_toward c.args.direction c.args.flow) rs c.in-Ok.at c.index-row.result.now c.minus-flow.result c.minus-export.result c.in-Ok.ensures.stands c.index-row.ensures (c.minus-flow.ensures ∙ ap (λ (e : Energy). minus c.index-row.result.now.flow e) c.parted-imported.ensures.import) (c.minus-export.ensures ∙ ap (λ (e : Energy). minus c.index-row.result.now.export e) c.parted-imported.ensures.export) more in
+    let e = removed_there c.args.quarter (flows_toward c.args.direction c.args.flow) rs c.in-Ok.at c.index-row.result.now c.minus-energy.result c.in-Ok.ensures.stands c.index-row.ensures
+      (c.minus-energy.ensures ∙ ap (minus_flows c.index-row.result.now.energy) c.toward-less.ensures) more in
     let row = without_pair (flows_toward c.args.direction c.args.flow) (row_at c.args.quarter rs) in
     record {
       in_order = subst AreInOrder (sym e) (order_set row rs was.in_order);
@@ -68,5 +64,6 @@ returns-else-row-eq1-clause-rows c =
     let there : 0 < (row_at c.args.quarter rs).pairs = subst (λ t. 0 < (row_at c.args.quarter t.rows).pairs) (sym c.self.view_is) c.requires.there in
     let pairs = ap (λ (r : QuarterRow). r.pairs) same in
     let more : 1 < (row_at c.args.quarter rs).pairs = omega (arith, there, pairs, c.if-row-eq1.false) in
-    removed_there c.args.quarter (flows_toward c.args.direction c.args.flow) rs c.in-Ok.at c.index-row.result.now c.minus-flow.result c.minus-export.result c.in-Ok.ensures.stands c.index-row.ensures (c.minus-flow.ensures ∙ ap (λ (e : Energy). minus c.index-row.result.now.flow e) c.parted-imported.ensures.import) (c.minus-export.ensures ∙ ap (λ (e : Energy). minus c.index-row.result.now.export e) c.parted-imported.ensures.export) more
+    removed_there c.args.quarter (flows_toward c.args.direction c.args.flow) rs c.in-Ok.at c.index-row.result.now c.minus-energy.result c.in-Ok.ensures.stands c.index-row.ensures
+      (c.minus-energy.ensures ∙ ap (minus_flows c.index-row.result.now.energy) c.toward-less.ensures) more
     ∙ ap (λ t. set_row (without_pair (flows_toward c.args.direction c.args.flow) (row_at c.args.quarter t.rows)) t.rows) c.self.view_is
