@@ -3,6 +3,7 @@ use Rattle.std.proofs.Common.{◌≡◌, ℕ, ◌+◌, ◌*◌, ◌<◌, ◌≤�
 use Rattle.std.specs.List.{sum_by, filter}
 use Rattle.std.proofs.lemmas.Bool.{cases_eq}
 use Rattle.std.proofs.lemmas.List.Sums.{sum_by-cons}
+use Rattle.energy_flow.specs.Flow.{Energy}
 use Rattle.ledger_model.specs.Periods.{Periods}
 use Rattle.ledger_model.specs.declared.order.Order.{Order}
 use Rattle.ledger_model.specs.declared.reading.Direction.{Direction}
@@ -10,7 +11,8 @@ use Rattle.ledger_model.specs.declared.reading.Direction.TheVariants.{Import, Ex
 use Rattle.ledger_model.specs.Board.{Board, Flowed, board_by, flows_under}
 use Rattle.ledger_model.specs.BoardLaws.{AreRising, IsIn}
 use Rattle.ledger_model.specs.Content.{Entry}
-use Rattle.ledger_model.specs.Energy.{Flows, flows_in_by, all_pairs_by, parts_of_both, parts_over, quarters_by, energy_by, energy_in_by}
+use Rattle.ledger_model.specs.declared.by_direction.ByDirection.{ByDirection}
+use Rattle.ledger_model.specs.Energy.{flows_in_by, all_pairs_by, parts_of_both, parts_over, quarters_by, energy_by, energy_in_by}
 use Rattle.ledger_model.specs.Limits.{Bounds}
 use Rattle.ledger_model.specs.Ranges.{most_plan_readings, greatest_reading}
 use Rattle.ledger_model.proofs.Callers.{sum_by-filter_cons, rising-AreRising}
@@ -24,7 +26,7 @@ tail_rises : (m : ℕ) (ms : List ℕ) → AreRising (m ∷ ms) → AreRising ms
 tail_rises m [] rise = tt
 tail_rises m (k ∷ ms) rise = rise.1
 
-module _ (p : Part) (e : ℕ → Flows) where
+module _ (p : Part) (e : ℕ → ByDirection Energy) where
   abbrev lines : List ℕ → List Flowed
   lines ks = map (λ k. (k, e k)) ks
 
@@ -80,7 +82,7 @@ record EachPart (P : Part → Type 0) : Type 0 where
   pub of_export_down : P export_down
 
 -- nor than its limits allow
-abbrev Allows : ℕ → Flows → Type 0
+abbrev Allows : ℕ → ByDirection Energy → Type 0
 Allows readings f = EachPart (λ p. p.measure f ≤ greatest_reading * readings)
 
 under-limits : (q : ℕ) (limits : Bounds) (b : Board) → IsBoardWithin limits b → Allows limits.readings (flows_under q b.quarters)
@@ -88,10 +90,10 @@ under-limits q limits b h =
     let es = h.entries in
     let same = ap (λ (c : Board). flows_under q c.quarters) h.is in
     let figures = ap (λ (c : Board). c.figures) h.is in record {
-      of_up = omega (arith, ap (λ (f : Flows). f.flow.up) same, under-board up h.order b.period q es, in_quarter_up h.order Import b.period q es, ap {B = ℕ} (λ f. f.up) figures, h.within.up);
-      of_down = omega (arith, ap (λ (f : Flows). f.flow.down) same, under-board down h.order b.period q es, in_quarter_down h.order Import b.period q es, ap {B = ℕ} (λ f. f.down) figures, h.within.down);
-      of_export_up = omega (arith, ap (λ (f : Flows). f.export.up) same, under-board export_up h.order b.period q es, in_quarter_up h.order Export b.period q es, ap {B = ℕ} (λ f. f.export_up) figures, h.within.export_up);
-      of_export_down = omega (arith, ap (λ (f : Flows). f.export.down) same, under-board export_down h.order b.period q es, in_quarter_down h.order Export b.period q es, ap {B = ℕ} (λ f. f.export_down) figures, h.within.export_down);
+      of_up = omega (arith, ap (λ (f : ByDirection Energy). f.import.up) same, under-board up h.order b.period q es, in_quarter_up h.order Import b.period q es, ap {B = ℕ} (λ f. f.up) figures, h.within.up);
+      of_down = omega (arith, ap (λ (f : ByDirection Energy). f.import.down) same, under-board down h.order b.period q es, in_quarter_down h.order Import b.period q es, ap {B = ℕ} (λ f. f.down) figures, h.within.down);
+      of_export_up = omega (arith, ap (λ (f : ByDirection Energy). f.export.up) same, under-board export_up h.order b.period q es, in_quarter_up h.order Export b.period q es, ap {B = ℕ} (λ f. f.export_up) figures, h.within.export_up);
+      of_export_down = omega (arith, ap (λ (f : ByDirection Energy). f.export.down) same, under-board export_down h.order b.period q es, in_quarter_down h.order Export b.period q es, ap {B = ℕ} (λ f. f.export_down) figures, h.within.export_down);
     }
 
 -- the energy of a period over two lists

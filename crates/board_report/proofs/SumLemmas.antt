@@ -8,26 +8,29 @@ use Rattle.std.proofs.lemmas.List.{take_more}
 use Rattle.std.proofs.lemmas.Grind.{flat_map-append}
 use Rattle.std.proofs.lemmas.List.Sums.{sum_by-cons}
 use Rattle.std.proofs.lemmas.List.Sorted.{sum_by-IsPermutation, IsPermutation-sym}
+use Rattle.energy_flow.specs.Flow.{Energy}
 use Rattle.ledger_model.specs.Periods.{Periods}
 use Rattle.ledger_model.specs.Board.{Board, Flowed, flows_under}
-use Rattle.ledger_model.specs.Energy.{Flows, no_flows, plus_flows, put_in, rising}
+use Rattle.ledger_model.specs.ByDirection.{no_flows, plus_flows, CanPlusFlows}
+use Rattle.ledger_model.specs.declared.by_direction.ByDirection.{ByDirection}
+use Rattle.ledger_model.specs.Energy.{put_in, rising}
 use Rattle.ledger_model.specs.Quarter.{IsQuarterOf}
 use Rattle.ledger_model.specs.BoardLaws.{AreRising, IsIn}
 use Rattle.ledger_model.proofs.Callers.{put_in-same, put_in-below, put_in-above, rising-AreRising, rising-IsIn}
-use Rattle.board_report.specs.Lines.{quarter_sums, AreInOrder, put_line, CanLead, CanPlusFlows}
+use Rattle.board_report.specs.Lines.{quarter_sums, AreInOrder, put_line, CanLead}
 use Rattle.board_report.specs.Sums.{AreQuartersOf, QuartersFit, station_quarters}
 
 -- one of the four sums of energies of both directions: it adds up by itself
 pub record Part : Type 0 where
-  pub measure : Flows → ℕ
-  pub plus_of : (a b : Flows) → measure (plus_flows a b) ≡ measure a + measure b
+  pub measure : ByDirection Energy → ℕ
+  pub plus_of : (a b : ByDirection Energy) → measure (plus_flows a b) ≡ measure a + measure b
   pub none_of : measure no_flows ≡ 0
 
 abbrev pub up : Part
-up = record { measure = λ f. f.flow.up; plus_of = λ a b. refl; none_of = refl }
+up = record { measure = λ f. f.import.up; plus_of = λ a b. refl; none_of = refl }
 
 abbrev pub down : Part
-down = record { measure = λ f. f.flow.down; plus_of = λ a b. refl; none_of = refl }
+down = record { measure = λ f. f.import.down; plus_of = λ a b. refl; none_of = refl }
 
 abbrev pub export_up : Part
 export_up = record { measure = λ f. f.export.up; plus_of = λ a b. refl; none_of = refl }
@@ -36,19 +39,19 @@ abbrev pub export_down : Part
 export_down = record { measure = λ f. f.export.down; plus_of = λ a b. refl; none_of = refl }
 
 -- energies that agree in each of them are the same
-same_flows : (a b : Flows) → ((p : Part) → p.measure a ≡ p.measure b) → a ≡ b
+same_flows : (a b : ByDirection Energy) → ((p : Part) → p.measure a ≡ p.measure b) → a ≡ b
 same_flows a b each =
-    let up_is : a.flow.up ≡ b.flow.up = each up in
-    let down_is : a.flow.down ≡ b.flow.down = each down in
+    let up_is : a.import.up ≡ b.import.up = each up in
+    let down_is : a.import.down ≡ b.import.down = each down in
     let export_up_is : a.export.up ≡ b.export.up = each export_up in
     let export_down_is : a.export.down ≡ b.export.down = each export_down in
-    λ i. record { flow = record { up = up_is i; down = down_is i }; export = record { up = export_up_is i; down = export_down_is i } }
+    λ i. record { import = record { up = up_is i; down = down_is i }; export = record { up = export_up_is i; down = export_down_is i } }
 
 -- no energies have nothing
 pub part_none : (p : Part) → p.measure no_flows ≡ 0
 part_none p = p.none_of
 
-plus_none : (f : Flows) → plus_flows f no_flows ≡ f
+plus_none : (f : ByDirection Energy) → plus_flows f no_flows ≡ f
 plus_none f = same_flows (plus_flows f no_flows) f (λ p. p.plus_of f no_flows ∙ (let none = part_none p in omega (arith, none)))
 
 -- the periods of lines
@@ -88,8 +91,8 @@ tail_rises : (m : ℕ) (ms : List ℕ) → AreRising (m ∷ ms) → AreRising ms
 tail_rises m [] rise = tt
 tail_rises m (k ∷ ms) rise = rise.1
 
-module _ (x : Flowed) (was is : ℕ → Flows) (agree : (k : ℕ) → (x.0 ≡ k → ⊥) → is k ≡ was k) (here : is x.0 ≡ plus_flows x.1 (was x.0)) where
-  abbrev lines : (ℕ → Flows) → List ℕ → List Flowed
+module _ (x : Flowed) (was is : ℕ → ByDirection Energy) (agree : (k : ℕ) → (x.0 ≡ k → ⊥) → is k ≡ was k) (here : is x.0 ≡ plus_flows x.1 (was x.0)) where
+  abbrev lines : (ℕ → ByDirection Energy) → List ℕ → List Flowed
   lines e ks = map (λ k. (k, e k)) ks
 
   -- what is above the number keeps its energy
@@ -171,7 +174,7 @@ can_lead front x xs all parts order fit =
     let room : (p : Part) → p.measure (flows_under k all) < 2 ^ 64 → p.measure x.1 + p.measure (flows_under k xs) < 2 ^ 64 =
     λ p few. omega (arith, ap p.measure own, p.plus_of x.1 (flows_under k xs), under-end p k front (x ∷ xs), ap (λ (ls : List Flowed). p.measure (flows_under k ls)) parts, few) in
     record {
-      flow = record { up = room up (fit.up k); down = room down (fit.down k) };
+      import = record { up = room up (fit.up k); down = room down (fit.down k) };
       export = record { up = room export_up (fit.export_up k); down = room export_down (fit.export_down k) };
     })
 
@@ -213,7 +216,7 @@ in_permuted : (k : ℕ) (xs ys : List Flowed) → IsPermutation xs ys → IsIn k
 in_permuted k xs ys same h = in_if_hits k ys (omega (arith, sum_by-IsPermutation (hit k) xs ys same, hits_if_in k xs h))
 
 -- the energy of a period as a sum
-at : (Flows → ℕ) → ℕ → Flowed → ℕ
+at : (ByDirection Energy → ℕ) → ℕ → Flowed → ℕ
 at part q line = cond (eqb line.0 q) (part line.1) 0
 
 under_is : (p : Part) (q : ℕ) (xs : List Flowed) → p.measure (flows_under q xs) ≡ sum_by (at p.measure q) xs
@@ -260,7 +263,7 @@ same_rising (m ∷ ms) (n ∷ ns) up other to from =
     (λ k h. let above : n < k = above_first n ns other k h in behind_first m ms k (omega arith) (from k (inr h))) in
     λ i. first i ∷ rest i
 
-same_energies : (e f : ℕ → Flows) → ((k : ℕ) → e k ≡ f k) → (ks : List ℕ) → map {B = Flowed} (λ k. (k, e k)) ks ≡ map {B = Flowed} (λ k. (k, f k)) ks
+same_energies : (e f : ℕ → ByDirection Energy) → ((k : ℕ) → e k ≡ f k) → (ks : List ℕ) → map {B = Flowed} (λ k. (k, e k)) ks ≡ map {B = Flowed} (λ k. (k, f k)) ks
 same_energies e f same [] = refl
 same_energies e f same (k ∷ ks) = λ i. (k, same k i) ∷ same_energies e f same ks i
 
@@ -277,10 +280,10 @@ sums_permuted xs ys same =
 -- nor does the condition on them
 pub fit_permuted : (xs ys : List Flowed) → IsPermutation xs ys → QuartersFit xs → QuartersFit ys
 fit_permuted xs ys same fit = record {
-  up = λ q. subst (λ (e : Flows). e.flow.up < 2 ^ 64) (sym (under_permuted q xs ys same)) (fit.up q);
-  down = λ q. subst (λ (e : Flows). e.flow.down < 2 ^ 64) (sym (under_permuted q xs ys same)) (fit.down q);
-  export_up = λ q. subst (λ (e : Flows). e.export.up < 2 ^ 64) (sym (under_permuted q xs ys same)) (fit.export_up q);
-  export_down = λ q. subst (λ (e : Flows). e.export.down < 2 ^ 64) (sym (under_permuted q xs ys same)) (fit.export_down q);
+  up = λ q. subst (λ (e : ByDirection Energy). e.import.up < 2 ^ 64) (sym (under_permuted q xs ys same)) (fit.up q);
+  down = λ q. subst (λ (e : ByDirection Energy). e.import.down < 2 ^ 64) (sym (under_permuted q xs ys same)) (fit.down q);
+  export_up = λ q. subst (λ (e : ByDirection Energy). e.export.up < 2 ^ 64) (sym (under_permuted q xs ys same)) (fit.export_up q);
+  export_down = λ q. subst (λ (e : ByDirection Energy). e.export.down < 2 ^ 64) (sym (under_permuted q xs ys same)) (fit.export_down q);
 }
 
 -- the periods of lines have the given length
@@ -289,7 +292,7 @@ line_own period [] k own h = absurd h
 line_own period (x ∷ xs) k own (inl e) = subst (IsQuarterOf period.length) (sym e) (own 0 x (omega arith))
 line_own period (x ∷ xs) k own (inr h) = line_own period xs k (λ n d lt. own (suc n) d (omega arith)) h
 
-lines_own : (period : Periods) (e : ℕ → Flows) (ks : List ℕ) → ((k : ℕ) → IsIn k ks → IsQuarterOf period.length k) → AreQuartersOf period (map {B = Flowed} (λ k. (k, e k)) ks)
+lines_own : (period : Periods) (e : ℕ → ByDirection Energy) (ks : List ℕ) → ((k : ℕ) → IsIn k ks → IsQuarterOf period.length k) → AreQuartersOf period (map {B = Flowed} (λ k. (k, e k)) ks)
 lines_own period e [] each = All-nil (λ (line : Flowed). IsQuarterOf period.length line.0)
 lines_own period e (k ∷ ks) each = All-cons (λ (line : Flowed). IsQuarterOf period.length line.0) (k, e k) (map {B = Flowed} (λ j. (j, e j)) ks) (each k (inl refl)) (lines_own period e ks (λ j h. each j (inr h)))
 

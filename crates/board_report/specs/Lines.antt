@@ -1,8 +1,8 @@
 -- How lines of settlement periods are added up.
 use Rattle.std.specs.Prelude.{◌≤◌, ◌≡◌, ◌==◌, nat_lt, if◌then◌else◌, List, [], ◌∷◌, map}
-use Rattle.energy_flow.specs.Flow.{CanPlus}
 use Rattle.ledger_model.specs.Board.{Flowed, flows_under}
-use Rattle.ledger_model.specs.Energy.{Flows, plus_flows, rising}
+use Rattle.ledger_model.specs.ByDirection.{plus_flows, CanPlusFlows}
+use Rattle.ledger_model.specs.Energy.{rising}
 
 -- Each period of these lines once, in rising order, with the sums of its energies.
 abbrev pub quarter_sums : List Flowed → List Flowed
@@ -20,11 +20,6 @@ put_line new [] = new ∷ []
 put_line new (line ∷ lines) =
     if new.0 == line.0 then (line.0, plus_flows new.1 line.1) ∷ lines
     else (if nat_lt new.0 line.0 then new ∷ line ∷ lines else line ∷ put_line new lines)
-
--- Energies can be added, direction by direction.
-pub record CanPlusFlows (a b : Flows) : Type 0 where
-  pub flow : CanPlus a.flow b.flow
-  pub export : CanPlus a.export b.export
 
 -- A line can be added before rising lines: its number is not above the first, and if both are equal, their energies can
 -- be added.

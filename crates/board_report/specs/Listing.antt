@@ -12,7 +12,7 @@ use Rattle.ledger_model.specs.declared.kind.Kind.TheVariants.{Started, Updated, 
 use Rattle.reading_decimal.specs.MomentText.{text_of}
 use Rattle.reading_index.specs.declared.placed.PlacedReading.{PlacedReading}
 use Rattle.station_ledger.specs.declared.listing.TxListing.{TxListing}
-use Rattle.board_report.specs.Texts.{field, flow_fields, flows_fields, line, order_field, settle_field, start_text}
+use Rattle.board_report.specs.Texts.{field, flow_fields, energy_fields, line, order_field, settle_field, start_text}
 
 -- The kind of an event.
 abbrev pub kind_text : Kind → List ℕ
@@ -75,7 +75,7 @@ readings_behind word period before (r ∷ rs) = reading_text word period before 
 -- by the later reading, and the energies
 unfoldable pub readings_heading : List ℕ → List ℕ → TxListing → List ℕ
 readings_heading name tx l =
-    line (codes "readings " ++ (name ++ (codes " " ++ (tx ++ (order_field l.order ++ (settle_field l.period.rule ++ flows_fields l.flow.up l.flow.down l.export.up l.export.down))))))
+    line (codes "readings " ++ (name ++ (codes " " ++ (tx ++ (order_field l.order ++ (settle_field l.period.rule ++ energy_fields l.energy))))))
 
 -- The list of a transaction's live readings: of the import register, and then of the export register.
 abbrev pub readings_text : List ℕ → List ℕ → TxListing → List ℕ

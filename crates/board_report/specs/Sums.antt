@@ -11,8 +11,8 @@ station_quarters stations = flat_map (λ (s : List ℕ × Board). s.1.quarters) 
 
 -- The energies of the lines of each period add up to less than 2^64, up and down, in each direction.
 pub record QuartersFit (lines : List Flowed) : Type 0 where
-  pub up : (quarter : ℕ) → (flows_under quarter lines).flow.up < 2 ^ 64
-  pub down : (quarter : ℕ) → (flows_under quarter lines).flow.down < 2 ^ 64
+  pub up : (quarter : ℕ) → (flows_under quarter lines).import.up < 2 ^ 64
+  pub down : (quarter : ℕ) → (flows_under quarter lines).import.down < 2 ^ 64
   pub export_up : (quarter : ℕ) → (flows_under quarter lines).export.up < 2 ^ 64
   pub export_down : (quarter : ℕ) → (flows_under quarter lines).export.down < 2 ^ 64
 

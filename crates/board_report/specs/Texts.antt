@@ -9,6 +9,7 @@ use Rattle.ledger_model.specs.declared.settle.Settle.TheVariants.{Later, Closing
 use Rattle.ledger_model.specs.declared.figures.Figures.{Figures}
 use Rattle.ledger_model.specs.declared.order.Order.{Order}
 use Rattle.ledger_model.specs.declared.order.Order.TheVariants.{Sequence, Moment}
+use Rattle.ledger_model.specs.declared.by_direction.ByDirection.{ByDirection}
 use Rattle.ledger_model.specs.Board.{Board, Flowed, Shown}
 use Rattle.ledger_model.specs.Gaps.{Gap}
 use Rattle.reading_decimal.specs.MomentText.{text_of}
@@ -33,6 +34,10 @@ flows_fields up down export_up export_down =
     field (codes " up=") up ++ (field (codes " down=") down
     ++ (field (codes " export_up=") export_up ++ field (codes " export_down=") export_down))
 
+-- the same fields of energies
+abbrev pub energy_fields : ByDirection Energy → List ℕ
+energy_fields e = flows_fields e.import.up e.import.down e.export.up e.export.down
+
 -- `energy up=<n> down=<n>`
 abbrev pub energy_text : Energy → List ℕ
 energy_text flow = codes "energy" ++ flow_fields flow.up flow.down
@@ -54,11 +59,11 @@ start_text period quarter = text_of (quarter_start period.length quarter)
 
 -- `period <start> up=<n> down=<n> export_up=<n> export_down=<n>`
 unfoldable pub quarter_line : Periods → Flowed → List ℕ
-quarter_line period q = line (codes "period " ++ (start_text period q.0 ++ flows_fields q.1.flow.up q.1.flow.down q.1.export.up q.1.export.down))
+quarter_line period q = line (codes "period " ++ (start_text period q.0 ++ energy_fields q.1))
 
 -- `evse <n> up=<n> down=<n> export_up=<n> export_down=<n>`
 unfoldable pub evse_line : Flowed → List ℕ
-evse_line e = line (field (codes "evse ") e.0 ++ flows_fields e.1.flow.up e.1.flow.down e.1.export.up e.1.export.down)
+evse_line e = line (field (codes "evse ") e.0 ++ energy_fields e.1)
 
 -- `yes` or `no`
 abbrev pub yes_or_no : Bool → List ℕ
@@ -76,7 +81,7 @@ completeness_fields t = codes " complete=" ++ (yes_or_no t.complete ++ field (co
 
 -- `tx <id> evse=<n> events=<n> first=<n> last=<n> complete=<yes or no> missing=<n> up=<n> down=<n> export_up=<n> export_down=<n>`
 unfoldable pub transaction_line : Shown → List ℕ
-transaction_line t = line (codes "tx " ++ (t.tx ++ (events_fields t ++ (completeness_fields t ++ flows_fields t.flow.up t.flow.down t.export.up t.export.down))))
+transaction_line t = line (codes "tx " ++ (t.tx ++ (events_fields t ++ (completeness_fields t ++ energy_fields t.energy))))
 
 -- `gap <from>..<to>`
 unfoldable pub gap_line : Gap → List ℕ

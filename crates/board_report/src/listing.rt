@@ -256,7 +256,7 @@ fn put_readings_heading(
     put_place(text, "readings ", name, tx)?;
     text.extend_from_slice(order_field(listing.order).as_bytes())?;
     text.extend_from_slice(settle_field(listing.period.rule()).as_bytes())?;
-    put_fields(text, listing.flow, listing.export)?;
+    put_fields(text, listing.energy)?;
     text.push(b'\n')?;
     Ok(())
 }

@@ -42,9 +42,8 @@ fn add_line(falling: &mut Vec<QuarterLine>, added: QuarterLine) -> Result<(), Al
         return Ok(());
     };
     if last.quarter() == added.quarter() {
-        let flow = added.flow().plus(last.flow());
-        let export = added.export().plus(last.export());
-        falling.push(QuarterLine::new(last.quarter(), flow, export))?;
+        let energy = added.energy().plus(last.energy());
+        falling.push(QuarterLine::new(last.quarter(), energy))?;
     } else {
         falling.push(last)?;
         falling.push(added)?;

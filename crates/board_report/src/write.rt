@@ -3,14 +3,14 @@ ghost use Rattle.std.specs.Prelude.{◌≡◌, ◌++◌, OnOk, IfOk};
 ghost use Rattle.std.specs.List.{flat_map};
 ghost use Rattle.ledger_model.specs.Quarter.{IsQuarterOf};
 ghost use Rattle.board_report.specs.Sums.{AreQuartersOf};
-ghost use Rattle.board_report.specs.Texts.{field, line, flows_fields, start_text, events_fields, completeness_fields, total_text as total_text_of, quarter_line, evse_line, yes_or_no, transaction_line, gap_line, transaction_text, station_text, heading, order_field, settle_field, board_text};
+ghost use Rattle.board_report.specs.Texts.{field, line, energy_fields, start_text, events_fields, completeness_fields, total_text as total_text_of, quarter_line, evse_line, yes_or_no, transaction_line, gap_line, transaction_text, station_text, heading, order_field, settle_field, board_text};
 
 use crate::board::SiteBoard;
 use crate::fixed::total_text;
 use arrayvec::ArrayString;
 use energy_flow::Flow;
 use itoa::Buffer;
-use ledger_model::{Figures, Name, Order, Periods, Quarter, Settle};
+use ledger_model::{ByDirection, Figures, Name, Order, Periods, Quarter, Settle};
 use reading_decimal::{moment_text, quarter_start};
 use station_ledger::{EvseLine, QuarterLine, StationBoard, TxLine};
 use std::alloc::{AllocError, Global};
@@ -36,20 +36,20 @@ fn put_text(text: &mut Vec<u8>, word: &str, shown: &str) -> Result<(), AllocErro
 
 // Appends ` up=<n> down=<n> export_up=<n> export_down=<n>`.
 #[tactic(auto, unfolding(crate::specs::Texts::flows_fields))]
-pub(crate) fn put_fields(text: &mut Vec<u8>, flow: Flow, export: Flow) -> Result<(), AllocError>
-    ensures { OnOk result (text.new.items ≡ text.old.items ++ flows_fields flow.up flow.down export.up export.down) }
+pub(crate) fn put_fields(text: &mut Vec<u8>, energy: ByDirection<Flow>) -> Result<(), AllocError>
+    ensures { OnOk result (text.new.items ≡ text.old.items ++ energy_fields energy) }
 {
-    put_field(text, " up=", flow.up())?;
-    put_field(text, " down=", flow.down())?;
-    put_field(text, " export_up=", export.up())?;
-    put_field(text, " export_down=", export.down())
+    put_field(text, " up=", energy.import.up())?;
+    put_field(text, " down=", energy.import.down())?;
+    put_field(text, " export_up=", energy.export.up())?;
+    put_field(text, " export_down=", energy.export.down())
 }
 
 // Appends the same fields and a line feed.
-fn put_flows(text: &mut Vec<u8>, flow: Flow, export: Flow) -> Result<(), AllocError>
-    ensures { OnOk result (text.new.items ≡ text.old.items ++ line (flows_fields flow.up flow.down export.up export.down)) }
+fn put_flows(text: &mut Vec<u8>, energy: ByDirection<Flow>) -> Result<(), AllocError>
+    ensures { OnOk result (text.new.items ≡ text.old.items ++ line (energy_fields energy)) }
 {
-    put_fields(text, flow, export)?;
+    put_fields(text, energy)?;
     text.push(b'\n')?;
     Ok(())
 }
@@ -80,7 +80,7 @@ fn put_quarter(text: &mut Vec<u8>, period: Periods, shown: &QuarterLine) -> Resu
 {
     text.extend_from_slice(b"period ")?;
     text.extend_from_slice(start_text(shown.quarter(), period).as_str().as_bytes())?;
-    put_flows(text, shown.flow(), shown.export())
+    put_flows(text, shown.energy())
 }
 
 // Appends the line of an EVSE.
@@ -89,7 +89,7 @@ fn put_evse(text: &mut Vec<u8>, shown: &EvseLine) -> Result<(), AllocError>
     ensures { OnOk result (text.new.items ≡ text.old.items ++ evse_line shown.now) }
 {
     put_field(text, "evse ", u64::from(shown.evse().number()))?;
-    put_flows(text, shown.flow(), shown.export())
+    put_flows(text, shown.energy())
 }
 
 // Appends the line of a gap.
@@ -140,7 +140,7 @@ fn put_transaction(text: &mut Vec<u8>, shown: &TxLine) -> Result<(), AllocError>
     text.extend_from_slice(shown.tx().text().as_bytes())?;
     put_events(text, shown)?;
     put_completeness(text, shown)?;
-    put_flows(text, shown.flow(), shown.export())
+    put_flows(text, shown.energy())
 }
 
 // Appends the lines of gaps.

@@ -19,7 +19,7 @@ pairs_are : (order : Order) (d : Direction) (tx : List ℕ) (es : List Entry) �
 pairs_are order d tx es = ap followed (placed_readings order d tx es)
 
 pub pairs_make_energies : ListedPairsMakeEnergies
-pairs_make_energies order period tx es = (ap energy_over (sym (pairs_are order Import tx es)), ap energy_over (sym (pairs_are order Export tx es)))
+pairs_make_energies order period tx es = λ i. record { import = energy_over (sym (pairs_are order Import tx es) i); export = energy_over (sym (pairs_are order Export tx es) i) }
 
 -- the parts of several transactions
 parts_each : (period : Periods) (pairs : List ℕ → List Pair) (txs : List (List ℕ)) → parts_over period (flat_map pairs txs) ≡ flat_map (λ tx. parts_over period (pairs tx)) txs

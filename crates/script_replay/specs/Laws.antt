@@ -11,7 +11,10 @@ use Rattle.ledger_model.specs.Content.{Entry, empty_content, entries, live, tran
 use Rattle.ledger_model.specs.Parts.{energy_of_parts}
 use Rattle.ledger_model.specs.declared.reading.Direction.{Direction}
 use Rattle.ledger_model.specs.declared.reading.Direction.TheVariants.{Import, Export}
-use Rattle.ledger_model.specs.Energy.{Flows, Pair, energy_by, energy_in_by, energy_over, followed, parts_over}
+use Rattle.energy_flow.specs.Flow.{Energy}
+use Rattle.ledger_model.specs.ByDirection.{in_each}
+use Rattle.ledger_model.specs.declared.by_direction.ByDirection.{ByDirection}
+use Rattle.ledger_model.specs.Energy.{Pair, energy_by, energy_in_by, energy_over, followed, parts_over}
 use Rattle.ledger_model.specs.Laws.{IsAccepted}
 use Rattle.ledger_model.specs.Step.{Reached, answer}
 use Rattle.ledger_model.specs.World.{Station, World, Happens, run}
@@ -78,7 +81,7 @@ listed_pairs rs = followed (map (λ r. r.reading) rs)
 -- the energies in the heading of a list of readings are those of the pairs that it shows
 abbrev pub ListedPairsMakeEnergies : Type 0
 ListedPairsMakeEnergies = (order : Order) (period : Periods) (tx : List ℕ) (es : List Entry) →
-    let l = listing_by order period tx es in (l.flow ≡ energy_over (listed_pairs l.imported)) × (l.export ≡ energy_over (listed_pairs l.exported))
+    let l = listing_by order period tx es in l.energy ≡ record { import = energy_over (listed_pairs l.imported); export = energy_over (listed_pairs l.exported) }
 
 -- the energy of a period of a station is that of the parts of the period in the lists of its transactions: each part is
 -- in one of them
@@ -94,11 +97,8 @@ BoardsAreFromScratch = (lines : List Line) (line : Line) (site : List ℕ) → l
     → (line_step (script_after start lines) line).1 ≡ board_text (shown_site site (order_named (script_after start lines) site) (period_named (script_after start lines) site) (stations_of site (script_after start lines).world))
 
 -- the imported and exported energies of stations in a period, in an order of readings, added up
-abbrev pub sums_in : Order → Periods → ℕ → World → Flows
-sums_in order period quarter stations = record {
-  flow = sum_of_energies (map (λ s. energy_in_by order Import period quarter (entries s.content)) stations);
-  export = sum_of_energies (map (λ s. energy_in_by order Export period quarter (entries s.content)) stations);
-}
+abbrev pub sums_in : Order → Periods → ℕ → World → ByDirection Energy
+sums_in order period quarter stations = in_each (λ d. sum_of_energies (map (λ s. energy_in_by order d period quarter (entries s.content)) stations))
 
 -- the figures of a site are the sums over these stations; so are the energies of each period that
 -- it shows, whatever the order of readings and the length of periods

@@ -1,9 +1,6 @@
-ghost use Rattle.std.specs.Prelude.{◌≡◌};
-ghost use Rattle.ledger_model.specs.Energy.{flows_toward};
-
 use energy_flow::{Flow, Level, Work, difference};
 use ledger_model::Direction::{self, Export, Import};
-use ledger_model::Quarter;
+use ledger_model::{ByDirection, Quarter};
 use quarter_table::QuarterTable;
 use std::test::Fail;
 
@@ -14,25 +11,14 @@ fn quarter(number: u32) -> Result<Quarter, Fail> {
     Ok(Quarter::new(number).ok_or("no quarter")?)
 }
 
-// What a difference of this direction adds to imports, and what to exports.
-fn parted(direction: Direction, flow: Flow) -> (Flow, Flow)
-    ensures import { result.0 ≡ (flows_toward direction flow).flow }
-    ensures export { result.1 ≡ (flows_toward direction flow).export }
-{
-    match direction {
-        Direction::Import => (flow, Flow::zero()),
-        Direction::Export => (Flow::zero(), flow),
-    }
-}
-
 // Adds a pair if it may be added; returns whether it did.
 fn put(table: &mut QuarterTable, quarter: Quarter, direction: Direction, flow: Flow) -> bool {
-    let (imported, exported) = parted(direction, flow);
+    let energy = ByDirection::toward(direction, flow);
     let row = table.row(quarter);
     if row.pairs == 0 && table.room() == 0 {
         return false;
     }
-    if row.pairs == u32::MAX || !row.flow.can_plus(imported) || !row.export.can_plus(exported) {
+    if row.pairs == u32::MAX || !row.energy.can_plus(energy) {
         return false;
     }
     table.add(quarter, direction, flow);
@@ -41,12 +27,12 @@ fn put(table: &mut QuarterTable, quarter: Quarter, direction: Direction, flow: F
 
 // Takes a pair out if it may be taken out; returns whether it did.
 fn cut(table: &mut QuarterTable, quarter: Quarter, direction: Direction, flow: Flow) -> bool {
-    let (imported, exported) = parted(direction, flow);
+    let energy = ByDirection::toward(direction, flow);
     let row = table.row(quarter);
-    if row.pairs == 0 || !row.flow.can_minus(imported) || !row.export.can_minus(exported) {
+    if row.pairs == 0 || !row.energy.can_minus(energy) {
         return false;
     }
-    if row.pairs == 1 && (row.flow != imported || row.export != exported) {
+    if row.pairs == 1 && row.energy != energy {
         return false;
     }
     table.remove(quarter, direction, flow);
@@ -63,7 +49,7 @@ fn small_arena_quarters(rt: HostRuntime) -> Result<(), Fail> {
     assert!(rt; put(&mut table, half_past, Import, up));
     assert!(rt; put(&mut table, half_past, Import, down));
     let row = table.row(half_past);
-    assert_eq!(rt; (row.pairs, row.flow.up(), row.flow.down()), (2, 3, 2));
+    assert_eq!(rt; (row.pairs, row.energy.import.up(), row.energy.import.down()), (2, 3, 2));
     assert_eq!(rt; (table.rows().len(), table.room()), (1, 0));
     assert!(rt; !put(&mut table, quarter(HALF_PAST_TEN + 1)?, Import, up));
     assert!(rt; cut(&mut table, half_past, Import, up) && table.holds(half_past));
@@ -80,7 +66,7 @@ fn a_quarter_without_a_difference_stands(rt: HostRuntime) -> Result<(), Fail> {
     assert!(rt; put(&mut table, half_past, Import, Flow::zero()));
     assert!(rt; cut(&mut table, half_past, Import, Flow::zero()));
     assert!(rt; table.holds(half_past));
-    assert_eq!(rt; table.row(half_past).flow, Flow::zero());
+    assert_eq!(rt; table.row(half_past).energy, ByDirection::zero());
     assert!(rt; cut(&mut table, half_past, Import, Flow::zero()));
     assert!(rt; !table.holds(half_past));
     Ok(())
@@ -95,7 +81,7 @@ fn a_quarter_stands_while_it_has_a_pair_of_either_direction(rt: HostRuntime) -> 
     assert!(rt; put(&mut table, half_past, Import, up) && put(&mut table, half_past, Export, up));
     assert!(rt; cut(&mut table, half_past, Import, up));
     let row = table.row(half_past);
-    assert_eq!(rt; (row.pairs, row.flow.up(), row.export.up()), (1, 0, 3));
+    assert_eq!(rt; (row.pairs, row.energy.import.up(), row.energy.export.up()), (1, 0, 3));
     assert!(rt; cut(&mut table, half_past, Export, up) && !table.holds(half_past));
     Ok(())
 }

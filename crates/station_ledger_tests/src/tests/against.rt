@@ -2,7 +2,7 @@
 use super::drawn::{Asked, Draws, id};
 use super::scratch::{Energy, Line, NO_ENERGY, Scratch, Sums};
 use energy_flow::{Flow, Work};
-use ledger_model::{Answer, EvseId, Figures, Limits, Order, Period, Settle};
+use ledger_model::{Answer, ByDirection, EvseId, Figures, Limits, Order, Period, Settle};
 use station_ledger::{EvseLine, StationBoard, StationLedger, TxLine};
 use std::alloc::Global;
 use std::test::Fail;
@@ -11,7 +11,8 @@ use std::test::Fail;
 const TEN: u32 = 1_969_288;
 
 // Returns whether the energies of both directions rise and fall by these.
-fn is_energy(import: Flow, export: Flow, energy: Energy) -> bool {
+fn is_energy(shown: ByDirection<Flow>, energy: Energy) -> bool {
+    let ByDirection { import, export } = shown;
     (import.up(), import.down(), export.up(), export.down()) == energy
 }
 
@@ -35,7 +36,7 @@ fn is_line(shown: &TxLine, want: &Line) -> bool {
         && (shown.first(), shown.last()) == (want.first, want.last)
         && shown.is_complete() == want.complete
         && shown.missing() == want.missing
-        && is_energy(shown.flow(), shown.export(), want.energy)
+        && is_energy(shown.energy(), want.energy)
         && shown.gaps() == want.gaps.as_slice()
 }
 
@@ -58,7 +59,7 @@ fn are_quarters(board: &StationBoard, want: &Sums) -> bool {
             match shown.next() {
                 Some(line)
                     if line.quarter().number() == number
-                        && is_energy(line.flow(), line.export(), energy) => {}
+                        && is_energy(line.energy(), energy) => {}
                 _ => return false,
             }
         }
@@ -79,7 +80,7 @@ fn count_evses(want: &Sums) -> u64 {
 // Returns whether the line shows an EVSE of these transactions.
 fn is_evse(shown: &EvseLine, want: &Sums) -> bool {
     match want.evse(shown.evse().number()) {
-        Some(energy) => is_energy(shown.flow(), shown.export(), energy),
+        Some(energy) => is_energy(shown.energy(), energy),
         None => false,
     }
 }
@@ -94,10 +95,14 @@ fn are_evses(board: &StationBoard, want: &Sums) -> bool {
 fn answers_evses(ledger: &StationLedger, want: &Sums) -> bool {
     for number in 0..5 {
         let energy = want.evse(number).unwrap_or(NO_ENERGY);
-        if let Some(evse) = EvseId::new(number)
-            && !is_energy(ledger.evse(evse), ledger.evse_export(evse), energy)
-        {
-            return false;
+        if let Some(evse) = EvseId::new(number) {
+            let shown = ByDirection {
+                import: ledger.evse(evse),
+                export: ledger.evse_export(evse),
+            };
+            if !is_energy(shown, energy) {
+                return false;
+            }
         }
     }
     true
@@ -105,9 +110,13 @@ fn answers_evses(ledger: &StationLedger, want: &Sums) -> bool {
 
 // The first call with another answer.
 fn apart(ledger: &StationLedger, scratch: &Scratch, want: &Sums) -> Option<&'static str> {
+    let energy = ByDirection {
+        import: ledger.energy(),
+        export: ledger.export(),
+    };
     if ledger.changes() != scratch.changes {
         Some("changes")
-    } else if !is_energy(ledger.energy(), ledger.export(), want.energy()) {
+    } else if !is_energy(energy, want.energy()) {
         Some("energy")
     } else if !are_figures(ledger.figures(), want) {
         Some("figures")
