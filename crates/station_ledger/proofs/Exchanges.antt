@@ -16,7 +16,7 @@ use Rattle.event_chain.specs.Chains.{Chained, stored}
 use Rattle.event_chain.specs.declared.around.Sides.{Sides}
 use Rattle.station_ledger.specs.declared.by_moment.ByMoment.{ByMoment}
 use Rattle.station_ledger.specs.declared.sums.Sums.{Sums}
-use Rattle.station_ledger.specs.declared.by_moment.Way.TheVariants.{Coming, Going}
+use Rattle.station_ledger.specs.declared.pairs.Way.TheVariants.{Coming, Going}
 use Rattle.station_ledger.specs.ByMoment.{AreByMoment}
 use Rattle.station_ledger.specs.Exchange.{IsMove}
 use Rattle.station_ledger.specs.Sides.{sides_across, sides_between}

@@ -24,8 +24,8 @@ use Rattle.reading_index.specs.Timed.{Timed, TimedReadings, AreRising, owned}
 use Rattle.station_ledger.specs.ByMoment.{live_readings, listed_of, put_each, ranked, ranked_from, take_each, timed_of}
 use Rattle.station_ledger.specs.declared.by_moment.Moved.{Moved}
 use Rattle.station_ledger.specs.Quarters.{IsWork, both_quartered, readings_at}
-use Rattle.station_ledger.specs.declared.by_moment.Way.{Way}
-use Rattle.station_ledger.specs.declared.by_moment.Way.TheVariants.{Coming, Going}
+use Rattle.station_ledger.specs.declared.pairs.Way.{Way}
+use Rattle.station_ledger.specs.declared.pairs.Way.TheVariants.{Coming, Going}
 use Rattle.station_ledger.specs.Runs.{by_way, came_of, gone_of, moved_each, moved_index, own_timed, pairs_among, side, AreApart, AreExchanged, AreMoved, AreToMove, CanMove, HaveMoved, HavePlace}
 use Rattle.station_ledger.specs.Sums.{AreAllowed}
 use Rattle.station_ledger.proofs.Bounded.{part_le}

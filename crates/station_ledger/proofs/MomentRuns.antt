@@ -21,10 +21,10 @@ use Rattle.reading_index.specs.Ranks.{number_of, owner_of}
 use Rattle.key_index.proofs.Orders.{above_less, rising_parts, below_more, below_both}
 use Rattle.reading_index.specs.Timed.{Timed, first_of, from_on, in_front, last_of, owned, AreAbove, AreRising, AreBelow}
 use Rattle.station_ledger.specs.ByMoment.{bare, bare_one, beyond, fits, fitting, put_each}
-use Rattle.station_ledger.specs.Quarters.{HasRoom, HoldsPairs, IsWith, IsWithout, IsWork, quartered}
+use Rattle.station_ledger.specs.Quarters.{HasRoom, HoldsPairs, IsTableMoved, IsWork, quartered}
 use Rattle.station_ledger.specs.declared.by_moment.Moved.{Moved}
-use Rattle.station_ledger.specs.declared.by_moment.Way.{Way}
-use Rattle.station_ledger.specs.declared.by_moment.Way.TheVariants.{Coming, Going}
+use Rattle.station_ledger.specs.declared.pairs.Way.{Way}
+use Rattle.station_ledger.specs.declared.pairs.Way.TheVariants.{Coming, Going}
 use Rattle.station_ledger.specs.Runs.{came_of, gap_of, gone_of, own_timed, pairs_among, run_pairs, AreApart, AreExchanged, AreFew, AreSwapped, HasRoomWithout}
 use Rattle.reading_index.proofs.Listed.{filter-ranked}
 use Rattle.station_ledger.proofs.MomentRanks.{at, length-put, parted}
@@ -402,10 +402,10 @@ module _ (period : Periods) (d : Direction) {way : Way} {seq : ℕ} {before afte
     pub gone_held : HoldsPairs period d (made r (gone_of way run)) t
     gone_held = (beside r period d rest, rows ∙ all_rows r period d rest (gone_of way run) r.now_is)
 
-    pub gone_left : {left : Table} → IsWithout (quartered period d (made r (gone_of way run))) t left → left.rows ≡ rows_of (beside r period d rest)
+    pub gone_left : {left : Table} → IsTableMoved Going (quartered period d (made r (gone_of way run))) t left → left.rows ≡ rows_of (beside r period d rest)
     gone_left taken = rows_less (beside r period d rest) (rows ∙ all_rows r period d rest (gone_of way run) r.now_is) taken
 
-  pub put_back : {then : Table} (ps : List Pair) → t.rows ≡ rows_of (beside r period d rest) → IsWith (quartered period d ps) t then → then.rows ≡ rows_of (quartered period d ps ++ beside r period d rest)
+  pub put_back : {then : Table} (ps : List Pair) → t.rows ≡ rows_of (beside r period d rest) → IsTableMoved Coming (quartered period d ps) t then → then.rows ≡ rows_of (quartered period d ps ++ beside r period d rest)
   put_back ps rows put = put.rows ∙ ap (rows_with (quartered period d ps)) rows ∙ made_with (quartered period d ps) (beside r period d rest)
 
 -- The state of the walk over an event's readings: the pairs of the owner that are in the periods

@@ -35,8 +35,8 @@ use Rattle.station_ledger.specs.declared.by_moment.Moved.{Moved}
 use Rattle.station_ledger.specs.ByMoment.{put_each, ranked, timed_of}
 use Rattle.station_ledger.specs.Moved.{IsExchanged}
 use Rattle.station_ledger.specs.Quarters.{both_quartered, quartered}
-use Rattle.station_ledger.specs.declared.by_moment.Way.{Way}
-use Rattle.station_ledger.specs.declared.by_moment.Way.TheVariants.{Coming, Going}
+use Rattle.station_ledger.specs.declared.pairs.Way.{Way}
+use Rattle.station_ledger.specs.declared.pairs.Way.TheVariants.{Coming, Going}
 use Rattle.station_ledger.specs.Runs.{AreApart, AreExchanged, AreFew, by_way, came_of, gone_of, own_timed, pairs_among}
 use Rattle.station_ledger.specs.Spent.{most_by_moment, most_in_runs}
 use Rattle.station_ledger.specs.Sums.{AreAllowed}

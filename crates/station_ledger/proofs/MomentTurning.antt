@@ -34,8 +34,8 @@ use Rattle.std.proofs.lemmas.Bool.Decides.{Decides-eqb}
 use Rattle.event_chain.specs.declared.row.TableRow.{TableRow}
 use Rattle.transaction_map.proofs.Found.{found_out, length_out}
 use Rattle.transaction_map.proofs.Rising.{id_total}
-use Rattle.station_ledger.specs.declared.by_moment.Way.{Way}
-use Rattle.station_ledger.specs.declared.by_moment.Way.TheVariants.{Coming, Going}
+use Rattle.station_ledger.specs.declared.pairs.Way.{Way}
+use Rattle.station_ledger.specs.declared.pairs.Way.TheVariants.{Coming, Going}
 use Rattle.station_ledger.specs.Exchange.{IsMove}
 use Rattle.station_ledger.specs.Runs.{by_way, side, AreMoved, CanMove, HavePlace}
 use Rattle.station_ledger.proofs.MomentMoves.{IsLong, of_both, sides_apart, slots_apart, few_listed, can_move, grown, have_place, listed_is, long, moved_else, moved_long, moved_own, moved_pairs, moved_ranked, moved_rows, moved_work, room_more}

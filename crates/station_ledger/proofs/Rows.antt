@@ -19,7 +19,8 @@ use Rattle.quarter_table.specs.Pairs.{row_of, rows_of, rows_with, rows_without, 
 use Rattle.quarter_table.proofs.Held.{few_rows, few_pairs, row_up_le, row_down_le, pair_counted, pair_held, last_pair}
 use Rattle.quarter_table.proofs.Made.{made_row}
 use Rattle.quarter_table.proofs.Several.{made_with, made_without}
-use Rattle.station_ledger.specs.Quarters.{IsDifference, AreRows, HasRoom, IsSumOf, IsWith, IsWithout, quartered}
+use Rattle.station_ledger.specs.declared.pairs.Way.TheVariants.{Coming, Going}
+use Rattle.station_ledger.specs.Quarters.{IsDifference, AreRows, HasRoom, IsSumOf, IsTableMoved, quartered}
 
 -- energies of both directions that are at most so much
 pub record AreAtMost (n : ℕ) (f : ByDirection Energy) : Type 0 where
@@ -87,7 +88,7 @@ module _ (q : ℕ) (flow : ByDirection Energy) (others : List Flowed) (t : Table
 
 -- the rows with several pairs more
 pub rows_more : (period : Periods) (d : Direction) {ps : List Pair} {e : Energy} {t new : Table} (others : List Flowed) (more less : ℕ) → AreRows others more t → length ps + less ≡ more
-    → IsSumOf ps e → IsWith (quartered period d ps) t new → AreRows (quartered period d ps ++ others) less new
+    → IsSumOf ps e → IsTableMoved Coming (quartered period d ps) t new → AreRows (quartered period d ps ++ others) less new
 rows_more period d {ps = ps} {t = t} {new = new} others more less was n sum put =
     let mine = quartered period d ps in
     let ups = sum_by-append (λ (f : Flowed). f.1.import.up) mine others in
@@ -109,9 +110,13 @@ rows_more period d {ps = ps} {t = t} {new = new} others more less was n sum put 
     }
 
 -- the rows with several pairs less
-pub rows_less : {ps : List Flowed} {t new : Table} (others : List Flowed) → t.rows ≡ rows_of (ps ++ others) → IsWithout ps t new → new.rows ≡ rows_of others
+pub rows_less : {ps : List Flowed} {t new : Table} (others : List Flowed) → t.rows ≡ rows_of (ps ++ others) → IsTableMoved Going ps t new → new.rows ≡ rows_of others
 rows_less {ps = ps} others is taken = taken.rows ∙ ap (rows_without ps) is ∙ made_without ps others
 
 -- fewer of the pairs for which there is room
 pub room_fewer : {more less : ℕ} {t : Table} → HasRoom more t → less ≤ more → HasRoom less t
 room_fewer has le = (has.0, record { rows = has.1.rows; room = omega (arith, has.1.room, le); up = omega (arith, has.1.up, le); down = omega (arith, has.1.down, le); export_up = omega (arith, has.1.export_up, le); export_down = omega (arith, has.1.export_down, le); few = has.1.few })
+
+-- there is room for few
+pub few_room : {more : ℕ} {t : Table} → HasRoom more t → more ≤ most_readings
+few_room has = omega (arith, has.1.room, has.1.few)

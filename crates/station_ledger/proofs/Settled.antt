@@ -17,11 +17,12 @@ use Rattle.event_chain.specs.Chains.{Chained, stored}
 use Rattle.event_chain.specs.declared.around.Sides.{Sides}
 use Rattle.quarter_table.specs.Table.{Table}
 use Rattle.transaction_map.specs.Map.{Mapped, id_cmp}
+use Rattle.station_ledger.specs.declared.pairs.Way.TheVariants.{Coming, Going}
 use Rattle.station_ledger.specs.declared.standing.Standing.{Standing}
 use Rattle.station_ledger.specs.declared.sums.Sums.{Sums}
 use Rattle.station_ledger.specs.ByMoment.{AreByMoment}
 use Rattle.station_ledger.specs.Moved.{CanExchange, IsExchanged, IsMoved, flows_in}
-use Rattle.station_ledger.specs.Quarters.{HasRoom, HoldsBoth, IsSumOf, IsWith, IsWithout, both_length, both_quartered}
+use Rattle.station_ledger.specs.Quarters.{HasRoom, HoldsBoth, IsSumOf, IsTableMoved, both_length, both_quartered}
 use Rattle.station_ledger.specs.Standing.{kept_of, kept_with}
 use Rattle.station_ledger.specs.Sums.{AreAllowed, AreCounts, AreEvseSums, AreGrowing, ArePairsMoved, AreQuarterRows, AreShrinking, AreStanding, AreSummed, CanReplace, IsReplaced, order_in, order_of}
 use Rattle.station_ledger.proofs.Bounded.{own_up_le, own_down_le}
@@ -36,10 +37,10 @@ module _ {limits : Bounds} {tx : List ℕ} {es new : List Entry} {gone came : Di
     pub gone_held : HoldsBoth period gone quarters
     gone_held = holds limits tx es new gone came ch.kept ch.traded ch.before ch.after period quarters rows
 
-    pub came_room : {left : Table} → IsWithout (both_quartered period gone) quarters left → HasRoom (both_length came) left
+    pub came_room : {left : Table} → IsTableMoved Going (both_quartered period gone) quarters left → HasRoom (both_length came) left
     came_room taken = room limits tx es new gone came ch.kept ch.traded ch.before ch.after period quarters rows taken (omega (arith, ch.few_came Import, ch.few_came Export))
 
-    pub table_filled : {left next : Table} → IsWithout (both_quartered period gone) quarters left → IsWith (both_quartered period came) left next → AreQuarterRows Sequence limits new period next
+    pub table_filled : {left next : Table} → IsTableMoved Going (both_quartered period gone) quarters left → IsTableMoved Coming (both_quartered period came) left next → AreQuarterRows Sequence limits new period next
     table_filled taken put = filled limits tx es new gone came ch.kept ch.traded ch.before ch.after period quarters rows taken put
 
   -- and what both add up to is what the energies exchange

@@ -21,7 +21,8 @@ use Rattle.quarter_table.specs.Table.{Table}
 use Rattle.quarter_table.specs.Pairs.{rows_of, rows_with, total}
 use Rattle.quarter_table.proofs.Several.{made_with, one_side, both_sides}
 use Rattle.quarter_table.proofs.Made.{made_alike}
-use Rattle.station_ledger.specs.Quarters.{HasRoom, HoldsBoth, IsWith, IsWithout, both_length, both_quartered, quartered}
+use Rattle.station_ledger.specs.declared.pairs.Way.TheVariants.{Coming, Going}
+use Rattle.station_ledger.specs.Quarters.{HasRoom, HoldsBoth, IsTableMoved, both_length, both_quartered, quartered}
 use Rattle.station_ledger.specs.Sums.{AreAllowed, AreQuarterRows}
 use Rattle.station_ledger.proofs.Bounded.{few_up, few_down, few_pairs}
 use Rattle.station_ledger.proofs.Rows.{long, rows_less, total_quartered}
@@ -132,7 +133,7 @@ module _ (limits : Bounds) (tx : List ℕ) (es new : List Entry) (gone came kept
     pub holds : HoldsBoth period gone t
     holds = (both_quartered period kept, old_rows)
 
-    module _ {t1 : Table} (taken : IsWithout (both_quartered period gone) t t1) where
+    module _ {t1 : Table} (taken : IsTableMoved Going (both_quartered period gone) t t1) where
       left_rows : t1.rows ≡ rows_of (both_quartered period kept)
       left_rows = rows_less (both_quartered period kept) old_rows taken
 
@@ -152,7 +153,7 @@ module _ (limits : Bounds) (tx : List ℕ) (es new : List Entry) (gone came kept
             },
           )
 
-      pub filled : {t2 : Table} → IsWith (both_quartered period came) t1 t2 → AreQuarterRows Sequence limits new period t2
+      pub filled : {t2 : Table} → IsTableMoved Coming (both_quartered period came) t1 t2 → AreQuarterRows Sequence limits new period t2
       filled put = record {
         rows = put.rows ∙ ap (rows_with (both_quartered period came)) left_rows ∙ made_with (both_quartered period came) (both_quartered period kept) ∙ sym (parted period (λ d. pairs d new) came kept (λ d. (traded d).new_sum));
         room = put.capacity ∙ taken.capacity ∙ rows.room;

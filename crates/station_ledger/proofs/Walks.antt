@@ -16,8 +16,10 @@ use Rattle.quarter_table.specs.Rows.{row_at, set_row, without_pair}
 use Rattle.quarter_table.specs.Pairs.{rows_of, rows_with, rows_without}
 use Rattle.quarter_table.specs.Table.{Table}
 use Rattle.quarter_table.proofs.Several.{rows_with-append}
-use Rattle.station_ledger.specs.Quarters.{HasRoom, HoldsPairs, IsAdded, IsTaken, quartered}
-use Rattle.station_ledger.proofs.Rows.{rows_more, rows_less}
+use Rattle.station_ledger.specs.declared.pairs.Way.{Way}
+use Rattle.station_ledger.specs.declared.pairs.Way.TheVariants.{Coming, Going}
+use Rattle.station_ledger.specs.Quarters.{HasRoom, HoldsPairs, DidMove, MayMove, quartered, rows_moved}
+use Rattle.station_ledger.proofs.Rows.{room_fewer, rows_more, rows_less}
 
 -- the pairs of several more readings add up
 pub energy_over-append : (ps qs : List Pair) → energy_over (ps ++ qs) ≡ plus (energy_over ps) (energy_over qs)
@@ -61,24 +63,13 @@ toward_first d left rest r is same = ap (toward d) is ∙ ap (λ b. cond b (r �
 pub toward_rest : (d : Direction) (left rest : List MeterReading) (r : MeterReading) → left ≡ r ∷ rest → (r.direction ≡ d → ⊥) → toward d left ≡ toward d rest
 toward_rest d left rest r is other = ap (toward d) is ∙ ap (λ b. cond b (r ∷ toward d rest) (toward d rest)) (not_same d r.direction other)
 
--- Pairs of a direction that are added one after the other, while some are left.
-pub record IsAdding (period : Periods) (d : Direction) (ps left : List Pair) (old t : Table) (before work : ℕ) (sum : Energy) : Type 0 where
-  pub room : HasRoom (length left) t
+-- Pairs of a direction that come or go one after the other, while some are left.
+pub record IsMoving (way : Way) (period : Periods) (d : Direction) (ps left : List Pair) (old t : Table) (before work : ℕ) (sum : Energy) : Type 0 where
+  pub may : MayMove way period d left t
   pub flow : plus sum (energy_over left) ≡ energy_over ps
   pub up : sum.up + greatest_reading * length left ≤ greatest_reading * length ps
   pub down : sum.down + greatest_reading * length left ≤ greatest_reading * length ps
-  pub rows : rows_with (quartered period d left) t.rows ≡ rows_with (quartered period d ps) old.rows
-  pub capacity : t.capacity ≡ old.capacity
-  pub spent : work + length left ≤ before + length ps
-  pub grows : before ≤ work
-
--- Pairs of a direction that are taken out one after the other, while some are left.
-pub record IsTaking (period : Periods) (d : Direction) (ps left : List Pair) (old t : Table) (before work : ℕ) (sum : Energy) : Type 0 where
-  pub holds : HoldsPairs period d left t
-  pub flow : plus sum (energy_over left) ≡ energy_over ps
-  pub up : sum.up + greatest_reading * length left ≤ greatest_reading * length ps
-  pub down : sum.down + greatest_reading * length left ≤ greatest_reading * length ps
-  pub rows : rows_without (quartered period d left) t.rows ≡ rows_without (quartered period d ps) old.rows
+  pub rows : rows_moved way (quartered period d left) t.rows ≡ rows_moved way (quartered period d ps) old.rows
   pub capacity : t.capacity ≡ old.capacity
   pub spent : work + length left ≤ before + length ps
   pub grows : before ≤ work
@@ -100,26 +91,29 @@ quartered_is period d one more split = ap (quartered period d) split ∙ quarter
 regrouped : (period : Periods) (d : Direction) {left : List Pair} (one more : List Pair) (others : List Flowed) → left ≡ one ++ more → rows_of (quartered period d left ++ others) ≡ rows_of (quartered period d one ++ (quartered period d more ++ others))
 regrouped period d one more others split = ap (λ fs. rows_of (fs ++ others)) (quartered_is period d one more split) ∙ ap rows_of (append_assoc (quartered period d one) (quartered period d more) others)
 
-module _ {period : Periods} {d : Direction} {ps left one more : List Pair} {old t new : Table} {before work after : ℕ} {sum flow next : Energy} where
-  pub adding_one : left ≡ one ++ more → IsAdding period d ps left old t before work sum → IsAdded period d one t new work after flow → next ≡ plus sum flow → IsAdding period d ps more old new before after next
-  adding_one split a e put = record {
-    room = (quartered period d one ++ a.room.0, rows_more period d a.room.0 (length left) (length more) a.room.1 (sym (length_is one more split)) e.sum e.quarters);
-    flow = energy_is one more sum flow next split e.sum.is put ∙ a.flow;
-    up = omega (arith, a.up, e.sum.up, length_is one more split, ap (λ (f : Energy). f.up) put);
-    down = omega (arith, a.down, e.sum.down, length_is one more split, ap (λ (f : Energy). f.down) put);
-    rows = ap (rows_with (quartered period d more)) e.quarters.rows ∙ sym (rows_with-append (quartered period d one) (quartered period d more) t.rows) ∙ ap (λ fs. rows_with fs t.rows) (sym (quartered_is period d one more split)) ∙ a.rows;
-    capacity = e.quarters.capacity ∙ a.capacity;
-    spent = omega (arith, a.spent, e.work.bound, length_is one more split);
-    grows = omega (arith, a.grows, e.work.grows);
-  }
+pub rows_moved-append : (way : Way) (fs gs : List Flowed) (rows : List QuarterRow) → rows_moved way (fs ++ gs) rows ≡ rows_moved way gs (rows_moved way fs rows)
+rows_moved-append Coming fs gs rows = rows_with-append fs gs rows
+rows_moved-append Going fs gs rows = rows_without-append fs gs rows
 
-  pub taking_one : left ≡ one ++ more → IsTaking period d ps left old t before work sum → IsTaken period d one t new work after flow → next ≡ plus sum flow → IsTaking period d ps more old new before after next
-  taking_one split a e put = record {
-    holds = (a.holds.0, rows_less (quartered period d more ++ a.holds.0) (a.holds.1 ∙ regrouped period d one more a.holds.0 split) e.quarters);
+module _ (period : Periods) (d : Direction) {left : List Pair} (one more : List Pair) (t : Table) (split : left ≡ one ++ more) where
+  -- the first of them may come or go
+  pub may_first : (way : Way) → MayMove way period d left t → MayMove way period d one t
+  may_first Coming may = room_fewer may (omega (arith, length_is one more split))
+  may_first Going may = (quartered period d more ++ may.0, may.1 ∙ regrouped period d one more may.0 split)
+
+  -- and then those after them
+  may_rest : (way : Way) {new : Table} {work after : ℕ} {flow : Energy} → MayMove way period d left t → DidMove way period d one t new work after flow → MayMove way period d more new
+  may_rest Coming may e = (quartered period d one ++ may.0, rows_more period d may.0 (length left) (length more) may.1 (sym (length_is one more split)) e.sum e.quarters)
+  may_rest Going may e = (may.0, rows_less (quartered period d more ++ may.0) (may.1 ∙ regrouped period d one more may.0 split) e.quarters)
+
+module _ {way : Way} {period : Periods} {d : Direction} {ps left one more : List Pair} {old t new : Table} {before work after : ℕ} {sum flow next : Energy} where
+  pub moving_one : left ≡ one ++ more → IsMoving way period d ps left old t before work sum → DidMove way period d one t new work after flow → next ≡ plus sum flow → IsMoving way period d ps more old new before after next
+  moving_one split a e put = record {
+    may = may_rest period d one more t split way a.may e;
     flow = energy_is one more sum flow next split e.sum.is put ∙ a.flow;
     up = omega (arith, a.up, e.sum.up, length_is one more split, ap (λ (f : Energy). f.up) put);
     down = omega (arith, a.down, e.sum.down, length_is one more split, ap (λ (f : Energy). f.down) put);
-    rows = ap (rows_without (quartered period d more)) e.quarters.rows ∙ sym (rows_without-append (quartered period d one) (quartered period d more) t.rows) ∙ ap (λ fs. rows_without fs t.rows) (sym (quartered_is period d one more split)) ∙ a.rows;
+    rows = ap (rows_moved way (quartered period d more)) e.quarters.rows ∙ sym (rows_moved-append way (quartered period d one) (quartered period d more) t.rows) ∙ ap (λ fs. rows_moved way fs t.rows) (sym (quartered_is period d one more split)) ∙ a.rows;
     capacity = e.quarters.capacity ∙ a.capacity;
     spent = omega (arith, a.spent, e.work.bound, length_is one more split);
     grows = omega (arith, a.grows, e.work.grows);

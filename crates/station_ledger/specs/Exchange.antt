@@ -11,7 +11,7 @@ use Rattle.ledger_model.specs.Ranges.{most_event_readings}
 use Rattle.event_chain.specs.Chains.{Chained, stored}
 use Rattle.quarter_table.specs.Table.{Table}
 use Rattle.station_ledger.specs.declared.by_moment.ByMoment.{ByMoment}
-use Rattle.station_ledger.specs.declared.by_moment.Way.{Way}
+use Rattle.station_ledger.specs.declared.pairs.Way.{Way}
 use Rattle.station_ledger.specs.ByMoment.{AreByMoment}
 use Rattle.station_ledger.specs.Quarters.{readings_at}
 use Rattle.station_ledger.specs.Runs.{by_way}

@@ -1,4 +1,6 @@
 -- The rows of pairs, each pair given by its settlement period and its difference.
+use Rattle.station_ledger.specs.declared.pairs.Way.{Way}
+use Rattle.station_ledger.specs.declared.pairs.Way.TheVariants.{Coming, Going}
 use Rattle.std.specs.Prelude.{◌≡◌, ℕ, ◌+◌, ◌*◌, ◌≤◌, List, ◌++◌, length}
 use Rattle.std.specs.FinMap as finite
 use Rattle.event_chain.specs.Chains.{Chained}
@@ -14,6 +16,7 @@ use Rattle.ledger_model.specs.Energy.{Pair, energy_over}
 use Rattle.ledger_model.specs.Event.{MeterReading}
 use Rattle.ledger_model.specs.Key.{KeyName}
 use Rattle.ledger_model.specs.Ranges.{greatest_reading, most_readings}
+use Rattle.quarter_table.specs.declared.row.QuarterRow.{QuarterRow}
 use Rattle.quarter_table.specs.Table.{Table}
 use Rattle.quarter_table.specs.Pairs.{rows_of, rows_with, rows_without, flows_of, total}
 
@@ -67,38 +70,36 @@ pub record IsWork (most old new : ℕ) : Type 0 where
   pub bound : new ≤ old + most
   pub grows : old ≤ new
 
--- A table with pairs put in, and as much room.
-pub record IsWith (pairs : List Flowed) (old new : Table) : Type 0 where
-  pub rows : new.rows ≡ rows_with pairs old.rows
+-- Rows that pairs come to, or go from.
+abbrev pub rows_moved : Way → List Flowed → List QuarterRow → List QuarterRow
+rows_moved Coming pairs rows = rows_with pairs rows
+rows_moved Going pairs rows = rows_without pairs rows
+
+-- A table that pairs came to or went from, with as much room.
+pub record IsTableMoved (way : Way) (pairs : List Flowed) (old new : Table) : Type 0 where
+  pub rows : new.rows ≡ rows_moved way pairs old.rows
   pub capacity : new.capacity ≡ old.capacity
 
--- A table with pairs taken out, and as much room.
-pub record IsWithout (pairs : List Flowed) (old new : Table) : Type 0 where
-  pub rows : new.rows ≡ rows_without pairs old.rows
-  pub capacity : new.capacity ≡ old.capacity
+-- Pairs of one direction may come to a table that has room for them, and go from one that has them.
+abbrev pub MayMove : Way → Periods → Direction → List Pair → Table → Type 0
+MayMove Coming period d ps t = HasRoom (length ps) t
+MayMove Going period d ps t = HoldsPairs period d ps t
 
--- Pairs of one direction were added: to a table, with their work, and to an energy.
-pub record IsAdded (period : Periods) (d : Direction) (ps : List Pair) (old new : Table) (before after : ℕ) (flow : Energy) : Type 0 where
+-- They came or went, with their work and their sum.
+pub record DidMove (way : Way) (period : Periods) (d : Direction) (ps : List Pair) (old new : Table) (before after : ℕ) (flow : Energy) : Type 0 where
   pub sum : IsSumOf ps flow
-  pub quarters : IsWith (quartered period d ps) old new
+  pub quarters : IsTableMoved way (quartered period d ps) old new
   pub work : IsWork (length ps) before after
 
--- Pairs of one direction were taken out.
-pub record IsTaken (period : Periods) (d : Direction) (ps : List Pair) (old new : Table) (before after : ℕ) (flow : Energy) : Type 0 where
-  pub sum : IsSumOf ps flow
-  pub quarters : IsWithout (quartered period d ps) old new
-  pub work : IsWork (length ps) before after
+-- Pairs of both directions may come or go.
+abbrev pub MayMoveBoth : Way → Periods → (Direction → List Pair) → Table → Type 0
+MayMoveBoth Coming period ps t = HasRoom (both_length ps) t
+MayMoveBoth Going period ps t = HoldsBoth period ps t
 
--- Pairs of both directions were added.
-pub record AreAdded (period : Periods) (ps : Direction → List Pair) (old new : Table) (before after : ℕ) (flows : ByDirection Energy) : Type 0 where
+-- They came or went.
+pub record DidMoveBoth (way : Way) (period : Periods) (ps : Direction → List Pair) (old new : Table) (before after : ℕ) (flows : ByDirection Energy) : Type 0 where
   pub sums : (d : Direction) → IsSumOf (ps d) (in_direction d flows)
-  pub quarters : IsWith (both_quartered period ps) old new
-  pub work : IsWork (both_length ps) before after
-
--- Pairs of both directions were taken out.
-pub record AreTaken (period : Periods) (ps : Direction → List Pair) (old new : Table) (before after : ℕ) (flows : ByDirection Energy) : Type 0 where
-  pub sums : (d : Direction) → IsSumOf (ps d) (in_direction d flows)
-  pub quarters : IsWithout (both_quartered period ps) old new
+  pub quarters : IsTableMoved way (both_quartered period ps) old new
   pub work : IsWork (both_length ps) before after
 
 -- The readings of a direction of the event of a key.

@@ -17,10 +17,10 @@ use Rattle.event_chain.specs.declared.around.Sides.{Sides}
 use Rattle.reading_index.specs.Ranks.{number_of, owner, owner_of}
 use Rattle.reading_index.specs.Timed.{Timed, TimedReadings, AreRising, owned}
 use Rattle.station_ledger.specs.declared.by_moment.Moved.{Moved}
-use Rattle.station_ledger.specs.declared.by_moment.Way.{Way}
-use Rattle.station_ledger.specs.declared.by_moment.Way.TheVariants.{Coming, Going}
+use Rattle.station_ledger.specs.declared.pairs.Way.{Way}
+use Rattle.station_ledger.specs.declared.pairs.Way.TheVariants.{Coming, Going}
 use Rattle.station_ledger.specs.ByMoment.{bare, bare_one, put_each, take_each, ArePuttable}
-use Rattle.station_ledger.specs.Quarters.{HasRoom, IsAdded, IsTaken, IsWithout, IsWork, quartered}
+use Rattle.station_ledger.specs.Quarters.{HasRoom, DidMove, IsTableMoved, IsWork, quartered}
 
 -- Whether a reading belongs to the event of this number.
 abbrev pub own_timed : ℕ → Timed → Bool
@@ -64,8 +64,8 @@ pub record AreExchanged (period : Periods) (d : Direction) (old new : List Pair)
 pub record AreSwapped (period : Periods) (d : Direction) (gone came : List Pair) (old new : Table) (before after : ℕ) (m : Moved) : Type 0 where
   pub left : Table
   pub meanwhile : ℕ
-  pub taken : IsTaken period d gone old left before meanwhile m.less
-  pub added : IsAdded period d came left new meanwhile after m.more
+  pub taken : DidMove Going period d gone old left before meanwhile m.less
+  pub added : DidMove Coming period d came left new meanwhile after m.more
 
 -- The gap between two readings, without their ranks.
 abbrev pub gap_of : Option Timed → Option Timed → Sides
@@ -92,7 +92,7 @@ came_of Going ts = []
 
 -- After these pairs of a direction are taken out, the table has room for so many.
 abbrev pub HasRoomWithout : Periods → Direction → List Pair → ℕ → Table → Type 0
-HasRoomWithout period d gone more t = (left : Table) → IsWithout (quartered period d gone) t left → HasRoom more left
+HasRoomWithout period d gone more t = (left : Table) → IsTableMoved Going (quartered period d gone) t left → HasRoom more left
 
 -- The readings of an owner in an index, with these.
 abbrev pub with_readings : ℕ → List Timed → TimedReadings → List Timed

@@ -10,15 +10,15 @@ ghost use Rattle.ledger_model.specs.Ranges.{most_event_readings, most_readings};
 ghost use Rattle.ledger_model.specs.declared.order.Order.TheVariants.{Moment};
 ghost use Rattle.reading_index.specs.Timed.{from_on, in_front, AreRising};
 ghost use Rattle.station_ledger.specs.ByMoment.{bare, bare_one, beyond, fits, fitting, listed_of, put_each, take_each, IsSlotGiven, AreByMoment, ArePuttable};
-ghost use Rattle.station_ledger.specs.declared.by_moment.Way.TheVariants.{Coming};
+ghost use Rattle.station_ledger.specs.declared.pairs.Way.TheVariants.{Coming, Going};
 ghost use Rattle.station_ledger.specs.Exchange.{IsMove};
 ghost use Rattle.station_ledger.specs.Moved.{IsExchanged};
-ghost use Rattle.station_ledger.specs.Quarters.{HasRoom, HoldsPairs, IsAdded, IsTaken, IsWork, readings_at};
+ghost use Rattle.station_ledger.specs.Quarters.{HoldsPairs, IsWork, DidMove, MayMove, readings_at};
 ghost use Rattle.station_ledger.specs.Runs.{by_way, came_of, gap_of, gone_of, run_pairs, AreMoved, AreSwapped, AreToMove, CanMove, HasRoomWithout, TheyMove};
 ghost use Rattle.station_ledger.specs.Spent.{most_in_runs};
 ghost use Rattle.station_ledger.specs.Sums.{AreQuarterRows};
 
-use crate::pairs::{Energies, add_across, take_across};
+use crate::pairs::{Energies, Way, move_across};
 use energy_flow::{Flow, Work};
 use event_chain::{Chains, Sides, TransactionTable};
 use ledger_model::{
@@ -65,59 +65,32 @@ fn count_in_front(readings: &[KeyedReading], behind: &Option<KeyedReading>) -> u
     readings.len()
 }
 
-// Adds the pairs that readings in a row make with one another and with those on either side, and returns
-// their sums.
-pub(crate) fn add_row(
+// Adds the pairs that readings in a row make with one another and with those on either side, or takes them out, and
+// returns their sums.
+fn move_row(
     quarters: &mut QuarterTable,
     period: Periods,
     direction: Direction,
-    before: Option<Reading>,
+    way: Way,
+    gap: &Sides,
     readings: &[KeyedReading],
-    behind: Option<Reading>,
     work: &mut Work,
 ) -> Flow
-    requires { HasRoom (length (pairs_between before (bare readings.now) behind)) quarters.old }
-    ensures { IsAdded period direction (pairs_between before (bare readings.now) behind) quarters.old quarters.new work.old work.new result }
+    requires may { MayMove way period direction (run_pairs gap.now readings.now) quarters.old }
+    requires few { length (run_pairs gap.now readings.now) ≤ most_readings }
+    ensures { DidMove way period direction (run_pairs gap.now readings.now) quarters.old quarters.new work.old work.new result }
 {
     let mut total = Flow::zero();
-    let mut last = before;
+    let mut last = gap.before;
     let mut left = readings;
     while let [first, more @ ..] = left {
         let (_, reading) = *first;
-        let flow = add_across(quarters, period, direction, last, Some(reading), work);
+        let flow = move_across(quarters, period, direction, way, last, Some(reading), work);
         total = total.plus(flow);
         last = Some(reading);
         left = more;
     }
-    let flow = add_across(quarters, period, direction, last, behind, work);
-    total.plus(flow)
-}
-
-// Takes out the pairs that readings in a row make, and returns their sums.
-pub(crate) fn take_row(
-    quarters: &mut QuarterTable,
-    period: Periods,
-    direction: Direction,
-    before: Option<Reading>,
-    readings: &[KeyedReading],
-    behind: Option<Reading>,
-    work: &mut Work,
-) -> Flow
-    requires holds { HoldsPairs period direction (pairs_between before (bare readings.now) behind) quarters.old }
-    requires few { length (pairs_between before (bare readings.now) behind) ≤ most_readings }
-    ensures { IsTaken period direction (pairs_between before (bare readings.now) behind) quarters.old quarters.new work.old work.new result }
-{
-    let mut total = Flow::zero();
-    let mut last = before;
-    let mut left = readings;
-    while let [first, more @ ..] = left {
-        let (_, reading) = *first;
-        let flow = take_across(quarters, period, direction, last, Some(reading), work);
-        total = total.plus(flow);
-        last = Some(reading);
-        left = more;
-    }
-    let flow = take_across(quarters, period, direction, last, behind, work);
+    let flow = move_across(quarters, period, direction, way, last, gap.behind, work);
     total.plus(flow)
 }
 
@@ -207,13 +180,6 @@ pub(crate) fn list(
     }
 }
 
-// Whether an event's readings come or go.
-#[derive(Clone, Copy)]
-pub(crate) enum Way {
-    Coming,
-    Going,
-}
-
 // The energies of a direction's pairs that went, and of those that came.
 #[derive(Clone, Copy)]
 pub(crate) struct Moved {
@@ -246,12 +212,8 @@ fn replace_run(
     requires room { HasRoomWithout period direction (run_pairs gap.now gone.now) (length (run_pairs gap.now came.now)) quarters.old }
     ensures { AreSwapped period direction (run_pairs gap.now gone.now) (run_pairs gap.now came.now) quarters.old quarters.new work.old work.new result }
 {
-    let less = take_row(
-        quarters, period, direction, gap.before, gone, gap.behind, work,
-    );
-    let more = add_row(
-        quarters, period, direction, gap.before, came, gap.behind, work,
-    );
+    let less = move_row(quarters, period, direction, Way::Going, gap, gone, work);
+    let more = move_row(quarters, period, direction, Way::Coming, gap, came, work);
     Moved { less, more }
 }
 

@@ -16,8 +16,8 @@ ghost use Rattle.station_ledger.specs.ByMoment.{AreByMoment};
 ghost use Rattle.station_ledger.specs.Spent.{most_less, most_more};
 ghost use Rattle.station_ledger.specs.Sums.{keep, order_in, order_of, AreSummed, AreAllowed, AreGrowing, ArePairsMoved, AreQuarterRows, AreShrinking, CanReplace, IsReplaced};
 
-use crate::by_moment::{ByMoment, Exchange, Way, move_event};
-use crate::pairs::{Energies, add_gap, add_own, take_gap, take_own};
+use crate::by_moment::{ByMoment, Exchange, move_event};
+use crate::pairs::{Energies, Way, move_both, move_gap};
 use crate::standing::{Standing, standing_after, standing_of};
 use crate::totals::{Change, EvseSum, move_at_evses, move_in_figures};
 use energy_flow::{Flow, Work};
@@ -199,8 +199,9 @@ fn add_pairs_of(
             work,
         ),
         None => {
-            let less = take_gap(&mut sums.quarters, period, place, work);
-            let more = add_own(&mut sums.quarters, period, place, chains, key, own, work);
+            let quarters = &mut sums.quarters;
+            let less = move_gap(quarters, period, Way::Going, place, work);
+            let more = move_both(quarters, period, Way::Coming, place, chains, key, own, work);
             Exchange { less, more }
         }
     }
@@ -234,8 +235,9 @@ fn take_pairs_of(
             work,
         ),
         None => {
-            let less = take_own(&mut sums.quarters, period, place, chains, key, work);
-            let more = add_gap(&mut sums.quarters, period, place, work);
+            let quarters = &mut sums.quarters;
+            let less = move_both(quarters, period, Way::Going, place, chains, key, None, work);
+            let more = move_gap(quarters, period, Way::Coming, place, work);
             Exchange { less, more }
         }
     }

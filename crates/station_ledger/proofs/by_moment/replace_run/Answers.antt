@@ -1,7 +1,11 @@
+use Rattle.station_ledger.proofs.Rows.{few_room}
 use Rattle.station_ledger.proofs.by_moment.replace_run.Goals as goal
 
-pub add_row-more-requires : goal.add_row-more-requires
-add_row-more-requires c = c.requires.room c.take_row-less.new.quarters c.take_row-less.ensures.quarters
+pub move_row-more-requires-clause-may : goal.move_row-more-requires-clause-may
+move_row-more-requires-clause-may c = c.requires.room c.move_row-less.new.quarters c.move_row-less.ensures.quarters
+
+pub move_row-more-requires-clause-few : goal.move_row-more-requires-clause-few
+move_row-more-requires-clause-few c = few_room (c.requires.room c.move_row-less.new.quarters c.move_row-less.ensures.quarters)
 
 pub returns : goal.returns
-returns c = record { left = c.take_row-less.new.quarters; meanwhile = c.take_row-less.new.work; taken = c.take_row-less.ensures; added = c.add_row-more.ensures }
+returns c = record { left = c.move_row-less.new.quarters; meanwhile = c.move_row-less.new.work; taken = c.move_row-less.ensures; added = c.move_row-more.ensures }

@@ -1,5 +1,6 @@
 use Rattle.std.proofs.Common.{sym, subst, arith}
 use Rattle.event_chain.specs.Chains.{stored}
+use Rattle.ledger_model.specs.declared.reading.Direction.TheVariants.{Import, Export}
 use Rattle.station_ledger.specs.Moved.{IsExchanged}
 use Rattle.station_ledger.specs.Quarters.{IsWork}
 use Rattle.station_ledger.specs.Spent.{most_more}
@@ -22,25 +23,28 @@ returns-in-Some-clause-work c =
     subst (λ b. IsWork (most_more (order_of b) c.args.chains.now c.args.key.now) c.args.work.now c.move_event.new.work) (sym c.in-Some.is)
     (c.move_event.ensures.work h.0 (stored c.args.chains.now) (comes_in_time c.in-Some.is c.requires.within h.1.1))
 
-pub take_gap-less-requires : goal.take_gap-less-requires
-take_gap-less-requires c = let h = c.requires.to_come.1.1 in gone_held (comes_in_turn c.in-None.is c.requires.within h) (rows_by c.args.sums.now c.in-None.is h.summed.by_quarter)
+pub move_gap-less-requires : goal.move_gap-less-requires
+move_gap-less-requires c = let h = c.requires.to_come.1.1 in gone_held (comes_in_turn c.in-None.is c.requires.within h) (rows_by c.args.sums.now c.in-None.is h.summed.by_quarter)
 
-pub add_own-more-requires-clause-room : goal.add_own-more-requires-clause-room
-add_own-more-requires-clause-room c = let h = c.requires.to_come.1.1 in came_room (comes_in_turn c.in-None.is c.requires.within h) (rows_by c.args.sums.now c.in-None.is h.summed.by_quarter) c.take_gap-less.ensures.quarters
+pub move_both-more-requires-clause-may : goal.move_both-more-requires-clause-may
+move_both-more-requires-clause-may c = let h = c.requires.to_come.1.1 in came_room (comes_in_turn c.in-None.is c.requires.within h) (rows_by c.args.sums.now c.in-None.is h.summed.by_quarter) c.move_gap-less.ensures.quarters
+
+pub move_both-more-requires-clause-few : goal.move_both-more-requires-clause-few
+move_both-more-requires-clause-few c = let ch = comes_in_turn c.in-None.is c.requires.within c.requires.to_come.1.1 in omega (arith, ch.few_came Import, ch.few_came Export)
 
 pub returns-in-None-clause-rows : goal.returns-in-None-clause-rows
 returns-in-None-clause-rows c =
     let h = c.requires.to_come.1.1 in let sums = c.args.sums.now in let chains = c.args.chains.now in
-    subst (λ b. AreQuarterRows (order_of b) chains.limits (stored chains) sums.period c.add_own-more.new.quarters) (sym c.in-None.is)
-    (table_filled (comes_in_turn c.in-None.is c.requires.within h) (rows_by sums c.in-None.is h.summed.by_quarter) c.take_gap-less.ensures.quarters c.add_own-more.ensures.quarters)
+    subst (λ b. AreQuarterRows (order_of b) chains.limits (stored chains) sums.period c.move_both-more.new.quarters) (sym c.in-None.is)
+    (table_filled (comes_in_turn c.in-None.is c.requires.within h) (rows_by sums c.in-None.is h.summed.by_quarter) c.move_gap-less.ensures.quarters c.move_both-more.ensures.quarters)
 
 pub returns-in-None-clause-exchanged : goal.returns-in-None-clause-exchanged
 returns-in-None-clause-exchanged c es names h =
-    subst (λ b. IsExchanged (order_of b) c.args.key.now.tx es (stored c.args.chains.now) c.take_gap-less.result c.add_own-more.result) (sym c.in-None.is)
-    (exchanged (comes_in_turn c.in-None.is c.requires.within h) c.take_gap-less.ensures.sums c.add_own-more.ensures.sums)
+    subst (λ b. IsExchanged (order_of b) c.args.key.now.tx es (stored c.args.chains.now) c.move_gap-less.result c.move_both-more.result) (sym c.in-None.is)
+    (exchanged (comes_in_turn c.in-None.is c.requires.within h) c.move_gap-less.ensures.sums c.move_both-more.ensures.sums)
 
 pub returns-in-None-clause-work : goal.returns-in-None-clause-work
 returns-in-None-clause-work c =
-    let ch = comes_in_turn c.in-None.is c.requires.within c.requires.to_come.1.1 in let less = c.take_gap-less.ensures.work in let more = c.add_own-more.ensures.work in
-    subst (λ b. IsWork (most_more (order_of b) c.args.chains.now c.args.key.now) c.args.work.now c.add_own-more.new.work) (sym c.in-None.is)
+    let ch = comes_in_turn c.in-None.is c.requires.within c.requires.to_come.1.1 in let less = c.move_gap-less.ensures.work in let more = c.move_both-more.ensures.work in
+    subst (λ b. IsWork (most_more (order_of b) c.args.chains.now c.args.key.now) c.args.work.now c.move_both-more.new.work) (sym c.in-None.is)
     (record { bound = omega (arith, less.bound, more.bound, ch.few); grows = omega (arith, less.grows, more.grows) })

@@ -22,28 +22,28 @@ returns-in-Some-clause-work c es h =
     subst (λ b. IsWork (most_less (order_of b) c.args.chains.now c.args.key.now es) c.args.work.now c.move_event.new.work) (sym c.in-Some.is)
     (c.move_event.ensures.work (stored c.args.chains.now) es (goes_in_time c.in-Some.is c.requires.within h))
 
-pub take_own-less-requires-clause-few : goal.take_own-less-requires-clause-few
-take_own-less-requires-clause-few c = let ch = goes_in_turn c.in-None.is c.requires.within c.requires.to_go.1 in omega (arith, ch.few_gone Import, ch.few_gone Export)
+pub move_both-less-requires-clause-few : goal.move_both-less-requires-clause-few
+move_both-less-requires-clause-few c = let ch = goes_in_turn c.in-None.is c.requires.within c.requires.to_go.1 in omega (arith, ch.few_gone Import, ch.few_gone Export)
 
-pub take_own-less-requires-clause-holds : goal.take_own-less-requires-clause-holds
-take_own-less-requires-clause-holds c = let h = c.requires.to_go.1 in gone_held (goes_in_turn c.in-None.is c.requires.within h) (rows_by c.args.sums.now c.in-None.is h.summed.by_quarter)
+pub move_both-less-requires-clause-may : goal.move_both-less-requires-clause-may
+move_both-less-requires-clause-may c = let h = c.requires.to_go.1 in gone_held (goes_in_turn c.in-None.is c.requires.within h) (rows_by c.args.sums.now c.in-None.is h.summed.by_quarter)
 
-pub add_gap-more-requires : goal.add_gap-more-requires
-add_gap-more-requires c = let h = c.requires.to_go.1 in came_room (goes_in_turn c.in-None.is c.requires.within h) (rows_by c.args.sums.now c.in-None.is h.summed.by_quarter) c.take_own-less.ensures.quarters
+pub move_gap-more-requires : goal.move_gap-more-requires
+move_gap-more-requires c = let h = c.requires.to_go.1 in came_room (goes_in_turn c.in-None.is c.requires.within h) (rows_by c.args.sums.now c.in-None.is h.summed.by_quarter) c.move_both-less.ensures.quarters
 
 pub returns-in-None-clause-rows : goal.returns-in-None-clause-rows
 returns-in-None-clause-rows c =
     let h = c.requires.to_go.1 in let sums = c.args.sums.now in let chains = c.args.chains.now in
-    subst (λ b. AreQuarterRows (order_of b) chains.limits (stored chains) sums.period c.add_gap-more.new.quarters) (sym c.in-None.is)
-    (table_filled (goes_in_turn c.in-None.is c.requires.within h) (rows_by sums c.in-None.is h.summed.by_quarter) c.take_own-less.ensures.quarters c.add_gap-more.ensures.quarters)
+    subst (λ b. AreQuarterRows (order_of b) chains.limits (stored chains) sums.period c.move_gap-more.new.quarters) (sym c.in-None.is)
+    (table_filled (goes_in_turn c.in-None.is c.requires.within h) (rows_by sums c.in-None.is h.summed.by_quarter) c.move_both-less.ensures.quarters c.move_gap-more.ensures.quarters)
 
 pub returns-in-None-clause-exchanged : goal.returns-in-None-clause-exchanged
 returns-in-None-clause-exchanged c es h =
-    subst (λ b. IsExchanged (order_of b) c.args.key.now.tx es (stored c.args.chains.now) c.take_own-less.result c.add_gap-more.result) (sym c.in-None.is)
-    (exchanged (goes_in_turn c.in-None.is c.requires.within h) c.take_own-less.ensures.sums c.add_gap-more.ensures.sums)
+    subst (λ b. IsExchanged (order_of b) c.args.key.now.tx es (stored c.args.chains.now) c.move_both-less.result c.move_gap-more.result) (sym c.in-None.is)
+    (exchanged (goes_in_turn c.in-None.is c.requires.within h) c.move_both-less.ensures.sums c.move_gap-more.ensures.sums)
 
 pub returns-in-None-clause-work : goal.returns-in-None-clause-work
 returns-in-None-clause-work c es h =
-    let ch = goes_in_turn c.in-None.is c.requires.within h in let less = c.take_own-less.ensures.work in let more = c.add_gap-more.ensures.work in
-    subst (λ b. IsWork (most_less (order_of b) c.args.chains.now c.args.key.now es) c.args.work.now c.add_gap-more.new.work) (sym c.in-None.is)
+    let ch = goes_in_turn c.in-None.is c.requires.within h in let less = c.move_both-less.ensures.work in let more = c.move_gap-more.ensures.work in
+    subst (λ b. IsWork (most_less (order_of b) c.args.chains.now c.args.key.now es) c.args.work.now c.move_gap-more.new.work) (sym c.in-None.is)
     (record { bound = omega (arith, less.bound, more.bound, ch.few); grows = omega (arith, less.grows, more.grows) })

@@ -1,8 +1,0 @@
-use Rattle.ledger_model.specs.Deltas.{pairs_between}
-use Rattle.station_ledger.specs.Quarters.{readings_at}
-use Rattle.station_ledger.proofs.Walks.{IsAdding}
-use Rattle.station_ledger.proofs.pairs.add_stored.Given as goal
-
--- the pairs so far, and those of the readings that are left
-abbrev pub invariant-loop-reading : goal.invariant-loop-reading
-invariant-loop-reading l = IsAdding l.fn.period l.fn.direction (pairs_between l.fn.before (readings_at l.fn.direction l.fn.chains l.fn.key) l.fn.behind) (pairs_between l.last l.left l.behind) l.fn.quarters l.quarters l.fn.work l.work l.total
