@@ -1,12 +1,11 @@
 -- The parts of a difference add up to it, by each rule.
-use Rattle.std.proofs.Common.{◌≡◌, ℕ, zero, suc, ◌+◌, ◌*◌, ◌-◌, ◌/◌, ◌≤◌, ◌<◌, Bool, true, false, cond, List, [], ◌∷◌, ◌++◌, refl, ap, sym, subst, ◌∙◌, ◌⊎◌, inl, inr, ⊎_elim, arith}
-use Rattle.std.specs.Prelude.{sum_by, filter, nat_le, nat_lt}
-use Rattle.std.specs.List.{flat_map}
+use Rattle.std.proofs.Common.{◌≡◌, ℕ, zero, suc, ◌+◌, ◌*◌, ◌-◌, ◌/◌, ◌≤◌, ◌<◌, Bool, true, false, cond, List, [], ◌∷◌, refl, ap, subst, ◌∙◌, ◌⊎◌, inl, inr, ⊎_elim, arith}
+use Rattle.std.specs.Prelude.{sum_by, nat_le, nat_lt}
 use Rattle.std.proofs.Math.Nat.{div-le_of_le-mul, div-mul-le_self, div-zero, mul-le-mul_left, zero-div}
 use Rattle.std.proofs.lemmas.Bool.{ltb-true, and_parts}
 use Rattle.std.proofs.lemmas.List.Sums.{sum_by-cons}
 use Rattle.std.proofs.lemmas.Nat.{le-div}
-use Rattle.energy_flow.specs.Flow.{Energy, difference_of}
+use Rattle.energy_flow.specs.Flow.{difference_of}
 use Rattle.ledger_model.specs.Energy.{Pair, change_of, difference, energy_over, parts_of, parts_over}
 use Rattle.ledger_model.specs.Parts.{Change, Part, energy_of_parts, is_shared, level_at, longest_share, parts_by, share, shares, shares_from, whole}
 use Rattle.ledger_model.specs.Periods.{Periods}

@@ -1,4 +1,4 @@
-use Rattle.std.specs.Prelude.{ℕ, List, [], ◌∷◌, ◌++◌, ◌≡◌, ◌≢◌, ◌<◌, ◌≤◌, ◌+◌, ◌-◌, ◌⊎◌, Some, length, map, sum_by}
+use Rattle.std.specs.Prelude.{ℕ, List, [], ◌∷◌, ◌≡◌, ◌≢◌, ◌<◌, ◌≤◌, ◌+◌, ◌-◌, ◌⊎◌, Some, length, map, sum_by}
 use Rattle.std.specs.List.{flat_map, slice_get}
 use Rattle.energy_flow.specs.Flow.{Energy, no_energy, plus}
 use Rattle.ledger_model.specs.Periods.{Periods}

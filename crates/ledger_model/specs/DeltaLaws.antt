@@ -1,5 +1,5 @@
 -- What one more live event changes, law by law.
-use Rattle.std.specs.Prelude.{◌≡◌, ℕ, ◌+◌, ◌≤◌, ◌==◌, true, false, if◌then◌else◌, List, ◌++◌, None, Some, count_by, filter, length, sum_by}
+use Rattle.std.specs.Prelude.{◌≡◌, ℕ, ◌+◌, ◌≤◌, ◌==◌, true, false, if◌then◌else◌, List, ◌++◌, None, Some, count_by, length, sum_by}
 use Rattle.std.specs.FinMap.{find}
 use Rattle.energy_flow.specs.Flow.{plus}
 use Rattle.ledger_model.specs.Periods.{Periods}

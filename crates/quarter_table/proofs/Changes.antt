@@ -16,12 +16,14 @@ pub row_read : (q : ℕ) (rs : List QuarterRow) (at : ℕ) (r : QuarterRow) → 
 row_read q rs at r s read = read ∙ sym (unwrap_or-slice_get rs at r) ∙ ap (λ o. unwrap_or o r) s.row
 
 -- A pair more in a row.
-pub added_there : (q : ℕ) (flow : ByDirection Energy) (rs : List QuarterRow) (at : ℕ) (r : QuarterRow) (sum : ByDirection Energy) → StandsAt q rs at → r ≡ get_or rs at r → sum ≡ plus_flows r.energy flow
+pub added_there : (q : ℕ) (flow : ByDirection Energy) (rs : List QuarterRow) (at : ℕ) (r : QuarterRow) (sum : ByDirection Energy) → StandsAt q rs at
+    → r ≡ get_or rs at r → sum ≡ plus_flows r.energy flow
     → set rs at (record { quarter = q; pairs = r.pairs + 1; energy = sum }) ≡ set_row (with_pair flow (row_at q rs)) rs
 added_there q flow rs at r sum s read is =
     let same = row_read q rs at r s read in
     let whole : sum ≡ plus_flows (row_at q rs).energy flow = is ∙ ap (λ (x : QuarterRow). plus_flows x.energy flow) same in
-    let written : record { quarter = q; pairs = r.pairs + 1; energy = sum } ≡ with_pair flow (row_at q rs) = λ i. record { quarter = sym s.quarter_is i; pairs = (same i).pairs + 1; energy = whole i } in
+    let written : record { quarter = q; pairs = r.pairs + 1; energy = sum } ≡ with_pair flow (row_at q rs) =
+    λ i. record { quarter = sym s.quarter_is i; pairs = (same i).pairs + 1; energy = whole i } in
     ap (set rs at) written ∙ row_written q (with_pair flow (row_at q rs)) rs at s s.quarter_is (omega arith)
 
 -- The first pair of a period.
@@ -33,12 +35,14 @@ added_new q flow rs at sum b is =
     ap (insert rs at) (written ∙ ap (with_pair flow) (sym b.absent)) ∙ row_inserted q (with_pair flow (row_at q rs)) rs at b (ap (λ (x : QuarterRow). x.quarter) b.absent) (omega arith)
 
 -- A pair less in a row that has more.
-pub removed_there : (q : ℕ) (flow : ByDirection Energy) (rs : List QuarterRow) (at : ℕ) (r : QuarterRow) (sum : ByDirection Energy) → StandsAt q rs at → r ≡ get_or rs at r → sum ≡ minus_flows r.energy flow → 1 < (row_at q rs).pairs
+pub removed_there : (q : ℕ) (flow : ByDirection Energy) (rs : List QuarterRow) (at : ℕ) (r : QuarterRow) (sum : ByDirection Energy) → StandsAt q rs at
+    → r ≡ get_or rs at r → sum ≡ minus_flows r.energy flow → 1 < (row_at q rs).pairs
     → set rs at (record { quarter = q; pairs = r.pairs - 1; energy = sum }) ≡ set_row (without_pair flow (row_at q rs)) rs
 removed_there q flow rs at r sum s read is more =
     let same = row_read q rs at r s read in
     let whole : sum ≡ minus_flows (row_at q rs).energy flow = is ∙ ap (λ (x : QuarterRow). minus_flows x.energy flow) same in
-    let written : record { quarter = q; pairs = r.pairs - 1; energy = sum } ≡ without_pair flow (row_at q rs) = λ i. record { quarter = sym s.quarter_is i; pairs = (same i).pairs - 1; energy = whole i } in
+    let written : record { quarter = q; pairs = r.pairs - 1; energy = sum } ≡ without_pair flow (row_at q rs) =
+    λ i. record { quarter = sym s.quarter_is i; pairs = (same i).pairs - 1; energy = whole i } in
     ap (set rs at) written ∙ row_written q (without_pair flow (row_at q rs)) rs at s s.quarter_is (omega arith)
 
 -- The last pair of a period.

@@ -76,7 +76,8 @@ pair_counted front q flow back = subst (λ (r : QuarterRow). 0 < r.pairs) (sym (
 -- Its sums hold the pair's difference.
 pub pair_held : (front : List Flowed) (q : ℕ) (flow : ByDirection Energy) (back : List Flowed) → CanMinusFlows (its_row front q flow back).energy flow
 pair_held front q flow back =
-    subst (λ (r : QuarterRow). CanMinusFlows r.energy flow) (sym (its_row_is front q flow back)) (record { import = record { up = omega arith; down = omega arith }; export = record { up = omega arith; down = omega arith } })
+    subst (λ (r : QuarterRow). CanMinusFlows r.energy flow) (sym (its_row_is front q flow back))
+    (record { import = record { up = omega arith; down = omega arith }; export = record { up = omega arith; down = omega arith } })
 
 -- Where no other pair is left, the others make no row.
 none_else : (front : List Flowed) (q : ℕ) (flow : ByDirection Energy) (back : List Flowed) → (its_row front q flow back).pairs ≡ 1 → row_of q (front ++ back) ≡ no_row q

@@ -151,7 +151,8 @@ row_else k q flow fs apart = ap (row_with k) (own_other k (q, flow) fs (λ e. ap
 -- A pair less in a row that has it.
 less_more : (flow : ByDirection Energy) (row : QuarterRow) → without_pair flow (with_pair flow row) ≡ row
 less_more flow row =
-    same_row row.quarter (row.pairs + 1 - 1) row.pairs (minus_flows (plus_flows row.energy flow) flow) row.energy (omega arith) (λ p. omega (arith, p.minus_of (plus_flows row.energy flow) flow, p.plus_of row.energy flow))
+    same_row row.quarter (row.pairs + 1 - 1) row.pairs (minus_flows (plus_flows row.energy flow) flow) row.energy (omega arith)
+    (λ p. omega (arith, p.minus_of (plus_flows row.energy flow) flow, p.plus_of row.energy flow))
 
 -- A pair between others adds up as one in front.
 pub moved_front : (front : List Flowed) (f : Flowed) (back : List Flowed) (measure : Flowed → ℕ) → sum_by measure (front ++ f ∷ back) ≡ sum_by measure (f ∷ (front ++ back))

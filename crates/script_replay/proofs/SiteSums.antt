@@ -36,7 +36,8 @@ each_quarter : (order : Order) (period : Periods) (w : World) (quarter : ℕ) �
 each_quarter order period w quarter =
     let imported = ap sum_of_energies (shown_energies order Import period quarter w) in
     let exported = ap sum_of_energies (shown_energies order Export period quarter w) in
-    ap (flows_under quarter) (shown_quarters order period w) ∙ site_quarter order period quarter (map (λ (s : Station). entries s.content) w) ∙ (λ i. record { import = imported i; export = exported i })
+    ap (flows_under quarter) (shown_quarters order period w) ∙ site_quarter order period quarter (map (λ (s : Station). entries s.content) w)
+    ∙ (λ i. record { import = imported i; export = exported i })
 
 -- what holds of each element's image holds of all
 all_mapped : {X : Type 0} (P : X → Type 0) (f : ℕ → X) → ((n : ℕ) → P (f n)) → (ns : List ℕ) → All P (map f ns)

@@ -26,16 +26,19 @@ module _ (period : Periods) (ps : Direction → List Pair) (t : Table) where
   may_first Coming has = room_fewer has (omega arith)
   may_first Going has = (quartered period Export (ps Export) ++ has.0, has.1 ∙ regrouped period ps has.0)
 
-  pub may_second : (way : Way) {new : Table} {before after : ℕ} {import_flow : Energy} → MayMoveBoth way period ps t → DidMove way period Import (ps Import) t new before after import_flow → MayMove way period Export (ps Export) new
+  pub may_second : (way : Way) {new : Table} {before after : ℕ} {import_flow : Energy} → MayMoveBoth way period ps t
+      → DidMove way period Import (ps Import) t new before after import_flow → MayMove way period Export (ps Export) new
   may_second Coming has e = (quartered period Import (ps Import) ++ has.0, rows_more period Import has.0 (both_length ps) (length (ps Export)) has.1 refl e.sum e.quarters)
   may_second Going has e = (has.0, rows_less (quartered period Export (ps Export) ++ has.0) (has.1 ∙ regrouped period ps has.0) e.quarters)
 
 module _ (way : Way) {period : Periods} (ps : Direction → List Pair) {t new last : Table} {before after end : ℕ} {import_flow export_flow : Energy} where
-  pub did_both : DidMove way period Import (ps Import) t new before after import_flow → DidMove way period Export (ps Export) new last after end export_flow → DidMoveBoth way period ps t last before end (record { import = import_flow; export = export_flow })
+  pub did_both : DidMove way period Import (ps Import) t new before after import_flow → DidMove way period Export (ps Export) new last after end export_flow
+      → DidMoveBoth way period ps t last before end (record { import = import_flow; export = export_flow })
   did_both a b = record {
     sums = each_way (λ d. IsSumOf (ps d) (in_direction d (record { import = import_flow; export = export_flow }))) a.sum b.sum;
     quarters = record {
-      rows = b.quarters.rows ∙ ap (rows_moved way (quartered period Export (ps Export))) a.quarters.rows ∙ sym (rows_moved-append way (quartered period Import (ps Import)) (quartered period Export (ps Export)) t.rows);
+      rows = b.quarters.rows ∙ ap (rows_moved way (quartered period Export (ps Export))) a.quarters.rows
+          ∙ sym (rows_moved-append way (quartered period Import (ps Import)) (quartered period Export (ps Export)) t.rows);
       capacity = b.quarters.capacity ∙ a.quarters.capacity;
     };
     work = record { bound = omega (arith, a.work.bound, b.work.bound); grows = omega (arith, a.work.grows, b.work.grows) };

@@ -203,7 +203,11 @@ summed_same {limits = limits} {es = es} new {sums = sums} same s = record {
   };
   at_evses = record {
     all = s.at_evses.all;
-    each = λ n le. s.at_evses.each n le ∙ ap (λ l. record { transactions = length (at_over n l); energy = in_each (λ d. energy_over (flat_map (λ tx. own_pairs (order_in sums) d tx l) (at_over n l))) }) (sym same);
+    each = λ n le. s.at_evses.each n le ∙ ap (λ l. record {
+      transactions = length (at_over n l);
+      energy =
+          in_each (λ d. energy_over (flat_map (λ tx. own_pairs (order_in sums) d tx l) (at_over n l)));
+    }) (sym same);
   };
   by_quarter = record {
     rows = s.by_quarter.rows ∙ ap (λ l. rows_of (both_quartered sums.period (λ d. flat_map (λ tx. own_pairs (order_in sums) d tx l) (transactions_of l)))) (sym same);

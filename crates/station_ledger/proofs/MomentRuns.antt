@@ -405,7 +405,8 @@ module _ (period : Periods) (d : Direction) {way : Way} {seq : ℕ} {before afte
     pub gone_left : {left : Table} → IsTableMoved Going (quartered period d (made r (gone_of way run))) t left → left.rows ≡ rows_of (beside r period d rest)
     gone_left taken = rows_less (beside r period d rest) (rows ∙ all_rows r period d rest (gone_of way run) r.now_is) taken
 
-  pub put_back : {then : Table} (ps : List Pair) → t.rows ≡ rows_of (beside r period d rest) → IsTableMoved Coming (quartered period d ps) t then → then.rows ≡ rows_of (quartered period d ps ++ beside r period d rest)
+  pub put_back : {then : Table} (ps : List Pair) → t.rows ≡ rows_of (beside r period d rest) → IsTableMoved Coming (quartered period d ps) t then
+      → then.rows ≡ rows_of (quartered period d ps ++ beside r period d rest)
   put_back ps rows put = put.rows ∙ ap (rows_with (quartered period d ps)) rows ∙ made_with (quartered period d ps) (beside r period d rest)
 
 -- The state of the walk over an event's readings: the pairs of the owner that are in the periods

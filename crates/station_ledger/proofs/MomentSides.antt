@@ -101,7 +101,13 @@ few_beside period most Import mine others ps up down small =
       up = omega (arith, up, sum_by-append (λ (f : Flowed). f.1.import.up) a b, ap (λ (e : ByDirection Energy). e.import.up) one, ap (λ (e : ByDirection Energy). e.import.up) two);
       down = omega (arith, down, sum_by-append (λ (f : Flowed). f.1.import.down) a b, ap (λ (e : ByDirection Energy). e.import.down) one, ap (λ (e : ByDirection Energy). e.import.down) two);
       export_up = omega (arith, small.up, sum_by-append (λ (f : Flowed). f.1.export.up) a b, ap (λ (e : ByDirection Energy). e.export.up) one, ap (λ (e : ByDirection Energy). e.export.up) two);
-      export_down = omega (arith, small.down, sum_by-append (λ (f : Flowed). f.1.export.down) a b, ap (λ (e : ByDirection Energy). e.export.down) one, ap (λ (e : ByDirection Energy). e.export.down) two);
+      export_down = omega (
+        arith,
+        small.down,
+        sum_by-append (λ (f : Flowed). f.1.export.down) a b,
+        ap (λ (e : ByDirection Energy). e.export.down) one,
+        ap (λ (e : ByDirection Energy). e.export.down) two,
+      );
     }
 few_beside period most Export mine others ps up down small =
     let a = quartered period Export others in let b = quartered period Import ps in

@@ -47,7 +47,8 @@ none_live tx es none = none_long (live_of tx es) (zero_if (length (live_of tx es
   ] refl h
 
 -- what is kept, where there is no live event and where there is
-kept_cases : (P : Option Standing → Type 0) (energy : ByDirection Energy) (tx : List ℕ) (es : List Entry) → (live_of tx es ≡ [] → P None) → (0 < length (live_of tx es) → P (Some (standing_with energy tx es))) → P (kept_with energy tx es)
+kept_cases : (P : Option Standing → Type 0) (energy : ByDirection Energy) (tx : List ℕ) (es : List Entry) → (live_of tx es ≡ [] → P None)
+    → (0 < length (live_of tx es) → P (Some (standing_with energy tx es))) → P (kept_with energy tx es)
 kept_cases P energy tx es none some = elim (length (live_of tx es) == 0) as (λ b. (length (live_of tx es) == 0) ≡ b → P (cond b None (Some (standing_with energy tx es)))) [
   | true ↦ λ h. none (none_long (live_of tx es) ((Decides-eqb (length (live_of tx es)) 0).0 h))
   | false ↦ λ h. some (positive (length (live_of tx es)) h)
@@ -178,11 +179,13 @@ one_at_le n None = omega arith
 one_at_le n (Some s) = one_if (s.evse == n)
 
 -- at an EVSE there is no more than all
-flow_if_le : (d : Direction) (b : Bool) (e : ByDirection Energy) → ((in_direction d (cond b e no_flows)).up ≤ (in_direction d e).up) × ((in_direction d (cond b e no_flows)).down ≤ (in_direction d e).down)
+flow_if_le : (d : Direction) (b : Bool) (e : ByDirection Energy) → ((in_direction d (cond b e no_flows)).up ≤ (in_direction d e).up)
+    × ((in_direction d (cond b e no_flows)).down ≤ (in_direction d e).down)
 flow_if_le d true e = (omega arith, omega arith)
 flow_if_le Import false e = (omega arith, omega arith)
 flow_if_le Export false e = (omega arith, omega arith)
 
-pub flow_at_le : (d : Direction) (n : ℕ) (o : Option Standing) → ((in_direction d (flows_at n o)).up ≤ (in_direction d (flows_in o)).up) × ((in_direction d (flows_at n o)).down ≤ (in_direction d (flows_in o)).down)
+pub flow_at_le : (d : Direction) (n : ℕ) (o : Option Standing) → ((in_direction d (flows_at n o)).up ≤ (in_direction d (flows_in o)).up)
+    × ((in_direction d (flows_at n o)).down ≤ (in_direction d (flows_in o)).down)
 flow_at_le d n None = (omega arith, omega arith)
 flow_at_le d n (Some s) = flow_if_le d (s.evse == n) s.energy

@@ -85,7 +85,8 @@ passed (f ∷ front) e back none = ap (cons_option f.1.event.evse) (passed front
 
 -- What is kept, where something is.
 kept_is : (energy : ByDirection Energy) (tx : List ℕ) (es : List Entry) (was : Standing) → Some was ≡ kept_with energy tx es → was ≡ standing_with energy tx es
-kept_is energy tx es was h = elim (length (live_of tx es) == 0) as (λ b. Some was ≡ cond b None (Some (standing_with energy tx es)) → was ≡ standing_with energy tx es) [ true ↦ λ x. cc | false ↦ λ x. cc ] h
+kept_is energy tx es was h = elim (length (live_of tx es) == 0) as (λ b. Some was ≡ cond b None (Some (standing_with energy tx es))
+    → was ≡ standing_with energy tx es) [ true ↦ λ x. cc | false ↦ λ x. cc ] h
 
 -- Only a transaction with a live event has a standing.
 some_kept : (n : ℕ) (s was : Standing) → Some was ≡ cond (n == 0) None (Some s) → 0 < n
@@ -118,7 +119,8 @@ one_less es chains key place names come up energy was kept =
 
 -- The same, where anything was kept.
 pub all_less : (es : List Entry) (chains : Chained) (key : KeyName) (place : ByDirection Sides) (names : Bool) → IsToCome es chains key place names → AreRising (numbers_of key.tx (stored chains))
-    → (tx : List ℕ) (seq : ℕ) → tx ≡ key.tx → seq ≡ key.seq → (energy : ByDirection Energy) (was : Option Standing) → was ≡ kept_with energy tx es → IfSome was (λ w. IsOneLess w tx seq names (stored chains))
+    → (tx : List ℕ) (seq : ℕ) → tx ≡ key.tx → seq ≡ key.seq → (energy : ByDirection Energy) (was : Option Standing) → was ≡ kept_with energy tx es
+    → IfSome was (λ w. IsOneLess w tx seq names (stored chains))
 all_less es chains key place names come up tx seq tx_is seq_is energy None kept = tt
 all_less es chains key place names come up tx seq tx_is seq_is energy (Some was) kept =
     subst (λ t. IsOneLess was t seq names (stored chains)) (sym tx_is) (subst (λ n. IsOneLess was key.tx n names (stored chains)) (sym seq_is)

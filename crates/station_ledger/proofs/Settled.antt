@@ -40,7 +40,8 @@ module _ {limits : Bounds} {tx : List ℕ} {es new : List Entry} {gone came : Di
     pub came_room : {left : Table} → IsTableMoved Going (both_quartered period gone) quarters left → HasRoom (both_length came) left
     came_room taken = room limits tx es new gone came ch.kept ch.traded ch.before ch.after period quarters rows taken (omega (arith, ch.few_came Import, ch.few_came Export))
 
-    pub table_filled : {left next : Table} → IsTableMoved Going (both_quartered period gone) quarters left → IsTableMoved Coming (both_quartered period came) left next → AreQuarterRows Sequence limits new period next
+    pub table_filled : {left next : Table} → IsTableMoved Going (both_quartered period gone) quarters left → IsTableMoved Coming (both_quartered period came) left next
+        → AreQuarterRows Sequence limits new period next
     table_filled taken put = filled limits tx es new gone came ch.kept ch.traded ch.before ch.after period quarters rows taken put
 
   -- and what both add up to is what the energies exchange
@@ -79,8 +80,10 @@ module _ {limits : Bounds} {tx : List ℕ} {es new : List Entry} {sums mid : Sum
       → ((d : Direction) → (was d).up ≤ (energy_by (order_in sums) d es).up) → ((d : Direction) → (was d).down ≤ (energy_by (order_in sums) d es).down)
       → ((d : Direction) → plus (now d) (in_direction d less) ≡ plus (was d) (in_direction d more)) → CanExchange energies less more × (minus_flows (plus_flows energies more) less ≡ in_each now)
   exchange was now is up down moved =
-      let may = λ (d : Direction). may_exchange (order_in sums) d limits es x.before (now d) (in_direction d less) (in_direction d more) (is d) (up d) (down d) (moved d) (x.energies.up_few d) (x.energies.down_few d) in
-      let left = λ (d : Direction). is_left (order_in sums) d limits es x.before (now d) (in_direction d less) (in_direction d more) (is d) (up d) (down d) (moved d) (x.energies.up_few d) (x.energies.down_few d) in
+      let may = λ (d : Direction). may_exchange (order_in sums) d limits es x.before (now d) (in_direction d less) (in_direction d more) (is d) (up d)
+      (down d) (moved d) (x.energies.up_few d) (x.energies.down_few d) in
+      let left = λ (d : Direction). is_left (order_in sums) d limits es x.before (now d) (in_direction d less) (in_direction d more) (is d) (up d)
+      (down d) (moved d) (x.energies.up_few d) (x.energies.down_few d) in
       let imported = left Import in let exported = left Export in (
         record { room = record { import = (may Import).0; export = (may Export).0 }; holds = record { import = (may Import).1; export = (may Export).1 } },
         λ i. record { import = imported i; export = exported i },
@@ -93,7 +96,8 @@ module _ {limits : Bounds} {tx : List ℕ} {es new : List Entry} {sums mid : Sum
   -- the transaction's
   module _ {was : Option Standing} (was_is : was ≡ find id_cmp tx sums.kept.rows) {own : ByDirection Energy} (own_is : own ≡ flows_in was) where
     pub own_may : CanExchange own less more × (minus_flows (plus_flows own more) less ≡ flows_of_by (order_in sums) tx new)
-    own_may = exchange (λ d. energy_of_by (order_in sums) d tx es) (λ d. energy_of_by (order_in sums) d tx new) (λ d. ap (in_direction d) own_is ∙ own_flow (order_in sums) d limits es tx sums.kept was was_is x.summed.standing)
+    own_may = exchange (λ d. energy_of_by (order_in sums) d tx es) (λ d. energy_of_by (order_in sums) d tx new)
+        (λ d. ap (in_direction d) own_is ∙ own_flow (order_in sums) d limits es tx sums.kept was was_is x.summed.standing)
         (λ d. own_up_le (order_in sums) d tx es) (λ d. own_down_le (order_in sums) d tx es) x.energies.own
 
     -- what is kept of it, in all sums

@@ -22,7 +22,8 @@ use Rattle.transaction_map.proofs.Found.{found_put, found_out, rising_put, risin
 use Rattle.station_ledger.specs.declared.standing.Standing.{Standing}
 use Rattle.station_ledger.specs.declared.totals.EvseSum.{EvseSum}
 use Rattle.station_ledger.specs.Standing.{kept_of}
-use Rattle.station_ledger.specs.Moved.{live_in, one_in, complete_in, missing_in, flows_in, one_at, flows_at, IsMoved, sum_at, with_one, without_one, with_figures, without_figures, HasRoomAt, CountsAt, HaveRoom, DoCount}
+use Rattle.station_ledger.specs.Moved.{live_in, one_in, complete_in, missing_in, flows_in, one_at, flows_at, IsMoved}
+use Rattle.station_ledger.specs.Moved.{sum_at, with_one, without_one, with_figures, without_figures, HasRoomAt, CountsAt, HaveRoom, DoCount}
 use Rattle.station_ledger.specs.Sums.{AreStanding, AreEvseSums, AreCounts, AreAllowed, keep}
 use Rattle.station_ledger.proofs.Moved.{live_kept, missing_kept, flow_in_kept, kept_same, one_in_le, complete_in_le, one_at_le, flow_at_le}
 use Rattle.station_ledger.proofs.Bounded.{few_up, few_down, live_le, at_evse_le, evse_up_le, evse_down_le, own_up_le, own_down_le, own_missing_le}
@@ -105,7 +106,8 @@ module _ (order : Order) (limits : Bounds) (tx : List ℕ) (es new : List Entry)
       ones n = ap (λ o. length (transactions_at n new) + one_at n o) was_at ∙ moved.at_evse n ∙ ap (λ o. length (transactions_at n es) + one_at n o) (sym is_is)
 
       flows : (d : Direction) (n : ℕ) → plus (energy_at_by order d n new) (in_direction d (flows_at n was)) ≡ plus (energy_at_by order d n es) (in_direction d (flows_at n is))
-      flows d n = ap (λ o. plus (energy_at_by order d n new) (in_direction d (flows_at n o))) was_at ∙ moved.flow_at_evse d n ∙ ap (λ o. plus (energy_at_by order d n es) (in_direction d (flows_at n o))) (sym is_is)
+      flows d n = ap (λ o. plus (energy_at_by order d n new) (in_direction d (flows_at n o))) was_at ∙ moved.flow_at_evse d n
+          ∙ ap (λ o. plus (energy_at_by order d n es) (in_direction d (flows_at n o))) (sym is_is)
 
       holds_for : (d : Direction) (n : ℕ) → CanMinus (plus (energy_at_by order d n es) (in_direction d (flows_at n is))) (in_direction d (flows_at n was))
       holds_for d n = record { up = omega (arith, ap (λ (e : Energy). e.up) (flows d n)); down = omega (arith, ap (λ (e : Energy). e.down) (flows d n)) }
@@ -118,8 +120,10 @@ module _ (order : Order) (limits : Bounds) (tx : List ℕ) (es new : List Entry)
 
       left_at : (d : Direction) (n : ℕ) → minus (plus (energy_at_by order d n es) (in_direction d (flows_at n is))) (in_direction d (flows_at n was)) ≡ energy_at_by order d n new
       left_at d n =
-          let up : ((energy_at_by order d n es).up + (in_direction d (flows_at n is)).up) - (in_direction d (flows_at n was)).up ≡ (energy_at_by order d n new).up = omega (arith, ap (λ (e : Energy). e.up) (flows d n)) in
-          let down : ((energy_at_by order d n es).down + (in_direction d (flows_at n is)).down) - (in_direction d (flows_at n was)).down ≡ (energy_at_by order d n new).down = omega (arith, ap (λ (e : Energy). e.down) (flows d n)) in
+          let up : ((energy_at_by order d n es).up + (in_direction d (flows_at n is)).up) - (in_direction d (flows_at n was)).up ≡ (energy_at_by order d n new).up =
+          omega (arith, ap (λ (e : Energy). e.up) (flows d n)) in
+          let down : ((energy_at_by order d n es).down + (in_direction d (flows_at n is)).down) - (in_direction d (flows_at n was)).down ≡ (energy_at_by order d n new).down =
+          omega (arith, ap (λ (e : Energy). e.down) (flows d n)) in
           λ i. record { up = up i; down = down i }
 
       pub sums_stand : (next : List EvseSum) → length next ≡ greatest_evse + 1 → ((n : ℕ) → sum_at next n ≡ without_one n was (with_one n is (sum_at evses n))) → AreEvseSums order new next
@@ -127,7 +131,8 @@ module _ (order : Order) (limits : Bounds) (tx : List ℕ) (es new : List Entry)
         all = all;
         each = λ n le.
             let one : (length (transactions_at n es) + one_at n is) - one_at n was ≡ length (transactions_at n new) = omega (arith, ones n) in
-            each n ∙ ap (λ s. without_one n was (with_one n is s)) (sums.each n le) ∙ (λ i. record { transactions = one i; energy = record { import = left_at Import n i; export = left_at Export n i } });
+            each n ∙ ap (λ s. without_one n was (with_one n is s)) (sums.each n le)
+            ∙ (λ i. record { transactions = one i; energy = record { import = left_at Import n i; export = left_at Export n i } });
       }
 
     module _ (f : Figures) (counts : AreCounts es f) where
@@ -156,5 +161,6 @@ module _ (order : Order) (limits : Bounds) (tx : List ℕ) (es new : List Entry)
       }
 
 -- the energy of what was kept
-pub own_flow : (order : Order) (d : Direction) (limits : Bounds) (es : List Entry) (tx : List ℕ) (kept : Mapped Standing) (was : Option Standing) → was ≡ find id_cmp tx kept.rows → AreStanding order limits es kept → in_direction d (flows_in was) ≡ energy_of_by order d tx es
+pub own_flow : (order : Order) (d : Direction) (limits : Bounds) (es : List Entry) (tx : List ℕ) (kept : Mapped Standing) (was : Option Standing)
+    → was ≡ find id_cmp tx kept.rows → AreStanding order limits es kept → in_direction d (flows_in was) ≡ energy_of_by order d tx es
 own_flow order d limits es tx kept was was_is standing = ap (λ o. in_direction d (flows_in o)) (was_is ∙ standing.each tx) ∙ flow_in_kept order d tx es

@@ -4,7 +4,7 @@ use Rattle.std.specs.List.{sum_by}
 use Rattle.std.proofs.lemmas.List.Sums.{sum_by-append, sum_by-cons}
 use Rattle.energy_flow.specs.Flow.{Energy, plus, minus, CanPlus, CanMinus}
 use Rattle.ledger_model.specs.declared.by_direction.ByDirection.{ByDirection}
-use Rattle.ledger_model.specs.ByDirection.{in_direction, in_each, plus_flows, minus_flows}
+use Rattle.ledger_model.specs.ByDirection.{in_each}
 use Rattle.ledger_model.specs.Periods.{Periods}
 use Rattle.ledger_model.specs.Board.{Flowed}
 use Rattle.ledger_model.specs.Content.{Entry}
@@ -26,7 +26,6 @@ use Rattle.station_ledger.specs.Quarters.{HasRoom, HoldsBoth, IsTableMoved, both
 use Rattle.station_ledger.specs.Sums.{AreAllowed, AreQuarterRows}
 use Rattle.station_ledger.proofs.Bounded.{few_up, few_down, few_pairs}
 use Rattle.station_ledger.proofs.Rows.{long, rows_less, total_quartered}
-use Rattle.station_ledger.specs.Moved.{CanExchange}
 
 -- The pairs of a direction before and after, and those of one transaction.
 pub record IsTraded (d : Direction) (tx : List ℕ) (es new : List Entry) (gone came kept : List Pair) : Type 0 where
@@ -103,10 +102,14 @@ total_both : (period : Periods) (ps : Direction → List Pair) → total (both_q
 total_both period ps =
     let a = quartered period Import (ps Import) in let b = quartered period Export (ps Export) in
     let one = total_quartered period Import (ps Import) in let other = total_quartered period Export (ps Export) in
-    let up : (total (a ++ b)).import.up ≡ (energy_over (ps Import)).up = omega (arith, sum_by-append (λ (f : Flowed). f.1.import.up) a b, ap (λ (e : ByDirection Energy). e.import.up) one, ap (λ (e : ByDirection Energy). e.import.up) other) in
-    let down : (total (a ++ b)).import.down ≡ (energy_over (ps Import)).down = omega (arith, sum_by-append (λ (f : Flowed). f.1.import.down) a b, ap (λ (e : ByDirection Energy). e.import.down) one, ap (λ (e : ByDirection Energy). e.import.down) other) in
-    let export_up : (total (a ++ b)).export.up ≡ (energy_over (ps Export)).up = omega (arith, sum_by-append (λ (f : Flowed). f.1.export.up) a b, ap (λ (e : ByDirection Energy). e.export.up) one, ap (λ (e : ByDirection Energy). e.export.up) other) in
-    let export_down : (total (a ++ b)).export.down ≡ (energy_over (ps Export)).down = omega (arith, sum_by-append (λ (f : Flowed). f.1.export.down) a b, ap (λ (e : ByDirection Energy). e.export.down) one, ap (λ (e : ByDirection Energy). e.export.down) other) in
+    let up : (total (a ++ b)).import.up ≡ (energy_over (ps Import)).up =
+    omega (arith, sum_by-append (λ (f : Flowed). f.1.import.up) a b, ap (λ (e : ByDirection Energy). e.import.up) one, ap (λ (e : ByDirection Energy). e.import.up) other) in
+    let down : (total (a ++ b)).import.down ≡ (energy_over (ps Import)).down =
+    omega (arith, sum_by-append (λ (f : Flowed). f.1.import.down) a b, ap (λ (e : ByDirection Energy). e.import.down) one, ap (λ (e : ByDirection Energy). e.import.down) other) in
+    let export_up : (total (a ++ b)).export.up ≡ (energy_over (ps Export)).up =
+    omega (arith, sum_by-append (λ (f : Flowed). f.1.export.up) a b, ap (λ (e : ByDirection Energy). e.export.up) one, ap (λ (e : ByDirection Energy). e.export.up) other) in
+    let export_down : (total (a ++ b)).export.down ≡ (energy_over (ps Export)).down =
+    omega (arith, sum_by-append (λ (f : Flowed). f.1.export.down) a b, ap (λ (e : ByDirection Energy). e.export.down) one, ap (λ (e : ByDirection Energy). e.export.down) other) in
     λ i. record { import = record { up = up i; down = down i }; export = record { up = export_up i; down = export_down i } }
 
 -- pairs of both directions that add up as those that go or come and those that are kept

@@ -14,7 +14,6 @@ use Rattle.event_chain.specs.Chains.{Chained, stored}
 use Rattle.ledger_model.specs.Board.{last_or_zero}
 use Rattle.ledger_model.specs.Content.{Entry, live, transactions_of, has_transaction}
 use Rattle.ledger_model.specs.declared.order.Order.{Order}
-use Rattle.ledger_model.specs.declared.reading.Direction.TheVariants.{Import, Export}
 use Rattle.ledger_model.specs.Energy.{flows_of_by}
 use Rattle.ledger_model.specs.Evse.{first_or_zero}
 use Rattle.ledger_model.specs.Limits.{Bounds}

@@ -13,12 +13,12 @@ use Rattle.ledger_model.specs.Event.{MeterReading, same_direction, toward}
 use Rattle.ledger_model.specs.Ranges.{greatest_reading}
 use Rattle.quarter_table.specs.declared.row.QuarterRow.{QuarterRow}
 use Rattle.quarter_table.specs.Rows.{row_at, set_row, without_pair}
-use Rattle.quarter_table.specs.Pairs.{rows_of, rows_with, rows_without}
+use Rattle.quarter_table.specs.Pairs.{rows_of, rows_without}
 use Rattle.quarter_table.specs.Table.{Table}
 use Rattle.quarter_table.proofs.Several.{rows_with-append}
 use Rattle.station_ledger.specs.declared.pairs.Way.{Way}
 use Rattle.station_ledger.specs.declared.pairs.Way.TheVariants.{Coming, Going}
-use Rattle.station_ledger.specs.Quarters.{HasRoom, HoldsPairs, DidMove, MayMove, quartered, rows_moved}
+use Rattle.station_ledger.specs.Quarters.{DidMove, MayMove, quartered, rows_moved}
 use Rattle.station_ledger.proofs.Rows.{room_fewer, rows_more, rows_less}
 
 -- the pairs of several more readings add up
@@ -107,13 +107,15 @@ module _ (period : Periods) (d : Direction) {left : List Pair} (one more : List 
   may_rest Going may e = (may.0, rows_less (quartered period d more ++ may.0) (may.1 ∙ regrouped period d one more may.0 split) e.quarters)
 
 module _ {way : Way} {period : Periods} {d : Direction} {ps left one more : List Pair} {old t new : Table} {before work after : ℕ} {sum flow next : Energy} where
-  pub moving_one : left ≡ one ++ more → IsMoving way period d ps left old t before work sum → DidMove way period d one t new work after flow → next ≡ plus sum flow → IsMoving way period d ps more old new before after next
+  pub moving_one : left ≡ one ++ more → IsMoving way period d ps left old t before work sum → DidMove way period d one t new work after flow
+      → next ≡ plus sum flow → IsMoving way period d ps more old new before after next
   moving_one split a e put = record {
     may = may_rest period d one more t split way a.may e;
     flow = energy_is one more sum flow next split e.sum.is put ∙ a.flow;
     up = omega (arith, a.up, e.sum.up, length_is one more split, ap (λ (f : Energy). f.up) put);
     down = omega (arith, a.down, e.sum.down, length_is one more split, ap (λ (f : Energy). f.down) put);
-    rows = ap (rows_moved way (quartered period d more)) e.quarters.rows ∙ sym (rows_moved-append way (quartered period d one) (quartered period d more) t.rows) ∙ ap (λ fs. rows_moved way fs t.rows) (sym (quartered_is period d one more split)) ∙ a.rows;
+    rows = ap (rows_moved way (quartered period d more)) e.quarters.rows ∙ sym (rows_moved-append way (quartered period d one) (quartered period d more) t.rows)
+        ∙ ap (λ fs. rows_moved way fs t.rows) (sym (quartered_is period d one more split)) ∙ a.rows;
     capacity = e.quarters.capacity ∙ a.capacity;
     spent = omega (arith, a.spent, e.work.bound, length_is one more split);
     grows = omega (arith, a.grows, e.work.grows);

@@ -20,7 +20,9 @@ use crate::sums::Sums;
 use energy_flow::Flow;
 use event_chain::{Chains, EventLine};
 use gap_list::NumberWalk;
-use ledger_model::{ByDirection, Direction, Key, Listed, Order, Periods, Quarter, Reading, Settle, TxId};
+use ledger_model::{
+    ByDirection, Direction, Key, Listed, Order, Periods, Quarter, Reading, Settle, TxId,
+};
 use quarter_table::even_parts;
 use reading_decimal::settled_quarter;
 use reading_index::PlacedReading;

@@ -163,9 +163,25 @@ pub(crate) fn move_gap(
     ensures { DidMoveBoth way period (sides_across place.now) quarters.old quarters.new work.old work.new result }
 {
     let Sides { before, behind } = place.import;
-    let import = move_across(quarters, period, Direction::Import, way, before, behind, work);
+    let import = move_across(
+        quarters,
+        period,
+        Direction::Import,
+        way,
+        before,
+        behind,
+        work,
+    );
     let Sides { before, behind } = place.export;
-    let export = move_across(quarters, period, Direction::Export, way, before, behind, work);
+    let export = move_across(
+        quarters,
+        period,
+        Direction::Export,
+        way,
+        before,
+        behind,
+        work,
+    );
     ByDirection { import, export }
 }
 

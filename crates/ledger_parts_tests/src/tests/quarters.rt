@@ -49,7 +49,10 @@ fn small_arena_quarters(rt: HostRuntime) -> Result<(), Fail> {
     assert!(rt; put(&mut table, half_past, Import, up));
     assert!(rt; put(&mut table, half_past, Import, down));
     let row = table.row(half_past);
-    assert_eq!(rt; (row.pairs, row.energy.import.up(), row.energy.import.down()), (2, 3, 2));
+    assert_eq!(rt;
+        (row.pairs, row.energy.import.up(), row.energy.import.down()),
+        (2, 3, 2)
+    );
     assert_eq!(rt; (table.rows().len(), table.room()), (1, 0));
     assert!(rt; !put(&mut table, quarter(HALF_PAST_TEN + 1)?, Import, up));
     assert!(rt; cut(&mut table, half_past, Import, up) && table.holds(half_past));
@@ -81,7 +84,10 @@ fn a_quarter_stands_while_it_has_a_pair_of_either_direction(rt: HostRuntime) -> 
     assert!(rt; put(&mut table, half_past, Import, up) && put(&mut table, half_past, Export, up));
     assert!(rt; cut(&mut table, half_past, Import, up));
     let row = table.row(half_past);
-    assert_eq!(rt; (row.pairs, row.energy.import.up(), row.energy.export.up()), (1, 0, 3));
+    assert_eq!(rt;
+        (row.pairs, row.energy.import.up(), row.energy.export.up()),
+        (1, 0, 3)
+    );
     assert!(rt; cut(&mut table, half_past, Export, up) && !table.holds(half_past));
     Ok(())
 }

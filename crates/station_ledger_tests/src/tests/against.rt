@@ -58,8 +58,7 @@ fn are_quarters(board: &StationBoard, want: &Sums) -> bool {
         if let Some(energy) = *quarter {
             match shown.next() {
                 Some(line)
-                    if line.quarter().number() == number
-                        && is_energy(line.energy(), energy) => {}
+                    if line.quarter().number() == number && is_energy(line.energy(), energy) => {}
                 _ => return false,
             }
         }

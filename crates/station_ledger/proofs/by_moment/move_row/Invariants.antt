@@ -7,7 +7,8 @@ use Rattle.station_ledger.proofs.by_moment.move_row.Given as goal
 
 -- the pairs so far, and those of the readings that are left
 abbrev pub invariant-loop-left : goal.invariant-loop-left
-invariant-loop-left l = IsMoving l.fn.way l.fn.period l.fn.direction (run_pairs l.fn.gap l.fn.readings) (pairs_between l.last (bare l.left) l.fn.gap.behind) l.fn.quarters l.quarters l.fn.work l.work l.total
+invariant-loop-left l = IsMoving l.fn.way l.fn.period l.fn.direction (run_pairs l.fn.gap l.fn.readings)
+    (pairs_between l.last (bare l.left) l.fn.gap.behind) l.fn.quarters l.quarters l.fn.work l.work l.total
 
 abbrev pub decreases-loop-left : goal.decreases-loop-left
 decreases-loop-left l = length l.left

@@ -1,6 +1,5 @@
 use Rattle.std.proofs.Common.{◌≡◌, ◌<◌, IsSome, Option, Some, unwrap_or, refl, sym, ap, subst, ◌∙◌}
 use Rattle.event_chain.specs.Chains.{stored}
-use Rattle.ledger_model.specs.declared.reading.Direction.TheVariants.{Import, Export}
 use Rattle.ledger_model.specs.Gaps.{numbers_of}
 use Rattle.ledger_model.specs.Ranges.{sequence_end}
 use Rattle.station_ledger.specs.declared.standing.Standing.{Standing}

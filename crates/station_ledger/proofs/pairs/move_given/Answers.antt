@@ -26,4 +26,4 @@ loop-left-preserved c =
     let other : r.direction ≡ d → ⊥ = search rules in
     let between = pairs_between c.args.sides.before (toward d c.args.readings.now) c.args.sides.behind in
     subst (λ rs. IsMoving c.args.way c.args.period d between (pairs_between c.loop-left.last rs c.args.sides.behind) c.args.quarters.now c.loop-left.quarters c.args.work.now c.loop-left.work c.loop-left.total)
-      (toward_rest d left rest r steps other) c.loop-left.invariant
+    (toward_rest d left rest r steps other) c.loop-left.invariant

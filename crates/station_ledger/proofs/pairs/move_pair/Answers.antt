@@ -33,18 +33,21 @@ remove-requires-clause-there c =
     let may = subst (λ way. MayMove way c.args.period c.args.direction (across (Some c.args.earlier) (Some c.args.later)) c.args.quarters.now) c.in-Going.is c.requires in
     let q = c.settled_quarter-quarter.ensures.value ∙ ap (settled_at c.args.period) c.moment.ensures in
     let f = c.difference-flow.ensures.flow ∙ (λ i. difference_of (c.level.ensures.value i) (c.level-2.ensures.value i)) in
-    there c.settled_quarter-quarter.result (flows_toward c.args.direction c.difference-flow.result) may.0 c.args.quarters.now (may.1 ∙ sym (λ i. rows_of ((q i, flows_toward c.args.direction (f i)) ∷ may.0)))
+    there c.settled_quarter-quarter.result (flows_toward c.args.direction c.difference-flow.result) may.0 c.args.quarters.now
+    (may.1 ∙ sym (λ i. rows_of ((q i, flows_toward c.args.direction (f i)) ∷ may.0)))
 
 pub remove-requires-clause-sums : goal.remove-requires-clause-sums
 remove-requires-clause-sums c =
     let may = subst (λ way. MayMove way c.args.period c.args.direction (across (Some c.args.earlier) (Some c.args.later)) c.args.quarters.now) c.in-Going.is c.requires in
     let q = c.settled_quarter-quarter.ensures.value ∙ ap (settled_at c.args.period) c.moment.ensures in
     let f = c.difference-flow.ensures.flow ∙ (λ i. difference_of (c.level.ensures.value i) (c.level-2.ensures.value i)) in
-    held c.settled_quarter-quarter.result (flows_toward c.args.direction c.difference-flow.result) may.0 c.args.quarters.now (may.1 ∙ sym (λ i. rows_of ((q i, flows_toward c.args.direction (f i)) ∷ may.0)))
+    held c.settled_quarter-quarter.result (flows_toward c.args.direction c.difference-flow.result) may.0 c.args.quarters.now
+    (may.1 ∙ sym (λ i. rows_of ((q i, flows_toward c.args.direction (f i)) ∷ may.0)))
 
 pub remove-requires-clause-last : goal.remove-requires-clause-last
 remove-requires-clause-last c =
     let may = subst (λ way. MayMove way c.args.period c.args.direction (across (Some c.args.earlier) (Some c.args.later)) c.args.quarters.now) c.in-Going.is c.requires in
     let q = c.settled_quarter-quarter.ensures.value ∙ ap (settled_at c.args.period) c.moment.ensures in
     let f = c.difference-flow.ensures.flow ∙ (λ i. difference_of (c.level.ensures.value i) (c.level-2.ensures.value i)) in
-    last c.settled_quarter-quarter.result (flows_toward c.args.direction c.difference-flow.result) may.0 c.args.quarters.now (may.1 ∙ sym (λ i. rows_of ((q i, flows_toward c.args.direction (f i)) ∷ may.0)))
+    last c.settled_quarter-quarter.result (flows_toward c.args.direction c.difference-flow.result) may.0 c.args.quarters.now
+    (may.1 ∙ sym (λ i. rows_of ((q i, flows_toward c.args.direction (f i)) ∷ may.0)))

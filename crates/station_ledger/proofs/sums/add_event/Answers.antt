@@ -19,13 +19,16 @@ pub add_pairs_of-exchange-requires-clause-to_come : goal.add_pairs_of-exchange-r
 add_pairs_of-exchange-requires-clause-to_come c = (c.requires.to_come.0, (c.args.names, c.requires.to_come.1))
 
 pub applied-sums-requires : goal.applied-sums-requires
-applied-sums-requires c = let h = c.requires.to_come in let e = c.add_pairs_of-exchange.ensures in (all_may (turned_more c.tx-tx.ensures c.requires.within (e.exchanged h.0 c.args.names h.1) e.kept h.1)).0
+applied-sums-requires c = let h = c.requires.to_come in let e = c.add_pairs_of-exchange.ensures in
+    (all_may (turned_more c.tx-tx.ensures c.requires.within (e.exchanged h.0 c.args.names h.1) e.kept h.1)).0
 
 pub applied-own-requires : goal.applied-own-requires
-applied-own-requires c = let h = c.requires.to_come in let e = c.add_pairs_of-exchange.ensures in (own_may (turned_more c.tx-tx.ensures c.requires.within (e.exchanged h.0 c.args.names h.1) e.kept h.1) c.found-at.ensures.was c.energies_of.ensures).0
+applied-own-requires c = let h = c.requires.to_come in let e = c.add_pairs_of-exchange.ensures in
+    (own_may (turned_more c.tx-tx.ensures c.requires.within (e.exchanged h.0 c.args.names h.1) e.kept h.1) c.found-at.ensures.was c.energies_of.ensures).0
 
 pub replace_standing-requires-clause-at : goal.replace_standing-requires-clause-at
-replace_standing-requires-clause-at c = subst (λ (k : Mapped Standing). IfSome c.found-at.result.0 (λ i. IsAt c.tx-tx.result.now k.rows i)) (sym c.add_pairs_of-exchange.ensures.kept.kept) c.found-at.ensures.at
+replace_standing-requires-clause-at c = subst (λ (k : Mapped Standing). IfSome c.found-at.result.0 (λ i. IsAt c.tx-tx.result.now k.rows i))
+    (sym c.add_pairs_of-exchange.ensures.kept.kept) c.found-at.ensures.at
 
 pub replace_standing-requires-clause-can : goal.replace_standing-requires-clause-can
 replace_standing-requires-clause-can c =

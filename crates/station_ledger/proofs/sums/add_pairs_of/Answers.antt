@@ -27,7 +27,8 @@ pub move_gap-less-requires : goal.move_gap-less-requires
 move_gap-less-requires c = let h = c.requires.to_come.1.1 in gone_held (comes_in_turn c.in-None.is c.requires.within h) (rows_by c.args.sums.now c.in-None.is h.summed.by_quarter)
 
 pub move_both-more-requires-clause-may : goal.move_both-more-requires-clause-may
-move_both-more-requires-clause-may c = let h = c.requires.to_come.1.1 in came_room (comes_in_turn c.in-None.is c.requires.within h) (rows_by c.args.sums.now c.in-None.is h.summed.by_quarter) c.move_gap-less.ensures.quarters
+move_both-more-requires-clause-may c = let h = c.requires.to_come.1.1 in
+    came_room (comes_in_turn c.in-None.is c.requires.within h) (rows_by c.args.sums.now c.in-None.is h.summed.by_quarter) c.move_gap-less.ensures.quarters
 
 pub move_both-more-requires-clause-few : goal.move_both-more-requires-clause-few
 move_both-more-requires-clause-few c = let ch = comes_in_turn c.in-None.is c.requires.within c.requires.to_come.1.1 in omega (arith, ch.few_came Import, ch.few_came Export)

@@ -7,7 +7,8 @@ pub applied-sums-requires : goal.applied-sums-requires
 applied-sums-requires c = let h = c.requires.to_go in let e = c.take_pairs_of-exchange.ensures in (all_may (turned_less c.tx-tx.ensures c.requires.within (e.exchanged h.0 h.1) e.kept h.1)).0
 
 pub applied-own-requires : goal.applied-own-requires
-applied-own-requires c = let h = c.requires.to_go in let e = c.take_pairs_of-exchange.ensures in (own_may (turned_less c.tx-tx.ensures c.requires.within (e.exchanged h.0 h.1) e.kept h.1) c.get-was.ensures c.energies_of.ensures).0
+applied-own-requires c = let h = c.requires.to_go in let e = c.take_pairs_of-exchange.ensures in
+    (own_may (turned_less c.tx-tx.ensures c.requires.within (e.exchanged h.0 h.1) e.kept h.1) c.get-was.ensures c.energies_of.ensures).0
 
 pub replace_standing-requires-clause-can : goal.replace_standing-requires-clause-can
 replace_standing-requires-clause-can c =

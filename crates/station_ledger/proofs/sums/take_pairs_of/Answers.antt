@@ -29,7 +29,8 @@ pub move_both-less-requires-clause-may : goal.move_both-less-requires-clause-may
 move_both-less-requires-clause-may c = let h = c.requires.to_go.1 in gone_held (goes_in_turn c.in-None.is c.requires.within h) (rows_by c.args.sums.now c.in-None.is h.summed.by_quarter)
 
 pub move_gap-more-requires : goal.move_gap-more-requires
-move_gap-more-requires c = let h = c.requires.to_go.1 in came_room (goes_in_turn c.in-None.is c.requires.within h) (rows_by c.args.sums.now c.in-None.is h.summed.by_quarter) c.move_both-less.ensures.quarters
+move_gap-more-requires c = let h = c.requires.to_go.1 in came_room (goes_in_turn c.in-None.is c.requires.within h)
+    (rows_by c.args.sums.now c.in-None.is h.summed.by_quarter) c.move_both-less.ensures.quarters
 
 pub returns-in-None-clause-rows : goal.returns-in-None-clause-rows
 returns-in-None-clause-rows c =

@@ -10,7 +10,7 @@ pub invariant_of-self : goal.invariant_of-self
 invariant_of-self c =
     let rs = c.self.inside.rows.items in let was = c.self.invariant in
     let e = added_there c.args.quarter (flows_toward c.args.direction c.args.flow) rs c.in-Ok.at c.index-row.result.now c.plus-energy.result c.in-Ok.ensures.stands c.index-row.ensures
-      (c.plus-energy.ensures ∙ ap (plus_flows c.index-row.result.now.energy) c.toward-more.ensures) in
+    (c.plus-energy.ensures ∙ ap (plus_flows c.index-row.result.now.energy) c.toward-more.ensures) in
     let row = with_pair (flows_toward c.args.direction c.args.flow) (row_at c.args.quarter rs) in
     record {
       in_order = subst AreInOrder (sym e) (order_set row rs was.in_order);
@@ -39,7 +39,7 @@ pub returns-in-Ok-clause-rows : goal.returns-in-Ok-clause-rows
 returns-in-Ok-clause-rows c =
     let rs = c.self.inside.rows.items in
     added_there c.args.quarter (flows_toward c.args.direction c.args.flow) rs c.in-Ok.at c.index-row.result.now c.plus-energy.result c.in-Ok.ensures.stands c.index-row.ensures
-      (c.plus-energy.ensures ∙ ap (plus_flows c.index-row.result.now.energy) c.toward-more.ensures)
+    (c.plus-energy.ensures ∙ ap (plus_flows c.index-row.result.now.energy) c.toward-more.ensures)
     ∙ ap (λ t. set_row (with_pair (flows_toward c.args.direction c.args.flow) (row_at c.args.quarter t.rows)) t.rows) c.self.view_is
 
 pub returns-in-Ok-clause-capacity : goal.returns-in-Ok-clause-capacity

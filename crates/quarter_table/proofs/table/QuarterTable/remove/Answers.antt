@@ -30,7 +30,7 @@ pub minus-energy-requires : goal.minus-energy-requires
 minus-energy-requires c =
     let same = row_read c.args.quarter c.self.inside.rows.items c.in-Ok.at c.index-row.result.now c.in-Ok.ensures.stands c.index-row.ensures in
     subst (CanMinusFlows c.index-row.result.now.energy) (sym c.toward-less.ensures)
-      (subst (λ (r : QuarterRow). CanMinusFlows r.energy (flows_toward c.args.direction c.args.flow)) (sym (same ∙ ap (λ t. row_at c.args.quarter t.rows) c.self.view_is)) c.requires.sums)
+    (subst (λ (r : QuarterRow). CanMinusFlows r.energy (flows_toward c.args.direction c.args.flow)) (sym (same ∙ ap (λ t. row_at c.args.quarter t.rows) c.self.view_is)) c.requires.sums)
 
 pub invariant_of-self-else-row-eq1 : goal.invariant_of-self-else-row-eq1
 invariant_of-self-else-row-eq1 c =
@@ -40,7 +40,7 @@ invariant_of-self-else-row-eq1 c =
     let pairs = ap (λ (r : QuarterRow). r.pairs) same in
     let more : 1 < (row_at c.args.quarter rs).pairs = omega (arith, there, pairs, c.if-row-eq1.false) in
     let e = removed_there c.args.quarter (flows_toward c.args.direction c.args.flow) rs c.in-Ok.at c.index-row.result.now c.minus-energy.result c.in-Ok.ensures.stands c.index-row.ensures
-      (c.minus-energy.ensures ∙ ap (minus_flows c.index-row.result.now.energy) c.toward-less.ensures) more in
+    (c.minus-energy.ensures ∙ ap (minus_flows c.index-row.result.now.energy) c.toward-less.ensures) more in
     let row = without_pair (flows_toward c.args.direction c.args.flow) (row_at c.args.quarter rs) in
     record {
       in_order = subst AreInOrder (sym e) (order_set row rs was.in_order);
@@ -65,5 +65,5 @@ returns-else-row-eq1-clause-rows c =
     let pairs = ap (λ (r : QuarterRow). r.pairs) same in
     let more : 1 < (row_at c.args.quarter rs).pairs = omega (arith, there, pairs, c.if-row-eq1.false) in
     removed_there c.args.quarter (flows_toward c.args.direction c.args.flow) rs c.in-Ok.at c.index-row.result.now c.minus-energy.result c.in-Ok.ensures.stands c.index-row.ensures
-      (c.minus-energy.ensures ∙ ap (minus_flows c.index-row.result.now.energy) c.toward-less.ensures) more
+    (c.minus-energy.ensures ∙ ap (minus_flows c.index-row.result.now.energy) c.toward-less.ensures) more
     ∙ ap (λ t. set_row (without_pair (flows_toward c.args.direction c.args.flow) (row_at c.args.quarter t.rows)) t.rows) c.self.view_is
