@@ -89,39 +89,12 @@ under-limits : (q : ℕ) (limits : Bounds) (b : Board) → IsBoardWithin limits 
 under-limits q limits b h =
     let es = h.entries in
     let same = ap (λ (c : Board). flows_under q c.quarters) h.is in
-    let figures = ap (λ (c : Board). c.figures) h.is in record {
-      of_up = omega (
-        arith,
-        ap (λ (f : ByDirection Energy). f.import.up) same,
-        under-board up h.order b.period q es,
-        in_quarter_up h.order Import b.period q es,
-        ap {B = ℕ} (λ f. f.up) figures,
-        h.within.up,
-      );
-      of_down = omega (
-        arith,
-        ap (λ (f : ByDirection Energy). f.import.down) same,
-        under-board down h.order b.period q es,
-        in_quarter_down h.order Import b.period q es,
-        ap {B = ℕ} (λ f. f.down) figures,
-        h.within.down,
-      );
-      of_export_up = omega (
-        arith,
-        ap (λ (f : ByDirection Energy). f.export.up) same,
-        under-board export_up h.order b.period q es,
-        in_quarter_up h.order Export b.period q es,
-        ap {B = ℕ} (λ f. f.export_up) figures,
-        h.within.export_up,
-      );
-      of_export_down = omega (
-        arith,
-        ap (λ (f : ByDirection Energy). f.export.down) same,
-        under-board export_down h.order b.period q es,
-        in_quarter_down h.order Export b.period q es,
-        ap {B = ℕ} (λ f. f.export_down) figures,
-        h.within.export_down,
-      );
+    let figures = ap (λ (c : Board). c.figures) h.is in
+    let shown = λ (p : Part). under-board p h.order b.period q es in record {
+      of_up = omega (arith, ap up.measure same, shown up, in_quarter_up h.order Import b.period q es, ap {B = ℕ} (λ f. f.up) figures, h.within.up);
+      of_down = omega (arith, ap down.measure same, shown down, in_quarter_down h.order Import b.period q es, ap {B = ℕ} (λ f. f.down) figures, h.within.down);
+      of_export_up = omega (arith, ap export_up.measure same, shown export_up, in_quarter_up h.order Export b.period q es, ap {B = ℕ} (λ f. f.export_up) figures, h.within.export_up);
+      of_export_down = omega (arith, ap export_down.measure same, shown export_down, in_quarter_down h.order Export b.period q es, ap {B = ℕ} (λ f. f.export_down) figures, h.within.export_down);
     }
 
 -- the energy of a period over two lists

@@ -33,7 +33,8 @@ use Rattle.station_ledger.proofs.MomentIndexes.{AreOf, fewer-take_each, own_putt
 use Rattle.station_ledger.proofs.MomentLists.{come, go, it_in_range, length-listed, listed-owned, listed-ranked, listed_each, live_readings-more, stand_foreign}
 use Rattle.station_ledger.proofs.MomentRanks.{owner-apart}
 use Rattle.station_ledger.proofs.MomentRuns.{length-put_each}
-use Rattle.station_ledger.proofs.MomentSides.{apart_moving, other, others_in, rest_of, rows_moved}
+use Rattle.station_ledger.proofs.Rows.{other}
+use Rattle.station_ledger.proofs.MomentSides.{apart_moving, others_in, rest_of, rows_moved}
 
 -- Two lists of pairs, by direction.
 abbrev pub of_both : List Pair → List Pair → Direction → List Pair

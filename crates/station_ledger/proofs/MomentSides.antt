@@ -5,7 +5,6 @@ use Rattle.std.specs.Str.{bytes_eq}
 use Rattle.std.proofs.lemmas.List.Sums.{sum_by-append, sum_by-cons}
 use Rattle.energy_flow.specs.Flow.{Energy, plus}
 use Rattle.ledger_model.proofs.Directions.{each_way}
-use Rattle.ledger_model.specs.declared.by_direction.ByDirection.{ByDirection}
 use Rattle.ledger_model.specs.Periods.{Periods}
 use Rattle.ledger_model.specs.declared.order.Order.TheVariants.{Moment}
 use Rattle.ledger_model.specs.declared.reading.Direction.{Direction}
@@ -45,12 +44,7 @@ use Rattle.station_ledger.proofs.MomentLists.{bare-timed, come, foreign, length-
 use Rattle.station_ledger.proofs.MomentRuns.{length-put_each}
 use Rattle.station_ledger.proofs.MomentWalks.{followed_fewer}
 use Rattle.station_ledger.proofs.Moved.{none_live}
-use Rattle.station_ledger.proofs.Rows.{long, total_quartered}
-
--- The other direction.
-abbrev pub other : Direction → Direction
-other Import = Export
-other Export = Import
+use Rattle.station_ledger.proofs.Rows.{long, other, each_toward, up_append, down_append, up_quartered, down_quartered}
 
 -- The pairs of a direction of the transactions other than one.
 abbrev pub others_in : Direction → List ℕ → List Entry → List Pair
@@ -94,29 +88,13 @@ record IsUpTo (n : ℕ) (e : Energy) : Type 0 where
 
 few_beside : (period : Periods) (most : ℕ) (d : Direction) (mine others ps : List Pair) → (energy_over mine).up + (energy_over others).up ≤ greatest_reading * most → (energy_over mine).down + (energy_over others).down ≤ greatest_reading * most
     → IsUpTo (greatest_reading * most) (energy_over ps) → AreFew most d (energy_over mine) (rest_of period d ps others)
-few_beside period most Import mine others ps up down small =
-    let a = quartered period Import others in let b = quartered period Export ps in
-    let one = total_quartered period Import others in let two = total_quartered period Export ps in
+few_beside period most d mine others ps up down small =
+    let a = quartered period d others in let b = quartered period (other d) ps in let m = energy_over mine in let o = energy_over others in let p = energy_over ps in
+    let ups = λ (k : Direction). each_toward k d (λ at beside. (at m).up + ((at o).up + (beside p).up) ≤ greatest_reading * most) (omega (arith, up)) (omega (arith, small.up)) in
+    let downs = λ (k : Direction). each_toward k d (λ at beside. (at m).down + ((at o).down + (beside p).down) ≤ greatest_reading * most) (omega (arith, down)) (omega (arith, small.down)) in
     record {
-      up = omega (arith, up, sum_by-append (λ (f : Flowed). f.1.import.up) a b, ap (λ (e : ByDirection Energy). e.import.up) one, ap (λ (e : ByDirection Energy). e.import.up) two);
-      down = omega (arith, down, sum_by-append (λ (f : Flowed). f.1.import.down) a b, ap (λ (e : ByDirection Energy). e.import.down) one, ap (λ (e : ByDirection Energy). e.import.down) two);
-      export_up = omega (arith, small.up, sum_by-append (λ (f : Flowed). f.1.export.up) a b, ap (λ (e : ByDirection Energy). e.export.up) one, ap (λ (e : ByDirection Energy). e.export.up) two);
-      export_down = omega (
-        arith,
-        small.down,
-        sum_by-append (λ (f : Flowed). f.1.export.down) a b,
-        ap (λ (e : ByDirection Energy). e.export.down) one,
-        ap (λ (e : ByDirection Energy). e.export.down) two,
-      );
-    }
-few_beside period most Export mine others ps up down small =
-    let a = quartered period Export others in let b = quartered period Import ps in
-    let one = total_quartered period Export others in let two = total_quartered period Import ps in
-    record {
-      up = omega (arith, small.up, sum_by-append (λ (f : Flowed). f.1.import.up) a b, ap (λ (e : ByDirection Energy). e.import.up) one, ap (λ (e : ByDirection Energy). e.import.up) two);
-      down = omega (arith, small.down, sum_by-append (λ (f : Flowed). f.1.import.down) a b, ap (λ (e : ByDirection Energy). e.import.down) one, ap (λ (e : ByDirection Energy). e.import.down) two);
-      export_up = omega (arith, up, sum_by-append (λ (f : Flowed). f.1.export.up) a b, ap (λ (e : ByDirection Energy). e.export.up) one, ap (λ (e : ByDirection Energy). e.export.up) two);
-      export_down = omega (arith, down, sum_by-append (λ (f : Flowed). f.1.export.down) a b, ap (λ (e : ByDirection Energy). e.export.down) one, ap (λ (e : ByDirection Energy). e.export.down) two);
+      up = λ k. omega (arith, ups k, up_append k a b, up_quartered k period d others, up_quartered k period (other d) ps);
+      down = λ k. omega (arith, downs k, down_append k a b, down_quartered k period d others, down_quartered k period (other d) ps);
     }
 
 -- How many pairs are in a row.

@@ -6,19 +6,18 @@ use Rattle.std.proofs.lemmas.List.{map-append, length-map}
 use Rattle.std.proofs.lemmas.List.Elements.{filter-append}
 use Rattle.std.proofs.lemmas.List.Sums.{sum_by-append}
 use Rattle.energy_flow.specs.Flow.{Energy}
-use Rattle.ledger_model.specs.declared.by_direction.ByDirection.{ByDirection}
+use Rattle.ledger_model.specs.ByDirection.{in_direction}
 use Rattle.ledger_model.specs.Periods.{Periods}
 use Rattle.ledger_model.specs.Board.{Flowed}
 use Rattle.ledger_model.specs.Deltas.{pairs_between, first_reading, last_reading}
 use Rattle.ledger_model.specs.Energy.{Pair, energy_over, followed}
 use Rattle.ledger_model.specs.declared.reading.Direction.{Direction}
-use Rattle.ledger_model.specs.declared.reading.Direction.TheVariants.{Import, Export}
 use Rattle.ledger_model.specs.Event.{MeterReading}
 use Rattle.ledger_model.specs.InTime.{put_in_time, runs, runs_behind}
 use Rattle.ledger_model.specs.Ranges.{greatest_reading, most_readings}
 use Rattle.ledger_model.proofs.Callers.{AreForeign, AreOwn, followed_cut, put-behind, put-front, runs_own, runs_foreign}
 use Rattle.quarter_table.specs.Table.{Table}
-use Rattle.quarter_table.specs.Pairs.{rows_of}
+use Rattle.quarter_table.specs.Pairs.{rows_of, total}
 use Rattle.quarter_table.proofs.Made.{made_alike}
 use Rattle.key_index.proofs.Orders.{above_parts, above_less}
 use Rattle.reading_index.specs.Timed.{Timed, first_of, in_front, last_of, AreAbove, AreRising, AreBelow}
@@ -26,7 +25,7 @@ use Rattle.station_ledger.specs.ByMoment.{bare, bare_one, beyond, fits, fitting,
 use Rattle.station_ledger.specs.Runs.{AreFew}
 use Rattle.station_ledger.specs.Quarters.{HasRoom, quartered}
 use Rattle.station_ledger.proofs.MomentRanks.{at}
-use Rattle.station_ledger.proofs.Rows.{long, total_quartered}
+use Rattle.station_ledger.proofs.Rows.{long, each_toward, up_append, down_append, up_quartered, down_quartered}
 use Rattle.station_ledger.proofs.Walks.{energy_over-append, quartered-append}
 
 -- The pairs of readings, with a run of some in a gap and without.
@@ -61,37 +60,24 @@ followed_fewer r (s ∷ rs) = let rest = followed_fewer s rs in omega (arith, re
 
 -- A little more of it.
 pub few_more : (most more : ℕ) (d : Direction) (e f : Energy) (rest : List Flowed) → AreFew most d e rest → f.up ≤ e.up + greatest_reading * more → f.down ≤ e.down + greatest_reading * more → AreFew (most + more) d f rest
-few_more most more Import e f rest few up down = record {
-  up = omega (arith, few.up, up);
-  down = omega (arith, few.down, down);
-  export_up = omega (arith, few.export_up);
-  export_down = omega (arith, few.export_down);
-}
-few_more most more Export e f rest few up down = record {
-  up = omega (arith, few.up);
-  down = omega (arith, few.down);
-  export_up = omega (arith, few.export_up, up);
-  export_down = omega (arith, few.export_down, down);
+few_more most more d e f rest few up down = record {
+  up = λ k. let r = (in_direction k (total rest)).up in
+      each_toward k d (λ at beside. (at e).up + r ≤ greatest_reading * most → (at f).up + r ≤ greatest_reading * (most + more)) (λ h. omega (arith, h, up)) (λ h. omega (arith, h)) (few.up k);
+  down = λ k. let r = (in_direction k (total rest)).down in
+      each_toward k d (λ at beside. (at e).down + r ≤ greatest_reading * most → (at f).down + r ≤ greatest_reading * (most + more)) (λ h. omega (arith, h, down)) (λ h. omega (arith, h)) (few.down k);
 }
 
 -- There is room for pairs beside these.
 pub has_room : (period : Periods) (d : Direction) (ps : List Pair) (rest : List Flowed) (n most : ℕ) (t : Table) → t.rows ≡ rows_of (quartered period d ps ++ rest) → length ps + length rest + n ≤ t.capacity → t.capacity ≤ most_readings
     → AreFew most d (energy_over ps) rest → most + n ≤ 2 * most_readings → HasRoom n t
 has_room period d ps rest n most t rows room few_rows few small =
-    let mine = quartered period d ps in
-    let own = total_quartered period d ps in
-    let ups = sum_by-append (λ (f : Flowed). f.1.import.up) mine rest in
-    let downs = sum_by-append (λ (f : Flowed). f.1.import.down) mine rest in
-    let export_ups = sum_by-append (λ (f : Flowed). f.1.export.up) mine rest in
-    let export_downs = sum_by-append (λ (f : Flowed). f.1.export.down) mine rest in (
+    let mine = quartered period d ps in (
       mine ++ rest,
       record {
         rows = rows;
         room = omega (arith, room, length-append mine rest, long period d ps);
-        up = omega (arith, ups, ap (λ (e : ByDirection Energy). e.import.up) own, few.up, small);
-        down = omega (arith, downs, ap (λ (e : ByDirection Energy). e.import.down) own, few.down, small);
-        export_up = omega (arith, export_ups, ap (λ (e : ByDirection Energy). e.export.up) own, few.export_up, small);
-        export_down = omega (arith, export_downs, ap (λ (e : ByDirection Energy). e.export.down) own, few.export_down, small);
+        up = λ k. omega (arith, up_append k mine rest, up_quartered k period d ps, few.up k, small);
+        down = λ k. omega (arith, down_append k mine rest, down_quartered k period d ps, few.down k, small);
         few = few_rows;
       },
     )

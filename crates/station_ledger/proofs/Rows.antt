@@ -2,10 +2,10 @@
 use Rattle.std.proofs.Common.{◌≡◌, ℕ, ◌+◌, ◌*◌, ◌<◌, ◌≤◌, List, [], ◌∷◌, ◌++◌, length, sym, ap, subst, ◌∙◌, arith, length-append}
 use Rattle.std.proofs.lemmas.List.{length-map}
 use Rattle.std.proofs.lemmas.List.Sums.{sum_by-append}
-use Rattle.energy_flow.specs.Flow.{Energy}
+use Rattle.energy_flow.specs.Flow.{Energy, no_energy, CanPlus}
 use Rattle.ledger_model.specs.Periods.{Periods}
 use Rattle.ledger_model.specs.Board.{Flowed}
-use Rattle.ledger_model.specs.ByDirection.{flows_toward, CanPlusFlows, CanMinusFlows}
+use Rattle.ledger_model.specs.ByDirection.{in_direction, flows_toward, CanPlusFlows, CanMinusFlows}
 use Rattle.ledger_model.specs.declared.by_direction.ByDirection.{ByDirection}
 use Rattle.ledger_model.specs.Energy.{Pair, difference, energy_over, quarter_of}
 use Rattle.ledger_model.proofs.Callers.{sum_by-map}
@@ -22,17 +22,34 @@ use Rattle.quarter_table.proofs.Several.{made_with, made_without}
 use Rattle.station_ledger.specs.declared.pairs.Way.TheVariants.{Coming, Going}
 use Rattle.station_ledger.specs.Quarters.{IsDifference, AreRows, HasRoom, IsSumOf, IsTableMoved, quartered}
 
--- energies of both directions that are at most so much
-pub record AreAtMost (n : ℕ) (f : ByDirection Energy) : Type 0 where
-  pub up : f.import.up ≤ n
-  pub down : f.import.down ≤ n
-  pub export_up : f.export.up ≤ n
-  pub export_down : f.export.down ≤ n
+-- The other direction.
+abbrev pub other : Direction → Direction
+other Import = Export
+other Export = Import
 
--- an energy in one direction is at most itself in both
-pub at_most : (d : Direction) (e : Energy) (n : ℕ) → e.up ≤ n → e.down ≤ n → AreAtMost n (flows_toward d e)
-at_most Import e n up down = record { up = up; down = down; export_up = omega arith; export_down = omega arith }
-at_most Export e n up down = record { up = omega arith; down = omega arith; export_up = up; export_down = down }
+-- What holds of an energy of a direction in that direction, and not in the other, holds in each.
+pub each_toward : (k d : Direction) (P : (Energy → Energy) → (Energy → Energy) → Type 0) → P (λ e. e) (λ e. no_energy) → P (λ e. no_energy) (λ e. e)
+    → P (λ e. in_direction k (flows_toward d e)) (λ e. in_direction k (flows_toward (other d) e))
+each_toward Import Import P own apart = own
+each_toward Import Export P own apart = apart
+each_toward Export Import P own apart = apart
+each_toward Export Export P own apart = own
+
+-- an energy of a direction is at most itself in each
+up_toward : (k d : Direction) (e : Energy) → (in_direction k (flows_toward d e)).up ≤ e.up
+up_toward k d e = each_toward k d (λ at beside. (at e).up ≤ e.up) (omega arith) (omega arith)
+
+down_toward : (k d : Direction) (e : Energy) → (in_direction k (flows_toward d e)).down ≤ e.down
+down_toward k d e = each_toward k d (λ at beside. (at e).down ≤ e.down) (omega arith) (omega arith)
+
+-- pairs behind others add up with them
+pub up_append : (d : Direction) (a b : List Flowed) → (in_direction d (total (a ++ b))).up ≡ (in_direction d (total a)).up + (in_direction d (total b)).up
+up_append Import a b = sum_by-append (λ (f : Flowed). f.1.import.up) a b
+up_append Export a b = sum_by-append (λ (f : Flowed). f.1.export.up) a b
+
+pub down_append : (d : Direction) (a b : List Flowed) → (in_direction d (total (a ++ b))).down ≡ (in_direction d (total a)).down + (in_direction d (total b)).down
+down_append Import a b = sum_by-append (λ (f : Flowed). f.1.import.down) a b
+down_append Export a b = sum_by-append (λ (f : Flowed). f.1.export.down) a b
 
 -- what pairs of a direction add up to is what their differences do
 pub total_quartered : (period : Periods) (d : Direction) (ps : List Pair) → total (quartered period d ps) ≡ flows_toward d (energy_over ps)
@@ -50,6 +67,13 @@ total_quartered period Export ps =
     let up = sum_by-map (λ (f : Flowed). f.1.import.up) shown ps ∙ sum_by-none ps in
     let down = sum_by-map (λ (f : Flowed). f.1.import.down) shown ps ∙ sum_by-none ps in
     λ i. record { import = record { up = up i; down = down i }; export = record { up = export_up i; down = export_down i } }
+
+-- in each direction
+pub up_quartered : (k : Direction) (period : Periods) (d : Direction) (ps : List Pair) → (in_direction k (total (quartered period d ps))).up ≡ (in_direction k (flows_toward d (energy_over ps))).up
+up_quartered k period d ps = ap (λ (e : ByDirection Energy). (in_direction k e).up) (total_quartered period d ps)
+
+pub down_quartered : (k : Direction) (period : Periods) (d : Direction) (ps : List Pair) → (in_direction k (total (quartered period d ps))).down ≡ (in_direction k (flows_toward d (energy_over ps))).down
+down_quartered k period d ps = ap (λ (e : ByDirection Energy). (in_direction k e).down) (total_quartered period d ps)
 
 pub long : (period : Periods) (d : Direction) (ps : List Pair) → length (quartered period d ps) ≡ length ps
 long period d ps = length-map {B = Flowed} ps (λ p. (quarter_of period p, flows_toward d (difference p)))
@@ -69,11 +93,11 @@ module _ (t : Table) (more : ℕ) (has : HasRoom more t) where
 
   pub room_for_flow : (q : ℕ) (d : Direction) (flow : Energy) → IsDifference flow → CanPlusFlows (row_at q t.rows).energy (flows_toward d flow)
   room_for_flow q d flow small =
-      let few = at_most d flow greatest_reading small.up small.down in
-      subst (λ r. CanPlusFlows r.energy (flows_toward d flow)) (sym (row_is q)) (record {
-        import = record { up = omega (arith, row_up_le Import q has.0, has.1.up, few.up); down = omega (arith, row_down_le Import q has.0, has.1.down, few.down) };
-        export = record { up = omega (arith, row_up_le Export q has.0, has.1.export_up, few.export_up); down = omega (arith, row_down_le Export q has.0, has.1.export_down, few.export_down) };
-      })
+      let fits : (k : Direction) → CanPlus (in_direction k (row_of q has.0).energy) (in_direction k (flows_toward d flow)) = λ k. record {
+        up = omega (arith, row_up_le k q has.0, has.1.up k, up_toward k d flow, small.up);
+        down = omega (arith, row_down_le k q has.0, has.1.down k, down_toward k d flow, small.down);
+      } in
+      subst (λ r. CanPlusFlows r.energy (flows_toward d flow)) (sym (row_is q)) (record { import = fits Import; export = fits Export })
 
 -- what is there may be taken out
 module _ (q : ℕ) (flow : ByDirection Energy) (others : List Flowed) (t : Table) (is : t.rows ≡ rows_of ((q, flow) ∷ others)) where
@@ -91,21 +115,14 @@ pub rows_more : (period : Periods) (d : Direction) {ps : List Pair} {e : Energy}
     → IsSumOf ps e → IsTableMoved Coming (quartered period d ps) t new → AreRows (quartered period d ps ++ others) less new
 rows_more period d {ps = ps} {t = t} {new = new} others more less was n sum put =
     let mine = quartered period d ps in
-    let ups = sum_by-append (λ (f : Flowed). f.1.import.up) mine others in
-    let downs = sum_by-append (λ (f : Flowed). f.1.import.down) mine others in
-    let export_ups = sum_by-append (λ (f : Flowed). f.1.export.up) mine others in
-    let export_downs = sum_by-append (λ (f : Flowed). f.1.export.down) mine others in
-    let up : (energy_over ps).up ≤ greatest_reading * length ps = omega (arith, sum.up, ap (λ (f : Energy). f.up) sum.is) in
-    let down : (energy_over ps).down ≤ greatest_reading * length ps = omega (arith, sum.down, ap (λ (f : Energy). f.down) sum.is) in
-    let few = at_most d (energy_over ps) (greatest_reading * length ps) up down in
-    let own = total_quartered period d ps in
+    let all = energy_over ps in
+    let up : all.up ≤ greatest_reading * length ps = omega (arith, sum.up, ap (λ (f : Energy). f.up) sum.is) in
+    let down : all.down ≤ greatest_reading * length ps = omega (arith, sum.down, ap (λ (f : Energy). f.down) sum.is) in
     record {
       rows = put.rows ∙ ap (rows_with mine) was.rows ∙ made_with mine others;
       room = omega (arith, was.room, length-append mine others, put.capacity, n, long period d ps);
-      up = omega (arith, was.up, ups, few.up, n, ap (λ (e : ByDirection Energy). e.import.up) own);
-      down = omega (arith, was.down, downs, few.down, n, ap (λ (e : ByDirection Energy). e.import.down) own);
-      export_up = omega (arith, was.export_up, export_ups, few.export_up, n, ap (λ (e : ByDirection Energy). e.export.up) own);
-      export_down = omega (arith, was.export_down, export_downs, few.export_down, n, ap (λ (e : ByDirection Energy). e.export.down) own);
+      up = λ k. omega (arith, was.up k, up_append k mine others, up_quartered k period d ps, up_toward k d all, up, n);
+      down = λ k. omega (arith, was.down k, down_append k mine others, down_quartered k period d ps, down_toward k d all, down, n);
       few = omega (arith, was.few, put.capacity);
     }
 
@@ -115,7 +132,7 @@ rows_less {ps = ps} others is taken = taken.rows ∙ ap (rows_without ps) is ∙
 
 -- fewer of the pairs for which there is room
 pub room_fewer : {more less : ℕ} {t : Table} → HasRoom more t → less ≤ more → HasRoom less t
-room_fewer has le = (has.0, record { rows = has.1.rows; room = omega (arith, has.1.room, le); up = omega (arith, has.1.up, le); down = omega (arith, has.1.down, le); export_up = omega (arith, has.1.export_up, le); export_down = omega (arith, has.1.export_down, le); few = has.1.few })
+room_fewer has le = (has.0, record { rows = has.1.rows; room = omega (arith, has.1.room, le); up = λ k. omega (arith, has.1.up k, le); down = λ k. omega (arith, has.1.down k, le); few = has.1.few })
 
 -- there is room for few
 pub few_room : {more : ℕ} {t : Table} → HasRoom more t → more ≤ most_readings

@@ -3,10 +3,8 @@ use Rattle.std.proofs.Common.{◌≡◌, ℕ, ◌+◌, ◌-◌, ◌*◌, ◌≤�
 use Rattle.std.specs.List.{sum_by}
 use Rattle.std.proofs.lemmas.List.Sums.{sum_by-append, sum_by-cons}
 use Rattle.energy_flow.specs.Flow.{Energy, plus, minus, CanPlus, CanMinus}
-use Rattle.ledger_model.specs.declared.by_direction.ByDirection.{ByDirection}
-use Rattle.ledger_model.specs.ByDirection.{in_each}
+use Rattle.ledger_model.specs.ByDirection.{in_direction}
 use Rattle.ledger_model.specs.Periods.{Periods}
-use Rattle.ledger_model.specs.Board.{Flowed}
 use Rattle.ledger_model.specs.Content.{Entry}
 use Rattle.ledger_model.specs.Deltas.{IsOneMore, came_by, gone_by, kept_by}
 use Rattle.ledger_model.specs.Energy.{Pair, difference, energy, energy_by, energy_of, energy_over, pairs, pairs_of}
@@ -25,7 +23,7 @@ use Rattle.station_ledger.specs.declared.pairs.Way.TheVariants.{Coming, Going}
 use Rattle.station_ledger.specs.Quarters.{HasRoom, HoldsBoth, IsTableMoved, both_length, both_quartered, quartered}
 use Rattle.station_ledger.specs.Sums.{AreAllowed, AreQuarterRows}
 use Rattle.station_ledger.proofs.Bounded.{few_up, few_down, few_pairs}
-use Rattle.station_ledger.proofs.Rows.{long, rows_less, total_quartered}
+use Rattle.station_ledger.proofs.Rows.{long, rows_less, up_append, down_append, up_quartered, down_quartered}
 
 -- The pairs of a direction before and after, and those of one transaction.
 pub record IsTraded (d : Direction) (tx : List ℕ) (es new : List Entry) (gone came kept : List Pair) : Type 0 where
@@ -98,19 +96,18 @@ module _ (order : Order) (d : Direction) (limits : Bounds) (es : List Entry) (be
       let down : (flow.down + more.down) - less.down ≡ is.down = omega (arith, down_was, downs) in
       λ i. record { up = up i; down = down i }
 
-total_both : (period : Periods) (ps : Direction → List Pair) → total (both_quartered period ps) ≡ in_each (λ d. energy_over (ps d))
-total_both period ps =
-    let a = quartered period Import (ps Import) in let b = quartered period Export (ps Export) in
-    let one = total_quartered period Import (ps Import) in let other = total_quartered period Export (ps Export) in
-    let up : (total (a ++ b)).import.up ≡ (energy_over (ps Import)).up =
-    omega (arith, sum_by-append (λ (f : Flowed). f.1.import.up) a b, ap (λ (e : ByDirection Energy). e.import.up) one, ap (λ (e : ByDirection Energy). e.import.up) other) in
-    let down : (total (a ++ b)).import.down ≡ (energy_over (ps Import)).down =
-    omega (arith, sum_by-append (λ (f : Flowed). f.1.import.down) a b, ap (λ (e : ByDirection Energy). e.import.down) one, ap (λ (e : ByDirection Energy). e.import.down) other) in
-    let export_up : (total (a ++ b)).export.up ≡ (energy_over (ps Export)).up =
-    omega (arith, sum_by-append (λ (f : Flowed). f.1.export.up) a b, ap (λ (e : ByDirection Energy). e.export.up) one, ap (λ (e : ByDirection Energy). e.export.up) other) in
-    let export_down : (total (a ++ b)).export.down ≡ (energy_over (ps Export)).down =
-    omega (arith, sum_by-append (λ (f : Flowed). f.1.export.down) a b, ap (λ (e : ByDirection Energy). e.export.down) one, ap (λ (e : ByDirection Energy). e.export.down) other) in
-    λ i. record { import = record { up = up i; down = down i }; export = record { up = export_up i; down = export_down i } }
+-- pairs of both directions add up in each as those of that direction
+up_both : (k : Direction) (period : Periods) (ps : Direction → List Pair) → (in_direction k (total (both_quartered period ps))).up ≡ (energy_over (ps k)).up
+up_both Import period ps =
+    omega (arith, up_append Import (quartered period Import (ps Import)) (quartered period Export (ps Export)), up_quartered Import period Import (ps Import), up_quartered Import period Export (ps Export))
+up_both Export period ps =
+    omega (arith, up_append Export (quartered period Import (ps Import)) (quartered period Export (ps Export)), up_quartered Export period Import (ps Import), up_quartered Export period Export (ps Export))
+
+down_both : (k : Direction) (period : Periods) (ps : Direction → List Pair) → (in_direction k (total (both_quartered period ps))).down ≡ (energy_over (ps k)).down
+down_both Import period ps =
+    omega (arith, down_append Import (quartered period Import (ps Import)) (quartered period Export (ps Export)), down_quartered Import period Import (ps Import), down_quartered Import period Export (ps Export))
+down_both Export period ps =
+    omega (arith, down_append Export (quartered period Import (ps Import)) (quartered period Export (ps Export)), down_quartered Export period Import (ps Import), down_quartered Export period Export (ps Export))
 
 -- pairs of both directions that add up as those that go or come and those that are kept
 parted : (period : Periods) (all some rest : Direction → List Pair) → ((d : Direction) (f : Pair → ℕ) → sum_by f (all d) ≡ sum_by f (some d ++ rest d)) → rows_of (both_quartered period all) ≡ rows_of (both_quartered period some ++ both_quartered period rest)
@@ -142,16 +139,13 @@ module _ (limits : Bounds) (tx : List ℕ) (es new : List Entry) (gone came kept
 
       pub room : both_length came ≤ most_readings → HasRoom (both_length came) t1
       room few =
-          let sum = total_both period kept in
           let n = length-append (quartered period Import (kept Import)) (quartered period Export (kept Export)) in (
             both_quartered period kept,
             record {
               rows = left_rows;
               room = omega (arith, n, long period Import (kept Import), long period Export (kept Export), count Import, count Export, few_pairs Sequence new, after.readings_within, taken.capacity, rows.room);
-              up = omega (arith, ap (λ (e : ByDirection Energy). e.import.up) sum, kept_up Import, before.most_readings_within, few);
-              down = omega (arith, ap (λ (e : ByDirection Energy). e.import.down) sum, kept_down Import, before.most_readings_within, few);
-              export_up = omega (arith, ap (λ (e : ByDirection Energy). e.export.up) sum, kept_up Export, before.most_readings_within, few);
-              export_down = omega (arith, ap (λ (e : ByDirection Energy). e.export.down) sum, kept_down Export, before.most_readings_within, few);
+              up = λ k. omega (arith, up_both k period kept, kept_up k, before.most_readings_within, few);
+              down = λ k. omega (arith, down_both k period kept, kept_down k, before.most_readings_within, few);
               few = omega (arith, taken.capacity, rows.room, before.most_readings_within);
             },
           )

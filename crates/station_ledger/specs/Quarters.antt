@@ -41,10 +41,8 @@ both_length ps = length (ps Import) + length (ps Export)
 pub record AreRows (pairs : List Flowed) (more : ℕ) (t : Table) : Type 0 where
   pub rows : t.rows ≡ rows_of pairs
   pub room : length pairs + more ≤ t.capacity
-  pub up : (total pairs).import.up + greatest_reading * more ≤ greatest_reading * (2 * most_readings)
-  pub down : (total pairs).import.down + greatest_reading * more ≤ greatest_reading * (2 * most_readings)
-  pub export_up : (total pairs).export.up + greatest_reading * more ≤ greatest_reading * (2 * most_readings)
-  pub export_down : (total pairs).export.down + greatest_reading * more ≤ greatest_reading * (2 * most_readings)
+  pub up : (d : Direction) → (in_direction d (total pairs)).up + greatest_reading * more ≤ greatest_reading * (2 * most_readings)
+  pub down : (d : Direction) → (in_direction d (total pairs)).down + greatest_reading * more ≤ greatest_reading * (2 * most_readings)
   pub few : t.capacity ≤ most_readings
 
 -- A table of pairs with room for so many more.

@@ -6,7 +6,7 @@ use Rattle.ledger_model.specs.Periods.{Periods}
 use Rattle.ledger_model.specs.Board.{Flowed}
 use Rattle.ledger_model.specs.Deltas.{pairs_between}
 use Rattle.ledger_model.specs.declared.reading.Direction.{Direction}
-use Rattle.ledger_model.specs.ByDirection.{flows_toward}
+use Rattle.ledger_model.specs.ByDirection.{in_direction, flows_toward}
 use Rattle.ledger_model.specs.Energy.{Pair, energy_over, followed}
 use Rattle.ledger_model.specs.InTime.{runs}
 use Rattle.ledger_model.specs.Ranges.{greatest_reading, most_event_readings, most_readings}
@@ -28,10 +28,8 @@ own_timed seq t = number_of t.0 == seq
 
 -- The sums of a direction's pairs and of others are, in each part, no more than so many readings can show.
 pub record AreFew (most : ℕ) (d : Direction) (e : Energy) (rest : List Flowed) : Type 0 where
-  pub up : (flows_toward d e).import.up + (total rest).import.up ≤ greatest_reading * most
-  pub down : (flows_toward d e).import.down + (total rest).import.down ≤ greatest_reading * most
-  pub export_up : (flows_toward d e).export.up + (total rest).export.up ≤ greatest_reading * most
-  pub export_down : (flows_toward d e).export.down + (total rest).export.down ≤ greatest_reading * most
+  pub up : (k : Direction) → (in_direction k (flows_toward d e)).up + (in_direction k (total rest)).up ≤ greatest_reading * most
+  pub down : (k : Direction) → (in_direction k (flows_toward d e)).down + (in_direction k (total rest)).down ≤ greatest_reading * most
 
 -- The pairs of readings without their ranks.
 abbrev pub pairs_among : List Timed → List Pair

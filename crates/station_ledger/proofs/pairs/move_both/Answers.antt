@@ -6,7 +6,8 @@ pub move_own-import-requires-clause-may : goal.move_own-import-requires-clause-m
 move_own-import-requires-clause-may c = may_first c.args.period (sides_between c.args.place.now c.args.chains.now c.args.key.now) c.args.quarters.now c.args.way c.requires.may
 
 pub move_own-export-requires-clause-may : goal.move_own-export-requires-clause-may
-move_own-export-requires-clause-may c = may_second c.args.period (sides_between c.args.place.now c.args.chains.now c.args.key.now) c.args.quarters.now c.args.way c.requires.may c.move_own-import.ensures
+move_own-export-requires-clause-may c =
+    may_second c.args.period (sides_between c.args.place.now c.args.chains.now c.args.key.now) c.args.quarters.now c.args.way c.requires.may c.move_own-import.ensures
 
 pub returns : goal.returns
 returns c = did_both c.args.way (sides_between c.args.place.now c.args.chains.now c.args.key.now) c.move_own-import.ensures c.move_own-export.ensures

@@ -25,5 +25,6 @@ loop-left-preserved c =
     let steps : left ≡ r ∷ rest = first_and_rest left rest r r c.in-len1-up.len_at_least c.reading-item.is (take_rest left 1) in
     let other : r.direction ≡ d → ⊥ = search rules in
     let between = pairs_between c.args.sides.before (toward d c.args.readings.now) c.args.sides.behind in
-    subst (λ rs. IsMoving c.args.way c.args.period d between (pairs_between c.loop-left.last rs c.args.sides.behind) c.args.quarters.now c.loop-left.quarters c.args.work.now c.loop-left.work c.loop-left.total)
+    subst (λ rs. IsMoving c.args.way c.args.period d between (pairs_between c.loop-left.last rs c.args.sides.behind) c.args.quarters.now c.loop-left.quarters
+    c.args.work.now c.loop-left.work c.loop-left.total)
     (toward_rest d left rest r steps other) c.loop-left.invariant

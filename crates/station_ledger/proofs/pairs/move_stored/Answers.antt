@@ -8,4 +8,5 @@ move_across-flow-requires c = may_first c.args.period c.args.direction _ _ c.loo
     (ap (λ rs. pairs_between c.loop-reading.last rs c.args.sides.behind) c.in-Some.ensures.steps) c.args.way c.loop-reading.invariant.may
 
 pub loop-reading-preserved : goal.loop-reading-preserved
-loop-reading-preserved c = moving_one (ap (λ rs. pairs_between c.loop-reading.last rs c.args.sides.behind) c.in-Some.ensures.steps) c.loop-reading.invariant c.move_across-flow.ensures c.plus-total.ensures
+loop-reading-preserved c =
+    moving_one (ap (λ rs. pairs_between c.loop-reading.last rs c.args.sides.behind) c.in-Some.ensures.steps) c.loop-reading.invariant c.move_across-flow.ensures c.plus-total.ensures

@@ -33,12 +33,15 @@ replace_standing-requires-clause-at c = subst (λ (k : Mapped Standing). IfSome 
 pub replace_standing-requires-clause-can : goal.replace_standing-requires-clause-can
 replace_standing-requires-clause-can c =
     let h = c.requires.to_come in let e = c.add_pairs_of-exchange.ensures in
-    can_replace (turned_more c.tx-tx.ensures c.requires.within (e.exchanged h.0 c.args.names h.1) e.kept h.1) c.found-at.ensures.was c.energies_of.ensures c.applied-own.ensures c.standing_after-is.ensures
+    can_replace (turned_more c.tx-tx.ensures c.requires.within (e.exchanged h.0 c.args.names h.1) e.kept h.1) c.found-at.ensures.was
+    c.energies_of.ensures c.applied-own.ensures c.standing_after-is.ensures
 
 pub returns-clause-summed : goal.returns-clause-summed
 returns-clause-summed c =
     let h = c.requires.to_come in let e = c.add_pairs_of-exchange.ensures in
-    replaced (turned_more c.tx-tx.ensures c.requires.within (e.exchanged h.0 c.args.names h.1) e.kept h.1) c.found-at.ensures.was c.energies_of.ensures c.applied-own.ensures c.standing_after-is.ensures e.rows e.timed c.applied-sums.ensures c.replace_standing.ensures
+    replaced (turned_more c.tx-tx.ensures c.requires.within (e.exchanged h.0 c.args.names h.1) e.kept h.1) c.found-at.ensures.was
+    c.energies_of.ensures c.applied-own.ensures c.standing_after-is.ensures
+    e.rows e.timed c.applied-sums.ensures c.replace_standing.ensures
 
 pub returns-clause-order : goal.returns-clause-order
 returns-clause-order c = ap order_of c.replace_standing.ensures.by_moment ∙ c.add_pairs_of-exchange.ensures.kept.order

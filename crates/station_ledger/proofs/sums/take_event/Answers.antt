@@ -18,7 +18,8 @@ replace_standing-requires-clause-can c =
 pub returns-clause-summed : goal.returns-clause-summed
 returns-clause-summed c =
     let h = c.requires.to_go in let e = c.take_pairs_of-exchange.ensures in
-    replaced (turned_less c.tx-tx.ensures c.requires.within (e.exchanged h.0 h.1) e.kept h.1) c.get-was.ensures c.energies_of.ensures c.applied-own.ensures c.standing_of-is.ensures e.rows e.timed c.applied-sums.ensures c.replace_standing.ensures
+    replaced (turned_less c.tx-tx.ensures c.requires.within (e.exchanged h.0 h.1) e.kept h.1) c.get-was.ensures c.energies_of.ensures c.applied-own.ensures c.standing_of-is.ensures
+    e.rows e.timed c.applied-sums.ensures c.replace_standing.ensures
 
 pub returns-clause-order : goal.returns-clause-order
 returns-clause-order c = ap order_of c.replace_standing.ensures.by_moment ∙ c.take_pairs_of-exchange.ensures.kept.order
