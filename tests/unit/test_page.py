@@ -44,15 +44,7 @@ from ocpp_board.fleet.web.operators import (  # noqa: E402
 )
 from ocpp_board.fleet.web.page_app import local_path  # noqa: E402
 from ocpp_board.fleet.web.page_deeds import session_said  # noqa: E402
-from ocpp_board.fleet.web.page_render import (  # noqa: E402
-    Line,
-    environment,
-    heads_of,
-    lines_of,
-    link,
-    moment,
-    rendered,
-)
+from ocpp_board.fleet.web.page_render import link, moment  # noqa: E402
 from ocpp_board.fleet.web.page_views import (  # noqa: E402
     FILE,
     MOST_LETTERS,
@@ -71,6 +63,8 @@ from ocpp_board.fleet.admin.set_operator import (  # noqa: E402
     sites_of,
 )
 from ocpp_board.fleet.web.site_pages import fragment_of, session_path  # noqa: E402
+from ocpp_board.reports import pages  # noqa: E402
+from ocpp_board.reports.rendering import rendered  # noqa: E402
 from ocpp_board.fleet.database.states import (  # noqa: E402
     EVENTS,
     SESSIONS,
@@ -322,7 +316,7 @@ def test_files_of_a_site(name: str, is_known: bool) -> None:
 
 def test_what_comes_from_outside_is_no_html() -> None:
     evil = "<b>\"x\"&'y'</b>"
-    assert "<b>" not in link(f"/session/A/{evil}", evil) and "<b>" not in lines_of(evil, "x")
+    assert "<b>" not in link(f"/session/A/{evil}", evil) and "<b>" not in pages.lines_of(evil, "x")
     values: dict[str, Any] = {
         **{
             "title": evil,
@@ -333,14 +327,15 @@ def test_what_comes_from_outside_is_no_html() -> None:
         },
         **{
             "whole": "",
+            "refresh": None,
             "links": [],
             "here": "",
             "drawn": moment(None),
-            "heads": heads_of(evil, f" {evil}"),
+            "columns": pages.columns_of(evil, f" {evil}"),
         },
-        **{"rows": [Line([evil, evil])], "caption": evil},
+        **{"rows": [pages.Row([evil, evil])], "caption": evil},
     }
-    page = rendered(environment(), "refused.html", values)
+    page = rendered("fleet/refused.html", **values)
     assert evil not in page and page.count("&lt;b&gt;") >= 7
 
 
@@ -366,9 +361,8 @@ def test_a_site_says_how_it_is_read_and_settles(reckoning: Reckoning, said: str)
 
 
 def test_a_fragment_is_read_as_it_was_written() -> None:
-    one = fragment_of("Site a&amp;b\nMon 1\none\n<p>\nx")
+    one = fragment_of('["Site a&b", "Mon 1", true]\n<p>\nx')
     assert tuple(one) == ("Site a&b", "Mon 1", True, "<p>\nx")
-    assert fragment_of("Site boards\n\n\n<p>").is_one is False
 
 
 # The API --------------------------------------------------------------------------------------------------------------

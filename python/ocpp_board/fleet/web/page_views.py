@@ -22,7 +22,7 @@ from ocpp_board.fleet.database.figures import summed
 from ocpp_board.fleet.web.histories import Entry, History, history_of
 from ocpp_board.fleet.web.operators import SEES, VOIDS
 from ocpp_board.fleet.web.page_app import Asked, view
-from ocpp_board.fleet.web.page_render import Line, heads_of, lines_of, link, moment, zone_of
+from ocpp_board.fleet.web.page_render import in_utc, link, moment, zone_of
 from ocpp_board.fleet.database.plans import DEFAULT_ORDER, DEFAULT_SETTLE
 from ocpp_board.fleet.web.site_pages import fragment_of, session_path
 from ocpp_board.fleet.web.site_store import DAYS, SiteStore
@@ -38,7 +38,8 @@ from ocpp_board.messages.times import seconds_of
 from ocpp_board.messages.transactions import moment as moment_of
 from ocpp_board.replay.boards import Numbers
 from ocpp_board.reports.page_sections import UNKNOWN
-from ocpp_board.reports.pages import flow_heads
+from ocpp_board.reports.pages import MARK, Row, columns_of, flow_heads, lines_of
+from ocpp_board.reports.rendering import piece
 from ocpp_board.reports.session_times import duration
 
 FILE = re.compile(
@@ -88,7 +89,7 @@ STATES = {
     SETTLED: "Its figures are settled.",
     CORRECTED: "Its figures were settled, and corrected since by a later closing.",
 }
-DEED_HEADS = heads_of("When", " Who", " From where", " What", " Why", " Answer")
+DEEDS_SHOWN = columns_of("When", " Who", " From where", " What", " Why", " Answer")
 STORE = SiteStore()
 
 
@@ -114,7 +115,7 @@ def energy_cells(numbers: Numbers, is_exporting: bool) -> tuple[str, list[str]]:
     return kwh(flow.net), others
 
 
-def site_line(site: Site, is_exporting: bool) -> Line:
+def site_line(site: Site, is_exporting: bool) -> Row:
     """A site's row."""
     numbers, (net, others) = site.numbers, energy_cells(site.numbers, is_exporting)
     name: str = link(site_path(site.name), site.name)
@@ -141,7 +142,7 @@ def site_line(site: Site, is_exporting: bool) -> Line:
         sessions_said(site.states()),
         lines_of(moment(site.at, site.zone), site.zone),
     ]
-    return Line(cells, site.is_troubled)
+    return Row(cells, MARK if site.is_troubled else "")
 
 
 @view(SEES)
@@ -157,7 +158,7 @@ async def all_sites(asked: Asked) -> Response:
         complete = share(whole["complete"], whole["transactions"]) or UNKNOWN
         counts = [f"{whole[name]:,}" for name in ("transactions", "missing", "voided", "stations")]
         cells = ["All of these", net, complete, *counts[:2], *others, *counts[2:], "", "", ""]
-        rows.append(Line(cells))
+        rows.append(Row(cells))
     net_head, *flows = (f"{head}, kWh" for head in flow_heads(is_exporting))
     heads = ["Site", net_head, "Complete", "Sessions", "Missing numbers", *flows]
     heads += ["Voided events", "Stations", " Energy is", " Sessions are", " Last change"]
@@ -166,10 +167,10 @@ async def all_sites(asked: Asked) -> Response:
         "sites.html",
         "All sites",
         is_live=True,
-        heads=heads_of(*heads),
+        columns=columns_of(*heads),
         rows=rows,
         caption="1 site" if len(sites) == 1 else f"{len(sites):,} sites",
-        until=until and Markup("{} UTC").format(moment(until)),
+        until=in_utc(until),
         faults=faults,
         late=await asked.desk.cells.behind(),
     )
@@ -283,7 +284,7 @@ class Part(NamedTuple):
 
     title: str
     caption: str
-    rows: list[Line]
+    rows: list[Row]
     none: str
 
 
@@ -295,7 +296,7 @@ def gap_words(text: str | None) -> str:
     )
 
 
-def lacking_line(row: Any, voids: bool) -> Line:
+def lacking_line(row: Any, voids: bool) -> Row:
     """A session's row."""
     cells = [
         link(session_path(row["station"], row["transaction"]), row["transaction"]),
@@ -309,7 +310,7 @@ def lacking_line(row: Any, voids: bool) -> Line:
     if voids:
         words = urlencode({"station": row["station"], "transaction": row["transaction"]})
         cells.append(link(f"/operate?{words}", "void .."))
-    return Line(cells)
+    return Row(cells)
 
 
 @view(SEES)
@@ -346,8 +347,8 @@ async def lacking(asked: Asked) -> Response:
         "Sessions that lack messages",
         is_live=True,
         parts=parts,
-        heads=heads_of(*heads, *([" Command"] if voids else [])),
-        until=until and Markup("{} UTC").format(moment(until)),
+        columns=columns_of(*heads, *([" Command"] if voids else [])),
+        until=in_utc(until),
         faults=faults,
         late=await cells.behind(),
     )
@@ -373,7 +374,7 @@ def reading_text(entry: Entry) -> str:
     return f"{message.get('eventType')} {message.get('seqNo')}{read}"
 
 
-def entry_line(entry: Entry, zone: str) -> Line:
+def entry_line(entry: Entry, zone: str) -> Row:
     """The row of a line of a session."""
     message = entry.message or {}
     text = str(message.get("timestamp") or "")
@@ -383,7 +384,8 @@ def entry_line(entry: Entry, zone: str) -> Line:
     why = f"{who.operator}, {who.address}: {who.reason}" if who else ""
     is_bad = entry.answer.startswith(("[4,", "fault ", "refused "))
     heard = moment(entry.at, zone, UNKNOWN)
-    return Line([reading_text(entry), at, heard, entry.answer, where, why], is_bad)
+    cells = [reading_text(entry), at, heard, entry.answer, where, why]
+    return Row(cells, MARK if is_bad else "")
 
 
 def shown_of(lines: Iterable[str]) -> list[str]:
@@ -397,7 +399,7 @@ def shown_of(lines: Iterable[str]) -> list[str]:
     return found
 
 
-def deed_line(row: Any, zone: str, is_of_one: bool) -> Line:
+def deed_line(row: Any, zone: str, is_of_one: bool) -> Row:
     """The row of what an operator did."""
     what = f"{row['command']} {row['number']}"
     cells = [moment(row["at"], zone), row["operator"], row["address"]]
@@ -406,9 +408,9 @@ def deed_line(row: Any, zone: str, is_of_one: bool) -> Line:
     else:
         path = session_path(row["station"], row["transaction"])
         cells.append(
-            lines_of(what, Markup("{} {}").format(row["station"], link(path, row["transaction"])))
+            lines_of(what, piece("joined", [row["station"], link(path, row["transaction"])], " "))
         )
-    return Line([*cells, row["reason"], row["answer"] or UNKNOWN])
+    return Row([*cells, row["reason"], row["answer"] or UNKNOWN])
 
 
 def session_figures(history: History) -> list[tuple[str, str, bool]]:
@@ -479,9 +481,9 @@ async def session(asked: Asked) -> Response:
         state=STATES[history.state],
         figures=session_figures(history),
         caption=caption,
-        heads=heads_of(*heads),
+        columns=columns_of(*heads),
         rows=rows,
-        deed_heads=DEED_HEADS,
+        deed_columns=DEEDS_SHOWN,
         deeds=[deed_line(row, history.zone, True) for row in history.deeds],
         script="\n".join(shown),
         left=f"{len(script) - len(shown):,}" if len(script) > len(shown) else "",
@@ -514,7 +516,7 @@ async def refused(asked: Asked) -> Response:
         " What to do",
     )
     lines = [
-        Line(
+        Row(
             [
                 kept(row["cause"]),
                 row["station"],
@@ -526,7 +528,7 @@ async def refused(asked: Asked) -> Response:
                 row["what"],
                 row["advice"],
             ],
-            True,
+            MARK,
         )
         for row in rows
     ]
@@ -536,7 +538,7 @@ async def refused(asked: Asked) -> Response:
     return asked.page(
         "refused.html",
         title,
-        heads=heads_of(*heads),
+        columns=columns_of(*heads),
         rows=lines,
         caption=caption,
         faults=found.faults,
@@ -550,7 +552,7 @@ def session_link(row: Any) -> str:
     return link(session_path(row["station"], row["transaction"].lower()), row["transaction"])
 
 
-def change_line(row: Any) -> Line:
+def change_line(row: Any) -> Row:
     """The row of a change of the plan."""
     before, after = (parsed(row[name]) for name in ("before", "after"))
     if before and after:
@@ -558,11 +560,11 @@ def change_line(row: Any) -> Line:
         pairs = [(key, f"{plain(before.get(key))} to {plain(after[key])}") for key in keys]
     else:
         pairs = [(key, plain(one)) for key, one in (after or before).items() if one]
-    text = Markup(", ").join(Markup("{}: {}").format(key, kept(one)) for key, one in pairs)
+    text = piece("joined", [piece("joined", [key, kept(one)], ": ") for key, one in pairs], ", ")
     own = row["station"] or row["site"] or (after or before).get("name") or row["in_shard"]
     what = lines_of(f"{row['command'].lower()} {row['part'].removeprefix('own_')}", kept(str(own)))
     who = f"{row['operator']} as {row['login']}" if row["operator"] else row["login"]
-    return Line(
+    return Row(
         [moment(row["at"]), who, row["address"] or UNKNOWN, what, text, row["reason"] or UNKNOWN]
     )
 
@@ -576,7 +578,7 @@ def plain(value: Any) -> str:
 
 def kept(text: str) -> str:
     """A value that is not broken, where it is short."""
-    return Markup('<span class="whole">{}</span>').format(text) if len(text) < 36 else text
+    return piece("whole", text) if len(text) < 36 else text
 
 
 def parsed(text: Any) -> dict[str, Any]:
@@ -597,9 +599,9 @@ async def changes(asked: Asked) -> Response:
     return asked.page(
         "changes.html",
         "Who did what",
-        deed_heads=DEED_HEADS,
+        deed_columns=DEEDS_SHOWN,
         deeds=[deed_line(row, "UTC", False) for row in deed_rows],
-        change_heads=heads_of(*change_heads),
+        change_columns=columns_of(*change_heads),
         changes=[change_line(row) for row in change_rows],
         faults=deeds.faults,
     )
