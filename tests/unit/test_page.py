@@ -14,16 +14,19 @@ import pytest
 for package in ("asyncpg", "starlette", "uvicorn", "jinja2", "yaml"):
     pytest.importorskip(package)
 
+from starlette.routing import Route  # noqa: E402
+
 from ocpp_board.fleet.web import operators  # noqa: E402
 from ocpp_board.fleet.web.api import (  # noqa: E402
+    FRONT,
     ROUTES,
     Paging,
     cursor_of,
+    description,
     flow_json,
     key_of,
     moment_word,
 )
-from ocpp_board.fleet.web.api_schema import SCHEMAS  # noqa: E402
 from ocpp_board.fleet.closing.billing import Row, month_in, month_of  # noqa: E402
 from ocpp_board.fleet.web.cells import Late, Site, Wrong, staying  # noqa: E402
 from ocpp_board.fleet.closing.close_day import corrections_of  # noqa: E402
@@ -75,6 +78,7 @@ from ocpp_board.fleet.database.states import (  # noqa: E402
     states_of,
 )
 from ocpp_board.energies import FLOW, Flow  # noqa: E402
+from ocpp_board.limits import ORDERS, RULES  # noqa: E402
 
 SALT_OF_ANN = bytes(range(SALT))
 WHERE = "192.0.2.1"
@@ -442,9 +446,17 @@ def test_moments_of_a_query() -> None:
 
 
 def test_the_description_has_each_endpoint() -> None:
-    reported = SCHEMAS.get_schema(ROUTES)
-    assert len(reported["paths"]) == 7 and all("get" in one for one in reported["paths"].values())
+    reported = description()
+    paths = {route.path for route in ROUTES if isinstance(route, Route)}
+    described = {path.replace("{transaction}", "{transaction:path}") for path in reported["paths"]}
+    assert paths - described == {f"{FRONT}/openapi.json", "/api/{path:path}"} and described < paths
+    assert all("get" in one for one in reported["paths"].values())
     text = json.dumps(reported)
+    site = reported["components"]["schemas"]["Site"]["properties"]
+    assert site["settle"]["enum"] == list(RULES) and site["reading_order"]["enum"] == list(ORDERS)
+    assert {*FLOW, *SESSIONS, *EVENTS} < site.keys() and site["states"][
+        "properties"
+    ].keys() < site.keys()
     for name in reported["components"]["schemas"]:
         assert text.count(f"#/components/schemas/{name}") or name in ("Fault",)
 
