@@ -216,6 +216,10 @@ class Checks:
             )
 
 
+MORE_ROOM = (
+    "more room by --limits of log-to-script or live, in a script by a line `limits <transactions> <events> "
+    "<readings> <changes>` before its `station` line"
+)
 REMEDIES = {
     "TextTooLong": ("the message has more than 262,144 bytes", "a shorter message"),
     "OutOfMemory": ("there was no memory", "run it where there is more, or with less in `limits`"),
@@ -226,23 +230,19 @@ REMEDIES = {
     ),
     "TooManyTransactions": (
         "the station has as many transactions as its limits allow",
-        "more room by --limits of log-to-script or live, in a script by a line `limits <transactions> <events> "
-        "<readings> <changes>` before its `station` line",
+        MORE_ROOM,
     ),
     "EventsFull": (
         "the station has as many events as its limits allow; voided ones count until they are erased",
-        "more room by --limits of log-to-script or live, in a script by a line `limits <transactions> <events> "
-        "<readings> <changes>` before its `station` line",
+        MORE_ROOM,
     ),
     "ReadingsFull": (
         "the station has as many readings as its limits allow",
-        "more room by --limits of log-to-script or live, in a script by a line `limits <transactions> <events> "
-        "<readings> <changes>` before its `station` line",
+        MORE_ROOM,
     ),
     "ChangesExhausted": (
         "the station has accepted as many changes as its limits allow",
-        "more room by --limits of log-to-script or live, in a script by a line `limits <transactions> <events> "
-        "<readings> <changes>` before its `station` line",
+        MORE_ROOM,
     ),
     "NoSuchEvent": (
         "the station has no event with this transaction id and this number",
@@ -256,14 +256,9 @@ REMEDIES = {
 }
 
 
-def is_kept_nothing_of(action: str) -> bool:
-    """Whether this is an action of OCPP 2.0.1, but the ledger keeps nothing of it."""
-    return action in OTHER_ACTIONS
-
-
 def unknown_action(action: str) -> Said:
     """Why an action is none that is answered."""
-    if is_kept_nothing_of(action):
+    if action in OTHER_ACTIONS:
         return (
             f"the action {shown(action)} is one of OCPP 2.0.1; the ledger keeps nothing of it",
             "nothing is to be done; whoever answers the station answers it",

@@ -196,25 +196,21 @@ class Page:
     """A page that grows in its file, and gets its frame at the end."""
 
     def __init__(self, path: str) -> None:
-        self.path, self.size = path, 0
-        with open(path, "w", encoding="utf-8"):
-            pass
+        self.path, self.size = Path(path), 0
+        self.write("")
 
     def put(self, text: str) -> None:
         """Adds a text to its end. Raises OSError."""
-        with open(self.path, "a", encoding="utf-8", newline="") as file:
-            file.write(text)
-        self.size += len(text.encode())
+        with open(self.path, "ab") as file:
+            self.size += file.write(text.encode())
 
     def body(self) -> Markup:
         """What was put. Raises OSError."""
-        with open(self.path, encoding="utf-8", newline="") as file:
-            return Markup(file.read())
+        return Markup(self.path.read_bytes().decode())
 
     def write(self, text: str) -> None:
         """Writes the whole page in place of its body. Raises OSError."""
-        with open(self.path, "w", encoding="utf-8", newline="") as file:
-            file.write(text)
+        self.path.write_bytes(text.encode())
 
 
 class Series:
@@ -249,12 +245,14 @@ class Series:
         first, *numbers = self.places(sizes)
         texts = [front([self.path_of(number) for number in numbers]), *sections]
         for before, number, text in zip((0, first, *numbers), (first, *numbers), texts):
-            self.put(number, ("" if number == before else site_head(board, number == first)) + text)
+            values = {"board": board, "is_first": number == first}
+            head = "" if number == before else rendered("reports/site_head.html", **values)
+            self.put(number, head + text)
         return self.path_of(first)
 
     def frame(self, layout: Layout, name: str, title: str, whole: str = "", **values: Any) -> None:
         """Gives each page its frame, by a template. Raises OSError."""
-        files = [Path(page.path).name for page in self.pages]
+        files = [page.path.name for page in self.pages]
         for number, page in enumerate(self.pages, 1):
             on = "" if number == 1 else f", page {number:,}"
             titles = (title, whole + on) if whole else (title + on, "")
@@ -262,36 +260,9 @@ class Series:
             page.write(layout.page(name, *titles, **some))
 
 
-def site_head(board: Board, is_first: bool) -> Markup:
-    """The heading of a board's site on a page, which goes on there where it is not the first of the board."""
-    return rendered("reports/site_head.html", board=board, is_first=is_first)
-
-
-def weekday(day: date) -> str:
-    """A day's name of the week."""
-    return ("Mon", "Tue", "Wed", "Thu", "Fri", "Sat", "Sun")[day.weekday()]
-
-
-class Names:
-    """The names of the sites with boards on a page, for its title."""
-
-    def __init__(self) -> None:
-        self.boards = 0
-        self.site = ""
-
-    def add(self, board: Board) -> None:
-        """Another board is shown."""
-        self.boards += 1
-        self.site = board.site.name
-
-    @property
-    def is_one(self) -> bool:
-        """Whether there is only one board."""
-        return self.boards == 1
-
-    def title(self) -> str:
-        """The title of a page."""
-        return f"Site {self.site}" if self.is_one else "Site boards"
+def title_of(sites: Sequence[str]) -> str:
+    """The title of a page with boards of these sites."""
+    return f"Site {sites[0]}" if len(sites) == 1 else "Site boards"
 
 
 class DayPages:
@@ -302,7 +273,7 @@ class DayPages:
         # The days that boards have, and the pages of those that are written.
         self.shown: set[date] = set()
         self.days: dict[date, Series] = {}
-        self.names = Names()
+        self.names = list[str]()
         self.until: datetime | None = None
         # The days with pages that are as they would be written.
         self.unchanged: frozenset[date] | set[date] = frozenset()
@@ -311,7 +282,7 @@ class DayPages:
 
     def add(self, board: Board) -> None:
         """Adds a board to the page of each of its days. All its stations have one scale."""
-        self.names.add(board)
+        self.names.append(board.site.name)
         self.until = last_end([board.site], self.until)
         shown = self.calendar.shown
         site = Scale(p.flow for p in shown(board.site.periods))
@@ -417,9 +388,9 @@ class DayPages:
             self.days[day].frame(
                 self.layout,
                 "reports/day.html",
-                f"{self.names.title()},",
-                whole=f"{weekday(day)} {day}",
-                is_one=self.names.is_one,
+                f"{title_of(self.names)},",
+                whole=f"{day:%a} {day}",
+                is_one=len(self.names) == 1,
                 stamp=self.layout.day_stamp(self.until),
                 hours=self.calendar.seconds(day) / 3600,
                 links=list(filter(None, links)),
@@ -436,7 +407,7 @@ def session_mark(session: Session) -> tuple[object, ...]:
 
 def day_link(layout: Layout, day: date | None, arrow: str) -> str:
     """A link to another day, where there is one."""
-    return link(layout.day(day), f"{arrow}{day} {weekday(day)}") if day else ""
+    return link(layout.day(day), f"{arrow}{day} {day:%a}") if day else ""
 
 
 def last_end(parts: Iterable[Part], before: datetime | None) -> datetime | None:
@@ -519,13 +490,13 @@ class Index:
     def __init__(self, layout: Layout) -> None:
         self.layout = layout
         self.series = Series(layout.index)
-        self.names = Names()
+        self.names = list[str]()
         self.sites = SiteRows()
         self.until: datetime | None = None
 
     def add(self, board: Board) -> None:
         """Adds a board: what it comes to in front, and then each station, those with troubles first."""
-        self.names.add(board)
+        self.names.append(board.site.name)
         self.until = last_end([board.site], self.until)
         stations = sorted(board.stations, key=trouble_of)
         labels = [f"b{board.number}-{number}" for number in range(1, len(stations) + 1)]
@@ -635,7 +606,7 @@ class Index:
         """The rows of days, which lead to their pages."""
         names = {day: link(self.layout.day(day), str(day)) for day in shown}
         return [
-            Row(day_cells(piece("joined", [name, weekday(day)], " "), days[day], has_export, most))
+            Row(day_cells(piece("joined", [name, f"{day:%a}"], " "), days[day], has_export, most))
             for day, name in names.items()
         ]
 
@@ -694,14 +665,14 @@ class Index:
 
     def close(self) -> None:
         """Gives each page its title, and the table of sites where there are several boards."""
-        rows = self.sites.rows if self.names.boards > 1 else []
+        rows = self.sites.rows if len(self.names) > 1 else []
         some = SiteRows(rows[-MOST_BOARDS:], self.sites.totals)
         left = f", the last {len(some.rows):,} of {len(rows):,}"
         self.series.frame(
             self.layout,
             "reports/index.html",
-            self.names.title(),
-            is_one=self.names.is_one,
+            title_of(self.names),
+            is_one=len(self.names) == 1,
             until=self.until,
             caption=f"Boards of the text, in their order{left if len(some.rows) < len(rows) else ''}",
             columns=SITES,

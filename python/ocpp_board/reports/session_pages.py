@@ -1,7 +1,7 @@
 """The page of a session: its figures, what came with its answers, who voided what and why, and its lines."""
 
 import os
-from collections.abc import Iterable, Iterator, Mapping, Sequence
+from collections.abc import Callable, Iterable, Iterator, Mapping, Sequence
 from dataclasses import dataclass, field
 from datetime import datetime
 from pathlib import Path
@@ -10,7 +10,7 @@ from urllib.parse import quote
 
 from markupsafe import Markup, escape
 
-from ocpp_board.energies import kwh
+from ocpp_board.energies import Flow, kwh
 from ocpp_board.logs.mending import MendedMessages
 from ocpp_board.messages.bills import file_of
 from ocpp_board.messages.transactions import Event
@@ -20,10 +20,10 @@ from ocpp_board.replay.refusals import Refusals, Row as Refused
 from ocpp_board.replay.script_lines import OpenedLines, ScriptLines
 from ocpp_board.reports.calendars import Calendar
 from ocpp_board.reports.page_sections import UNKNOWN, Figure, doubts_of, when
-from ocpp_board.reports.pages import MARK, Row, columns_of, kept, ranges
+from ocpp_board.reports.pages import MARK, Row, cells_of, columns_of, flow_heads, kept, ranges
 from ocpp_board.reports.rendering import rendered
 from ocpp_board.reports.session_facts import SessionFacts
-from ocpp_board.reports.session_times import duration
+from ocpp_board.reports.session_times import SessionTimes, duration
 from ocpp_board.shared_work import shared
 
 # Rows of a page's tables, and characters of the lines that it has.
@@ -245,21 +245,30 @@ def deed_row(deed: Deed) -> Row:
 
 def figures(session: Session, calendar: Calendar) -> list[Figure]:
     """The figures of a session."""
-    flow, times, lost = session.flow, session.times, session.lost()
-    cells = [("Net", f"{kwh(flow.net)} kWh"), ("Up", f"{kwh(flow.up)} kWh")]
-    cells.append(("Down", f"{kwh(flow.down)} kWh"))
-    if flow.export_up or flow.export_down:
-        cells.append(("Export up", f"{kwh(flow.export_up)} kWh"))
-        cells.append(("Export down", f"{kwh(flow.export_down)} kWh"))
-    cells.append(("EVSE", str(session.evse) if session.evse else "not named"))
+    times, lost = session.times, session.lost()
+    cells = flow_figures(session.flow)
+    cells.append(("EVSE", str(session.evse) if session.evse else "not named", False))
     if lost:
-        cells.append(("Missing numbers", ranges(lost[:20]) + (" and more" if lost[20:] else "")))
+        text = ranges(lost[:20]) + (" and more" if lost[20:] else "")
+        cells.append(("Missing numbers", text, False))
     if times:
-        cells.append(("Start", when(times.start, calendar)))
-        cells.append(("End", when(times.end, calendar)))
-        cells.append(("Duration", duration(times.seconds) or UNKNOWN))
-        for name, read in (("Register", times.imported), ("Export register", times.exported)):
-            if read:
-                cells.append((name, f"{kwh(read.first)} to {kwh(read.last)} kWh"))
-        cells.append(("Stopped", times.reason or UNKNOWN))
+        cells += time_figures(times, lambda at: when(at, calendar))
+        cells.append(("Stopped", times.reason or UNKNOWN, False))
+    return cells
+
+
+def flow_figures(flow: Flow) -> list[Figure]:
+    """The figures of a session's energy, with exports where there are some."""
+    has_export = bool(flow.export_up or flow.export_down)
+    cells = zip(flow_heads(has_export), cells_of(flow, has_export))
+    return [(name, f"{cell} kWh", False) for name, cell in cells]
+
+
+def time_figures(times: SessionTimes, when_of: Callable[[datetime | None], str]) -> list[Figure]:
+    """The figures of a session's times and registers. `when_of`: a moment for a reader."""
+    cells = [("Start", when_of(times.start)), ("End", when_of(times.end))]
+    cells.append(("Duration", duration(times.seconds) or UNKNOWN))
+    for name, read in (("Register", times.imported), ("Export register", times.exported)):
+        if read:
+            cells.append((name, f"{kwh(read.first)} to {kwh(read.last)} kWh"))
     return [(name, cell, False) for name, cell in cells]

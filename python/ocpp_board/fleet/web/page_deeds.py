@@ -13,7 +13,7 @@ from typing import Any
 import asyncpg
 from starlette.responses import RedirectResponse, Response
 
-from ocpp_board.fleet.web.cells import Cell, Deed, Wrong
+from ocpp_board.fleet.web.cells import Deed, Wrong
 from ocpp_board.fleet.web.operators import CLOSES, VOIDS
 from ocpp_board.fleet.web.page_app import Asked, fields_of, view
 from ocpp_board.fleet.web.page_render import moment, zone_of
@@ -179,7 +179,7 @@ async def ask_closing(asked: Asked) -> Response:
     try:
         day, reason = words.checked()
         rows, _ = await asked.desk.cells.site(asked.operator, words.site)
-        for cell in unique(cell for cell, _ in rows):
+        for cell in dict.fromkeys(cell for cell, _ in rows):
             values = (words.site, day, reason, asked.operator.name, asked.address, number)
             await cell.do(REQUEST, *values)
     except Wrong as why:
@@ -190,8 +190,3 @@ async def ask_closing(asked: Asked) -> Response:
         return await closings_page(asked, words, str(fault), HTTPStatus.BAD_REQUEST)
     log.info("%s, %s: closing of %s up to %s", asked.address, asked.operator.name, *words[:2])
     return RedirectResponse("/closings", HTTPStatus.SEE_OTHER)
-
-
-def unique(cells: Any) -> list[Cell]:
-    """Each cell once."""
-    return list(dict.fromkeys(cells))

@@ -14,7 +14,7 @@ from urllib.parse import quote, urlencode
 from markupsafe import Markup
 from starlette.responses import RedirectResponse, Response
 
-from ocpp_board.energies import flow_of, kwh, share
+from ocpp_board.energies import flow_of, share
 from ocpp_board.fleet.closing import billing
 from ocpp_board.fleet.web.api_queries import DAY
 from ocpp_board.fleet.web.cells import Cell, Site, Wrong, merged
@@ -36,11 +36,10 @@ from ocpp_board.fleet.database.states import (
 from ocpp_board.limits import TRANSACTION, is_name
 from ocpp_board.messages.times import seconds_of
 from ocpp_board.messages.transactions import moment as moment_of
-from ocpp_board.replay.boards import Numbers
-from ocpp_board.reports.page_sections import UNKNOWN
-from ocpp_board.reports.pages import MARK, Row, columns_of, flow_heads, lines_of
+from ocpp_board.reports.page_sections import UNKNOWN, Figure
+from ocpp_board.reports.pages import MARK, Row, cells_of, columns_of, flow_heads, lines_of, ranges
 from ocpp_board.reports.rendering import piece
-from ocpp_board.reports.session_times import duration
+from ocpp_board.reports.session_pages import flow_figures, time_figures
 
 FILE = re.compile(
     r"board(\.\d{4}-\d\d-\d\d(\.\d{1,4})?|\.\d{1,4})?\.html|board\.(periods|transactions)\.csv"
@@ -107,17 +106,10 @@ def site_path(name: str) -> str:
     return f"/site/{quote(name, safe='')}/"
 
 
-def energy_cells(numbers: Numbers, is_exporting: bool) -> tuple[str, list[str]]:
-    """The net energy, and the others."""
-    flow = flow_of(numbers)
-    others = [kwh(flow.up), kwh(flow.down)]
-    others += [kwh(flow.export_up), kwh(flow.export_down)] if is_exporting else []
-    return kwh(flow.net), others
-
-
 def site_line(site: Site, is_exporting: bool) -> Row:
     """A site's row."""
-    numbers, (net, others) = site.numbers, energy_cells(site.numbers, is_exporting)
+    numbers = site.numbers
+    net, *others = cells_of(flow_of(numbers), is_exporting)
     name: str = link(site_path(site.name), site.name)
     rules = [
         text
@@ -154,7 +146,7 @@ async def all_sites(asked: Asked) -> Response:
     rows = [site_line(site, is_exporting) for site in sites]
     if len(sites) > 1:
         whole = summed(site.numbers for site in sites)
-        net, others = energy_cells(whole, is_exporting)
+        net, *others = cells_of(flow_of(whole), is_exporting)
         complete = share(whole["complete"], whole["transactions"]) or UNKNOWN
         counts = [f"{whole[name]:,}" for name in ("transactions", "missing", "voided", "stations")]
         cells = ["All of these", net, complete, *counts[:2], *others, *counts[2:], "", "", ""]
@@ -215,7 +207,7 @@ async def site_file(asked: Asked) -> Response:
         about=about,
         archived=f"{pages.archived:,}" if pages.archived else "",
         days=DAYS,
-        refused=refused_said(times),
+        refused=times,
         refused_path=f"/refused?{urlencode({'site': name})}",
         month=f"{datetime.now(timezone.utc):%Y-%m}",
         faults=faults,
@@ -252,13 +244,6 @@ async def day_about(rows: list[tuple[Cell, Any]], name: str, day: date) -> str:
         if some
     ]
     return f"The energy of this day is {'; '.join(parts)}."
-
-
-def refused_said(times: int) -> str:
-    """How many messages were refused."""
-    if not times:
-        return ""
-    return "1 message was refused" if times == 1 else f"{times:,} messages were refused"
 
 
 def csv_response(data: bytes, name: str) -> Response:
@@ -413,30 +398,19 @@ def deed_line(row: Any, zone: str, is_of_one: bool) -> Row:
     return Row([*cells, row["reason"], row["answer"] or UNKNOWN])
 
 
-def session_figures(history: History) -> list[tuple[str, str, bool]]:
+def session_figures(history: History) -> list[Figure]:
     """A session's figures: each with its name, and whether it is marked."""
     numbers, times = history.numbers, history.times
     if not numbers:
         return [("Events", "none that counts", True)]
-    flow = flow_of(numbers)
-    cells = [("Net", f"{kwh(flow.net)} kWh", False), ("Up", f"{kwh(flow.up)} kWh", False)]
-    cells.append(("Down", f"{kwh(flow.down)} kWh", False))
-    if flow.export_up or flow.export_down:
-        cells += [("Export up", f"{kwh(flow.export_up)} kWh", False)]
-        cells += [("Export down", f"{kwh(flow.export_down)} kWh", False)]
+    cells = flow_figures(flow_of(numbers))
     is_complete = bool(numbers["complete"])
     cells.append(("Complete", "yes" if is_complete else "no", not is_complete))
-    gaps = [str(a) if a == b else f"{a} to {b}" for a, b in history.gaps]
-    text = f"{numbers['missing']:,}" + (f": {gap_words(', '.join(gaps))}" if gaps else "")
+    gaps = ranges(history.gaps)
+    text = f"{numbers['missing']:,}" + (f": {gap_words(gaps)}" if gaps else "")
     cells.append(("Missing numbers", text, numbers["missing"] > 0))
     cells.append(("EVSE", str(numbers["evse"] or "not named"), False))
-    for name, at in (("Start", times.start), ("End", times.end)):
-        cells.append((name, moment(at, history.zone, UNKNOWN), False))
-    cells.append(("Duration", duration(times.seconds) or UNKNOWN, False))
-    for name, registers in (("Register", times.imported), ("Export register", times.exported)):
-        if registers:
-            read = f"{kwh(registers.first)} to {kwh(registers.last)} kWh"
-            cells.append((name, read, False))
+    cells += time_figures(times, lambda at: moment(at, history.zone, UNKNOWN))
     if times.reason:
         cells.append(("Stopped", times.reason, False))
     return cells
