@@ -8,6 +8,7 @@ from typing import Any
 
 from ocpp_board.escapes import shown
 from ocpp_board.limits import GREATEST_SEQ_NO, TRANSACTION
+from ocpp_board.messages.meter_values import EXPORT, IMPORT
 from ocpp_board.messages.times import NO_OFFSET, OUT_OF_RANGE, fault_of
 from ocpp_board.replay.line_faults import Said
 
@@ -21,7 +22,7 @@ OTHER_ACTIONS = frozenset(
 )
 # Actions of OCPP 1.6 that 2.0.1 has not.
 OLD_ACTIONS = frozenset(("StartTransaction", "StopTransaction", "DiagnosticsStatusNotification"))
-COUNTED = (None, "Energy.Active.Import.Register", "Energy.Active.Export.Register")
+COUNTED = (None, IMPORT, EXPORT)
 KINDS = ("Started", "Updated", "Ended")
 # EVSEs of a station, exponents of a unit's multiplier, and readings of a message.
 MOST_EVSES, GREATEST_MULTIPLIER, MOST_READINGS = 64, 12, 1_024
