@@ -90,6 +90,13 @@ def add_tokens(parser: argparse.ArgumentParser) -> None:
     )
 
 
+def add_replay(parser: argparse.ArgumentParser) -> None:
+    """The options of tools that replay messages for pages: which power can be, how tokens are written, the program."""
+    add_power(parser)
+    add_tokens(parser)
+    add_program(parser)
+
+
 def zone(name: str) -> ZoneInfo:
     """A time zone by its name, such as Europe/Berlin. Raises ArgumentTypeError where this system has none such."""
     try:

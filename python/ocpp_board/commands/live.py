@@ -60,15 +60,7 @@ from ocpp_board.reports.live_pages import Pages, Shown
 from ocpp_board.reports.session_facts import SessionFacts
 from ocpp_board.sources import is_gzip
 from ocpp_board.statuses import Mistaken, Status, ended
-from ocpp_board.words import (
-    add_power,
-    add_program,
-    add_tokens,
-    options_of,
-    parsed,
-    parser_of,
-    zone,
-)
+from ocpp_board.words import add_replay, options_of, parsed, parser_of, zone
 
 log = logging.getLogger(__name__)
 
@@ -379,9 +371,7 @@ def arguments(argv: Sequence[str], prog: str) -> Options:
         help="the time zone of days and hours, such as Europe/Berlin",
     )
     add_log(parser)
-    add_power(parser)
-    add_tokens(parser)
-    add_program(parser)
+    add_replay(parser)
     words = parsed(parser, argv)
     plan, in_zone = plan_options(parser, words), words.tz or timezone.utc
     if (words.script is None) == (words.log is None):

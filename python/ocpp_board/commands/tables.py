@@ -76,15 +76,7 @@ from ocpp_board.reports.session_pages import Known
 from ocpp_board.reports.tables import Files, write_files
 from ocpp_board.sources import is_gzip, opened
 from ocpp_board.statuses import Mistaken, ended
-from ocpp_board.words import (
-    add_power,
-    add_program,
-    add_tokens,
-    options_of,
-    parsed,
-    parser_of,
-    zone,
-)
+from ocpp_board.words import add_replay, options_of, parsed, parser_of, zone
 
 log = logging.getLogger(__name__)
 
@@ -214,9 +206,7 @@ def arguments(argv: Sequence[str], prog: str) -> Options:
         metavar="SCRIPT",
         help="the script that the text is of: its messages give times of transactions, findings, and what was refused",
     )
-    add_power(parser)
-    add_tokens(parser)
-    add_program(parser)
+    add_replay(parser)
     add_moments(parser)
     words = parsed(parser, argv)
     if words.day:
