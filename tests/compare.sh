@@ -9,6 +9,9 @@ set -u
 program=${1:+$(realpath "$1")}
 replay=${2:+$(realpath "$2")}
 top=$(cd "$(dirname "$0")/.." && pwd) && cd "$top/tests/tools" || exit
+# Pages are made by Debian's Python, which needs Jinja2 for them.
+export PATH=/usr/bin:$PATH
+pageless=$("$top/tests/installed" python3-jinja2)
 # What is compared is in this folder, and the days of traffic are in:
 export days=../../examples
 export board=$top/python/ocpp-board
@@ -108,6 +111,33 @@ with_program() {
     reports 2 "No such file or directory" "$board" explain --program ./nowhere "$days/day.script"
     reports 2 "No space left on device" bash -c '"$board" explain --program "$1" explain/mistakes.script > /dev/full' _ "$program"
 
+    # A day on which stations list readings again has, by moment, the periods of the same day without them; by sequence
+    # it has others.
+    "$one" traffic 3 sessions | "$program" replay | grep '^period' > "$made/once.lines"
+    "$one" traffic 3 repeats | "$program" replay | grep '^period' > "$made/again.lines"
+    "$one" traffic 3 repeats | grep -v '^order' | "$program" replay | grep '^period' > "$made/sequence.lines"
+    if diff "$made/once.lines" "$made/again.lines" && ! cmp -s "$made/once.lines" "$made/sequence.lines"; then
+        echo "a day with readings that are listed again: $(wc -l < "$made/once.lines") periods as without"
+    else
+        differs "a day with readings that are listed again"
+    fi
+    # Commands that are drawn, at a site by moment and at one by sequence, against plain lists.
+    "$one" drawn_orders "$program" || differs drawn_orders
+    "$one" settled_month "$program" || differs settled_month
+
+    if /usr/bin/python3 -c "import websockets" 2> /dev/null; then
+        written_as examples/clients/README.md
+        grep -q "^tx tx-1 .* complete=yes" "$made/given" || differs "the board of the client that examples/clients shows"
+    else
+        echo "examples/clients/README.md: not tried, since python3-websockets is not installed"
+    fi
+
+    # 50 events of each of two stations: a session of 48 and one of 2. In each all but the first rise by 250 Wh.
+    gives 0 forms/traffic.text bash -c '"$one" traffic 100 --stations 2 | "$1" replay | grep -v "^.3,"' _ "$program"
+}
+
+# What tables and live give of it, and the commands of the examples.
+pages_with_program() {
     # The ledgers are open by the time that the operator's lines come.
     gives 0 live/answers bash -c '{ sleep 2; cat live/operator; } | "$board" live --program "$1" --out "$2" --every 0.2 \
         --tz Europe/Berlin <(cat forms/ocpp.script; sleep 4)' _ "$program" "$made/live"
@@ -148,23 +178,10 @@ with_program() {
         --program "$1" --out "$2" "$2.text"' _ "$program" "$made/untaken"
     holds tables/untaken.said
 
-    # A day on which stations list readings again has, by moment, the periods of the same day without them; by sequence
-    # it has others.
-    "$one" traffic 3 sessions | "$program" replay | grep '^period' > "$made/once.lines"
-    "$one" traffic 3 repeats | "$program" replay | grep '^period' > "$made/again.lines"
-    "$one" traffic 3 repeats | grep -v '^order' | "$program" replay | grep '^period' > "$made/sequence.lines"
-    if diff "$made/once.lines" "$made/again.lines" && ! cmp -s "$made/once.lines" "$made/sequence.lines"; then
-        echo "a day with readings that are listed again: $(wc -l < "$made/once.lines") periods as without"
-    else
-        differs "a day with readings that are listed again"
-    fi
     # Its sessions have no finding; by sequence each that lists readings again has one.
     gives 0 - "$board" tables --script "$days/repeats.script" --program "$program" --written $written --out "$made/repeated" \
         "$days/repeats.expected"
     as_stored tables/repeats.findings.csv "$made/repeated.findings.csv"
-    # Commands that are drawn, at a site by moment and at one by sequence, against plain lists.
-    "$one" drawn_orders "$program" || differs drawn_orders
-    "$one" settled_month "$program" || differs settled_month
 
     # The commands of the examples, as they are written there.
     written_as README.md
@@ -173,15 +190,6 @@ with_program() {
     [ -s "$made/as_written/live/riverside.html" ] && [ -s "$made/as_written/site.findings.csv" ] ||
         differs "what the commands of the examples write"
     holds tables/month.said
-    if /usr/bin/python3 -c "import websockets" 2> /dev/null; then
-        written_as examples/clients/README.md
-        grep -q "^tx tx-1 .* complete=yes" "$made/given" || differs "the board of the client that examples/clients shows"
-    else
-        echo "examples/clients/README.md: not tried, since python3-websockets is not installed"
-    fi
-
-    # 50 events of each of two stations: a session of 48 and one of 2. In each all but the first rise by 250 Wh.
-    gives 0 forms/traffic.text bash -c '"$one" traffic 100 --stations 2 | "$1" replay | grep -v "^.3,"' _ "$program"
 }
 
 # written_as README: the commands of this page, with the program that is built and in a folder of their own, but for
@@ -279,7 +287,8 @@ if [ -n "$program" ]; then
     replays "$program" replay
     burst "$program" replay
     "$one" words.words "$program" ../words/words.txt || differs words.txt
-    for scenes in sessions serving living journalling following; do
+    [ -n "$pageless" ] || follow=following
+    for scenes in sessions serving living journalling ${follow-}; do
         "$one" "scenes.$scenes" "$program" || differs "$scenes"
     done
     with_program
@@ -300,51 +309,61 @@ if [ -n "$replay" ]; then
 fi
 
 # The boards become tables and pages, in UTC and in a zone that has days of 23 and 25 hours.
-for day in day site_day; do
-    made_by "$board" tables --written $written --out "$made/$day" "$days/$day.expected"
-    for stored in "$days/$day".*.csv "$days/$day.html" "$days/$day".*.html; do
-        as_stored "$stored" "$made/$(basename "$stored")"
+pages() {
+    for day in day site_day; do
+        made_by "$board" tables --written $written --out "$made/$day" "$days/$day.expected"
+        for stored in "$days/$day".*.csv "$days/$day.html" "$days/$day".*.html; do
+            as_stored "$stored" "$made/$(basename "$stored")"
+        done
     done
-done
-made_by "$board" tables --tz Europe/Berlin --from 2026-03-29 --to 2026-10-25 --out "$made/berlin" tables/berlin.text
-made_by "$board" tables --out "$made/states" tables/states.text
-made_by "$board" tables --out "$made/exports" tables/exports.text
-for name in berlin.transactions states.transactions exports.periods exports.transactions; do
-    as_stored "tables/$name.csv" "$made/$name.csv"
-done
-holds tables/berlin.said
-holds tables/exports.said
-made_by "$board" tables --written $written --out "$made/repeats" "$days/repeats.expected"
-holds tables/repeats.said
-# The periods of the days of 23 and 25 hours, which are rows of the whole table, too.
-for day in 2026-03-29 2026-10-25; do
-    made_by "$board" tables --tz Europe/Berlin --day $day --out "$made/$day" tables/berlin.text
-    as_stored "tables/berlin.$day.periods.csv" "$made/$day.periods.csv"
-    grep -E "^board|^([^,]*,){7}${day}T" "$made/berlin.periods.csv" | diff - "$made/$day.periods.csv" ||
-        differs "the rows of $day in berlin.periods.csv"
-done
-# Labels, contrast and links of all pages that were made, and how wide they are on a phone, names and numbers being long.
-made_by "$board" tables --tz America/Argentina/ComodRivadavia --out "$made/long" tables/long.text
-shopt -s nullglob
-pages=("$made"/*.html "$made"/*.sessions/*.html)
-shopt -u nullglob
-if "$one" page_check "${pages[@]}" > "$made/checked"; then
-    tail -n 1 "$made/checked"
+    made_by "$board" tables --tz Europe/Berlin --from 2026-03-29 --to 2026-10-25 --out "$made/berlin" tables/berlin.text
+    made_by "$board" tables --out "$made/states" tables/states.text
+    made_by "$board" tables --out "$made/exports" tables/exports.text
+    for name in berlin.transactions states.transactions exports.periods exports.transactions; do
+        as_stored "tables/$name.csv" "$made/$name.csv"
+    done
+    holds tables/berlin.said
+    holds tables/exports.said
+    made_by "$board" tables --written $written --out "$made/repeats" "$days/repeats.expected"
+    holds tables/repeats.said
+    # The periods of the days of 23 and 25 hours, which are rows of the whole table, too.
+    for day in 2026-03-29 2026-10-25; do
+        made_by "$board" tables --tz Europe/Berlin --day $day --out "$made/$day" tables/berlin.text
+        as_stored "tables/berlin.$day.periods.csv" "$made/$day.periods.csv"
+        grep -E "^board|^([^,]*,){7}${day}T" "$made/berlin.periods.csv" | diff - "$made/$day.periods.csv" ||
+            differs "the rows of $day in berlin.periods.csv"
+    done
+    # Labels, contrast and links of all pages that were made, and how wide they are on a phone, with long names and numbers.
+    made_by "$board" tables --tz America/Argentina/ComodRivadavia --out "$made/long" tables/long.text
+    shopt -s nullglob
+    pages=("$made"/*.html "$made"/*.sessions/*.html)
+    shopt -u nullglob
+    if "$one" page_check "${pages[@]}" > "$made/checked"; then
+        tail -n 1 "$made/checked"
+    else
+        cat "$made/checked"
+        differs "the check of the pages"
+    fi
+    "$one" page_width "$made"/*.html
+    case $? in 0 | 77) ;; *) differs "pages on a phone" ;; esac
+    gives 1 tables/broken "$board" tables --out "$made/broken" tables/broken.text
+    reports 1 "examples/day.jsonl line 58: the text ends, and no board began in it" "$board" tables --out "$made/noise" "$days/day.jsonl"
+    reports 2 "the text is compressed by gzip" "$board" tables --out "$made/noise" "$made/day.jsonl.gz"
+    reports 2 "No such file or directory" "$board" tables --out "$made/nowhere/x" "$days/day.expected"
+    reports 2 "no time zone of this system: 'Mars'" "$board" tables --tz Mars --out "$made/x" "$days/day.expected"
+    reports 2 "no time such as 2026-03-01T10:00:00Z: '2026-03-01T10:00:00'" \
+        "$board" tables --written 2026-03-01T10:00:00 --out "$made/x" "$days/day.expected"
+    reports 2 "--from is after --to" "$board" tables --from 2026-03-02 --to 2026-03-01 --out "$made/x" "$days/day.expected"
+    reports 2 "File too large" bash -c 'ulimit -f 8; "$board" tables --out "$1" "$days/day.expected"' _ "$made/full"
+}
+
+if [ -z "$pageless" ]; then
+    [ -z "$program" ] || pages_with_program
+    pages
 else
-    cat "$made/checked"
-    differs "the check of the pages"
+    echo "not compared: tables, live and their pages, since there is $pageless"
 fi
-"$one" page_width "$made"/*.html
-case $? in 0 | 77) ;; *) differs "pages on a phone" ;; esac
-gives 1 tables/broken "$board" tables --out "$made/broken" tables/broken.text
-reports 1 "examples/day.jsonl line 58: the text ends, and no board began in it" "$board" tables --out "$made/noise" "$days/day.jsonl"
-reports 2 "the text is compressed by gzip" "$board" tables --out "$made/noise" "$made/day.jsonl.gz"
-reports 2 "No such file or directory" "$board" tables --out "$made/nowhere/x" "$days/day.expected"
-reports 2 "no time zone of this system: 'Mars'" "$board" tables --tz Mars --out "$made/x" "$days/day.expected"
-reports 2 "no time such as 2026-03-01T10:00:00Z: '2026-03-01T10:00:00'" \
-    "$board" tables --written 2026-03-01T10:00:00 --out "$made/x" "$days/day.expected"
-reports 2 "--from is after --to" "$board" tables --from 2026-03-02 --to 2026-03-01 --out "$made/x" "$days/day.expected"
-reports 2 "File too large" bash -c 'ulimit -f 8; "$board" tables --out "$1" "$days/day.expected"' _ "$made/full"
+
 # Traffic for measuring, and the clients' words.
 gives 0 forms/traffic.script "$one" traffic 3
 reports 2 "N is from 0 to 1,048,576" "$one" traffic 1048577

@@ -9,5 +9,5 @@
 
 What all of these use is here: cli (the command `ocpp-board`), words (options that several tools take), statuses (how a
 tool ends), reporting (what tools write to standard error), progress, sources and processes (files and programs), limits
-(those of the program), energies, escapes and shared_work.
+(those of the program), energies, escapes, whole_files and shared_work.
 """

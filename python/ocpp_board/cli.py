@@ -53,7 +53,7 @@ TOOLS = {
 }
 
 
-# What the fleet needs besides Python: packages, and Debian's packages that have them.
+# What tools need besides Python: packages, and Debian's packages that have them.
 PACKAGES = {
     "ocpp_board.fleet": "ocpp-board-fleet",
     "asyncpg": "python3-asyncpg",
@@ -61,6 +61,7 @@ PACKAGES = {
     "starlette": "python3-starlette",
     "uvicorn": "python3-uvicorn",
     "jinja2": "python3-jinja2",
+    "markupsafe": "python3-jinja2",
     "yaml": "python3-yaml",
 }
 

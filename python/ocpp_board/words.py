@@ -3,13 +3,17 @@
 import argparse
 import logging
 from collections.abc import Sequence
-from typing import NoReturn
+from dataclasses import fields
+from typing import Any, NoReturn, TypeVar
 from zoneinfo import ZoneInfo
 
 from ocpp_board import reporting
 from ocpp_board.messages.bills import TOKENS
 from ocpp_board.processes import found_program
 from ocpp_board.reports.quality import MOST_KW
+
+
+Kind = TypeVar("Kind")
 
 
 class Parser(argparse.ArgumentParser):
@@ -39,6 +43,12 @@ def parsed(
     words = parser.parse_args(argv)
     reporting.set_up(parser.prog, words.log_json, named_from)
     return words
+
+
+def options_of(kind: type[Kind], words: argparse.Namespace, **more: Any) -> Kind:
+    """The options of this kind that the words have, and more. One that the words may lack has a default."""
+    named = {one.name: getattr(words, one.name) for one in fields(kind) if one.name in words}
+    return kind(**named | more)
 
 
 def add_program(parser: argparse.ArgumentParser) -> None:
@@ -78,6 +88,13 @@ def add_tokens(parser: argparse.ArgumentParser) -> None:
         help="how the idToken of a transaction is written: not at all, since it is personal, as the SHA-256 of its "
         "small letters, or plain (default: none)",
     )
+
+
+def add_replay(parser: argparse.ArgumentParser) -> None:
+    """The options of tools that replay messages for pages: which power can be, how tokens are written, the program."""
+    add_power(parser)
+    add_tokens(parser)
+    add_program(parser)
 
 
 def zone(name: str) -> ZoneInfo:

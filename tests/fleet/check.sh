@@ -17,29 +17,8 @@ skip() {
     exit 77
 }
 
-missing=()
-for package in postgresql-15 postgresql-client-15 python3 python3-asyncpg python3-websockets python3-uvloop; do
-    [ "$(dpkg-query -W -f '${db:Status-Status}' "$package" 2> /dev/null)" = installed ] || missing+=("$package")
-done
-if [ ${#missing[@]} != 0 ]; then
-    command -v apt-get > /dev/null || skip "no ${missing[*]}, and there is no apt-get"
-    [ "$(id -u)" = 0 ] || skip "no ${missing[*]}, which root can install: apt-get install ${missing[*]}"
-    echo "check.sh: installs ${missing[*]}" >&2
-    written=$(mktemp) || exit 1
-    # While this file is there Debian's package makes no cluster; one that is there already is not touched.
-    settings=/etc/postgresql-common/createcluster.d
-    leave() {
-        rm -f "$written" "$settings/ocpp_board.conf"
-        rmdir "$settings" "${settings%/*}" 2> /dev/null
-    }
-    trap leave EXIT
-    mkdir -p "$settings" && echo "create_main_cluster = false" > "$settings/ocpp_board.conf" || exit 1
-    options=(-o Acquire::http::Timeout=10 -o Acquire::Retries=0 -o DPkg::Lock::Timeout=60)
-    { apt-get "${options[@]}" update && DEBIAN_FRONTEND=noninteractive \
-        apt-get "${options[@]}" install -y --no-install-recommends "${missing[@]}"; } > "$written" 2>&1 < /dev/null ||
-        skip "no ${missing[*]}, and apt-get can't install them: $(grep '^E:' "$written" | head -n 1)"
-    leave
-fi
+packages=(postgresql-15 postgresql-client-15 python3 python3-asyncpg python3-websockets python3-uvloop)
+reason=$("$here/../installed" "${packages[@]}") || skip "$reason"
 # Where memory has room for them the databases lie there: how long a disk takes for a commit, or for a recovery, is not
 # what is tried, and where something else writes much it is seconds.
 memory=/dev/shm

@@ -4,10 +4,11 @@ import asyncio
 import base64
 import ssl
 
+from websockets.client import ClientConnection
 from websockets.http11 import Request, Response
 from websockets.uri import parse_uri
 
-from ocpp_board.fleet.gateway.websocket import ClientLink
+from ocpp_board.fleet.gateway.websocket import SUBPROTOCOL, Link
 
 HANDSHAKE = (
     "GET /ocpp/{} HTTP/1.1\r\nHost: a\r\nUpgrade: websocket\r\nConnection: Upgrade\r\n"
@@ -21,6 +22,20 @@ def handshake(station: str, password: str) -> bytes:
     return HANDSHAKE.format(
         station, base64.b64encode(f"{station}:{password}".encode()).decode()
     ).encode()
+
+
+class ClientLink(Link):
+    """A station's end: it asks to be let in as soon as it is connected."""
+
+    def __init__(self, url: str) -> None:
+        self.client = ClientConnection(parse_uri(url), subprotocols=[SUBPROTOCOL])
+        super().__init__(self.client)
+
+    def connection_made(self, transport: asyncio.BaseTransport) -> None:
+        """Asks to be let in."""
+        super().connection_made(transport)
+        self.client.send_request(self.client.connect())
+        self.flush()
 
 
 class Client(ClientLink):

@@ -28,7 +28,8 @@ from websockets.http11 import Request, Response
 
 from ocpp_board import reporting
 from ocpp_board.fleet.database.parts import use_uvloop
-from ocpp_board.fleet.gateway.websocket import MASKED, TWO_BYTES, WHOLE_TEXT, ClientLink
+from ocpp_board.fleet.gateway.websocket import MASKED, TWO_BYTES, WHOLE_TEXT
+from tests.fleet.client import ClientLink
 from tests.fleet.trials import messages
 
 log = logging.getLogger(__name__)

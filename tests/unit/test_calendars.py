@@ -33,10 +33,9 @@ def test_a_day_begins_at_the_zones_midnight() -> None:
 
 
 def test_the_end_of_a_day_is_24_00() -> None:
-    assert Calendar().times(utc("2026-03-01T23:45:00"), 900) == "23:45\N{EN DASH}24:00"
-    assert (
-        Calendar(BERLIN).times(utc("2026-03-01T22:30:00"), 1800) == "23:30\N{EN DASH}24:00<td>22:30"
-    )
+    assert Calendar().times(utc("2026-03-01T23:45:00"), 900) == ["23:45\N{EN DASH}24:00"]
+    local = Calendar(BERLIN).times(utc("2026-03-01T22:30:00"), 1800)
+    assert local == ["23:30\N{EN DASH}24:00", "22:30"]
 
 
 def test_the_hour_that_comes_twice_has_two_offsets() -> None:

@@ -17,7 +17,6 @@ from ocpp_board.logs.logforms import (
     CitrineCsvForm,
     CitrineForm,
     Entry,
-    JsonFields,
     JsonForm,
     MaeveForm,
     OcppForm,
@@ -40,32 +39,28 @@ def row(**fields: Any) -> str:
 
 
 def test_json_fields_by_name() -> None:
-    fields = JsonFields(site="s", station="c", time="t", message="m", direction="d", incoming="up")
+    form = JsonForm(site="s", station="c", time="t", message="m", direction="d", incoming="up")
     text = '{"s":"north","c":"A","t":"x","m":"[]","d":"down"}'
-    assert JsonForm(fields).read(text) == Entry("north", "A", "x", "[]", False)
-    assert JsonForm(fields._replace(has_site=False)).read(text) == Entry(
-        None, "A", "x", "[]", False
-    )
+    assert form.read(text) == Entry("north", "A", "x", "[]", False)
+    assert form._replace(has_site=False).read(text) == Entry(None, "A", "x", "[]", False)
 
 
 def test_dotted_names_lead_into_objects() -> None:
-    fields = JsonFields(station="from.id", time="meta.at", message="body.frame", has_site=False)
+    form = JsonForm(station="from.id", time="meta.at", message="body.frame", has_site=False)
     text = '{"from":{"id":"A"},"meta":{"at":1772352000.5},"body":{"frame":"[]"}}'
-    assert JsonForm(fields).read(text) == Entry(None, "A", "1772352000.500", "[]")
+    assert form.read(text) == Entry(None, "A", "1772352000.500", "[]")
     # A field that has this very name comes first.
-    assert JsonForm(fields).read('{"from.id":"B",' + text[1:]) == Entry(
-        None, "B", "1772352000.500", "[]"
-    )
+    assert form.read('{"from.id":"B",' + text[1:]) == Entry(None, "B", "1772352000.500", "[]")
     with pytest.raises(Refused, match=r"'body.frame' is missing \(--message-field names another"):
-        JsonForm(fields).read('{"from":{"id":"A"},"body":[]}')
-    cut = JsonForm(fields._replace(is_json_message=True)).read(
+        form.read('{"from":{"id":"A"},"body":[]}')
+    cut = form._replace(is_json_message=True).read(
         '{"from":{"id":"A"},"body":{ "frame" : [2,  1.50] }}'
     )
     assert cut == Entry(None, "A", None, "[2,  1.50]")
 
 
 def test_a_json_message_is_cut_out() -> None:
-    form = JsonForm(JsonFields(is_json_message=True, has_site=False))
+    form = JsonForm(is_json_message=True, has_site=False)
     entry = form.read('{"station":"A","time":"x","message":[2,  1.0]}')
     assert entry and entry.message == "[2,  1.0]"
     with pytest.raises(Refused, match="'message' is no array or object"):

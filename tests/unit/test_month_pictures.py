@@ -55,7 +55,7 @@ def test_power_is_the_average_of_a_period() -> None:
 def test_a_heat_map_has_each_hour_and_a_bar_for_each_day() -> None:
     some = [period(1, 8, 1), period(1, 8, 3), period(1, 9, 1), period(3, 23, -2)]
     days = [date(2026, 3, day) for day in (1, 2, 3)]
-    text = "".join(heat_map("Days", days, some, Calendar()))
+    text = heat_map("Days", days, some, Calendar())
     assert re.findall(r'class="heat (\w+)" x="(\d+)" y="(\d+)"[^>]*><title>([^<]*)<', text) == [
         ("heat5", "8", "0", "Sun 2026-03-01 08:00: 4.000 kWh"),
         ("heat2", "9", "0", "Sun 2026-03-01 09:00: 1.000 kWh"),
@@ -71,7 +71,7 @@ def test_an_hour_that_comes_twice_is_one_of_a_heat_map() -> None:
     some = [
         Period(datetime(2026, 10, 25, hour, tzinfo=timezone.utc), 900, Flow(MWH)) for hour in (0, 1)
     ]
-    text = "".join(heat_map("Days", [date(2026, 10, 25)], some, calendar))
+    text = heat_map("Days", [date(2026, 10, 25)], some, calendar)
     assert "Sun 2026-10-25 02:00: 2.000 kWh" in text and text.count("<title>") == 2
 
 
@@ -81,7 +81,7 @@ def test_weeks_begin_on_monday_and_months_on_the_first() -> None:
     assert by_week(days) == [(date(2026, 2, 23), days[:2]), (date(2026, 3, 2), days[2:])]
     some = [period(2, 8, 1), period(2, 8, 3)._replace(start=DAY + timedelta(days=1, hours=8.5))]
     assert [(p.seconds, p.flow) for p in hourly(some)] == [(3_600, Flow(4 * MWH))]
-    text = "".join(week_picture("Week", date(2026, 3, 2), some, week_scale(some), Calendar()))
+    text = week_picture("Week", date(2026, 3, 2), some, week_scale(some), Calendar())
     assert "<title>Mon 08:00: 4.000 kWh, 4.00 kW</title>" in text and ">Sun 8</text>" in text
     assert 'viewBox="0 0 2016 200"' in text
 
@@ -107,7 +107,7 @@ def marked(*left_out: int) -> Part:
 def test_sessions_are_bars_along_the_day_with_their_gaps() -> None:
     lanes = lanes_of([marked(), marked(2)], date(2026, 3, 1), Calendar())
     assert [lane.name for lane in lanes] == ["A, EVSE 1"] * 2
-    text = "".join(lane_picture("Sessions", lanes, date(2026, 3, 1), Calendar()))
+    text = lane_picture("Sessions", lanes, date(2026, 3, 1), Calendar())
     # Eight hours are 960 units, ten minutes 20.
     assert re.findall(r'<rect class="(\w+)" x="([\d.]+)" y="\d+" width="([\d.]+)"', text) == [
         ("there", "960", "60"),

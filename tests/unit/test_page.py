@@ -14,16 +14,19 @@ import pytest
 for package in ("asyncpg", "starlette", "uvicorn", "jinja2", "yaml"):
     pytest.importorskip(package)
 
+from starlette.routing import Route  # noqa: E402
+
 from ocpp_board.fleet.web import operators  # noqa: E402
 from ocpp_board.fleet.web.api import (  # noqa: E402
+    FRONT,
     ROUTES,
     Paging,
     cursor_of,
+    description,
     flow_json,
     key_of,
     moment_word,
 )
-from ocpp_board.fleet.web.api_schema import SCHEMAS  # noqa: E402
 from ocpp_board.fleet.closing.billing import Row, month_in, month_of  # noqa: E402
 from ocpp_board.fleet.web.cells import Late, Site, Wrong, staying  # noqa: E402
 from ocpp_board.fleet.closing.close_day import corrections_of  # noqa: E402
@@ -44,15 +47,7 @@ from ocpp_board.fleet.web.operators import (  # noqa: E402
 )
 from ocpp_board.fleet.web.page_app import local_path  # noqa: E402
 from ocpp_board.fleet.web.page_deeds import session_said  # noqa: E402
-from ocpp_board.fleet.web.page_render import (  # noqa: E402
-    Line,
-    environment,
-    heads_of,
-    lines_of,
-    link,
-    moment,
-    rendered,
-)
+from ocpp_board.fleet.web.page_render import link, moment  # noqa: E402
 from ocpp_board.fleet.web.page_views import (  # noqa: E402
     FILE,
     MOST_LETTERS,
@@ -71,6 +66,8 @@ from ocpp_board.fleet.admin.set_operator import (  # noqa: E402
     sites_of,
 )
 from ocpp_board.fleet.web.site_pages import fragment_of, session_path  # noqa: E402
+from ocpp_board.reports import pages  # noqa: E402
+from ocpp_board.reports.rendering import rendered  # noqa: E402
 from ocpp_board.fleet.database.states import (  # noqa: E402
     EVENTS,
     SESSIONS,
@@ -81,6 +78,7 @@ from ocpp_board.fleet.database.states import (  # noqa: E402
     states_of,
 )
 from ocpp_board.energies import FLOW, Flow  # noqa: E402
+from ocpp_board.limits import ORDERS, RULES  # noqa: E402
 
 SALT_OF_ANN = bytes(range(SALT))
 WHERE = "192.0.2.1"
@@ -322,7 +320,7 @@ def test_files_of_a_site(name: str, is_known: bool) -> None:
 
 def test_what_comes_from_outside_is_no_html() -> None:
     evil = "<b>\"x\"&'y'</b>"
-    assert "<b>" not in link(f"/session/A/{evil}", evil) and "<b>" not in lines_of(evil, "x")
+    assert "<b>" not in link(f"/session/A/{evil}", evil) and "<b>" not in pages.lines_of(evil, "x")
     values: dict[str, Any] = {
         **{
             "title": evil,
@@ -333,14 +331,15 @@ def test_what_comes_from_outside_is_no_html() -> None:
         },
         **{
             "whole": "",
+            "refresh": None,
             "links": [],
             "here": "",
             "drawn": moment(None),
-            "heads": heads_of(evil, f" {evil}"),
+            "columns": pages.columns_of(evil, f" {evil}"),
         },
-        **{"rows": [Line([evil, evil])], "caption": evil},
+        **{"rows": [pages.Row([evil, evil])], "caption": evil},
     }
-    page = rendered(environment(), "refused.html", values)
+    page = rendered("fleet/refused.html", **values)
     assert evil not in page and page.count("&lt;b&gt;") >= 7
 
 
@@ -366,9 +365,8 @@ def test_a_site_says_how_it_is_read_and_settles(reckoning: Reckoning, said: str)
 
 
 def test_a_fragment_is_read_as_it_was_written() -> None:
-    one = fragment_of("Site a&amp;b\nMon 1\none\n<p>\nx")
+    one = fragment_of('["Site a&b", "Mon 1", true]\n<p>\nx')
     assert tuple(one) == ("Site a&b", "Mon 1", True, "<p>\nx")
-    assert fragment_of("Site boards\n\n\n<p>").is_one is False
 
 
 # The API --------------------------------------------------------------------------------------------------------------
@@ -448,9 +446,17 @@ def test_moments_of_a_query() -> None:
 
 
 def test_the_description_has_each_endpoint() -> None:
-    reported = SCHEMAS.get_schema(ROUTES)
-    assert len(reported["paths"]) == 7 and all("get" in one for one in reported["paths"].values())
+    reported = description()
+    paths = {route.path for route in ROUTES if isinstance(route, Route)}
+    described = {path.replace("{transaction}", "{transaction:path}") for path in reported["paths"]}
+    assert paths - described == {f"{FRONT}/openapi.json", "/api/{path:path}"} and described < paths
+    assert all("get" in one for one in reported["paths"].values())
     text = json.dumps(reported)
+    site = reported["components"]["schemas"]["Site"]["properties"]
+    assert site["settle"]["enum"] == list(RULES) and site["reading_order"]["enum"] == list(ORDERS)
+    assert {*FLOW, *SESSIONS, *EVENTS} < site.keys() and site["states"][
+        "properties"
+    ].keys() < site.keys()
     for name in reported["components"]["schemas"]:
         assert text.count(f"#/components/schemas/{name}") or name in ("Fault",)
 

@@ -7,22 +7,16 @@ import pytest
 
 from ocpp_board.energies import Flow
 from ocpp_board.replay.boards import Part, Period, Session, Total
+from ocpp_board.reports.board_pages import Layout
 from ocpp_board.reports.calendars import Calendar
 from ocpp_board.reports.page_sections import DayPart, bar_cell, day_of_part, sections_of
-from ocpp_board.reports.pages import (
-    FOOT,
-    Column,
-    Heads,
-    across,
-    explained,
-    head,
-    refused_banner,
-    table,
-)
+from ocpp_board.reports.pages import Column, Row, columns_of
 from ocpp_board.reports.pictures import Scale
 from ocpp_board.reports.quality import Finding, Kind
+from ocpp_board.reports.rendering import piece
 from tests.page_check import Check, color_of, contrast
 from tests.page_tree import Tree, fits, rules_of
+from tests.unit.framed import framed
 
 PICTURE = '<svg role="img" aria-label="Bars"><path class="up" d="M0 0h1v1z"/></svg>'
 SECTION = '<section aria-labelledby="a"><h2 id="a">Day</h2>'
@@ -31,7 +25,7 @@ BODY = f'{SECTION}{PICTURE}{PERIODS}<a href="#a">up</a></section>\n'
 
 
 def page(body: str = BODY, style: str = "") -> str:
-    text = head("Title", '<p class="warning">old</p>') + body + explained("<p>why</p>") + FOOT
+    text = framed(body, '<p class="warning">old</p>')
     return text.replace("</style>", style + "</style>", 1)
 
 
@@ -42,8 +36,8 @@ def found(text: str, folder: Path) -> list[str]:
 
 
 def test_a_page_that_has_all_is_fine(tmp_path: Path) -> None:
-    heads: Heads = ["Site", " Zone", Column("Bar", "wide", True)]
-    more = across("Sites", "".join(table("All", heads, [("", ["n", "UTC", ""])], cards=True)))
+    columns = columns_of("Site", " Zone", Column("Bar", "wide", True))
+    more = piece("sites_table", "All", columns, [Row(["n", "UTC", ""])])
     assert found(page(BODY + more), tmp_path) == []
 
 
@@ -57,10 +51,13 @@ def test_all_that_pages_are_made_of_is_fine(tmp_path: Path) -> None:
     session.findings = [Finding(Kind.CLOCK_BACK, 2)]
     part = Part("A", False, 900, False, total, [], periods, [session])
     scale, calendar = Scale(flows), Calendar()
-    parts = [*sections_of(part, "s", calendar, True), refused_banner(1, "page.html")]
-    parts += day_of_part(DayPart(part, "d", day.date(), periods, scale), calendar, True)
-    parts += table("All", ["Site", Column("Bar", "bar")], [("", ["A", bar_cell(-1, 2)])])
-    text = head("Title", "") + "<h2>A</h2>" + "".join(parts) + FOOT
+    parts = [*sections_of(part, "s", calendar, True)]
+    parts.append(day_of_part(DayPart(part, "d", day.date(), periods, scale), calendar, True))
+    columns = columns_of("Site", Column("Bar", "bar"))
+    parts.append(piece("table", "All", columns, [Row(["A", bar_cell(-1, 2)])], "plain"))
+    stamp = Layout(str(tmp_path / "page"), calendar, day, refused=1).stamp(None)
+    (tmp_path / "page.refused.csv").touch()
+    text = framed("<h2>A</h2>" + "".join(parts), stamp)
     for kind in ("up", "down", "out", "back", "still", "zero", "gap", "less", "flag", "refused"):
         assert f'class="{kind}"' in text
     assert found(text, tmp_path) == []

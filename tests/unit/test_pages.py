@@ -23,18 +23,18 @@ from ocpp_board.reports.page_sections import (
 from ocpp_board.reports.pages import (
     MARK,
     Column,
-    Heads,
+    Row,
     cells_of,
+    columns_of,
     flow_heads,
-    head,
     link,
     ranges,
-    refused_banner,
-    table,
 )
 from ocpp_board.reports.pictures import MOST_LINES, Scale, bar, hours, short, strip
 from ocpp_board.reports.quality import Finding, Kind
+from ocpp_board.reports.rendering import piece
 from ocpp_board.reports.session_times import Registers, SessionTimes
+from tests.unit.framed import framed
 
 DAY = datetime(2026, 3, 1, tzinfo=timezone.utc)
 
@@ -48,12 +48,12 @@ def scale(*flows: Flow) -> Scale:
 
 
 def test_a_page_is_drawn_anew_only_where_it_follows() -> None:
-    assert "refresh" not in head("Title", "")
-    assert '<meta http-equiv="refresh" content="10">' in head("Title", "", refresh=10)
+    assert "refresh" not in framed()
+    assert '<meta http-equiv="refresh" content="10">' in framed(refresh=10)
 
 
 def test_the_end_of_a_title_is_not_broken() -> None:
-    text = head("Site north,", "", whole="Mon 2026-03-02")
+    text = framed(title="Site north,", whole="Mon 2026-03-02")
     assert "<title>Site north, Mon 2026-03-02</title>" in text
     assert '<h1>Site north, <span class="whole">Mon 2026-03-02</span></h1>' in text
 
@@ -63,20 +63,23 @@ def test_a_link_names_the_file_alone() -> None:
 
 
 def test_refused_messages_are_reported_if_there_are_some() -> None:
-    assert refused_banner(0, "x.csv") == ""
-    assert "1 message was refused" in refused_banner(1, "x.csv")
-    text = refused_banner(1_234, "a&b.refused.csv")
+    def stamp(refused: int) -> str:
+        return Layout("folder/a&b", Calendar(), DAY, refused=refused).stamp(None)
+
+    assert "refused" not in stamp(0)
+    assert "1 message was refused" in stamp(1)
+    text = stamp(1_234)
     assert 'class="refused"' in text and "1,234 messages were refused" in text
     assert 'href="a&amp;b.refused.csv"' in text
 
 
 def test_a_table_of_cards_keeps_its_roles() -> None:
-    heads: Heads = ["Site", " Zone", Column("Bar", "wide", True)]
-    text = "".join(table("All", heads, [(MARK, ["north", "UTC", ""])], cards=True))
+    columns = columns_of("Site", " Zone", Column("Bar", "wide", True))
+    text = piece("table", "All", columns, [Row(["north", "UTC", ""], MARK)])
     assert '<tr role="row" class="mark"><th role="rowheader" scope="row">north</th>' in text
     assert '<td role="cell" class="left" data-head="Zone">UTC</td>' in text
     assert 'scope="col" class="wide"><span class="unseen">Bar</span></th>' in text
-    assert "role" not in "".join(table("All", ["Site"], [("", ["north"])]))
+    assert "role" not in piece("table", "All", columns_of("Site"), [Row(["north"])], "plain")
 
 
 def test_the_net_energy_comes_first_and_exports_where_there_are_some() -> None:
@@ -93,23 +96,21 @@ def test_numbers_of_a_row() -> None:
 
 
 def test_figures_mark_what_is_missing() -> None:
-    assert "".join(figures(None, False)) == ""
-    text = "".join(figures(Total(5, 1, 3, 2, 3, Flow(up=250_000)), False))
+    assert figures(None, False) == []
+    text = piece("figures", figures(Total(5, 1, 3, 2, 3, Flow(up=250_000)), False))
     assert '<div class="lead"><dt>Net</dt><dd>0.250 kWh</dd></div>' in text
-    assert text.count(MARK) == 3
+    assert text.count('<div class="mark">') == 3
     assert "<dt>Of these</dt><dd>66.7% complete</dd>" in text
     assert "Export" not in text
-    assert "<dt>Export up</dt>" in "".join(figures(Total(5, 1, 3, 2, 3, Flow()), True))
+    assert "Export up" in dict(row[:2] for row in figures(Total(5, 1, 3, 2, 3, Flow()), True))
 
 
 def test_what_is_said_of_a_day() -> None:
     some = periods(Flow(1_000_000), Flow(500_000))
-    said = said_of("Site north", "2026-03-01", some, False)
-    assert (
-        said == "Site north on 2026-03-01: 2 periods, net 1.500 kWh, up 1.500 kWh, down 0.000 kWh"
-    )
-    said = said_of("Site north", "2026-03-01", periods(Flow(export_up=1_000_000)), True)
-    assert said.startswith("Site north on 2026-03-01: 1 period, net \N{MINUS SIGN}1.000 kWh, ")
+    said = said_of(some, False)
+    assert said == "2 periods, net 1.500 kWh, up 1.500 kWh, down 0.000 kWh"
+    said = said_of(periods(Flow(export_up=1_000_000)), True)
+    assert said.startswith("1 period, net \N{MINUS SIGN}1.000 kWh, ")
     assert said.endswith(", export up 1.000 kWh, export down 0.000 kWh")
 
 
@@ -203,15 +204,15 @@ def session(gaps: list[tuple[int, int]], complete: bool = False) -> Session:
 
 
 def test_holes_of_a_strip_that_touch_are_one() -> None:
-    assert "".join(strip(session([(1, 2), (3, 4)]))).count('class="gap"') == 1
-    assert "".join(strip(session([(1, 2), (5, 6)]))).count('class="gap"') == 2
+    assert strip(session([(1, 2), (3, 4)])).count('class="gap"') == 1
+    assert strip(session([(1, 2), (5, 6)])).count('class="gap"') == 2
 
 
 def test_a_session_that_lacks_messages_is_marked() -> None:
-    mark, cells = session_row(session([(1, 2)]), Calendar(), False)
-    assert mark == MARK and cells[0] == "&lt;t&gt;" and cells[2] == "not named"
+    cells, mark = session_row(session([(1, 2)]), Calendar(), False)
+    assert mark == MARK and cells[0] == "<t>" and cells[2] == "not named"
     assert cells[1].startswith("2 numbers missing: 1 to 2<svg")
-    mark, cells = session_row(session([], complete=True), Calendar(), False)
+    cells, mark = session_row(session([], complete=True), Calendar(), False)
     assert mark == "" and cells[1] == "complete"
 
 
@@ -221,7 +222,7 @@ def test_a_session_with_times_has_a_cell_for_each_head() -> None:
     one.times = SessionTimes(DAY, end, DAY, Registers(1_000_000, 2_500_000), None, "<De&Auth>")
     one.findings = [Finding(Kind.OTHER_ENERGY, 3, DAY, "<measurand>")]
     heads = session_heads(Calendar(), True, True)
-    mark, cells = session_row(one, Calendar(), True)
+    cells, mark = session_row(one, Calendar(), True)
     row = dict(zip(heads, cells))
     assert len(heads) == len(cells) and mark == MARK
     assert (
@@ -230,7 +231,7 @@ def test_a_session_with_times_has_a_cell_for_each_head() -> None:
     )
     assert row["Duration"] == "25:01:02"
     assert row["Register, first and last, kWh"] == "1.000<br>2.500"
-    assert row[" Stopped"] == "&lt;De&amp;Auth&gt;"
+    assert row[" Stopped"] == "<De&Auth>"
     assert "energy that does not count, 3 times</span>: &lt;measurand&gt;" in row[" State"]
 
 
@@ -285,7 +286,7 @@ def test_stations_with_troubles_come_first() -> None:
     sound = station("sound", [session([], complete=True)])
     doubtful = session([], complete=True)
     doubtful.findings = [Finding(Kind.CLOCK_BACK, 1)]
-    assert Index.station_row(station("doubtful", [doubtful]), "doubtful", False)[0] == MARK
+    assert Index.station_row(station("doubtful", [doubtful]), "doubtful", False).kind == MARK
     wrong, lacks = station("wrong", [doubtful]), session([], complete=True)
     lacks.findings = [Finding(Kind.NO_READING, 1)]
     parts = [
@@ -299,16 +300,16 @@ def test_stations_with_troubles_come_first() -> None:
     # So do sessions: a number that is wrong, numbers that are missing, and what lacks energy.
     some = [session([], complete=True), lacks, session([(1, 1)]), doubtful]
     assert sorted(some, key=session_order) == [some[3], some[2], some[1], some[0]]
-    assert Index.station_row(sound, "sound", False)[0] == ""
-    assert Index.station_row(parts[1], "voided", False)[0] == MARK
+    assert Index.station_row(sound, "sound", False).kind == ""
+    assert Index.station_row(parts[1], "voided", False).kind == MARK
 
 
 def test_a_row_of_a_station_has_a_cell_for_each_head() -> None:
-    mark, cells = Index.station_row(Part("A", False, 900), "A", True)
+    cells, mark = Index.station_row(Part("A", False, 900), "A", True)
     assert mark == MARK and cells == ["A"] + ["not read"] * 10
     sound = station("sound", [session([], complete=True)])
     for has_export in (False, True):
-        cells = Index.station_row(sound, "sound", has_export)[1]
+        cells = Index.station_row(sound, "sound", has_export).cells
         assert len(cells) == len(Index.station_heads(has_export))
 
 

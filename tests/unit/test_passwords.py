@@ -36,7 +36,7 @@ from ocpp_board.fleet.gateway.passwords import (  # noqa: E402
     TOGETHER,
     Tries,
     Verdict,
-    address_of,
+    address_by,
     fault_of,
     hashed,
     matching,
@@ -149,10 +149,10 @@ def test_failures_of_many_names_are_bounded(monkeypatch: pytest.MonkeyPatch) -> 
 
 
 def test_an_address_is_taken_from_a_proxy_of_ours_alone() -> None:
-    reported = Headers([("X-Forwarded-For", "1.1.1.1"), ("X-Forwarded-For", "2.2.2.2, 3.3.3.3")])
-    assert address_of("10.0.0.1", reported, ["10.0.0.1"]) == "3.3.3.3"
-    assert address_of("10.0.0.2", reported, ["10.0.0.1"]) == "10.0.0.2"
-    assert address_of("10.0.0.1", Headers(), ["10.0.0.1"]) == "10.0.0.1"
+    reported = ["1.1.1.1", "2.2.2.2, 3.3.3.3"]
+    assert address_by("10.0.0.1", reported, ["10.0.0.1"]) == "3.3.3.3"
+    assert address_by("10.0.0.2", reported, ["10.0.0.1"]) == "10.0.0.2"
+    assert address_by("10.0.0.1", [], ["10.0.0.1"]) == "10.0.0.1"
 
 
 def test_an_address_of_ipv6_counts_by_its_network() -> None:

@@ -93,7 +93,7 @@ def test_days_have_all_their_periods(day: date, count: int, labels: list[str]) -
     texts = [BERLIN.label(start) for start in starts]
     assert len({*texts}) == count and texts[0] == "00:00" and texts[-1] == "23:45"
     assert len(BERLIN.starts(day, 300)) == 3 * count
-    assert BERLIN.times(starts[8], QUARTER).startswith(f"{texts[8]}\N{EN DASH}{texts[9]}")
+    assert BERLIN.times(starts[8], QUARTER)[0].startswith(f"{texts[8]}\N{EN DASH}{texts[9]}")
 
 
 def rows_of(site: Part, *stations: Part) -> list[dict[str, str]]:

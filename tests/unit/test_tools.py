@@ -5,6 +5,7 @@ import gzip
 import io
 import json
 import logging
+import subprocess
 import sys
 from pathlib import Path
 
@@ -42,6 +43,20 @@ def test_the_programs_name_is_before_faults() -> None:
     plain = PlainFormatter("ocpp-board tables", logging.ERROR)
     assert plain.format(record(logging.WARNING, "line 1: not read")) == "line 1: not read"
     assert plain.format(record(logging.ERROR, "no file")) == "ocpp-board tables: no file"
+
+
+@pytest.mark.parametrize(("tool", "status"), [("log-to-script", 0), ("explain", 0), ("tables", 2)])
+def test_only_tools_that_make_pages_need_jinja2(tool: str, status: int) -> None:
+    code = """if True:
+        import sys
+        sys.modules |= {"jinja2": None, "markupsafe": None}
+        from ocpp_board import cli
+        sys.exit(cli.main(sys.argv[1:]))
+    """
+    words = [sys.executable, "-c", code, tool, "--help"]
+    ended = subprocess.run(words, env={"PYTHONPATH": ":".join(sys.path)}, capture_output=True)
+    assert ended.returncode == status
+    assert (b"apt-get install python3-jinja2" in ended.stderr) == (status == 2)
 
 
 def test_json_lines_have_time_level_and_line() -> None:

@@ -49,7 +49,7 @@ from typing import NoReturn
 from ocpp_board import progress
 from ocpp_board.logs import logforms
 from ocpp_board.logs.log_feed import LogFeed, LogOptions
-from ocpp_board.logs.script_plan import add_plan, plan_options
+from ocpp_board.logs.script_plan import add_plan, add_utc, plan_options
 from ocpp_board.processes import keep_many
 from ocpp_board.replay.answered import Answered
 from ocpp_board.replay.ledger import Ended, Ledger
@@ -60,7 +60,7 @@ from ocpp_board.reports.live_pages import Pages, Shown
 from ocpp_board.reports.session_facts import SessionFacts
 from ocpp_board.sources import is_gzip
 from ocpp_board.statuses import Mistaken, Status, ended
-from ocpp_board.words import add_power, add_program, add_tokens, parsed, parser_of, zone
+from ocpp_board.words import add_replay, options_of, parsed, parser_of, zone
 
 log = logging.getLogger(__name__)
 
@@ -317,11 +317,14 @@ def add_log(parser: argparse.ArgumentParser) -> None:
         help="where the script is kept, and how far the log was read",
     )
     parser.add_argument(
-        "--once", action="store_true", help="take what the log has, write the pages, and end"
+        "--once",
+        dest="is_once",
+        action="store_true",
+        help="take what the log has, write the pages, and end",
     )
     logforms.add_form(parser)
     logforms.add_options(parser, ("station", "time", "message"))
-    parser.add_argument("--utc", action="store_true", help="times without an offset are UTC")
+    add_utc(parser)
     for length in ("month", "day"):
         parser.add_argument(
             f"--close-{length}",
@@ -332,7 +335,7 @@ def add_log(parser: argparse.ArgumentParser) -> None:
             "of --state, which frees their room; boards and tables show both together",
         )
     add_plan(parser)
-    parser.set_defaults(one_site=None, site_map=None, received=True, boards=False)
+    parser.set_defaults(one_site=None, site_map=None, boards=False)
 
 
 def arguments(argv: Sequence[str], prog: str) -> Options:
@@ -368,34 +371,23 @@ def arguments(argv: Sequence[str], prog: str) -> Options:
         help="the time zone of days and hours, such as Europe/Berlin",
     )
     add_log(parser)
-    add_power(parser)
-    add_tokens(parser)
-    add_program(parser)
+    add_replay(parser)
     words = parsed(parser, argv)
     plan, in_zone = plan_options(parser, words), words.tz or timezone.utc
     if (words.script is None) == (words.log is None):
         parser.error("either a SCRIPT is named or a --log")
     if words.log and not (words.stations and words.state):
         parser.error("--log takes --stations and --state")
-    if words.script and (words.stations or words.state or words.once or words.close):
+    if words.script and (words.stations or words.state or words.is_once or words.close):
         parser.error("--stations, --state, --once and --close-month go with --log")
     if words.script and plan.has_settings:
         parser.error(
             "--order, --settle, --period, --limits and --mend go with --log; a SCRIPT has its lines"
         )
-    followed = words.log and LogOptions(
-        words.log,
-        words.state,
-        logforms.shape_of(words),
-        plan,
-        words.program,
-        words.close,
-        in_zone,
-        words.utc,
-        words.once,
-    )
-    shown = Shown(words.out, words.every, in_zone, words.oldest, words.tokens)
-    return Options(followed, words.script or "", shown, words.program, words.most_kw)
+    more = {"shape": logforms.shape_of(words), "plan": plan, "zone": in_zone}
+    followed = words.log and options_of(LogOptions, words, **more)
+    shown = options_of(Shown, words, zone=in_zone)
+    return options_of(Options, words, log=followed, script=words.script or "", shown=shown)
 
 
 def interrupts() -> Callable[[int, FrameType | None], None]:

@@ -49,7 +49,13 @@ from ocpp_board.logs import logforms
 from ocpp_board.logs.log_reader import LogReader, Taken
 from ocpp_board.logs.logforms import Shape, shape_of
 from ocpp_board.logs.mending import COMMENT as MENDED
-from ocpp_board.logs.script_plan import PlanOptions, ScriptPlan, add_plan, plan_options
+from ocpp_board.logs.script_plan import (
+    PlanOptions,
+    ScriptPlan,
+    add_plan,
+    add_utc,
+    plan_options,
+)
 from ocpp_board.messages.texts import Refused
 from ocpp_board.processes import end_without_reader
 from ocpp_board.progress import Progress
@@ -58,7 +64,7 @@ from ocpp_board.replay.line_faults import BYTE_ORDER_MARK, name_fault
 from ocpp_board.replay.refusals import MOST_UNTAKEN, Refusal, comment_of, commented
 from ocpp_board.sources import opened, unpacked
 from ocpp_board.statuses import Mistaken, Status, ended
-from ocpp_board.words import parsed, parser_of
+from ocpp_board.words import options_of, parsed, parser_of
 
 log = logging.getLogger(__name__)
 
@@ -365,6 +371,7 @@ def add_script(parser: argparse.ArgumentParser) -> None:
     )
     parser.add_argument(
         "--received",
+        dest="is_received",
         action="store_true",
         help="a comment `# received <time>` before each message, if the log has its time",
     )
@@ -386,7 +393,7 @@ def arguments(argv: Sequence[str], prog: str) -> Options:
     logforms.add_form(parser)
     logforms.add_options(parser, logforms.FIELDS)
     add_sites(parser)
-    parser.add_argument("--utc", action="store_true", help="times without an offset are UTC")
+    add_utc(parser)
     add_plan(parser)
     add_script(parser)
     words = parsed(parser, argv)
@@ -398,7 +405,7 @@ def arguments(argv: Sequence[str], prog: str) -> Options:
     if not shape.has_site and not plan.has_sites:
         form = shape.name if shape.regex else f"--form {shape.form}"
         parser.error(f"{form} has no sites: --site, --site-map or --stations names them")
-    return Options(words.log, shape, plan, words.received, words.utc, words.split)
+    return options_of(Options, words, shape=shape, plan=plan)
 
 
 def convert(options: Options) -> int:

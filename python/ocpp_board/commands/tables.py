@@ -76,7 +76,7 @@ from ocpp_board.reports.session_pages import Known
 from ocpp_board.reports.tables import Files, write_files
 from ocpp_board.sources import is_gzip, opened
 from ocpp_board.statuses import Mistaken, ended
-from ocpp_board.words import add_power, add_program, add_tokens, parsed, parser_of, zone
+from ocpp_board.words import add_replay, options_of, parsed, parser_of, zone
 
 log = logging.getLogger(__name__)
 
@@ -206,9 +206,7 @@ def arguments(argv: Sequence[str], prog: str) -> Options:
         metavar="SCRIPT",
         help="the script that the text is of: its messages give times of transactions, findings, and what was refused",
     )
-    add_power(parser)
-    add_tokens(parser)
-    add_program(parser)
+    add_replay(parser)
     add_moments(parser)
     words = parsed(parser, argv)
     if words.day:
@@ -219,18 +217,12 @@ def arguments(argv: Sequence[str], prog: str) -> Options:
         not SECONDS.fullmatch(words.follow[1]) or words.text != "-" or words.script
     ):
         parser.error("--follow takes an address and seconds, 1 to 99999, and no text or script")
-    return Options(
-        words.text,
-        Files(words.out, words.raw, words.tokens, "" if words.text == "-" else words.text),
-        Calendar(words.tz, words.first, words.last),
-        (words.follow[0], int(words.follow[1])) if words.follow else None,
-        words.script,
-        words.program,
-        words.most_kw,
-        words.written,
-        words.until,
-        words.oldest,
-        words.refresh,
+    return options_of(
+        Options,
+        words,
+        files=Files(words.out, words.raw, words.tokens, "" if words.text == "-" else words.text),
+        calendar=Calendar(words.tz, words.first, words.last),
+        follow=(words.follow[0], int(words.follow[1])) if words.follow else None,
     )
 
 

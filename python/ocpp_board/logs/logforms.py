@@ -11,6 +11,7 @@ from ocpp_board.escapes import shown
 from ocpp_board.limits import LONGEST_LOG_LINE
 from ocpp_board.messages.texts import Members, Refused, members_of, object_of
 from ocpp_board.statuses import Mistaken
+from ocpp_board.words import options_of
 
 FORMS = """\
 The shapes of logs that --form names; those of other projects as far as known:
@@ -61,29 +62,15 @@ class Entry(NamedTuple):
     is_old: bool = False
 
 
+# A line of another version.
+OLD = Entry(None, "", None, "", is_stations=False, is_old=True)
+
+
 class Form(Protocol):
     """A shape of logs."""
 
     def read(self, text: str) -> Entry | None:
         """What a line says; None where it is another's. Raises Refused where it can't be taken."""
-
-
-class JsonFields(NamedTuple):
-    """The names of the fields of a form `json`, and how its messages are written."""
-
-    site: str = "site"
-    station: str = "station"
-    time: str = "time"
-    message: str = "message"
-    # A field with the version of OCPP.
-    protocol: str | None = None
-    # A field that says who sent the message, and what it says where a station did.
-    direction: str | None = None
-    incoming: str = "in"
-    # The message is an array or object and not a string.
-    is_json_message: bool = False
-    # The site is in the line.
-    has_site: bool = True
 
 
 def member(entry: dict[str, Any], field: str) -> Any:
@@ -127,31 +114,39 @@ def is_old(protocol: Any) -> bool:
     return bool(protocol) and not OURS.fullmatch(str(protocol))
 
 
-class JsonForm:
-    """JSON objects with named fields."""
+class JsonForm(NamedTuple):
+    """JSON objects with fields of these names, and how their messages are written."""
 
-    def __init__(self, fields: JsonFields) -> None:
-        self.fields = fields
+    site: str = "site"
+    station: str = "station"
+    time: str = "time"
+    message: str = "message"
+    # A field with the version of OCPP.
+    protocol: str | None = None
+    # A field that says who sent the message, and what it says where a station did.
+    direction: str | None = None
+    incoming: str = "in"
+    # The message is an array or object and not a string.
+    is_json_message: bool = False
+    # The site is in the line.
+    has_site: bool = True
 
     def read(self, text: str) -> Entry | None:
         """What an object says; its site if the fields have one."""
-        fields = self.fields
-        of = members_of(text) if fields.is_json_message else Members(object_of(text), {})
+        of = members_of(text) if self.is_json_message else Members(object_of(text), {})
         entry = of.values
-        if fields.protocol and is_old(member(entry, fields.protocol)):
-            return Entry(None, "", None, "", is_stations=False, is_old=True)
-        site = text_member(entry, fields.site, "site") if fields.has_site else None
-        station = text_member(entry, fields.station, "station")
-        at = time_member(entry, fields.time)
-        is_stations = (
-            fields.direction is None or text_member(entry, fields.direction) == fields.incoming
-        )
-        return Entry(site, station, at, self.message(of), is_stations)
+        if self.protocol and is_old(member(entry, self.protocol)):
+            return OLD
+        site = text_member(entry, self.site, "site") if self.has_site else None
+        station = text_member(entry, self.station, "station")
+        at = time_member(entry, self.time)
+        is_stations = self.direction is None or text_member(entry, self.direction) == self.incoming
+        return Entry(site, station, at, self.frame(of), is_stations)
 
-    def message(self, of: Members) -> str:
+    def frame(self, of: Members) -> str:
         """The message as the station sent it."""
-        field = self.fields.message
-        if not self.fields.is_json_message:
+        field = self.message
+        if not self.is_json_message:
             return text_member(of.values, field, "message")
         value = member(of.values, field)
         if isinstance(value, (dict, list)):
@@ -173,7 +168,7 @@ class RegexForm:
             return None
         groups = match.groupdict()
         if is_old(groups.get("protocol")):
-            return Entry(None, "", None, "", is_stations=False, is_old=True)
+            return OLD
         if groups["station"] is None or groups["message"] is None:
             return None
         way = groups.get("direction")
@@ -255,7 +250,7 @@ class CitrineForm:
         values = row.values
         protocol, origin = values.get("protocol") or PROTOCOL, text_member(values, "origin")
         if is_old(protocol):
-            return Entry(None, "", None, "", is_stations=False, is_old=True)
+            return OLD
         if origin not in ("cs", "csms"):
             raise Refused("'origin' is neither cs nor csms", shown(origin))
         is_json = isinstance(values.get("message"), (dict, list))
@@ -361,6 +356,7 @@ def add_options(parser: argparse.ArgumentParser, fields: tuple[str, ...]) -> Non
         )
     parser.add_argument(
         "--json-message",
+        dest="is_json_message",
         action="store_true",
         help="the message is a JSON array or object in place of a string; its text is cut from the "
         "line as it is, with numbers and blanks",
@@ -438,25 +434,16 @@ class Shape:
         if self.form != "json":
             return OTHER_FORMS[self.form]()
         return JsonForm(
-            JsonFields(
-                **self.fields,
-                protocol=self.protocol,
-                direction=self.direction,
-                incoming=incoming,
-                is_json_message=self.is_json_message,
-                has_site=has_site,
-            )
+            **self.fields,
+            protocol=self.protocol,
+            direction=self.direction,
+            incoming=incoming,
+            is_json_message=self.is_json_message,
+            has_site=has_site,
         )
 
 
 def shape_of(words: argparse.Namespace) -> Shape:
     """The shape that the words ask for."""
-    return Shape(
-        words.form,
-        words.regex,
-        {field: getattr(words, field) for field in FIELDS if field in words},
-        words.incoming,
-        words.protocol,
-        words.direction,
-        words.json_message,
-    )
+    named = {field: getattr(words, field) for field in FIELDS if field in words}
+    return options_of(Shape, words, fields=named)

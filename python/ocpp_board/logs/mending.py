@@ -4,8 +4,6 @@ The script has the message as it was taken, and in a comment in front of it the 
 """
 
 import argparse
-import csv
-import os
 import re
 from collections import Counter
 from collections.abc import Iterable, Iterator, Mapping
@@ -20,6 +18,7 @@ from ocpp_board.messages.texts import CALL, JSON, blanks, expected
 from ocpp_board.messages.times import local_of
 from ocpp_board.replay.refusals import named_in
 from ocpp_board.words import zone
+from ocpp_board.whole_files import write_csv
 
 # The faults that can be mended: a value that is sent as a text, and a time without an offset from UTC.
 TEXT_VALUE, NO_OFFSET = "text-value", "no-offset"
@@ -209,16 +208,14 @@ class MendedMessages:
 
     def write(self, path: Path, sites: Mapping[str, str], site: str | None = None) -> None:
         """Writes the rows of a site as CSV, or of all. The file is there whole or not at all. Raises OSError."""
-        made = path.with_name(f".{path.name}.made")
-        with open(made, "w", encoding="utf-8", newline="") as file:
-            table = csv.writer(file, lineterminator="\n")
-            table.writerow(HEADS)
-            for row in self.rows:
-                of = sites.get(row.station, "")
-                if site in (None, of):
-                    texts = (row.time, of, row.station, row.transaction, row.number, row.faults)
-                    table.writerow([*map(csv_cell, texts), str(row.line)])
-        os.replace(made, path)
+
+        def cells(row: Mended) -> list[str]:
+            of = sites.get(row.station, "")
+            texts = (row.time, of, row.station, row.transaction, row.number, row.faults)
+            return [*map(csv_cell, texts), str(row.line)]
+
+        own = (row for row in self.rows if site in (None, sites.get(row.station, "")))
+        write_csv(path, HEADS, map(cells, own))
 
 
 def add_mending(parser: argparse.ArgumentParser) -> None:

@@ -2,8 +2,10 @@
 
 import argparse
 import difflib
-from collections.abc import Iterable, Iterator, Mapping
+from collections.abc import Iterable, Iterator, Mapping, Sequence
 from dataclasses import dataclass
+from functools import partial
+from typing import Any
 
 from ocpp_board.escapes import shown
 from ocpp_board.limits import (
@@ -23,6 +25,7 @@ from ocpp_board.messages.texts import Refused
 from ocpp_board.replay.line_faults import NAMES, name_fault
 from ocpp_board.replay.refusals import NOT_IN
 from ocpp_board.statuses import Mistaken
+from ocpp_board.words import options_of
 
 
 def named(field: str, name: str | None) -> str:
@@ -89,7 +92,7 @@ class PlanOptions:
     order: Mapping[str, str]
     settle: Mapping[str, str]
     mend: Mends
-    has_boards: bool
+    boards: bool
 
     @property
     def has_sites(self) -> bool:
@@ -192,22 +195,13 @@ class ScriptPlan:
         self.site_of[station] = site
         return True
 
-    def limits_line(self) -> bytes:
-        """The line with the limits of all stations, where some are asked for."""
-        return limits_line_of(self.asked.limits) if self.asked.limits else b""
-
-    def period_line(self, site: str) -> bytes:
-        """The settlement period of a site, where one is asked for."""
+    def lines_of(self, site: str) -> Iterator[bytes]:
+        """What is declared of a site: its settlement period, where one is asked for, the order of its readings, and the
+        rule by which their differences count in its periods."""
         seconds = self.asked.period.get(site, self.asked.period.get(""))
-        return f"period {site} {seconds}\n".encode() if seconds else b""
-
-    def order_line(self, site: str) -> bytes:
-        """The order of a site's readings."""
-        return self.line("order", site, self.asked.order)
-
-    def settle_line(self, site: str) -> bytes:
-        """The rule by which a site's differences count in its periods."""
-        return self.line("settle", site, self.asked.settle)
+        yield f"period {site} {seconds}\n".encode() if seconds else b""
+        yield self.line("order", site, self.asked.order)
+        yield self.line("settle", site, self.asked.settle)
 
     def line(self, kind: str, site: str, asked: Mapping[str, str]) -> bytes:
         """What a site is declared to be: as asked for, else as an earlier script had it, else by the defaults of the
@@ -237,15 +231,16 @@ class ScriptPlan:
             lines += [limits_line_of(limits)] if limits != before else []
             lines.append(f"station {site} {station}\n".encode())
             before = limits
-        sites = dict.fromkeys(stations.values())
-        kinds = (self.period_line, self.order_line, self.settle_line)
-        of_sites = [line(site) for site in sites for line in kinds]
-        return b"".join([self.limits_line(), *lines, *of_sites])
+        of_sites = [
+            line for site in dict.fromkeys(stations.values()) for line in self.lines_of(site)
+        ]
+        of_all = limits_line_of(self.asked.limits) if self.asked.limits else b""
+        return b"".join([of_all, *lines, *of_sites])
 
     def boards(self, site_of: dict[str, str] | None = None) -> bytes:
         """The lines that ask for the board of each site, where they are asked for."""
         sites = dict.fromkeys((self.site_of if site_of is None else site_of).values())
-        return b"".join(f"board {site}\n".encode() for site in sites if self.asked.has_boards)
+        return b"".join(f"board {site}\n".encode() for site in sites if self.asked.boards)
 
 
 def limits_line_of(limits: Iterable[int]) -> bytes:
@@ -269,17 +264,10 @@ def period(text: str) -> tuple[str, int]:
     return site, int(seconds)
 
 
-def order(text: str) -> tuple[str, str]:
-    """A site and the order of its readings."""
-    if text.rpartition("=")[2] not in ORDERS:
-        raise argparse.ArgumentTypeError(f"not {' or '.join(ORDERS)}: {shown(text)}")
-    return of_site(text)
-
-
-def settle(text: str) -> tuple[str, str]:
-    """A site and the rule by which its differences count in its periods."""
-    if text.rpartition("=")[2] not in RULES:
-        raise argparse.ArgumentTypeError(f"not {' or '.join(RULES)}: {shown(text)}")
+def word(words: Sequence[str], text: str) -> tuple[str, str]:
+    """A site and one of these words, for it."""
+    if text.rpartition("=")[2] not in words:
+        raise argparse.ArgumentTypeError(f"not {' or '.join(words)}: {shown(text)}")
     return of_site(text)
 
 
@@ -293,35 +281,39 @@ def add_plan(parser: argparse.ArgumentParser) -> None:
         help="a `limits` line for all stations, up to 4096 65536 65536 9223372036854775808, and "
         "the readings of all stations up to 1,048,576",
     )
-    parser.add_argument(
-        "--period",
-        type=period,
-        action="append",
-        default=[],
-        metavar="[SITE=]SECONDS",
-        help="the settlement period of a site's boards, or of all sites that are not named so: "
-        "300, 900, 1800 or 3600 seconds (default: 900)",
-    )
-    parser.add_argument(
-        "--order",
-        type=order,
-        action="append",
-        default=[],
-        metavar="[SITE=]WORD",
-        help="the order of a site's readings, or of all sites that are not named so: sequence, the numbers of their "
-        "events, or moment, their own times, for stations that list readings again (default: moment)",
-    )
-    parser.add_argument(
-        "--settle",
-        type=settle,
-        action="append",
-        default=[],
-        metavar="[SITE=]WORD",
-        help="the period in which a difference of a site counts, or of all sites that are not named so: later, that of "
-        "its later reading; closing, the one that this reading closes; or even, each period between its readings by "
-        "its share of the time (default: even)",
-    )
+    for name, kind, value, about in (
+        (
+            "period",
+            period,
+            "SECONDS",
+            "the settlement period of a site's boards, or of all sites that are not named so: "
+            "300, 900, 1800 or 3600 seconds (default: 900)",
+        ),
+        (
+            "order",
+            partial(word, ORDERS),
+            "WORD",
+            "the order of a site's readings, or of all sites that are not named so: sequence, the numbers of their "
+            "events, or moment, their own times, for stations that list readings again (default: moment)",
+        ),
+        (
+            "settle",
+            partial(word, RULES),
+            "WORD",
+            "the period in which a difference of a site counts, or of all sites that are not named so: later, that of "
+            "its later reading; closing, the one that this reading closes; or even, each period between its readings "
+            "by its share of the time (default: even)",
+        ),
+    ):
+        more: dict[str, Any] = {"type": kind, "metavar": f"[SITE=]{value}", "help": about}
+        parser.add_argument(f"--{name}", action="append", default=[], **more)
     add_mending(parser)
+
+
+def add_utc(parser: argparse.ArgumentParser) -> None:
+    """The option that says what times without an offset are."""
+    about = "times without an offset are UTC"
+    parser.add_argument("--utc", dest="is_utc", action="store_true", help=about)
 
 
 def plan_options(parser: argparse.ArgumentParser, words: argparse.Namespace) -> PlanOptions:
@@ -329,14 +321,6 @@ def plan_options(parser: argparse.ArgumentParser, words: argparse.Namespace) -> 
     greatest = GREATEST_LIMITS.values()
     if words.limits and not all(1 <= n <= most for n, most in zip(words.limits, greatest)):
         parser.error("--limits are from 1 to 4096, 65536, 65536 and 9223372036854775808")
-    return PlanOptions(
-        words.stations,
-        words.one_site,
-        words.site_map,
-        tuple(words.limits) if words.limits else None,
-        dict(words.period),
-        dict(words.order),
-        dict(words.settle),
-        mends_of(words.mend),
-        words.boards,
-    )
+    by_site = {name: dict(getattr(words, name)) for name in ("period", "order", "settle")}
+    limits = tuple(words.limits) if words.limits else None
+    return options_of(PlanOptions, words, limits=limits, mend=mends_of(words.mend), **by_site)

@@ -8,6 +8,7 @@ from typing import Any
 
 from ocpp_board.escapes import shown
 from ocpp_board.limits import GREATEST_SEQ_NO, TRANSACTION
+from ocpp_board.messages.meter_values import EXPORT, IMPORT
 from ocpp_board.messages.times import NO_OFFSET, OUT_OF_RANGE, fault_of
 from ocpp_board.replay.line_faults import Said
 
@@ -21,7 +22,7 @@ OTHER_ACTIONS = frozenset(
 )
 # Actions of OCPP 1.6 that 2.0.1 has not.
 OLD_ACTIONS = frozenset(("StartTransaction", "StopTransaction", "DiagnosticsStatusNotification"))
-COUNTED = (None, "Energy.Active.Import.Register", "Energy.Active.Export.Register")
+COUNTED = (None, IMPORT, EXPORT)
 KINDS = ("Started", "Updated", "Ended")
 # EVSEs of a station, exponents of a unit's multiplier, and readings of a message.
 MOST_EVSES, GREATEST_MULTIPLIER, MOST_READINGS = 64, 12, 1_024
@@ -216,6 +217,10 @@ class Checks:
             )
 
 
+MORE_ROOM = (
+    "more room by --limits of log-to-script or live, in a script by a line `limits <transactions> <events> "
+    "<readings> <changes>` before its `station` line"
+)
 REMEDIES = {
     "TextTooLong": ("the message has more than 262,144 bytes", "a shorter message"),
     "OutOfMemory": ("there was no memory", "run it where there is more, or with less in `limits`"),
@@ -226,23 +231,19 @@ REMEDIES = {
     ),
     "TooManyTransactions": (
         "the station has as many transactions as its limits allow",
-        "more room by --limits of log-to-script or live, in a script by a line `limits <transactions> <events> "
-        "<readings> <changes>` before its `station` line",
+        MORE_ROOM,
     ),
     "EventsFull": (
         "the station has as many events as its limits allow; voided ones count until they are erased",
-        "more room by --limits of log-to-script or live, in a script by a line `limits <transactions> <events> "
-        "<readings> <changes>` before its `station` line",
+        MORE_ROOM,
     ),
     "ReadingsFull": (
         "the station has as many readings as its limits allow",
-        "more room by --limits of log-to-script or live, in a script by a line `limits <transactions> <events> "
-        "<readings> <changes>` before its `station` line",
+        MORE_ROOM,
     ),
     "ChangesExhausted": (
         "the station has accepted as many changes as its limits allow",
-        "more room by --limits of log-to-script or live, in a script by a line `limits <transactions> <events> "
-        "<readings> <changes>` before its `station` line",
+        MORE_ROOM,
     ),
     "NoSuchEvent": (
         "the station has no event with this transaction id and this number",
@@ -256,14 +257,9 @@ REMEDIES = {
 }
 
 
-def is_kept_nothing_of(action: str) -> bool:
-    """Whether this is an action of OCPP 2.0.1, but the ledger keeps nothing of it."""
-    return action in OTHER_ACTIONS
-
-
 def unknown_action(action: str) -> Said:
     """Why an action is none that is answered."""
-    if is_kept_nothing_of(action):
+    if action in OTHER_ACTIONS:
         return (
             f"the action {shown(action)} is one of OCPP 2.0.1; the ledger keeps nothing of it",
             "nothing is to be done; whoever answers the station answers it",

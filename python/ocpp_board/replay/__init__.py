@@ -7,7 +7,7 @@
     board_lists    the boards of a script with these lists, in a file
     live_lists     the lists of a replay that lives, asked for again where a transaction changed
     board_sums     boards of several ledgers, added up
-    script_lines   where the lines of a script are, so that some can be read again
+    script_lines   where the lines of a script are, so that some can be read again; comments that keep texts
     script_check   whether a text with boards is that of a script
     line_faults    why a line of a script is a fault, and the remedy
     refusals       what was refused, or could not be taken: station, cause, advice

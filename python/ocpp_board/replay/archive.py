@@ -4,11 +4,11 @@ A script of the archive has the lines of sessions that ended before a month or a
 of a replay to these lines. What comes later for one of them is a correction: a line of that script, too.
 """
 
-import csv
 import json
 import os
+from calendar import monthrange
 from collections.abc import Callable, Iterable, Iterator
-from datetime import datetime, timezone
+from datetime import datetime, time, timedelta, timezone
 from io import BytesIO
 from pathlib import Path
 from typing import NamedTuple
@@ -27,6 +27,7 @@ from ocpp_board.replay.operators import CHANGES, Deed
 from ocpp_board.replay.operators import commented as deed_in
 from ocpp_board.replay.refusals import COMMENT as UNTAKEN, named_in
 from ocpp_board.replay.script_lines import ScriptLines
+from ocpp_board.whole_files import write_csv
 
 # The lines that ask for lists.
 LISTED = (b"events ", b"readings ")
@@ -380,19 +381,13 @@ class Archive:
 
     def write(self, path: Path, site: str) -> None:
         """Writes the corrections of a site as CSV. The file is there whole or not at all. Raises OSError."""
-        made = path.with_name(f".{path.name}.made")
-        with open(made, "w", encoding="utf-8", newline="") as file:
-            table = csv.writer(file, lineterminator="\n")
-            table.writerow(HEADS)
-            for one in self.corrections:
-                if one.site in (site, ""):
-                    texts = (one.received, one.site, one.station, one.transaction, one.number)
-                    nets = [
-                        f"{'-' if n < 0 else ''}{kwh_of(abs(n))}" for n in (one.before, one.after)
-                    ]
-                    front = [*map(csv_cell, texts), one.what, csv_cell(one.answer)]
-                    table.writerow([*front, *nets, one.label])
-        os.replace(made, path)
+
+        def cells(one: Correction) -> list[str]:
+            texts = (one.received, one.site, one.station, one.transaction, one.number)
+            nets = [f"{'-' if n < 0 else ''}{kwh_of(abs(n))}" for n in (one.before, one.after)]
+            return [*map(csv_cell, texts), one.what, csv_cell(one.answer), *nets, one.label]
+
+        write_csv(path, HEADS, (cells(one) for one in self.corrections if one.site in (site, "")))
 
 
 def lines_of(boards: dict[str, BoardSum], site: str, key: Key) -> list[bytes]:
@@ -420,9 +415,5 @@ def net_of(boards: dict[str, BoardSum], site: str, key: Key) -> int:
 
 def next_begin(at: datetime, is_day: bool) -> datetime:
     """The beginning of the next day or month in the zone of a moment."""
-    day = at.date().toordinal() + 1
-    first = datetime.fromordinal(day)
-    while not is_day and first.day != 1:
-        day += 1
-        first = datetime.fromordinal(day)
-    return first.replace(tzinfo=at.tzinfo)
+    days = 1 if is_day else monthrange(at.year, at.month)[1] - at.day + 1
+    return datetime.combine(at.date() + timedelta(days=days), time(), at.tzinfo)

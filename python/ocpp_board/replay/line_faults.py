@@ -2,6 +2,7 @@
 
 import difflib
 import re
+from collections.abc import Sequence
 
 from ocpp_board.escapes import shown
 from ocpp_board.limits import (
@@ -69,37 +70,29 @@ def number_fault(what: str, text: str, most: int) -> Said | None:
     return None
 
 
-def order_fault(word: str) -> Said | None:
-    """Why a word is no order of readings."""
-    if word in ORDERS:
-        return None
-    return f"{shown(word)} is no order of readings", " or ".join(ORDERS)
-
-
-def rule_fault(word: str) -> Said | None:
-    """Why a word is no rule of settling."""
-    if word in RULES:
-        return None
-    return f"{shown(word)} is no rule of settling", " or ".join(RULES)
+def word_fault(what: str, word: str, words: Sequence[str]) -> Said | None:
+    """Why a word is none of these."""
+    return None if word in words else (f"{shown(word)} is no {what}", " or ".join(words))
 
 
 def words_fault(words: list[str]) -> Said | None:
     """What is wrong with the words of a line of a known kind."""
     kind, *rest = words
-    if kind == "station":
-        return name_fault("site's name", rest[0]) or name_fault("station's name", rest[1])
-    if kind == "board":
-        return name_fault("site's name", rest[0])
     if kind == "mark":
         return name_fault("word", rest[0])
+    if kind in ("board", "period", "order", "settle", "station"):
+        if fault := name_fault("site's name", rest[0]):
+            return fault
+    if kind == "board":
+        return None
+    if kind == "station":
+        return name_fault("station's name", rest[1])
     if kind == "period":
-        return name_fault("site's name", rest[0]) or number_fault(
-            "number of seconds", rest[1], GREATEST
-        )
+        return number_fault("number of seconds", rest[1], GREATEST)
     if kind == "order":
-        return name_fault("site's name", rest[0]) or order_fault(rest[1])
+        return word_fault("order of readings", rest[1], ORDERS)
     if kind == "settle":
-        return name_fault("site's name", rest[0]) or rule_fault(rest[1])
+        return word_fault("rule of settling", rest[1], RULES)
     if kind == "limits":
         faults = (
             number_fault(f"number of {what}", text, GREATEST)

@@ -1,8 +1,5 @@
 """What operators had voided, restored and erased: who, when and why, and how it was answered."""
 
-import csv
-import json
-import os
 from collections.abc import Mapping
 from datetime import datetime, timezone
 from pathlib import Path
@@ -10,6 +7,8 @@ from typing import NamedTuple
 
 from ocpp_board.escapes import csv_cell, without_controls
 from ocpp_board.replay.answered import OPERATOR as COMMENT, Line
+from ocpp_board.replay.script_lines import texts_comment, texts_in
+from ocpp_board.whole_files import write_csv
 
 # The first words of an operator's lines that change what a station holds.
 CHANGES = (b"void", b"restore", b"erase")
@@ -40,8 +39,7 @@ class Deed(NamedTuple):
 
     def comment(self) -> bytes:
         """The line of a script that keeps who, when and why."""
-        texts = {name: text for name, text in self._asdict().items() if text}
-        return COMMENT + json.dumps(texts, separators=(",", ":")).encode() + b"\n"
+        return texts_comment(COMMENT, self._asdict())
 
 
 def is_change(line: bytes) -> bool:
@@ -62,13 +60,8 @@ def deed_of(line: bytes) -> Deed:
 
 def commented(comment: bytes) -> Deed | None:
     """The operator's line that a comment is of; None where it is none."""
-    if not comment.startswith(COMMENT):
-        return None
-    try:
-        texts = json.loads(comment.removeprefix(COMMENT))
-        return Deed(**{name: str(texts.get(name, "")) for name in Deed._fields})
-    except (ValueError, AttributeError, RecursionError):
-        return None
+    texts = texts_in(COMMENT, comment, Deed._fields)
+    return Deed(**texts) if texts else None
 
 
 class Operators:
@@ -120,15 +113,11 @@ class Operators:
     def write(self, path: Path, sites: Mapping[str, str], site: str | None = None) -> None:
         """Writes the lines of a site as CSV, or of all. `sites`: those of stations. The file is there whole or not at
         all. Raises OSError."""
-        made = path.with_name(f".{path.name}.made")
-        with open(made, "w", encoding="utf-8", newline="") as file:
-            table = csv.writer(file, lineterminator="\n")
-            table.writerow(HEADS)
-            for deed in sorted(self.deeds, key=lambda deed: deed.time):
-                what, station, transaction, number = deed.words
-                of = sites.get(station, "")
-                if site is None or of in (site, ""):
-                    texts = (of, station, transaction, number, deed.why, deed.answer)
-                    front = [deed.time, csv_cell(deed.who), csv_cell(what)]
-                    table.writerow([*front, *map(csv_cell, texts)])
-        os.replace(made, path)
+        rows = []
+        for deed in sorted(self.deeds, key=lambda deed: deed.time):
+            what, station, *which = deed.words
+            of = sites.get(station, "")
+            if site is None or of in (site, ""):
+                texts = (deed.who, what, of, station, *which, deed.why, deed.answer)
+                rows.append([deed.time, *map(csv_cell, texts)])
+        write_csv(path, HEADS, rows)

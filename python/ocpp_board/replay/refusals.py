@@ -3,10 +3,7 @@
 The same again, as a station sends it that gets no answer, is one row with how often it came.
 """
 
-import csv
-import json
 import logging
-import os
 import re
 from collections import Counter
 from collections.abc import Callable
@@ -17,11 +14,12 @@ from typing import Any, NamedTuple
 
 from ocpp_board.escapes import csv_cell, shown, without_controls
 from ocpp_board.limits import LONGEST_LINE, MOMENT
-from ocpp_board.messages.message_faults import JSON, is_kept_nothing_of, message_fault
+from ocpp_board.messages.message_faults import JSON, OTHER_ACTIONS, message_fault
 from ocpp_board.messages.texts import CALL
 from ocpp_board.replay.answered import OPERATOR, Answered, Lines, moment_of
 from ocpp_board.replay.line_faults import Said, bad_line
-from ocpp_board.replay.script_lines import ScriptLines
+from ocpp_board.replay.script_lines import ScriptLines, texts_comment, texts_in
+from ocpp_board.whole_files import write_csv
 
 log = logging.getLogger(__name__)
 
@@ -113,7 +111,7 @@ def is_left(answered: Answered) -> bool:
     if not answered.answer.endswith(',"UnknownAction",{}]'):
         return False
     call = CALL.match(answered.message)
-    return call is not None and is_kept_nothing_of(call[2])
+    return call is not None and call[2] in OTHER_ACTIONS
 
 
 def refusal_of(answered: Answered) -> Refusal | None:
@@ -258,14 +256,9 @@ class Refusals:
 
         The file is there whole or not at all. Raises OSError.
         """
-        made = path.with_name(f".{path.name}.made")
-        with open(made, "w", encoding="utf-8", newline="") as file:
-            table = csv.writer(file, lineterminator="\n")
-            table.writerow(HEADS)
-            for row in self.rows.values():
-                if site is None or row.refusal.site in (site, ""):
-                    table.writerow(row.cells())
-        os.replace(made, path)
+        rows = self.rows.values()
+        own = (row for row in rows if site is None or row.refusal.site in (site, ""))
+        write_csv(path, HEADS, map(Row.cells, own))
 
     def end(self) -> None:
         """Reports how many there were of each cause."""
@@ -286,17 +279,10 @@ def sentence(refusal: Refusal, source: str = "") -> str:
 
 def comment_of(refusal: Refusal) -> bytes:
     """A line of a script that keeps the refusal of a line of a log; a replay passes over it."""
-    texts = {name: text for name, text in refusal._asdict().items() if text and name != "cause"}
-    return COMMENT + json.dumps(texts, separators=(",", ":")).encode() + b"\n"
+    return texts_comment(COMMENT, refusal._replace(cause="")._asdict())
 
 
 def commented(line: bytes) -> Refusal | None:
     """The refusal that a line of a script keeps; None of another line."""
-    if not line.startswith(COMMENT):
-        return None
-    try:
-        kept = json.loads(line.removeprefix(COMMENT))
-        texts = {name: str(kept.get(name, "")) for name in Refusal._fields}
-    except (ValueError, AttributeError, RecursionError):
-        return None
-    return Refusal(**texts | {"cause": UNTAKEN})
+    texts = texts_in(COMMENT, line, Refusal._fields)
+    return Refusal(**texts)._replace(cause=UNTAKEN) if texts else None

@@ -1,12 +1,30 @@
-"""Where the lines of a script are, so that some of them can be read again."""
+"""Where the lines of a script are, so that some of them can be read again, and comments that keep texts by name."""
 
+import json
 import os
 from array import array
-from collections.abc import Iterable, Iterator
+from collections.abc import Iterable, Iterator, Mapping
 from io import BufferedReader, BytesIO
 from pathlib import Path
 
 from ocpp_board.limits import LONGEST_LINE
+
+
+def texts_comment(front: bytes, texts: Mapping[str, str]) -> bytes:
+    """A comment that keeps those of these texts that are not empty; a replay passes over it."""
+    some = {name: text for name, text in texts.items() if text}
+    return front + json.dumps(some, separators=(",", ":")).encode() + b"\n"
+
+
+def texts_in(front: bytes, line: bytes, names: Iterable[str]) -> dict[str, str] | None:
+    """The texts of these names that a comment keeps; None of another line."""
+    if not line.startswith(front):
+        return None
+    try:
+        kept = json.loads(line.removeprefix(front))
+        return {name: str(kept.get(name, "")) for name in names}
+    except (ValueError, AttributeError, RecursionError):
+        return None
 
 
 class ScriptLines:

@@ -6,7 +6,8 @@
     repeat_hints                      sites with stations that list readings again
     session_facts, session_times      when sessions began and ended, and what their registers read
     calendars, changed_days           days of a time zone, and which of them have other pages than before
-    pages, page_sections              the frame, style and tables of pages; their sections
+    rendering, templates              the Jinja2 templates of all pages, also the fleet's
+    pages, page_sections              what pages are made of, and their sections
     board_pages, session_pages        the pages of boards and days; the page of a session
     live_pages                        the pages of sites, written again when they change
     pictures, month_pictures, lanes   bars, strips, heat maps and lanes as SVG

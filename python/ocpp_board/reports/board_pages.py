@@ -1,10 +1,13 @@
 """The pages of boards: one of all of them, one for each day, and further ones where these are full."""
 
-from collections.abc import Callable, Iterable, Iterator, Sequence
+from collections.abc import Callable, Iterable, Iterator, Mapping, Sequence
 from dataclasses import dataclass, field
 from datetime import date, datetime, timedelta, timezone
-from html import escape
 from itertools import groupby
+from pathlib import Path
+from typing import Any
+
+from markupsafe import Markup
 
 from ocpp_board.energies import kwh, share, sum_of
 from ocpp_board.replay.boards import COUNTS, Part, Period, Session, Total, know_site
@@ -18,41 +21,32 @@ from ocpp_board.reports.page_sections import (
     bar_cell,
     day_of_part,
     figures,
-    order_said,
     problems_of,
     sections_of,
     trouble_of,
 )
 from ocpp_board.reports.pages import (
-    BARS,
-    FOOT,
-    LEGEND,
     MARK,
-    SESSIONS,
     Column,
-    Heads,
     Row,
-    across,
     cells_of,
-    explained,
+    columns_of,
     flow_heads,
-    head,
     kept,
+    lines_of,
     link,
-    mended_note,
     moment,
-    refused_banner,
-    table,
 )
 from ocpp_board.reports.pictures import Scale
 from ocpp_board.reports.powers import peak_cell, peak_said
+from ocpp_board.reports.rendering import piece, rendered
 from ocpp_board.shared_work import shared
 
 # A page's body with more bytes than this goes on on the next page.
 PAGE_BYTES = 250_000
 # Stations that a row of the table of problems links to, and boards in that of the sites.
 MOST_LINKS, MOST_BOARDS = 5, 100
-SITES: Heads = [
+SITES = columns_of(
     "Site",
     Column("Board", "wide"),
     "Net, kWh",
@@ -64,7 +58,7 @@ SITES: Heads = [
     "Refused messages",
     " Data up to",
     " Days",
-]
+)
 # Days of a session that are looked at.
 MOST_DAYS = 62
 # Days of stations that are written by a process of their own.
@@ -150,21 +144,21 @@ class Layout:
         """The path of the page of a day, and of the pages after it."""
         return f"{self.out}.{day}{'' if number == 1 else f'.{number}'}.html"
 
-    def head(self, title: str, said: str, links: str, is_one: bool, whole: str = "") -> str:
-        """A page up to its main part."""
-        return head(title, said, links, self.refresh, is_one, whole)
+    @property
+    def file(self) -> str:
+        """How the names of the files begin, without their folder."""
+        return Path(self.out).name
 
-    def foot(self) -> str:
-        """The end of a page."""
-        return FOOT
+    def page(self, name: str, title: str, whole: str = "", **values: Any) -> str:
+        """A page by its template. `whole`: the end of its title, which is not broken."""
+        values |= {"title": title, "whole": whole, "layout": self, "refresh": self.refresh}
+        return rendered(name, frame="reports/base.html", **values)
 
     def session(self, station: str, tx: str) -> str:
         """The name of a session in a table, which leads to its page where it has one."""
-        if self.address is None:
-            return escape(tx)
-        return f'<a href="{escape(self.address(station, tx))}">{escape(tx)}</a>'
+        return piece("link", self.address(station, tx), tx) if self.address else tx
 
-    def station_heads(self) -> Heads:
+    def station_heads(self) -> list[Column]:
         """Further columns of the table of a site's stations."""
         return []
 
@@ -172,48 +166,24 @@ class Layout:
         """A station's cells of these."""
         return []
 
-    def stamp(self, until: datetime | None) -> str:
+    def stamp(self, until: datetime | None) -> Markup:
         """Up to when the data is and when the page was written, and a warning where that is too long before. `until`:
         the end of the last period, which says it if nothing else does."""
-        said = ""
-        if self.until:
-            said = f"Data up to {self.moment(self.until)}. "
-        elif until:
-            said = f"Periods up to {self.moment(until)}. "
-        return (
-            f"{self.stamped(f'{said}Page written {self.moment(self.written)}.')}{self.old()}"
-            f"{refused_banner(self.refused, f'{self.out}.refused.csv'.rpartition('/')[2])}"
-            f"{mended_note(self.mended, f'{self.out}.mended.csv'.rpartition('/')[2])}"
-        )
+        return piece("stamp", self, until)
 
-    def day_stamp(self, until: datetime | None) -> str:
+    def day_stamp(self, until: datetime | None) -> Markup:
         """As `stamp`, on the page of a day. One that stays until its day changes says nothing that others change."""
-        if self.unchanged is None:
-            return self.stamp(until)
-        written = self.moment(self.written)
-        return self.stamped(f"Page written {written}, and again when something on it changes.")
+        return self.stamp(until) if self.unchanged is None else piece("day_stamp", self)
 
-    def stamped(self, said: str) -> str:
-        """What the page says of times, with the zone, and how often a browser loads the page again."""
-        if self.refresh:
-            pause = "second" if self.refresh == 1 else f"{self.refresh:,} seconds"
-            said += f" A browser loads it again every {pause}."
-        return f'<p class="stamp">{said} {self.calendar.said()}.</p>\n'
-
-    def moment(self, at: datetime) -> str:
+    def moment(self, at: datetime) -> Markup:
         """A moment in the zone, to the second where pages are loaded again."""
         return moment(self.calendar.local(at), self.refresh is not None)
 
-    def old(self) -> str:
-        """A warning where the data is older than it should be."""
+    def is_old(self) -> bool:
+        """Whether the data is older than it should be."""
         if self.oldest is None or self.until is None:
-            return ""
-        if self.written - self.until <= timedelta(seconds=self.oldest):
-            return ""
-        return (
-            '<p class="warning" role="status">The data is older than it should be: nothing came since '
-            f"{self.moment(self.until)}.</p>\n"
-        )
+            return False
+        return self.written - self.until > timedelta(seconds=self.oldest)
 
     def by_day(self, periods: list[Period]) -> Iterator[tuple[date, list[Period]]]:
         """The periods that are shown, day by day."""
@@ -226,22 +196,21 @@ class Page:
     """A page that grows in its file, and gets its frame at the end."""
 
     def __init__(self, path: str) -> None:
-        self.path, self.size = path, 0
-        with open(path, "w", encoding="utf-8"):
-            pass
+        self.path, self.size = Path(path), 0
+        self.write("")
 
     def put(self, text: str) -> None:
         """Adds a text to its end. Raises OSError."""
-        with open(self.path, "a", encoding="utf-8", newline="") as file:
-            file.write(text)
-        self.size += len(text.encode())
+        with open(self.path, "ab") as file:
+            self.size += file.write(text.encode())
 
-    def frame(self, begin: str, end: str) -> None:
-        """Puts texts around the body. Raises OSError."""
-        with open(self.path, encoding="utf-8", newline="") as file:
-            body = file.read()
-        with open(self.path, "w", encoding="utf-8", newline="") as file:
-            file.write(f"{begin}{body}{end}")
+    def body(self) -> Markup:
+        """What was put. Raises OSError."""
+        return Markup(self.path.read_bytes().decode())
+
+    def write(self, text: str) -> None:
+        """Writes the whole page in place of its body. Raises OSError."""
+        self.path.write_bytes(text.encode())
 
 
 class Series:
@@ -268,7 +237,7 @@ class Series:
         self.pages[number - 1].put(text)
 
     def put_board(
-        self, board: Board, front: Callable[[list[str]], str], sections: list[str]
+        self, board: Board, front: Callable[[list[str]], str], sections: Sequence[str]
     ) -> str:
         """Adds a board's sections behind a front that is made of their paths, and gives the front's path."""
         longest = self.path_of(9_999)
@@ -276,62 +245,24 @@ class Series:
         first, *numbers = self.places(sizes)
         texts = [front([self.path_of(number) for number in numbers]), *sections]
         for before, number, text in zip((0, first, *numbers), (first, *numbers), texts):
-            self.put(number, ("" if number == before else site_head(board, number == first)) + text)
+            values = {"board": board, "is_first": number == first}
+            head = "" if number == before else rendered("reports/site_head.html", **values)
+            self.put(number, head + text)
         return self.path_of(first)
 
-    def links(self, here: int, where: str) -> str:
-        """Links from the page of this number to the others, where there are several. `where` they are on it."""
-        if len(self.pages) == 1:
-            return ""
-        names = [
-            f'<b aria-current="page">{number}</b>'
-            if number == here
-            else link(page.path, str(number))
-            for number, page in enumerate(self.pages, 1)
-        ]
-        return f'<nav aria-label="Pages, {where}"><span>Page</span> {" ".join(names)}</nav>\n'
+    def frame(self, layout: Layout, name: str, title: str, whole: str = "", **values: Any) -> None:
+        """Gives each page its frame, by a template. Raises OSError."""
+        files = [page.path.name for page in self.pages]
+        for number, page in enumerate(self.pages, 1):
+            on = "" if number == 1 else f", page {number:,}"
+            titles = (title, whole + on) if whole else (title + on, "")
+            some: dict[str, Any] = values | {"number": number, "files": files, "body": page.body()}
+            page.write(layout.page(name, *titles, **some))
 
 
-def site_head(board: Board, is_first: bool) -> str:
-    """The heading of a board's site on a page, which goes on there where it is not the first of the board."""
-    label = f' id="b{board.number}"' if is_first else ""
-    on = "" if is_first else ", continued"
-    return (
-        f'<h2 class="site"{label}>Site {escape(board.site.name)}{on}</h2>\n'
-        f'<p class="site soft">Board {board.number:,} of the text, from its line {board.line:,} on.</p>\n'
-    )
-
-
-def page_of(number: int) -> str:
-    """The end of the title of a page, where it is not the first one."""
-    return "" if number == 1 else f", page {number:,}"
-
-
-def weekday(day: date) -> str:
-    """A day's name of the week."""
-    return ("Mon", "Tue", "Wed", "Thu", "Fri", "Sat", "Sun")[day.weekday()]
-
-
-class Names:
-    """The names of the sites with boards on a page, for its title."""
-
-    def __init__(self) -> None:
-        self.boards = 0
-        self.site = ""
-
-    def add(self, board: Board) -> None:
-        """Another board is shown."""
-        self.boards += 1
-        self.site = board.site.name
-
-    @property
-    def is_one(self) -> bool:
-        """Whether there is only one board."""
-        return self.boards == 1
-
-    def title(self) -> str:
-        """The title of a page."""
-        return f"Site {escape(self.site)}" if self.is_one else "Site boards"
+def title_of(sites: Sequence[str]) -> str:
+    """The title of a page with boards of these sites."""
+    return f"Site {sites[0]}" if len(sites) == 1 else "Site boards"
 
 
 class DayPages:
@@ -342,7 +273,7 @@ class DayPages:
         # The days that boards have, and the pages of those that are written.
         self.shown: set[date] = set()
         self.days: dict[date, Series] = {}
-        self.names = Names()
+        self.names = list[str]()
         self.until: datetime | None = None
         # The days with pages that are as they would be written.
         self.unchanged: frozenset[date] | set[date] = frozenset()
@@ -351,7 +282,7 @@ class DayPages:
 
     def add(self, board: Board) -> None:
         """Adds a board to the page of each of its days. All its stations have one scale."""
-        self.names.add(board)
+        self.names.append(board.site.name)
         self.until = last_end([board.site], self.until)
         shown = self.calendar.shown
         site = Scale(p.flow for p in shown(board.site.periods))
@@ -415,14 +346,22 @@ class DayPages:
         has_export = board.has_export
         stations = [one for one in parts if not one.part.is_site]
 
-        def text_of(one: DayPart) -> str:
-            return "".join(day_of_part(one, self.calendar, has_export))
+        def text_of(one: DayPart) -> Markup:
+            return day_of_part(one, self.calendar, has_export)
 
-        site = "".join(text_of(one) for one in parts if one.part.is_site)
+        site = [text_of(one) for one in parts if one.part.is_site]
 
-        def front(paths: list[str]) -> str:
-            above = order_said(board.site) + site
-            return above + stations_of_day(day, stations, paths, has_export)
+        def front(paths: list[str]) -> Markup:
+            return rendered(
+                "reports/day_front.html",
+                board=board,
+                site=piece("joined", site, ""),
+                day=day,
+                caption=piece("joined", ["Stations on ", kept(str(day)), ", kWh"], ""),
+                scales={one.scale.said() for one in stations},
+                columns=day_columns("Station", has_export, 1),
+                stations=day_stations(stations, paths, has_export),
+            )
 
         series.put_board(board, front, [text_of(one) for one in stations])
 
@@ -446,27 +385,16 @@ class DayPages:
                 link(self.layout.index(), "All days, stations and sessions"),
                 day_link(self.layout, after, "\N{RIGHTWARDS ARROW} "),
             ]
-            self.frame(day, " ".join(filter(None, links)))
-
-    def frame(self, day: date, links: str) -> None:
-        """Gives the pages of a day their title and links."""
-        length = self.calendar.seconds(day) / 3600
-        said = "" if length == 24 else f"<p>This day has {length:g} hours.</p>\n"
-        series = self.days[day]
-        above, below = (
-            f'<nav aria-label="Days, {where}">{links}</nav>\n' for where in ("above", "below")
-        )
-        stamp = self.layout.day_stamp(self.until) + said
-        for number, page in enumerate(series.pages, 1):
-            begin = self.layout.head(
-                f"{self.names.title()},",
-                stamp,
-                above + series.links(number, "above"),
-                self.names.is_one,
-                f"{weekday(day)} {day}{page_of(number)}",
+            self.days[day].frame(
+                self.layout,
+                "reports/day.html",
+                f"{title_of(self.names)},",
+                whole=f"{day:%a} {day}",
+                is_one=len(self.names) == 1,
+                stamp=self.layout.day_stamp(self.until),
+                hours=self.calendar.seconds(day) / 3600,
+                links=list(filter(None, links)),
             )
-            end = series.links(number, "below") + below + explained(BARS)
-            page.frame(begin + LEGEND, end + self.layout.foot())
 
 
 NET_BAR = Column("Net as a bar", "bar wide", True)
@@ -479,7 +407,7 @@ def session_mark(session: Session) -> tuple[object, ...]:
 
 def day_link(layout: Layout, day: date | None, arrow: str) -> str:
     """A link to another day, where there is one."""
-    return link(layout.day(day), f"{arrow}{day} {weekday(day)}") if day else ""
+    return link(layout.day(day), f"{arrow}{day} {day:%a}") if day else ""
 
 
 def last_end(parts: Iterable[Part], before: datetime | None) -> datetime | None:
@@ -488,30 +416,32 @@ def last_end(parts: Iterable[Part], before: datetime | None) -> datetime | None:
     return max(filter(None, [*ends, before]), default=None)
 
 
-def stations_of_day(day: date, stations: list[DayPart], paths: list[str], has_export: bool) -> str:
-    """The table of a day's stations, which are on the pages of these paths."""
-    flows = [sum_of(p.flow for p in one.periods) for one in stations]
-    most = max((abs(flow.net) for flow in flows), default=0)
-    rows = (
-        (
-            "",
-            [
-                link(path, escape(one.part.name), one.label),
-                *cells_of(flow, has_export),
-                f"{len(one.periods):,}",
-                peak_cell(one.periods),
-                bar_cell(flow.net, most),
-            ],
-        )
-        for one, path, flow in zip(stations, paths, flows)
-    )
-    net, *flows_of = flow_heads(has_export)
-    others = [Column(head, "wide") for head in (*flows_of, "Periods", "Peak, kW")]
-    heads: Heads = ["Station", net, *others, NET_BAR]
-    text = "".join(table(f"Stations on {kept(str(day))}, kWh", heads, rows))
-    scale = " and ".join({one.scale.said() for one in stations})
-    scales = f"The pictures of all stations have one scale on all days, to {scale}; the site's has its own."
-    return f'<p class="soft">{scales}</p>\n{across(f"Stations on {day}", text)}' if stations else ""
+def day_columns(first: str, has_export: bool, shown: int) -> list[Column]:
+    """The columns of a table of a day's stations, or of days. `shown`: how many energies a phone shows, too."""
+    flows = flow_heads(has_export)
+    others = [Column(head, "wide") for head in (*flows[shown:], "Periods", "Peak, kW")]
+    return columns_of(first, *flows[:shown], *others, NET_BAR)
+
+
+def day_cells(name: str, periods: list[Period], has_export: bool, most: int) -> list[str]:
+    """The cells of these. `most`: the energy of the longest bar."""
+    flow = sum_of(p.flow for p in periods)
+    cells = [name, *cells_of(flow, has_export), f"{len(periods):,}", peak_cell(periods)]
+    return [*cells, bar_cell(flow.net, most)]
+
+
+def longest_bar(days: Iterable[Iterable[Period]]) -> int:
+    """The greatest energy of some periods together."""
+    return max((abs(sum_of(p.flow for p in some).net) for some in days), default=0)
+
+
+def day_stations(stations: list[DayPart], paths: list[str], has_export: bool) -> list[Row]:
+    """The rows of a day's stations, which are on the pages of these paths."""
+    most = longest_bar(one.periods for one in stations)
+    return [
+        Row(day_cells(link(path, one.part.name, one.label), one.periods, has_export, most))
+        for one, path in zip(stations, paths)
+    ]
 
 
 @dataclass
@@ -534,12 +464,19 @@ class SiteRows:
         flow = sum_of(one.flow for one in self.totals)
         return Total(events, voided, transactions, complete, missing, flow)
 
+    def with_sum(self) -> list[Row]:
+        """The rows, with the sum of the figures where there are several."""
+        if len(self.totals) < 2:
+            return self.rows
+        cells = ["All of these", "", *total_cells(self.whole())]
+        return [*self.rows, Row(cells + [""] * (len(SITES) - len(cells)), "sum")]
+
 
 class Index:
     """The page of all boards: their figures, problems, days and stations, and the sessions of these, which go on on
     further pages where there are many."""
 
-    STATIONS: Heads = [
+    STATIONS = columns_of(
         "Station",
         "Net, kWh",
         "Complete",
@@ -548,18 +485,18 @@ class Index:
         *(Column(f"{head}, kWh", "wide") for head in ("Up", "Down")),
         Column("Events", "wide"),
         Column("Voided events", "wide"),
-    ]
+    )
 
     def __init__(self, layout: Layout) -> None:
         self.layout = layout
         self.series = Series(layout.index)
-        self.names = Names()
+        self.names = list[str]()
         self.sites = SiteRows()
         self.until: datetime | None = None
 
     def add(self, board: Board) -> None:
         """Adds a board: what it comes to in front, and then each station, those with troubles first."""
-        self.names.add(board)
+        self.names.append(board.site.name)
         self.until = last_end([board.site], self.until)
         stations = sorted(board.stations, key=trouble_of)
         labels = [f"b{board.number}-{number}" for number in range(1, len(stations) + 1)]
@@ -571,13 +508,13 @@ class Index:
             )
             for part, label in zip(stations, labels)
         ]
-        first, *more = self.months(board) or [""]
+        first, *more = self.months(board) or [Markup()]
         more += self.weeks(board)
         firsts = [len(more) + sum(map(len, parts[:number])) for number in range(len(parts))]
 
-        def front(paths: list[str]) -> str:
+        def front(paths: list[str]) -> Markup:
             links = {
-                part.name: link(paths[first], escape(part.name), label)
+                part.name: link(paths[first], part.name, label)
                 for part, first, label in zip(stations, firsts, labels)
             }
             return self.front(board, stations, links, first)
@@ -585,7 +522,7 @@ class Index:
         sections = [*more, *(text for some in parts for text in some)]
         path = self.series.put_board(board, front, sections)
         self.sites.rows.append(
-            self.site_row(board, link(path, escape(board.site.name), f"b{board.number}"))
+            self.site_row(board, link(path, board.site.name, f"b{board.number}"))
         )
 
     def site_row(self, board: Board, name: str) -> Row:
@@ -595,144 +532,90 @@ class Index:
         total = board.site.total
         layout = self.layout
         fresh = layout.moment(layout.until) if layout.until else UNKNOWN
-        fresh += '<br><span class="flag">too old</span>' if layout.old() else ""
+        if layout.is_old():
+            fresh = lines_of(fresh, piece("flag", "too old"))
         ends = [f"{layout.refused:,}", fresh, span]
         if total is None:
-            return MARK, [name, f"{board.number:,}", *["not read"] * 6, *ends]
+            return Row([name, f"{board.number:,}", *["not read"] * 6, *ends], MARK)
         self.sites.totals.append(total)
         marked = not board.is_whole or any(True for _ in problems_of(board.stations))
         doubtful = sum(bool(one.findings) for part in board.stations for one in part.sessions)
-        return MARK if marked or layout.refused or layout.old() else "", [
-            name,
-            f"{board.number:,}",
-            *total_cells(total),
-            peak_cell(board.site.periods),
-            f"{doubtful:,}",
-            *ends,
-        ]
+        cells = [name, f"{board.number:,}", *total_cells(total), peak_cell(board.site.periods)]
+        is_bad = marked or layout.refused or layout.is_old()
+        return Row([*cells, f"{doubtful:,}", *ends], MARK if is_bad else "")
 
-    def front(self, board: Board, stations: list[Part], links: dict[str, str], days: str) -> str:
+    def front(
+        self, board: Board, stations: list[Part], links: Mapping[str, str], days: str
+    ) -> Markup:
         """A board's figures, problems, days and stations."""
-        warning = (
-            ""
-            if board.is_whole
-            else (
-                '<p class="warning">This board is not whole: lines of it could not be read, '
-                "or its end is missing.</p>\n"
-            )
-        )
-        has_export = board.has_export
-        return (
-            f'<section aria-labelledby="b{board.number}">\n{warning}{order_said(board.site)}'
-            + "".join(figures(board.site.total, has_export))
-            + self.peak(board.site)
-            + self.problems(list(problems_of(board.stations)), links)
-            + days
-            + self.stations(stations, links, has_export)
-            + "</section>\n"
+        has_export, calendar = board.has_export, self.layout.calendar
+        rows = (self.station_row(part, links[part.name], has_export) for part in stations)
+        return rendered(
+            "reports/front.html",
+            board=board,
+            figures=figures(board.site.total, has_export),
+            peak=peak_said(calendar.shown(board.site.periods), calendar, True),
+            problem_columns=PROBLEMS,
+            problems=[problem_row(one, links) for one in problems_of(board.stations)],
+            days=days,
+            station_columns=self.station_heads(has_export) + self.layout.station_heads(),
+            stations=[
+                Row([*row.cells, *self.layout.station_cells(part.name)], row.kind)
+                for part, row in zip(stations, rows)
+            ],
         )
 
-    def stations(self, stations: list[Part], links: dict[str, str], has_export: bool) -> str:
-        """The table of a site's stations."""
-        found = [
-            (part.name, self.station_row(part, links[part.name], has_export)) for part in stations
-        ]
-        rows = ((mark, cells + self.layout.station_cells(name)) for name, (mark, cells) in found)
-        caption = "Stations of the site, those with troubles first"
-        heads = self.station_heads(has_export) + self.layout.station_heads()
-        text = "".join(table(caption, heads, rows, cards=True))
-        return "<h3>Stations</h3>\n" + across("Stations", text)
-
-    @staticmethod
-    def problems(problems: list[Problem], links: dict[str, str]) -> str:
-        """The table of what is wrong, the gravest first."""
-        if not problems:
-            return "<h3>Problems</h3>\n<p>None was found.</p>\n"
-
-        def where(problem: Problem) -> str:
-            some = [links[name] for name in problem.stations[:MOST_LINKS]]
-            more = len(problem.stations) - len(some)
-            return ", ".join(some) + (f" and {more:,} more" if more else "")
-
-        rows = (
-            (
-                MARK,
-                [
-                    one.name,
-                    f"{one.sessions:,}" if one.sessions else "",
-                    f"{one.times:,}",
-                    where(one),
-                    one.meaning,
-                ],
-            )
-            for one in problems
-        )
-        heads = ["Problem", "Sessions", "Times", " Stations", " What it means"]
-        text = "".join(table("What is to be looked at, the gravest first", heads, rows, cards=True))
-        return f"<h3>Problems</h3>\n{text}"
-
-    def peak(self, site: Part) -> str:
-        """The greatest average power of a site's periods, as a sentence."""
-        said = peak_said(self.layout.calendar.shown(site.periods), self.layout.calendar, True)
-        return f"<p>Peak of the site, as the average of a period: {said}.</p>\n" if said else ""
-
-    def months(self, board: Board) -> list[str]:
-        """The months of a site, the last one first: days by hours, and the table of the days, the last one first."""
+    def days_of(self, board: Board) -> tuple[dict[date, list[Period]], int]:
+        """The periods of a site's days, and the energy of the longest bar."""
         days = dict(self.layout.by_day(board.site.periods))
-        most = max((abs(sum_of(p.flow for p in some).net) for some in days.values()), default=0)
+        return days, longest_bar(days.values())
+
+    def months(self, board: Board) -> list[Markup]:
+        """The months of a site, the last one first: days by hours, and the table of the days, the last one first."""
+        days, most = self.days_of(board)
         texts = [
             self.month(board, month, {day: days[day] for day in some}, most)
             for month, some in by_month(days)
         ]
         return texts[::-1]
 
-    def month(self, board: Board, month: date, days: dict[date, list[Period]], most: int) -> str:
+    def month(self, board: Board, month: date, days: dict[date, list[Period]], most: int) -> Markup:
         """A month of a site. `most`: the energy of the longest bar."""
-        label, has_export = f"b{board.number}-m{month:%Y-%m}", board.has_export
-        rows: list[Row] = [
-            ("", [self.day_name(day), *self.day_cells(days[day], has_export, most)])
-            for day in sorted(days, reverse=True)
-        ]
         first, last = min(days), max(days)
         shown = [first + timedelta(days=n) for n in range((last - first).days + 1)]
         periods = [p for some in days.values() for p in some]
         said = (
             f"Days of {month:%B %Y} by hours, the stronger the more energy. The table has the days."
         )
-        heat = "".join(heat_map(said, shown, periods, self.layout.calendar))
-        caption = "Energy by day, kWh, the last day first. The bars of all months have one scale."
-        text = "".join(table(caption, self.day_heads(has_export), rows, kind="plain days"))
-        return (
-            f'<section aria-labelledby="{label}">\n<h3 id="{label}">{month:%B %Y}</h3>\n'
-            f'<figure class="heat">\n{heat}<figcaption>Days by hours of the day, net; at the right each day. '
-            "Each cell and bar shows its value where the pointer is.</figcaption>\n</figure>\n"
-            f"{across(f'Days of {month:%B %Y}', text)}</section>\n"
+        return rendered(
+            "reports/month.html",
+            label=f"b{board.number}-m{month:%Y-%m}",
+            name=f"{month:%B %Y}",
+            picture=heat_map(said, shown, periods, self.layout.calendar),
+            columns=day_columns("Day", board.has_export, 3),
+            rows=self.day_rows(sorted(days, reverse=True), days, board.has_export, most),
         )
 
-    def day_name(self, day: date) -> str:
-        """A day in a table, which leads to its page."""
-        return f"{link(self.layout.day(day), str(day))} {weekday(day)}"
+    def day_rows(
+        self,
+        shown: Iterable[date],
+        days: dict[date, list[Period]],
+        has_export: bool,
+        most: int,
+    ) -> list[Row]:
+        """The rows of days, which lead to their pages."""
+        names = {day: link(self.layout.day(day), str(day)) for day in shown}
+        return [
+            Row(day_cells(piece("joined", [name, f"{day:%a}"], " "), days[day], has_export, most))
+            for day, name in names.items()
+        ]
 
-    def day_cells(self, periods: list[Period], has_export: bool, most: int) -> list[str]:
-        """A day's cells in a table. `most`: the energy of the longest bar."""
-        flow = sum_of(p.flow for p in periods)
-        cells = [*cells_of(flow, has_export), f"{len(periods):,}", peak_cell(periods)]
-        return [*cells, bar_cell(flow.net, most)]
-
-    @staticmethod
-    def day_heads(has_export: bool) -> Heads:
-        """The heads of a table of days."""
-        net, *others = flow_heads(has_export)
-        exports = (Column(head, "wide") for head in (*others[2:], "Periods", "Peak, kW"))
-        return ["Day", net, *others[:2], *exports, NET_BAR]
-
-    def weeks(self, board: Board) -> list[str]:
+    def weeks(self, board: Board) -> list[Markup]:
         """The weeks of a site, the last one first; none where all is of one day."""
-        days = dict(self.layout.by_day(board.site.periods))
+        days, most = self.days_of(board)
         if len(days) < 2:
             return []
         scale = week_scale(self.layout.calendar.shown(board.site.periods))
-        most = max((abs(sum_of(p.flow for p in some).net) for some in days.values()), default=0)
         texts = [
             self.week(board, monday, {day: days[day] for day in some}, scale, most)
             for monday, some in by_week(days)
@@ -746,32 +629,25 @@ class Index:
         days: dict[date, list[Period]],
         scale: Scale,
         most: int,
-    ) -> str:
+    ) -> Markup:
         """A week of a site. `most`: the energy of the longest bar."""
-        label, has_export = f"b{board.number}-w{monday}", board.has_export
-        periods = [p for some in days.values() for p in some]
-        flow, calendar = sum_of(p.flow for p in periods), self.layout.calendar
+        periods, calendar = [p for some in days.values() for p in some], self.layout.calendar
         year, number, _ = monday.isocalendar()
-        name = f"Week {number} of {year}"
         said = f"Bars of the hours of week {number}, from {monday} on. The table has the days."
-        bars = "".join(week_picture(said, monday, periods, scale, calendar))
-        rows: list[Row] = [
-            ("", [self.day_name(day), *self.day_cells(some, has_export, most)])
-            for day, some in days.items()
-        ]
-        text = "".join(
-            table("Energy by day, kWh", self.day_heads(has_export), rows, kind="plain days")
-        )
-        peak = peak_said(periods, calendar, True)
-        return (
-            f'<section aria-labelledby="{label}">\n<h3 id="{label}">{name}, from {kept(str(monday))}</h3>\n'
-            f"<figure>\n{bars}<figcaption>Hours of the week: net {kwh(flow.net)} kWh"
-            f"{f', peak {peak}' if peak else ''}</figcaption>\n</figure>\n"
-            f"{across(name, text)}</section>\n"
+        return rendered(
+            "reports/week.html",
+            label=f"b{board.number}-w{monday}",
+            name=f"Week {number} of {year}",
+            monday=monday,
+            picture=week_picture(said, monday, periods, scale, calendar),
+            net=kwh(sum_of(p.flow for p in periods).net),
+            peak=peak_said(periods, calendar, True),
+            columns=day_columns("Day", board.has_export, 3),
+            rows=self.day_rows(days, days, board.has_export, most),
         )
 
     @classmethod
-    def station_heads(cls, has_export: bool) -> Heads:
+    def station_heads(cls, has_export: bool) -> list[Column]:
         """The heads of the table of stations."""
         exports = [Column(f"{head}, kWh", "wide") for head in flow_heads(has_export)[3:]]
         return [*cls.STATIONS[:7], *exports, *cls.STATIONS[7:]]
@@ -781,48 +657,39 @@ class Index:
         """A station's row in the table of a site's stations."""
         total = part.total
         if total is None:
-            return MARK, [name] + ["not read"] * (len(cls.station_heads(has_export)) - 1)
+            return Row([name] + ["not read"] * (len(cls.station_heads(has_export)) - 1), MARK)
         net, *flow = cells_of(total.flow, has_export)
-        return (
-            MARK if trouble_of(part) < NO_TROUBLE else "",
-            [
-                name,
-                net,
-                share(total.complete, total.transactions),
-                f"{total.transactions:,}",
-                f"{total.missing:,}",
-                *flow,
-                f"{total.events:,}",
-                f"{total.voided:,}",
-            ],
-        )
+        cells = [name, net, share(total.complete, total.transactions), f"{total.transactions:,}"]
+        cells += [f"{total.missing:,}", *flow, f"{total.events:,}", f"{total.voided:,}"]
+        return Row(cells, MARK if trouble_of(part) < NO_TROUBLE else "")
 
     def close(self) -> None:
         """Gives each page its title, and the table of sites where there are several boards."""
-        calendar, layout = self.layout.calendar, self.layout
-        said = layout.stamp(self.until)
-        if not calendar.is_all():
-            said += (
-                f"<p>Days from {calendar.first} to {calendar.last} are shown. The figures and the sessions are "
-                "those of all days.</p>\n"
-            )
-        if not self.names.boards:
-            self.series.put(1, "<p>The text has no board.</p>\n")
-        sites = ""
-        if self.names.boards > 1:
-            rows = self.sites.rows
-            some = SiteRows(rows[-MOST_BOARDS:], self.sites.totals)
-            left = f", the last {len(some.rows):,} of {len(rows):,}"
-            caption = (
-                f"Boards of the text, in their order{left if len(some.rows) < len(rows) else ''}"
-            )
-            sites = sites_table(caption, some)
-        for number, page in enumerate(self.series.pages, 1):
-            title = f"{self.names.title()}{page_of(number)}"
-            above, below = (self.series.links(number, where) for where in ("above", "below"))
-            begin = layout.head(title, said, above, self.names.is_one)
-            end = below + explained(BARS, SESSIONS) + layout.foot()
-            page.frame(begin + LEGEND + (sites if number == 1 else ""), end)
+        rows = self.sites.rows if len(self.names) > 1 else []
+        some = SiteRows(rows[-MOST_BOARDS:], self.sites.totals)
+        left = f", the last {len(some.rows):,} of {len(rows):,}"
+        self.series.frame(
+            self.layout,
+            "reports/index.html",
+            title_of(self.names),
+            is_one=len(self.names) == 1,
+            until=self.until,
+            caption=f"Boards of the text, in their order{left if len(some.rows) < len(rows) else ''}",
+            columns=SITES,
+            sites=some.with_sum() if rows else [],
+        )
+
+
+PROBLEMS = columns_of("Problem", "Sessions", "Times", " Stations", " What it means")
+
+
+def problem_row(one: Problem, links: Mapping[str, str]) -> Row:
+    """The row of what is wrong."""
+    some = piece("joined", [links[name] for name in one.stations[:MOST_LINKS]], ", ")
+    more = len(one.stations) - MOST_LINKS
+    where = piece("joined", [some, f" and {more:,} more" if more > 0 else ""], "")
+    sessions = f"{one.sessions:,}" if one.sessions else ""
+    return Row([one.name, sessions, f"{one.times:,}", where, Markup(one.meaning)], MARK)
 
 
 def total_cells(total: Total) -> list[str]:
@@ -835,22 +702,14 @@ def total_cells(total: Total) -> list[str]:
     ]
 
 
-def sites_table(caption: str, sites: SiteRows) -> str:
-    """The table of sites, by the rows that indexes have of their boards, with the sum of their figures."""
-    whole: list[Row] = []
-    if len(sites.totals) > 1:
-        cells = ["All of these", "", *total_cells(sites.whole())]
-        whole.append((' class="sum"', cells + [""] * (len(SITES) - len(cells))))
-    text = "".join(table(caption, SITES, [*sites.rows, *whole], cards=True))
-    return f"<h2>Sites</h2>\n{across('Sites', text)}"
-
-
 def write_sites(layout: Layout, sites: SiteRows) -> None:
     """Writes a page that leads to those of several sites, by the rows that the indexes of their pages have. Raises
     OSError."""
+    rows = sites.with_sum()
     page = Page(layout.index())
-    page.put(sites_table("All sites", sites))
-    page.frame(layout.head("All sites", layout.stamp(None), "", False), FOOT)
+    page.write(
+        layout.page("reports/sites.html", "All sites", is_one=False, columns=SITES, sites=rows)
+    )
 
 
 # The least of what `trouble_of` gives for a station without any.

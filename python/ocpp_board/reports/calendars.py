@@ -84,11 +84,11 @@ class Calendar:
         starts = (datetime.fromtimestamp(first + n * seconds, timezone.utc) for n in range(count))
         return [start for start in starts if self.day(start) == day]
 
-    def times_of(self, start: datetime, seconds: int) -> str:
+    def times_of(self, start: datetime, seconds: int) -> list[str]:
         """From when to when a period is, and from when in UTC as another cell; the end of a day is 24:00."""
         end = self.label(start + timedelta(seconds=seconds))
-        beside = "" if self.is_utc else f"<td>{start:%H:%M}"
-        return f"{self.label(start)}\N{EN DASH}{'24:00' if end == '00:00' else end}{beside}"
+        beside = [] if self.is_utc else [f"{start:%H:%M}"]
+        return [f"{self.label(start)}\N{EN DASH}{'24:00' if end == '00:00' else end}", *beside]
 
     def cells_of(self, moment: datetime) -> list[str]:
         """A moment of UTC, and the same in the zone where that is another, for a CSV file."""

@@ -2,13 +2,15 @@
 
 from collections.abc import Iterable, Iterator, Sequence
 from datetime import date, datetime, timezone
-from html import escape
 from typing import NamedTuple
+
+from markupsafe import Markup
 
 from ocpp_board.energies import kwh
 from ocpp_board.replay.boards import Part, Session
 from ocpp_board.reports.calendars import Calendar
-from ocpp_board.reports.pictures import UNIT, hours, short
+from ocpp_board.reports.pictures import UNIT, Text, hour_texts, hours, short
+from ocpp_board.reports.rendering import rendered
 
 # The height of a lane, and of the name above its bars.
 LANE, NAME = 16, 14
@@ -51,7 +53,7 @@ def session_said(session: Session, calendar: Calendar) -> str:
     return f"{session.tx}: {first:%Y-%m-%d %H:%M} to {to}, {kwh(session.flow.net)} kWh, {session.state}"
 
 
-def lane_picture(label: str, lanes: Sequence[Lane], day: date, calendar: Calendar) -> Iterator[str]:
+def lane_picture(label: str, lanes: Sequence[Lane], day: date, calendar: Calendar) -> Markup:
     """The lanes of a day, each under its name."""
     some = lanes[:MOST_LANES]
     begin, seconds = calendar.begin(day).timestamp(), calendar.seconds(day)
@@ -61,28 +63,29 @@ def lane_picture(label: str, lanes: Sequence[Lane], day: date, calendar: Calenda
     def place(at: float) -> float:
         return min(max((at - begin) / UNIT, 0), width)
 
-    yield f'<svg role="img" aria-label="{label}" width="100%" height="{height}">\n'
-    yield f'<svg width="100%" height="{height}" viewBox="0 0 {width} {height}" preserveAspectRatio="none">'
+    def rects(session: Session, y: int) -> Iterator[tuple[str, str, int, str]]:
+        assert session.span is not None
+        left, right = map(place, session.span)
+        kind = "there" if session.complete else "lacks"
+        yield kind, short(left), y, short(max(right - left, 4))
+        for hole in session.holes:
+            start, end = map(place, hole)
+            if end > start:
+                yield "gap", short(start), y, short(end - start)
+
+    sessions = [
+        (session_said(session, calendar), rects(session, number * step + NAME))
+        for number, lane in enumerate(some)
+        for session in lane.sessions
+    ]
     ticks = "".join(f"M{round(x * width / 100)} 0V{height - 15}" for x, _ in hours(calendar, day))
-    yield f'<path class="grid" d="{ticks}"/>'
-    for number, lane in enumerate(some):
-        y = number * step + NAME
-        for session in lane.sessions:
-            assert session.span is not None
-            left, right = map(place, session.span)
-            kind = "there" if session.complete else "lacks"
-            yield f"<g><title>{escape(session_said(session, calendar))}</title>"
-            yield f'<rect class="{kind}" x="{short(left)}" y="{y}" width="{short(max(right - left, 4))}" height="12"/>'
-            for hole in session.holes:
-                start, end = map(place, hole)
-                if end > start:
-                    yield f'<rect class="gap" x="{short(start)}" y="{y}" width="{short(end - start)}" height="12"/>'
-            yield "</g>"
-    yield "</svg>\n"
-    for number, lane in enumerate(some):
-        yield f'<text x="0" y="{number * step + NAME - 3}">{escape(lane.name)}</text>'
-    for x, text in hours(calendar, day):
-        if int(text[:2]) % 6 == 0:
-            anchor = "start" if x == 0 else "end" if x == 100 else "middle"
-            yield f'<text x="{short(x)}%" y="{height - 3}" text-anchor="{anchor}">{text}</text>'
-    yield "\n</svg>\n"
+    names = [Text("0", number * step + NAME - 3, lane.name) for number, lane in enumerate(some)]
+    return rendered(
+        "reports/lanes.html",
+        label=label,
+        width=width,
+        height=height,
+        ticks=ticks,
+        sessions=sessions,
+        texts=[*names, *hour_texts(calendar, day, height)],
+    )

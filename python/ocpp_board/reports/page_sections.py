@@ -3,18 +3,29 @@
 from collections.abc import Callable, Iterable, Iterator, Sequence
 from dataclasses import dataclass, field
 from datetime import date, datetime
-from html import escape
 from typing import NamedTuple
+
+from markupsafe import Markup, escape
 
 from ocpp_board.energies import kwh, share, sum_of
 from ocpp_board.replay.boards import Part, Period, Session, Total
 from ocpp_board.reports.calendars import Calendar
 from ocpp_board.reports.lanes import MOST_LANES, Lane, lane_picture
-from ocpp_board.reports.pages import MARK, Row, across, cells_of, flow_heads, kept, ranges, table
+from ocpp_board.reports.pages import (
+    MARK,
+    Row,
+    cells_of,
+    columns_of,
+    flow_heads,
+    kept,
+    lines_of,
+    ranges,
+)
 from ocpp_board.reports.period_doubts import SURE, Doubt, KnownPeriods
 from ocpp_board.reports.pictures import Scale, picture, strip
 from ocpp_board.reports.powers import kw, peak_said
 from ocpp_board.reports.quality import Effect, Finding, Kind
+from ocpp_board.reports.rendering import piece, rendered
 from ocpp_board.reports.session_times import Registers, duration
 
 # Rows of a table of sessions, characters of its cells, and ranges of missing numbers in a cell.
@@ -110,98 +121,55 @@ def has_wrong(findings: Iterable[Finding]) -> bool:
     return any(one.kind.effect is Effect.WRONG for one in findings)
 
 
-def figures(total: Total | None, has_export: bool) -> Iterator[str]:
-    """The figures of a site or a station; nothing where its total line was not read."""
+# A figure's name, its value, and whether it is marked.
+Figure = tuple[str, str, bool]
+
+
+def figures(total: Total | None, has_export: bool) -> list[Figure]:
+    """The figures of a site or a station; none where its total line was not read."""
     if total is None:
-        return
-    net, *others = zip(flow_heads(has_export), cells_of(total.flow, has_export))
+        return []
+    flow = zip(flow_heads(has_export), cells_of(total.flow, has_export))
     complete = share(total.complete, total.transactions)
-    rows = [(name, f"{cell} kWh", False) for name, cell in others]
+    rows = [(name, f"{cell} kWh", False) for name, cell in flow]
     rows.append(("Sessions", f"{total.transactions:,}", False))
     if complete:
         rows.append(("Of these", f"{complete} complete", total.complete < total.transactions))
-    rows += [
+    return rows + [
         ("Missing numbers", f"{total.missing:,}", total.missing > 0),
         ("Voided events", f"{total.voided:,}", total.voided > 0),
         ("Events", f"{total.events:,}", False),
     ]
-    yield f'<dl class="figures"><div class="lead"><dt>{net[0]}</dt><dd>{net[1]} kWh</dd></div>'
-    for name, value, marked in rows:
-        yield f'<div{MARK if marked else ""}><dt>{name}</dt><dd>{value}</dd></div>'
-    yield "</dl>\n"
 
 
-# What a page says of a rule of settling.
-RULES_SAID = {
-    "later": "",
-    "closing": '<p class="soft">Settled by closing: the energy up to a reading at the end of a period counts in that '
-    "period.</p>\n",
-    "even": '<p class="soft">Settled by even shares: the energy between two readings counts in each period between '
-    "them by its share of the time, where they are at most a day apart.</p>\n",
-}
-
-
-def order_said(site: Part) -> str:
-    """That a site's readings are taken by moment, and that it doesn't settle by `later`, where it is so."""
-    said = ""
-    if site.is_by_moment:
-        said = (
-            '<p class="soft">Readings by moment: those of a session are taken in the order of their own times, so that '
-            "one which is listed again changes nothing.</p>\n"
-        )
-    return said + RULES_SAID[site.rule]
-
-
-def bar_cell(mwh: int, most: int) -> str:
+def bar_cell(mwh: int, most: int) -> Markup:
     """An energy as a bar; its number is in the same row. `most`: the energy of the longest bar."""
-    width = 100 * abs(mwh) / most if most else 0
-    kind = ' class="less"' if mwh < 0 else ""
-    return f'<span{kind} aria-hidden="true" style="width:{width:.1f}%"></span>'
+    return piece("bar", f"{100 * abs(mwh) / most if most else 0:.1f}", mwh < 0)
 
 
-def figure_cell(doubt: Doubt) -> str:
-    """How the figures of a period were come by, in a cell; empty where they were measured and no number is missing."""
+def doubts_said(doubt: Doubt) -> list[str]:
+    """How the figures of a period were come by; empty where they were measured and no number is missing."""
     said = ["estimated"] if doubt.is_estimated else []
-    said += ["numbers missing"] if doubt.has_gap else []
-    return f'<td class="doubt">{",<br>".join(said)}' if said else "<td>"
+    return said + (["numbers missing"] if doubt.has_gap else [])
 
 
 def periods_of(
-    day: date,
-    periods: list[Period],
-    calendar: Calendar,
-    has_export: bool,
-    known: KnownPeriods | None,
-) -> Iterator[str]:
-    """The table of a day's periods; its rows leave out what HTML lets be left out, since pages have many."""
-    zone = "UTC" if calendar.is_utc else calendar.name
-    beside = "" if calendar.is_utc else '<th scope="col">From (UTC)'
-    yield f'<table class="plain periods"><caption>{kept(str(day))}, kWh</caption>\n'
-    yield (
-        f'<thead><tr><th scope="col">Period ({zone}){beside}'
-        + "".join(f'<th scope="col">{head}' for head in [*flow_heads(has_export), "kW"])
-        + ('<th scope="col">Figure' if known else "")
-        + "</thead>\n<tbody>\n"
-    )
+    periods: list[Period], calendar: Calendar, has_export: bool, known: KnownPeriods | None
+) -> Iterator[tuple[str, list[str], list[str]]]:
+    """The rows of a day's periods: when each is, its other cells, and what is doubtful."""
     for p in periods:
-        yield (
-            f'<tr><th scope="row">{calendar.times(p.start, p.seconds)}'
-            + "".join(f"<td>{cell}" for cell in cells_of(p.flow, has_export))
-            + f"<td>{kw(p.flow.net, p.seconds)}"
-            + (figure_cell(known.doubts.get(int(p.start.timestamp()), SURE)) if known else "")
-            + "\n"
-        )
-    yield "</tbody></table>\n"
+        times, *cells = calendar.times(p.start, p.seconds)
+        cells += [*cells_of(p.flow, has_export), kw(p.flow.net, p.seconds)]
+        doubt = known.doubts.get(int(p.start.timestamp()), SURE) if known else SURE
+        yield times, cells, doubts_said(doubt)
 
 
-def said_of(whose: str, day: str, periods: list[Period], has_export: bool) -> str:
-    """What a day's periods come to, in one sentence."""
+def said_of(periods: list[Period], has_export: bool) -> str:
+    """What a day's periods come to."""
     flow = sum_of(p.flow for p in periods)
     count = "1 period" if len(periods) == 1 else f"{len(periods):,} periods"
     cells = zip(flow_heads(has_export), cells_of(flow, has_export))
-    return f"{whose} on {day}: {count}, " + ", ".join(
-        f"{head.lower()} {cell} kWh" for head, cell in cells
-    )
+    return f"{count}, " + ", ".join(f"{head.lower()} {cell} kWh" for head, cell in cells)
 
 
 class DayPart(NamedTuple):
@@ -215,66 +183,65 @@ class DayPart(NamedTuple):
     lanes: Sequence[Lane] = ()
 
 
-def day_of_part(one: DayPart, calendar: Calendar, has_export: bool) -> Iterator[str]:
+def day_of_part(one: DayPart, calendar: Calendar, has_export: bool) -> Markup:
     """A day's picture of a site or a station, with the table beside it."""
-    day, periods = one.day, one.periods
-    whose = f"{'Site' if one.part.is_site else 'Station'} {escape(one.part.name)}"
-    said, shown = (said_of(whose, text, periods, has_export) for text in (str(day), kept(str(day))))
-    peak = peak_said(periods, calendar)
-    shown += f", peak {peak}" if peak else ""
-    yield f'<section aria-labelledby="{one.label}">\n<h3 id="{one.label}">{whose}</h3>\n'
-    columns = len(flow_heads(has_export)) + (2 if calendar.is_utc else 3) + bool(one.part.known)
-    yield f'<div class="day" style="--columns:{columns}">\n<figure>\n'
-    label = f"Bars. {said}. The table has the numbers."
-    yield from picture(label, day, periods, one.scale, calendar)
-    yield f"<figcaption>{shown}</figcaption>\n"
-    if one.lanes:
-        count = sum(len(lane.sessions) for lane in one.lanes)
-        label = f"Sessions of {whose} on {day} by EVSE: {count:,}. The page of all days has their tables."
-        yield from lane_picture(label, one.lanes, day, calendar)
-        left = len(one.lanes) - MOST_LANES
-        more = (
-            f", the first {MOST_LANES} EVSEs; the stations below have the others"
-            if left > 0
-            else ""
-        )
-        yield f"<figcaption>Sessions of the day by EVSE{more}</figcaption>\n"
-    yield "</figure>\n"
-    yield f'<div class="scroll" role="group" tabindex="0" aria-label="Periods of {whose} on {day}">\n'
-    yield from periods_of(day, periods, calendar, has_export, one.part.known)
-    yield "</div>\n</div>\n</section>\n"
+    day, periods, known = one.day, one.periods, one.part.known
+    whose = f"{'Site' if one.part.is_site else 'Station'} {one.part.name}"
+    said = said_of(periods, has_export)
+    heads = [f"Period ({calendar.name})", *([] if calendar.is_utc else ["From (UTC)"])]
+    heads += [*flow_heads(has_export), "kW", *(["Figure"] if known else [])]
+    label = f"Bars. {whose} on {day}: {said}. The table has the numbers."
+    count = sum(len(lane.sessions) for lane in one.lanes)
+    lanes_label = (
+        f"Sessions of {whose} on {day} by EVSE: {count:,}. The page of all days has their tables."
+    )
+    return rendered(
+        "reports/day_part.html",
+        label=one.label,
+        whose=whose,
+        day=day,
+        said=said,
+        peak=peak_said(periods, calendar),
+        picture=picture(label, day, periods, one.scale, calendar),
+        lanes=one.lanes and lane_picture(lanes_label, one.lanes, day, calendar),
+        more=MOST_LANES if len(one.lanes) > MOST_LANES else 0,
+        heads=heads,
+        rows=periods_of(periods, calendar, has_export, known),
+        has_known=bool(known),
+    )
 
 
-def finding_text(one: Finding) -> str:
+def doubts_of(t: Session) -> list[str]:
+    """What is doubtful in a session, in a cell: its voided events, which, by whom and why, and its findings."""
+    by: dict[tuple[str, str], list[int]] = {}
+    for number, who, why in t.voided:
+        by.setdefault((who or "an operator", why), []).append(number)
+    voided = [
+        f"{', '.join(map(str, numbers[:MOST_RANGES]))} voided by {who}"
+        + (f": {why}" if why else "")
+        for (who, why), numbers in by.items()
+    ]
+    return [*voided, *map(finding_text, t.findings)]
+
+
+def finding_text(one: Finding) -> Markup:
     """A finding in a cell: its name, how often, and what it is of."""
     times = "" if one.times == 1 else f", {one.times:,} times"
-    detail = f": {escape(one.detail)}" if one.detail else ""
-    return f'<br><span class="flag">{one.kind.label}{times}</span>{detail}'
+    name = piece("flag", one.kind.label + times)
+    return piece("joined", [name, *filter(None, [one.detail])], ": ")
 
 
-def state_text(t: Session) -> str:
+def state_text(t: Session) -> Markup:
     """What the page says of a session's completeness, and what is doubtful."""
-    findings = voided_text(t) + "".join(map(finding_text, t.findings))
     gaps = t.lost()
     if not gaps:
-        return escape(t.state) + findings
+        return lines_of(t.state, *doubts_of(t))
     more = len(gaps) - MOST_RANGES
     some = ranges(gaps[:MOST_RANGES]) + (f" and {more:,} ranges more" if more > 0 else "")
     lost = sum(b - a + 1 for a, b in gaps)
     count = "1 number" if lost == 1 else f"{lost:,} numbers"
-    return f"{count} missing: {some}{''.join(strip(t))}{findings}"
-
-
-def voided_text(t: Session) -> str:
-    """The voided events of a session in a cell: which, by whom, and why."""
-    by: dict[tuple[str, str], list[int]] = {}
-    for number, who, why in t.voided:
-        by.setdefault((who or "an operator", why), []).append(number)
-    return "".join(
-        f"<br>{', '.join(map(str, numbers[:MOST_RANGES]))} voided by {escape(who)}"
-        + (f": {escape(why)}" if why else "")
-        for (who, why), numbers in by.items()
-    )
+    missing = piece("joined", [f"{count} missing: {some}", strip(t)], "")
+    return lines_of(missing, *doubts_of(t))
 
 
 def when(at: datetime | None, calendar: Calendar) -> str:
@@ -284,15 +251,14 @@ def when(at: datetime | None, calendar: Calendar) -> str:
 
 def register_text(registers: Registers | None) -> str:
     """The first and the last reading of a register in a cell."""
-    return "<br>".join(map(kwh, registers)) if registers else UNKNOWN
+    return lines_of(*map(kwh, registers)) if registers else UNKNOWN
 
 
 def session_heads(calendar: Calendar, has_times: bool, has_export: bool) -> list[str]:
     """The heads of a table of sessions."""
-    zone = "UTC" if calendar.is_utc else calendar.name
     net, *others = (f"{head}, kWh" for head in flow_heads(has_export))
     heads = ["Transaction", " State"]
-    heads += [f"Start and end ({zone})", "Duration"] if has_times else []
+    heads += [f"Start and end ({calendar.name})", "Duration"] if has_times else []
     heads += ["EVSE", net]
     heads += ["Register, first and last, kWh"] if has_times else []
     heads += [*others, "Numbers"]
@@ -300,25 +266,25 @@ def session_heads(calendar: Calendar, has_times: bool, has_export: bool) -> list
 
 
 def session_row(t: Session, calendar: Calendar, has_export: bool, name: str = "") -> Row:
-    """A session's row; one that is not complete or doubtful is marked. `name`: its id as HTML, such as a link."""
+    """A session's row; one that is not complete or doubtful is marked. `name`: its id, such as a link."""
     net, *others = cells_of(t.flow, has_export)
-    cells = [name or escape(t.tx), state_text(t)]
+    cells = [name or t.tx, state_text(t)]
     if times := t.times:
-        both = f"{when(times.start, calendar)}<br>{when(times.end, calendar)}"
+        both = lines_of(when(times.start, calendar), when(times.end, calendar))
         cells += [both, duration(times.seconds) or UNKNOWN]
     cells += [str(t.evse) if t.evse else "not named", net]
     cells += [register_text(times.imported)] if times else []
     events = "1 event" if t.events == 1 else f"{t.events:,} events"
-    cells += [*others, f"{t.first} to {t.last}<br>{events}"]
-    cells += [escape(times.reason) or UNKNOWN] if times else []
-    return "" if t.complete and not t.findings else MARK, cells
+    cells += [*others, lines_of(f"{t.first} to {t.last}", events)]
+    cells += [times.reason or UNKNOWN] if times else []
+    return Row(cells, "" if t.complete and not t.findings else MARK)
 
 
 def runs_of(rows: Iterable[Row]) -> Iterator[list[Row]]:
     """Rows, so many at a time that a table of them is no great part of a page."""
     some, size = list[Row](), 0
     for row in rows:
-        more = sum(map(len, row[1]))
+        more = sum(len(escape(cell)) for cell in row.cells)
         if some and (len(some) == TABLE_ROWS or size + more > TABLE_CHARACTERS):
             yield some
             some, size = [], 0
@@ -342,54 +308,38 @@ def sections_of(
     label: str,
     calendar: Calendar,
     has_export: bool,
-    name_of: Callable[[str, str], str] = lambda _station, tx: escape(tx),
-) -> Iterator[str]:
+    name_of: Callable[[str, str], str] = lambda _station, tx: tx,
+) -> Iterator[Markup]:
     """A station's sections: its figures and EVSEs, and its sessions, so many at a time. `name_of`: the id of a session
-    as HTML, by its station and its text."""
-    name = escape(part.name)
-    warning = (
-        ""
-        if part.whole
-        else (
-            '<p class="warning">This station is not whole: lines of its board could not be '
-            "read.</p>\n"
-        )
-    )
-    evses = ""
-    if len(part.evses) > 1:
-        rows = (
-            (
-                "",
-                [
-                    f"EVSE {e.number}" if e.number else "EVSE not named",
-                    *cells_of(e.flow, has_export),
-                ],
-            )
-            for e in part.evses
-        )
-        heads = ["EVSE", *flow_heads(has_export)]
-        text = "".join(table("Energy by EVSE, kWh", heads, rows, cards=True))
-        evses = across(f"EVSEs of {name}", text)
-    none = "" if part.sessions else "<p>It shows no session.</p>\n"
-    yield (
-        f'<section aria-labelledby="{label}">\n<h3 id="{label}">Station {name}</h3>\n{warning}'
-        f'{"".join(figures(part.total, has_export))}{evses}{none}</section>\n'
+    in a cell, by its station and its text."""
+    evses = [
+        Row([f"EVSE {e.number}" if e.number else "EVSE not named", *cells_of(e.flow, has_export)])
+        for e in part.evses
+    ]
+    yield rendered(
+        "reports/station.html",
+        label=label,
+        part=part,
+        figures=figures(part.total, has_export),
+        columns=columns_of("EVSE", *flow_heads(has_export)),
+        evses=evses,
     )
     sessions = sorted(part.sessions, key=session_order)
     has_times = any(t.times for t in sessions)
-    heads = session_heads(calendar, has_times, has_export)
-    caption = "Those with troubles first, and then " + (
-        "the latest" if has_times else "in the order of their ids"
-    )
+    columns = columns_of(*session_heads(calendar, has_times, has_export))
+    order = "the latest" if has_times else "in the order of their ids"
     first = 0
     rows = (session_row(t, calendar, has_export, name_of(part.name, t.tx)) for t in sessions)
     for some in runs_of(rows):
-        title = f"Sessions of {name}"
+        title = f"Sessions of {part.name}"
         if len(some) < len(sessions):
             title += f", {first + 1:,} to {first + len(some):,} of {len(sessions):,}"
-        yield (
-            f'<section aria-labelledby="{label}-{first}">\n<h3 class="sub" id="{label}-{first}">{title}</h3>\n'
-            + across(title, "".join(table(caption, heads, some, cards=True)))
-            + "</section>\n"
+        yield rendered(
+            "reports/sessions.html",
+            label=f"{label}-{first}",
+            title=title,
+            caption=f"Those with troubles first, and then {order}",
+            columns=columns,
+            rows=some,
         )
         first += len(some)

@@ -1,13 +1,17 @@
 """A day's settlement periods as bars, and the sequence numbers of a session as a strip."""
 
-from collections.abc import Iterable, Iterator
+from collections.abc import Iterable, Iterator, Sequence
 from datetime import date, timedelta
 from decimal import Decimal
 from functools import lru_cache
+from typing import NamedTuple
+
+from markupsafe import Markup
 
 from ocpp_board.energies import MINUS, MWH_OF_A_KWH, Flow, kwh
 from ocpp_board.replay.boards import Period, Session
 from ocpp_board.reports.calendars import Calendar
+from ocpp_board.reports.rendering import piece, rendered
 
 # Seconds of one unit of a picture's width: every period has a whole number of tenths of its width.
 UNIT = 30
@@ -57,6 +61,11 @@ class Scale:
     def said(self) -> str:
         """How far it goes, for a reader."""
         return f"{self.label(self.up)} {self.unit}"
+
+
+# The height of a picture above its texts, and with them.
+BOTTOM = Scale.TOP + Scale.HEIGHT
+PICTURE = BOTTOM + 20
 
 
 def lines_to(mwh: int, step: int) -> int:
@@ -111,60 +120,85 @@ def hours(calendar: Calendar, day: date) -> list[tuple[float, str]]:
     ]
 
 
-def paths(
-    day: date, periods: list[Period], scale: Scale, calendar: Calendar
-) -> Iterator[tuple[str, str]]:
-    """The lines and the bars of a day, each kind as one path."""
-    begin, width = calendar.begin(day), round(calendar.seconds(day) / UNIT)
-    bottom = Scale.TOP + Scale.HEIGHT
-    yield "grid", "".join(f"M0 {short(scale.at(mwh))}h{width}" for mwh in scale.marks() if mwh)
-    ticks = (round(x * width / 100) for x, _ in hours(calendar, day))
-    yield "grid", "".join(f"M{x} {bottom}v5" for x in ticks)
+class Text(NamedTuple):
+    """A text of a picture, and where it is. `anchor`: which end of it is there, if not the first."""
+
+    x: str
+    y: float | str
+    text: str
+    anchor: str = ""
+
+
+def hour_texts(calendar: Calendar, day: date, height: int) -> Iterator[Text]:
+    """Every sixth hour below the picture of a day."""
+    for x, text in hours(calendar, day):
+        if int(text[:2]) % 6 == 0:
+            anchor = "start" if x == 0 else "end" if x == 100 else "middle"
+            yield Text(f"{short(x)}%", height - 3, text, anchor)
+
+
+class Bar(NamedTuple):
+    """A period of a picture: where it begins and how wide it is, in units, and what it shows to a pointer."""
+
+    left: int
+    wide: int
+    said: str
+    period: Period
+
+
+def bars(
+    label: str,
+    width: int,
+    scale: Scale,
+    grid: Iterable[str],
+    some: Sequence[Bar],
+    below: Iterable[Text],
+) -> Markup:
+    """Periods as bars, each with its value where the pointer is. They are as wide as the page lets them be, and letters
+    keep their size. `width`: in units; `grid`: paths of lines; `below`: the texts below."""
     kinds: dict[str, list[str]] = {}
-    for p in periods:
-        left = round((p.start - begin).total_seconds() / UNIT)
-        for kind, path in bar(left, p.seconds // UNIT, p, scale):
+    for one in some:
+        for kind, path in bar(one.left, one.wide, one.period, scale):
             kinds.setdefault(kind, []).append(path)
-    still = kinds.pop("still", [])
-    yield from ((kind, "".join(parts)) for kind, parts in kinds.items())
-    yield "zero", f"M0 {short(scale.zero)}h{width}"
-    if still:
-        yield "still", "".join(still)
+    still = {"still": kinds.pop("still")} if "still" in kinds else {}
+    kinds = kinds | {"zero": [f"M0 {short(scale.zero)}h{width}"]} | still
+    marks = [Text("-5", short(scale.at(m) + 4), scale.label(m), "end") for m in scale.marks()]
+    return rendered(
+        "reports/bars.html",
+        label=label,
+        width=width,
+        height=PICTURE,
+        bottom=BOTTOM,
+        paths=[*(("grid", path) for path in grid), *((k, "".join(p)) for k, p in kinds.items())],
+        values=[one[:3] for one in some],
+        texts=[Text("-5", "9", scale.unit, "end"), *marks, *below],
+    )
 
 
-def values(day: date, periods: list[Period], calendar: Calendar) -> Iterator[str]:
-    """What shows a period's energy and average power where its bars are."""
-    begin, bottom = calendar.begin(day), Scale.TOP + Scale.HEIGHT
-    for p in periods:
-        left, net = round((p.start - begin).total_seconds() / UNIT), p.flow.net
-        power = f"{net * 3600 / MWH_OF_A_KWH / p.seconds:,.2f}".replace("-", MINUS)
-        yield f'<rect class="hit" x="{left}" width="{p.seconds // UNIT}" height="{bottom}"><title>'
-        said = calendar.times(p.start, p.seconds).partition("<")[0]
-        yield f"{said}: {kwh(net)} kWh, {power} kW</title></rect>"
+def scale_lines(scale: Scale, width: int) -> str:
+    """The path of a scale's lines."""
+    return "".join(f"M0 {short(scale.at(mwh))}h{width}" for mwh in scale.marks() if mwh)
 
 
 def picture(
     label: str, day: date, periods: list[Period], scale: Scale, calendar: Calendar
-) -> Iterator[str]:
-    """The periods of one day as bars. They are as wide as the page lets them be, and letters keep their size."""
-    height, width = Scale.TOP + Scale.HEIGHT + 20, round(calendar.seconds(day) / UNIT)
-    yield f'<svg role="img" aria-label="{label}" width="100%" height="{height}">\n'
-    yield f'<svg width="100%" height="{height}" viewBox="0 0 {width} {height}" preserveAspectRatio="none">'
-    for kind, path in paths(day, periods, scale, calendar):
-        yield f'<path class="{kind}" d="{path}"/>'
-    yield from values(day, periods, calendar)
-    yield f'</svg>\n<text x="-5" y="9" text-anchor="end">{scale.unit}</text>'
-    for mwh in scale.marks():
-        y = short(scale.at(mwh) + 4)
-        yield f'<text x="-5" y="{y}" text-anchor="end">{scale.label(mwh)}</text>'
-    for x, text in hours(calendar, day):
-        if int(text[:2]) % 6 == 0:
-            anchor = "start" if x == 0 else "end" if x == 100 else "middle"
-            yield f'<text x="{short(x)}%" y="{height - 3}" text-anchor="{anchor}">{text}</text>'
-    yield "\n</svg>\n"
+) -> Markup:
+    """The periods of one day as bars."""
+    begin, width = calendar.begin(day), round(calendar.seconds(day) / UNIT)
+
+    def bar_of(p: Period) -> Bar:
+        power = f"{p.flow.net * 3600 / MWH_OF_A_KWH / p.seconds:,.2f}".replace("-", MINUS)
+        said = f"{calendar.times(p.start, p.seconds)[0]}: {kwh(p.flow.net)} kWh, {power} kW"
+        left = round((p.start - begin).total_seconds() / UNIT)
+        return Bar(left, p.seconds // UNIT, said, p)
+
+    ticks = (f"M{round(x * width / 100)} {BOTTOM}v5" for x, _ in hours(calendar, day))
+    grid = [scale_lines(scale, width), "".join(ticks)]
+    below = hour_texts(calendar, day, PICTURE)
+    return bars(label, width, scale, grid, list(map(bar_of, periods)), below)
 
 
-def strip(session: Session) -> Iterator[str]:
+def strip(session: Session) -> Markup:
     """The numbers of a session from left to right, with a hole for each gap."""
     span, cells = session.last - session.first + 1, 400
     holes: list[list[int]] = []
@@ -175,7 +209,4 @@ def strip(session: Session) -> Iterator[str]:
             holes[-1][1] = end
         else:
             holes.append([start, end])
-    yield '<svg aria-hidden="true" width="100%" height="12"><rect class="there" width="100%" height="11"/>'
-    for start, end in holes:
-        yield f'<rect class="gap" x="{start / 4}%" width="{(end - start) / 4}%" height="11"/>'
-    yield "</svg>"
+    return piece("strip", [(start / 4, (end - start) / 4) for start, end in holes])

@@ -5,6 +5,8 @@ from collections.abc import Iterable
 from ocpp_board.energies import MINUS, MWH_OF_A_KWH
 from ocpp_board.replay.boards import Period
 from ocpp_board.reports.calendars import Calendar
+from ocpp_board.reports.pages import kept
+from ocpp_board.reports.rendering import piece
 
 HOUR = 3_600
 
@@ -33,5 +35,5 @@ def peak_said(periods: Iterable[Period], calendar: Calendar, has_day: bool = Fal
     peak = peak_of(periods)
     if peak is None:
         return ""
-    day = f" on <time>{calendar.day(peak.start)}</time>" if has_day else ""
-    return f"{kw(peak.flow.net, peak.seconds)} kW from {calendar.label(peak.start)}{day}"
+    said = f"{kw(peak.flow.net, peak.seconds)} kW from {calendar.label(peak.start)}"
+    return piece("joined", [said, kept(str(calendar.day(peak.start)))], " on ") if has_day else said

@@ -1,15 +1,16 @@
 """The page of a session: its figures, what came with its answers, who voided what and why, and its lines."""
 
 import os
-from collections.abc import Iterable, Iterator, Mapping, Sequence
+from collections.abc import Callable, Iterable, Iterator, Mapping, Sequence
 from dataclasses import dataclass, field
 from datetime import datetime
-from html import escape
 from pathlib import Path
 from typing import NamedTuple
 from urllib.parse import quote
 
-from ocpp_board.energies import kwh
+from markupsafe import Markup, escape
+
+from ocpp_board.energies import Flow, kwh
 from ocpp_board.logs.mending import MendedMessages
 from ocpp_board.messages.bills import file_of
 from ocpp_board.messages.transactions import Event
@@ -18,21 +19,20 @@ from ocpp_board.replay.operators import Deed
 from ocpp_board.replay.refusals import Refusals, Row as Refused
 from ocpp_board.replay.script_lines import OpenedLines, ScriptLines
 from ocpp_board.reports.calendars import Calendar
-from ocpp_board.reports.page_sections import UNKNOWN, finding_text, voided_text, when
-from ocpp_board.reports.pages import FOOT, MARK, Row, head, kept, link, ranges, table
+from ocpp_board.reports.page_sections import UNKNOWN, Figure, doubts_of, when
+from ocpp_board.reports.pages import MARK, Row, cells_of, columns_of, flow_heads, kept, ranges
+from ocpp_board.reports.rendering import rendered
 from ocpp_board.reports.session_facts import SessionFacts
-from ocpp_board.reports.session_times import duration
+from ocpp_board.reports.session_times import SessionTimes, duration
 from ocpp_board.shared_work import shared
 
 # Rows of a page's tables, and characters of the lines that it has.
 MOST_ROWS, MOST_CHARACTERS = 1_000, 100_000
-# Characters that one becomes in HTML, at most.
-LONGEST_ESCAPE = len("&quot;")
 # Pages that are written by a process of their own.
 FEWEST = 100
-HEADS = ["Event", " Its time", " Received", " Readings, kWh", " Answer"]
+COLUMNS = columns_of("Event", " Its time", " Received", " Readings, kWh", " Answer")
 EXPORTED = " exported"
-DEEDS = ["When", " Who", " What", " Why", " Answer"]
+DEEDS = columns_of("When", " Who", " What", " Why", " Answer")
 
 
 def folder_of(out: str) -> Path:
@@ -118,7 +118,7 @@ class SessionPages:
             for one in some:
                 path = path_of(self.out, one.station, one.session.tx)
                 made = path.with_name(f".{path.name}.made")
-                made.write_bytes("".join(self.page(one, lines)).encode())
+                made.write_bytes(self.page(one, lines).encode())
                 os.replace(made, path)
 
     def mark(self, one: Shown) -> int:
@@ -130,30 +130,40 @@ class SessionPages:
         said = (session.state, session.flow, [str(finding) for finding in session.findings])
         return hash(repr((counts, said, [(row.refusal, row.times) for row in one.refused])))
 
-    def page(self, one: Shown, lines: OpenedLines) -> Iterator[str]:
+    def page(self, one: Shown, lines: OpenedLines) -> str:
         """The page of a session. `lines`: those of the script."""
         site, station, session, refused = one
         whole = self.known.facts.transactions.of(site, station, session.tx)
         deeds = self.known.facts.operators.of(station, session.tx)
-        back = link("", f"Site {escape(site)}")
-        back = back.replace('href=""', f'href="../{quote(Path(self.out).name)}.html"')
-        title = f"Session {escape(whole.sent or session.tx)}"
-        state = escape(session.state[:1].upper() + session.state[1:])
-        said = f"<p>Station {escape(station)}. {state}.</p>\n"
-        links = f'<nav aria-label="Site">{back}</nav>\n'
-        zone = f'<p class="stamp">{self.calendar.said()}.</p>\n'
-        yield head(title, said + zone, links)
-        yield "".join(figures(session, self.calendar))
         voids = {number: (who, why) for number, who, why in session.voided}
         rows = list(self.rows(whole.events, whole.conflicts, whole.again, voids, refused))
         caption = "What came, in the order of the script"
         if len(rows) > MOST_ROWS:
             caption += f"; the last {MOST_ROWS:,} of {len(rows):,}"
-        some = (row for _, row in rows[-MOST_ROWS:])
-        yield "<h2>What came</h2>\n" + "".join(table(caption, HEADS, some, cards=True))
-        yield "<h2>Who did what</h2>\n" + deeds_of(deeds)
-        yield from lines_of([line for line, _ in rows if line], lines)
-        yield FOOT
+        numbers = [line for line, _ in rows if line]
+        shown = lines_of(numbers, lines)
+        return rendered(
+            "reports/session.html",
+            title=f"Session {whole.sent or session.tx}",
+            whole="",
+            refresh=None,
+            is_one=False,
+            back=f"../{quote(Path(self.out).name)}.html",
+            site=site,
+            station=station,
+            state=session.state[:1].upper() + session.state[1:],
+            zone=self.calendar.said(),
+            figures=figures(session, self.calendar),
+            doubts=doubts_of(session),
+            meanings=dict.fromkeys(one.kind.meaning for one in session.findings),
+            caption=caption,
+            columns=COLUMNS,
+            rows=[row for _, row in rows[-MOST_ROWS:]],
+            deed_columns=DEEDS,
+            deeds=[deed_row(deed) for deed in deeds[-MOST_ROWS:]],
+            lines=shown,
+            left=len(numbers) - len(shown),
+        )
 
     def rows(
         self,
@@ -165,12 +175,12 @@ class SessionPages:
     ) -> Iterator[tuple[int, Row]]:
         """What came, each with its line of the script, in that order; at the end what was refused otherwise."""
         accepted = [(event, self.answer(event, again, voids)) for event in events.values()]
-        others = [(event, (MARK, "refused: ConflictingEvent")) for event in conflicts]
-        for event, (mark, answer) in sorted([*accepted, *others], key=lambda row: row[0].line):
-            yield event.line, (mark, [*self.cells(event), answer])
+        others = [(event, ("refused: ConflictingEvent", MARK)) for event in conflicts]
+        for event, (answer, mark) in sorted([*accepted, *others], key=lambda row: row[0].line):
+            yield event.line, Row([*self.cells(event), answer], mark)
         for row in refused:
             if row.refusal.cause != "ConflictingEvent":
-                yield 0, (MARK, refused_cells(row, self.calendar))
+                yield 0, Row(refused_cells(row, self.calendar), MARK)
 
     def cells(self, event: Event) -> list[str]:
         """The cells of an event before its answer."""
@@ -181,43 +191,31 @@ class SessionPages:
             UNKNOWN if at is None else kept(self.calendar.second(at))
             for at in (event.at, event.received)
         ]
-        return [f"{event.number} {escape(event.kind)}", *times, read or UNKNOWN]
+        return [f"{event.number} {event.kind}", *times, read or UNKNOWN]
 
     @staticmethod
     def answer(
         event: Event, again: Mapping[int, int], voids: Mapping[int, tuple[str, str]]
     ) -> tuple[str, str]:
-        """A row's attributes, and how an event was answered and what became of it."""
+        """How an event was answered and what became of it, and the class of its row."""
         times = again.get(event.number, 0)
         said = "accepted" + (f", and {times:,} times again" if times else "")
         if event.number not in voids:
-            return "", said
+            return said, ""
         who, why = voids[event.number]
-        reason = f": {escape(why)}" if why else ""
-        return MARK, f"{said}; voided by {escape(who or 'an operator')}{reason}"
+        reason = f": {why}" if why else ""
+        return f"{said}; voided by {who or 'an operator'}{reason}", MARK
 
 
-def lines_of(numbers: Sequence[int], lines: OpenedLines) -> Iterator[str]:
+def lines_of(numbers: Sequence[int], lines: OpenedLines) -> list[Markup]:
     """The lines of the script that have a session, as far as its page has room for them."""
     read = (line.decode("utf-8", "replace").rstrip("\r\n") for line in lines.read(numbers))
-    texts = with_room(read)
-    text = "\n".join(texts)
-    if len(text) * LONGEST_ESCAPE <= MOST_CHARACTERS:
-        text = escape(text)
-    else:
-        texts = with_room(map(escape, texts))
-        text = "\n".join(texts)
-    if not texts:
-        return
-    left = len(numbers) - len(texts)
-    more = f" The script has {left:,} more." if left else ""
-    yield f"<details>\n<summary>Its lines</summary>\n<p>As the script has them.{more}</p>\n"
-    yield f'<pre class="across">{text}</pre>\n</details>\n'
+    return with_room(map(escape, read))
 
 
-def with_room(texts: Iterable[str]) -> list[str]:
+def with_room(texts: Iterable[Markup]) -> list[Markup]:
     """The first of these texts, as far as a page has room for them."""
-    found, size = list[str](), 0
+    found, size = list[Markup](), 0
     for text in texts:
         size += len(text)
         if size > MOST_CHARACTERS:
@@ -232,56 +230,45 @@ def refused_cells(row: Refused, calendar: Calendar) -> list[str]:
     try:
         at = when(datetime.fromisoformat(row.first), calendar)
     except ValueError:
-        at = escape(row.first) or UNKNOWN
-    said = f"refused: {escape(one.cause)}{times}: {escape(one.what)}; {escape(one.advice)}"
-    return [escape(one.number) or UNKNOWN, UNKNOWN, at, UNKNOWN, said]
+        at = row.first or UNKNOWN
+    said = f"refused: {one.cause}{times}: {one.what}; {one.advice}"
+    return [one.number or UNKNOWN, UNKNOWN, at, UNKNOWN, said]
 
 
-def deeds_of(deeds: Sequence[Deed]) -> str:
-    """The table of operators' lines about a session."""
-    if not deeds:
-        return "<p>Nobody voided, restored or erased an event of this session.</p>\n"
-    rows: list[Row] = [
-        (
-            "" if deed.is_accepted else MARK,
-            [
-                kept(escape(deed.time)) if deed.time else UNKNOWN,
-                escape(deed.who) or UNKNOWN,
-                f"{escape(deed.words[0])} {escape(deed.words[3])}",
-                escape(deed.why) or UNKNOWN,
-                escape(deed.answer),
-            ],
-        )
-        for deed in deeds[-MOST_ROWS:]
-    ]
-    return "".join(table("Operators' lines, in their order", DEEDS, rows, cards=True))
+def deed_row(deed: Deed) -> Row:
+    """The row of an operator's line about a session."""
+    at = kept(deed.time) if deed.time else UNKNOWN
+    what = f"{deed.words[0]} {deed.words[3]}"
+    cells = [at, deed.who or UNKNOWN, what, deed.why or UNKNOWN, deed.answer]
+    return Row(cells, "" if deed.is_accepted else MARK)
 
 
-def figures(session: Session, calendar: Calendar) -> Iterator[str]:
-    """The figures of a session, and what is doubtful in its data."""
-    flow, times, lost = session.flow, session.times, session.lost()
-    cells = [("Up", f"{kwh(flow.up)} kWh"), ("Down", f"{kwh(flow.down)} kWh")]
-    if flow.export_up or flow.export_down:
-        cells.append(("Export up", f"{kwh(flow.export_up)} kWh"))
-        cells.append(("Export down", f"{kwh(flow.export_down)} kWh"))
-    cells.append(("EVSE", str(session.evse) if session.evse else "not named"))
+def figures(session: Session, calendar: Calendar) -> list[Figure]:
+    """The figures of a session."""
+    times, lost = session.times, session.lost()
+    cells = flow_figures(session.flow)
+    cells.append(("EVSE", str(session.evse) if session.evse else "not named", False))
     if lost:
-        cells.append(("Missing numbers", ranges(lost[:20]) + (" and more" if lost[20:] else "")))
+        text = ranges(lost[:20]) + (" and more" if lost[20:] else "")
+        cells.append(("Missing numbers", text, False))
     if times:
-        cells.append(("Start", when(times.start, calendar)))
-        cells.append(("End", when(times.end, calendar)))
-        cells.append(("Duration", duration(times.seconds) or UNKNOWN))
-        for name, read in (("Register", times.imported), ("Export register", times.exported)):
-            if read:
-                cells.append((name, f"{kwh(read.first)} to {kwh(read.last)} kWh"))
-        cells.append(("Stopped", escape(times.reason) or UNKNOWN))
-    net = f"<dt>Net</dt><dd>{kwh(flow.net)} kWh</dd>"
-    yield f'<dl class="figures"><div class="lead">{net}</div>'
-    yield "".join(f"<div><dt>{name}</dt><dd>{cell}</dd></div>" for name, cell in cells)
-    yield "</dl>\n"
-    found = voided_text(session) + "".join(map(finding_text, session.findings))
-    if found:
-        meanings = dict.fromkeys(one.kind.meaning for one in session.findings)
-        yield f"<p>{found.removeprefix('<br>')}</p>\n" + "".join(
-            f'<p class="soft">{escape(said)}</p>\n' for said in meanings
-        )
+        cells += time_figures(times, lambda at: when(at, calendar))
+        cells.append(("Stopped", times.reason or UNKNOWN, False))
+    return cells
+
+
+def flow_figures(flow: Flow) -> list[Figure]:
+    """The figures of a session's energy, with exports where there are some."""
+    has_export = bool(flow.export_up or flow.export_down)
+    cells = zip(flow_heads(has_export), cells_of(flow, has_export))
+    return [(name, f"{cell} kWh", False) for name, cell in cells]
+
+
+def time_figures(times: SessionTimes, when_of: Callable[[datetime | None], str]) -> list[Figure]:
+    """The figures of a session's times and registers. `when_of`: a moment for a reader."""
+    cells = [("Start", when_of(times.start)), ("End", when_of(times.end))]
+    cells.append(("Duration", duration(times.seconds) or UNKNOWN))
+    for name, read in (("Register", times.imported), ("Export register", times.exported)):
+        if read:
+            cells.append((name, f"{kwh(read.first)} to {kwh(read.last)} kWh"))
+    return [(name, cell, False) for name, cell in cells]

@@ -25,7 +25,7 @@ from pathlib import Path
 
 from ocpp_board.fleet.database import parts
 from ocpp_board.fleet.database.connections import Fault, places
-from ocpp_board.words import parser_of
+from ocpp_board.words import options_of, parser_of
 
 log = logging.getLogger(__name__)
 
@@ -185,4 +185,4 @@ def main(argv: Sequence[str], prog: str) -> int:
         metavar="N",
         help="how many backups to keep (default: 7)",
     )
-    return parts.ended(back_up, parts.options_of(Options, parts.parsed(parser, argv)))
+    return parts.ended(back_up, options_of(Options, parts.parsed(parser, argv)))

@@ -22,7 +22,7 @@ from ocpp_board.fleet.database import parts
 from ocpp_board.fleet.database.begun_anew import reserve
 from ocpp_board.fleet.database.connections import Fault, connect
 from ocpp_board.replay.boards import TOTAL
-from ocpp_board.words import parser_of
+from ocpp_board.words import options_of, parser_of
 
 NAME = "ocpp-board move"
 # Lines, and rows of other tables, that are copied at once.
@@ -258,4 +258,4 @@ def main(argv: Sequence[str], prog: str) -> int:
         )
     parser.add_argument("--shard", type=int, required=True, help="which shard")
     parts.add_reason(parser)
-    return parts.done(run, parts.options_of(Options, parts.parsed(parser, argv)))
+    return parts.done(run, options_of(Options, parts.parsed(parser, argv)))

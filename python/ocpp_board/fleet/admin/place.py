@@ -23,7 +23,7 @@ from ocpp_board.fleet.database import parts
 from ocpp_board.fleet.database.connections import Fault, connect
 from ocpp_board.fleet.database.plans import NEW_SITE, Reckoning
 from ocpp_board.limits import ORDERS, RULES, is_name
-from ocpp_board.words import parser_of
+from ocpp_board.words import options_of, parser_of
 
 NAME = "ocpp-board place"
 # Stations of a shard that is filled here, and what a shard may have: sites, and readings of all its stations.
@@ -207,7 +207,7 @@ def main(argv: Sequence[str], prog: str) -> int:
         "--settle", choices=RULES, help=f"how a new site settles (default: {NEW_SITE.settle})"
     )
     parser.add_argument("--moves", action="store_true", help="propose moves of shards by load")
-    options = parts.options_of(Options, parts.parsed(parser, argv))
+    options = options_of(Options, parts.parsed(parser, argv))
     if options.moves == bool(options.station):
         parser.error("either a station with --site and --reason, or --moves")
     if options.station and not (options.site and options.reason):

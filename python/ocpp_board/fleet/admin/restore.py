@@ -17,7 +17,7 @@ from ocpp_board.fleet.database import parts
 from ocpp_board.fleet.admin.backup import ARCHIVES, CLUSTER, check, copied
 from ocpp_board.fleet.database.connections import Fault
 from ocpp_board.statuses import Mistaken, ended
-from ocpp_board.words import parser_of
+from ocpp_board.words import options_of, parser_of
 
 
 @dataclass(frozen=True)
@@ -57,7 +57,7 @@ def main(argv: Sequence[str], prog: str) -> int:
     parser.add_argument(
         "--archive", required=True, type=Path, metavar="FOLDER", help="where archives are kept"
     )
-    options = parts.options_of(Options, parts.parsed(parser, argv))
+    options = options_of(Options, parts.parsed(parser, argv))
 
     def work() -> int:
         try:

@@ -37,7 +37,7 @@ from ocpp_board.fleet.web.operators import (
 )
 from ocpp_board.fleet.gateway.passwords import SALT, hashed
 from ocpp_board.limits import is_name
-from ocpp_board.words import parser_of
+from ocpp_board.words import options_of, parser_of
 
 PROGRAM = "ocpp-board operator"
 # Days for which a token is good: at most, and unless named.
@@ -207,7 +207,7 @@ def main(argv: Sequence[str], prog: str) -> int:
     for job in (setting, token, revoke):
         parts.add_reason(job)
     jobs.add_parser("list", help="shows operators and tokens")
-    options = parts.options_of(Options, parts.parsed(parser, argv))
+    options = options_of(Options, parts.parsed(parser, argv))
     if options.sites and options.all_sites:
         parser.error("--sites and --all-sites exclude one another")
     return parts.done(run, options)

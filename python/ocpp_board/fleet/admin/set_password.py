@@ -15,7 +15,7 @@ from dataclasses import dataclass
 from ocpp_board.fleet.database import parts
 from ocpp_board.fleet.database.connections import connect
 from ocpp_board.fleet.gateway.passwords import SALT, fault_of, hashed
-from ocpp_board.words import parser_of
+from ocpp_board.words import options_of, parser_of
 
 NAME = "ocpp-board password"
 
@@ -53,4 +53,4 @@ def main(argv: Sequence[str], prog: str) -> int:
     parser.add_argument("station", metavar="STATION", help="which station")
     parser.add_argument("--at-once", action="store_true", help="end the password that it had")
     parts.add_reason(parser)
-    return parts.done(run, parts.options_of(Options, parts.parsed(parser, argv)))
+    return parts.done(run, options_of(Options, parts.parsed(parser, argv)))

@@ -54,7 +54,7 @@ from ocpp_board.replay.boards import Numbers
 from ocpp_board.replay.lists import LiveEvents
 from ocpp_board.reports.session_times import times_of
 from ocpp_board.statuses import Status
-from ocpp_board.words import add_program, add_tokens, parser_of
+from ocpp_board.words import add_program, add_tokens, options_of, parser_of
 
 NAME = "ocpp-board billing"
 MONTH = re.compile(r"(20[0-9]{2})-(0[1-9]|1[0-2])")
@@ -388,4 +388,4 @@ def main(argv: Sequence[str], prog: str) -> int:
     parser.add_argument(
         "--most-mib", type=int, metavar="N", help="end with a fault if the table is larger"
     )
-    return parts.done(run, parts.options_of(Options, parts.parsed(parser, argv)))
+    return parts.done(run, options_of(Options, parts.parsed(parser, argv)))

@@ -55,7 +55,7 @@ from ocpp_board.fleet.database.spooled import Spool, Stored, Texts
 from ocpp_board.fleet.database.states import SESSIONS
 from ocpp_board.limits import LONGEST_SCRIPT
 from ocpp_board.reports.session_times import SessionTimes, times_of
-from ocpp_board.words import add_program, parser_of
+from ocpp_board.words import add_program, options_of, parser_of
 
 log = logging.getLogger(__name__)
 
@@ -769,4 +769,4 @@ def main(argv: Sequence[str], prog: str) -> int:
     parser.add_argument(
         "--archive", required=True, type=Path, metavar="FOLDER", help="where archives are kept"
     )
-    return parts.done(run, parts.options_of(Options, parts.parsed(parser, argv)))
+    return parts.done(run, options_of(Options, parts.parsed(parser, argv)))

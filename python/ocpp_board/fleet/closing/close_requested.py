@@ -19,7 +19,7 @@ from ocpp_board.fleet.database import parts
 from ocpp_board.fleet.database.begun_anew import begun_anew
 from ocpp_board.fleet.database.connections import Fault
 from ocpp_board.statuses import Status
-from ocpp_board.words import add_program, parser_of
+from ocpp_board.words import add_program, options_of, parser_of
 
 log = logging.getLogger(__name__)
 
@@ -100,4 +100,4 @@ def main(argv: Sequence[str], prog: str) -> int:
         metavar="FOLDER",
         help="where archives are kept, in a folder for each site",
     )
-    return parts.done(run, parts.options_of(Options, parts.parsed(parser, argv)))
+    return parts.done(run, options_of(Options, parts.parsed(parser, argv)))

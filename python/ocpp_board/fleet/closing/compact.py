@@ -30,7 +30,7 @@ from ocpp_board.fleet.database.replays import Replay, ReplayEnded
 from ocpp_board.fleet.worker.surplus import Surplus
 from ocpp_board.limits import LONGEST_SCRIPT
 from ocpp_board.statuses import Status
-from ocpp_board.words import add_program, parser_of
+from ocpp_board.words import add_program, options_of, parser_of
 
 log = logging.getLogger(__name__)
 
@@ -292,4 +292,4 @@ def main(argv: Sequence[str], prog: str) -> int:
     which = parser.add_mutually_exclusive_group(required=True)
     which.add_argument("--shard", type=int, help="which shard")
     which.add_argument("--all", action="store_true", help="each shard of the cell in turn")
-    return parts.done(run, parts.options_of(Options, parts.parsed(parser, argv)))
+    return parts.done(run, options_of(Options, parts.parsed(parser, argv)))

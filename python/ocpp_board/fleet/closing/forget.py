@@ -48,7 +48,7 @@ from ocpp_board.fleet.database.replays import ReplayEnded
 from ocpp_board.fleet.closing.tokens import NO_JSON, line_without
 from ocpp_board.processes import replay_environment
 from ocpp_board.statuses import Status
-from ocpp_board.words import add_program, parser_of
+from ocpp_board.words import add_program, options_of, parser_of
 
 log = logging.getLogger(__name__)
 
@@ -390,4 +390,4 @@ def main(argv: Sequence[str], prog: str) -> int:
         metavar="YEARS",
         help="history that is older than so many whole years",
     )
-    return parts.done(run, parts.options_of(Options, parts.parsed(parser, argv)))
+    return parts.done(run, options_of(Options, parts.parsed(parser, argv)))

@@ -8,18 +8,13 @@ import json
 from collections.abc import Iterator
 from typing import Any
 
-from ocpp_board.messages.texts import JSON, Refused
+from ocpp_board.messages.texts import JSON, Refused, blanks
 
 MEMBER = "idToken"
 # In a text that is no JSON there is no member to take out; all of it goes. It is as little JSON as what it was.
 NO_JSON = "?"
 # What replaces a value, of the same kind, since a value of another kind is refused.
 BLANKS: tuple[tuple[type, str], ...] = ((dict, "{}"), (list, "[]"), (str, '""'), (bool, "false"))
-
-
-def may_have_token(text: str) -> bool:
-    """Whether a text may have a token; one without this word and without an escape has none."""
-    return MEMBER in text or "\\" in text
 
 
 def texts_of(value: Any) -> Iterator[str]:
@@ -48,7 +43,8 @@ def blank_of(value: Any) -> str:
 
 def without_token(message: str, token: str | None) -> str:
     """The message without the tokens of drivers, or without this one. All else is as it was written."""
-    if not may_have_token(message):
+    # A text without this word and without an escape has no token.
+    if not (MEMBER in message or "\\" in message):
         return message
     try:
         JSON.decode(message)
@@ -68,19 +64,12 @@ def members(text: str) -> Iterator[tuple[int, int, Any]]:
     at = 0
     while (at := text.find('"', at)) >= 0:
         name, end = json.decoder.scanstring(text, at + 1)  # type: ignore[attr-defined]
-        colon = after_blanks(text, end)
+        colon = blanks(text, end)
         if name == MEMBER and text.startswith(":", colon):
-            start = after_blanks(text, colon + 1)
+            start = blanks(text, colon + 1)
             value, after = JSON.raw_decode(text, start)
             yield start, after, value
         at = end
-
-
-def after_blanks(text: str, at: int) -> int:
-    """Where what is no blank comes next."""
-    while at < len(text) and text[at] in " \t\r\n":
-        at += 1
-    return at
 
 
 def line_without(line: str, token: str | None) -> str:

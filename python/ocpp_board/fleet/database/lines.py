@@ -3,6 +3,7 @@
 import re
 from datetime import datetime
 
+from ocpp_board.messages.meter_values import EXPORT, IMPORT
 from ocpp_board.messages.texts import parsed
 from ocpp_board.messages.times import moment_of
 
@@ -11,7 +12,7 @@ COMMANDS = ("msg ", "void ", "restore ", "erase ")
 Transaction = tuple[str, str]
 # Refusals of what may be taken once there is room, and the measurands that count as readings.
 FOR_ROOM = ("TooManyTransactions", "EventsFull", "ReadingsFull", "ChangesExhausted")
-REGISTERS = (None, "Energy.Active.Import.Register", "Energy.Active.Export.Register")
+REGISTERS = (None, IMPORT, EXPORT)
 # The member that names a transaction, and others of that name, in a text without escapes.
 NAMED = re.compile(r'"transactionId"[ \t\r\n]*:[ \t\r\n]*"([^"]*)"')
 # What reading the JSON of a line may raise where that is no event.

@@ -8,7 +8,7 @@ import os
 import subprocess
 import sys
 from collections.abc import Callable, Coroutine, Sequence
-from dataclasses import dataclass, fields
+from dataclasses import dataclass
 from pathlib import Path
 from typing import Any, TypeVar
 
@@ -113,12 +113,6 @@ def parsed(parser: argparse.ArgumentParser, argv: Sequence[str]) -> argparse.Nam
     except OSError as fault:
         parser.error(f"{fault.filename}: {fault.strerror}")
     return words.parsed(parser, argv, logging.DEBUG)
-
-
-def options_of(kind: type[Kind], words: argparse.Namespace, **more: Any) -> Kind:
-    """The options of this kind that the words have, and more. One that the words may lack has a default."""
-    named = {one.name: getattr(words, one.name) for one in fields(kind) if one.name in words}
-    return kind(**named | more)
 
 
 def take_credentials() -> None:

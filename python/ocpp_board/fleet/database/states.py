@@ -1,6 +1,6 @@
 """The states of figures: provisional, settled, or corrected since."""
 
-from collections.abc import Mapping
+from collections.abc import Iterable, Mapping
 from typing import Any
 
 from ocpp_board.energies import FLOW
@@ -12,6 +12,11 @@ PROVISIONAL, SETTLED, CORRECTED = "provisional", "settled", "corrected"
 SESSIONS, EVENTS = ("transactions", "complete", "missing"), ("events", "voided")
 # Energies, with what is reckoned of them.
 ENERGIES = (*FLOW, "net")
+
+
+def sums(names: Iterable[str], of: str = "", front: str = "") -> str:
+    """Columns of a query that add up those of these names. `of`: the table, with a point; `front`: how sums begin."""
+    return ", ".join(f"coalesce(sum({of}{name}), 0)::bigint as {front}{name}" for name in names)
 
 
 def state_of(is_settled: bool, corrections: int) -> str:

@@ -35,7 +35,7 @@ from ocpp_board.fleet.feed.feed_log import Counts, Log
 from ocpp_board.fleet.feed.feed_sources import FileSource, MqttSource, Options, RabbitSource, Source
 from ocpp_board.fleet.feed.metrics import feed_watch
 from ocpp_board.logs import logforms
-from ocpp_board.words import parser_of
+from ocpp_board.words import options_of, parser_of
 
 # Seconds between reports, and to end in.
 REPORT, LAST = 60, 5
@@ -123,12 +123,12 @@ def arguments(argv: Sequence[str], prog: str) -> Options:
     )
     words = parts.parsed(parser, argv)
     if words.source == "rabbitmq":
-        return parts.options_of(Options, words, name=words.queue)
+        return options_of(Options, words, name=words.queue)
     if words.source == "mqtt":
-        return parts.options_of(Options, words)
+        return options_of(Options, words)
     shape = None if words.form == "script" else logforms.shape_of(words)
     name = words.name or os.path.abspath(words.path)
-    return parts.options_of(Options, words, name=name, shape=shape)
+    return options_of(Options, words, name=name, shape=shape)
 
 
 def client_or_fault(source: str) -> None:

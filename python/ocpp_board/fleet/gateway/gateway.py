@@ -55,7 +55,7 @@ from ocpp_board.fleet.database.plans import known_lines
 from ocpp_board.fleet.gateway.websocket import MOST, SUBPROTOCOL, Link
 from ocpp_board.limits import LONGEST_MESSAGE, is_name
 from ocpp_board.messages.texts import HEAD, one_line, parsed
-from ocpp_board.words import add_program, parser_of
+from ocpp_board.words import add_program, options_of, parser_of
 
 log = logging.getLogger(__name__)
 # What `websockets` logs of a connection is not logged here.
@@ -605,7 +605,8 @@ class StationLink(Link):
         """Lets a station in if its password is right; a station that the plan lacks gets the answer to a wrong one."""
         name = self.name
         peer = str((self.transport.get_extra_info("peername") or ("",))[0])
-        address = passwords.address_of(peer, event.headers, self.gateway.options.proxy)
+        named = event.headers.get_all("X-Forwarded-For")
+        address = passwords.address_by(peer, named, self.gateway.options.proxy)
         verdict = await self.gateway.door.judge(
             name, address, given, lambda: self.gateway.find(name)
         )
@@ -954,6 +955,6 @@ def main(argv: Sequence[str], prog: str) -> int:
         action="store_true",
         help="let each station of the plan in without a password, as in a laboratory",
     )
-    options = parts.options_of(Options, parts.parsed(parser, argv))
+    options = options_of(Options, parts.parsed(parser, argv))
     parts.use_uvloop()
     return parts.done(run, options)

@@ -125,11 +125,6 @@ def matching(password: bytes, known: Sequence[Stored]) -> Stored | None:
     return None
 
 
-def address_of(peer: str, headers: Headers, proxies: Sequence[str]) -> str:
-    """Where a station's connection comes from."""
-    return address_by(peer, headers.get_all("X-Forwarded-For"), proxies)
-
-
 def address_by(peer: str, named: Sequence[str], proxies: Sequence[str]) -> str:
     """Where a connection comes from: what a proxy of ours names last, where it comes from one."""
     return named[-1].rpartition(",")[2].strip() if named and peer in proxies else peer

@@ -8,13 +8,11 @@ import asyncio
 from collections import deque
 from typing import cast
 
-from websockets.client import ClientConnection
 from websockets.connection import Connection, State
 from websockets.frames import OP_BINARY, OP_CONT, OP_TEXT, Frame
 from websockets.frames import apply_mask  # type: ignore[attr-defined]
 from websockets.http11 import Request, Response
 from websockets.typing import Subprotocol
-from websockets.uri import parse_uri
 
 from ocpp_board.logs.logforms import PROTOCOL
 
@@ -253,17 +251,3 @@ class Link(asyncio.Protocol):
     def connection_lost(self, fault: Exception | None) -> None:
         """The connection is gone."""
         self.is_lost = True
-
-
-class ClientLink(Link):
-    """A station's end: it asks to be let in as soon as it is connected."""
-
-    def __init__(self, url: str) -> None:
-        self.client = ClientConnection(parse_uri(url), subprotocols=[SUBPROTOCOL])
-        super().__init__(self.client)
-
-    def connection_made(self, transport: asyncio.BaseTransport) -> None:
-        """Asks to be let in."""
-        super().connection_made(transport)
-        self.client.send_request(self.client.connect())
-        self.flush()

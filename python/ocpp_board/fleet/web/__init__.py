@@ -4,7 +4,7 @@
     page_views, page_deeds           pages that look, and pages that do something
     page_render, page_words          what templates are given, what forms say
     templates                        Jinja2
-    api, api_queries, api_schema     the read API
+    api, api_queries, openapi.yaml   the read API
     cells                            the cells' databases, as pages ask them
     metrics                          its figures
     operators                        who may use it

@@ -13,8 +13,10 @@ from collections.abc import Awaitable, Callable, Mapping, Sequence
 from datetime import date, datetime, time, timedelta, timezone
 from http import HTTPStatus
 from operator import itemgetter
+from pathlib import Path
 from typing import Any, NamedTuple
 
+import yaml
 from starlette.requests import Request
 from starlette.responses import JSONResponse, Response
 from starlette.routing import BaseRoute, Route
@@ -22,7 +24,6 @@ from starlette.routing import BaseRoute, Route
 from ocpp_board.energies import FLOW, MWH_OF_A_KWH, flow_of
 from ocpp_board.fleet.closing import billing
 from ocpp_board.fleet.web import api_queries
-from ocpp_board.fleet.web.api_schema import OPENAPI, SCHEMAS
 from ocpp_board.fleet.web.cells import Site, Wrong, merged
 from ocpp_board.fleet.web.histories import Entry, History, history_of, named_in_log, stations_of
 from ocpp_board.fleet.web.operators import SEES
@@ -38,6 +39,8 @@ ROWS, MOST_ROWS, MOST_STATIONS = 200, 1000, 10
 FIRST, LAST = (datetime(year, 1, 1, tzinfo=timezone.utc) for year in (2000, 2100))
 # For how long periods are asked for, where only the end is given, and at most.
 DAY, SPAN, LONGEST = timedelta(days=1), timedelta(days=31), timedelta(days=366)
+
+OPENAPI = "application/vnd.oai.openapi+json"
 
 Json = dict[str, Any]
 View = Callable[[Asked], Awaitable[Response]]
@@ -185,15 +188,7 @@ def answer(body: Json, faults: Sequence[str] = ()) -> Response:
 
 @view(SEES)
 async def sites(asked: Asked) -> Response:
-    """The sites that the token sees.
-    ---
-    summary: The sites that the token sees, with their figures
-    parameters: [{$ref: '#/components/parameters/limit'}, {$ref: '#/components/parameters/cursor'}]
-    responses:
-      200: {description: A page, content: {application/json: {schema: {$ref: '#/components/schemas/Sites'}}}}
-      401: {$ref: '#/components/responses/Unknown'}
-      403: {$ref: '#/components/responses/Forbidden'}
-    """
+    """The sites that the token sees."""
     paging = Paging.of(asked, [""])
     found, faults = await asked.desk.cells.sites(asked.operator)
     rows = [site_json(site) for site in found if site.name > paging.key[0]]
@@ -202,17 +197,7 @@ async def sites(asked: Asked) -> Response:
 
 @view(SEES)
 async def board(asked: Asked) -> Response:
-    """A site's board.
-    ---
-    summary: A site's figures, and those of its stations
-    parameters:
-      - {$ref: '#/components/parameters/site'}
-      - {$ref: '#/components/parameters/limit'}
-      - {$ref: '#/components/parameters/cursor'}
-    responses:
-      200: {description: A page, content: {application/json: {schema: {$ref: '#/components/schemas/Board'}}}}
-      404: {$ref: '#/components/responses/NotFound'}
-    """
+    """A site's board."""
     name, paging = asked.path("site"), Paging.of(asked, [""])
     rows, faults = await asked.desk.cells.site(asked.operator, name)
     whole, _ = await asked.desk.cells.sites(asked.operator, name)
@@ -238,25 +223,7 @@ async def board(asked: Asked) -> Response:
 
 @view(SEES)
 async def periods(asked: Asked) -> Response:
-    """The periods of a site's stations.
-    ---
-    summary: The energy of a site's stations by settlement period
-    parameters:
-      - {$ref: '#/components/parameters/site'}
-      - name: from
-        in: query
-        schema: {type: string}
-        description: A day of the site's zone or a time with its offset; 31 days before `to` where it is not given
-      - name: to
-        in: query
-        schema: {type: string}
-        description: A day, which is included, or a time, which is not; now where it is not given; 366 days at most
-      - {$ref: '#/components/parameters/limit'}
-      - {$ref: '#/components/parameters/cursor'}
-    responses:
-      200: {description: A page, content: {application/json: {schema: {$ref: '#/components/schemas/Periods'}}}}
-      404: {$ref: '#/components/responses/NotFound'}
-    """
+    """The periods of a site's stations."""
     name, paging = asked.path("site"), Paging.of(asked, [FIRST.isoformat(), ""])
     rows, faults = await asked.desk.cells.site(asked.operator, name)
     zone = rows[0][1]["zone"]
@@ -323,17 +290,7 @@ def moment_word(text: str, name: str, zone: str, default: datetime, days: int) -
 
 @view(SEES)
 async def transactions(asked: Asked) -> Response:
-    """The transactions of a station.
-    ---
-    summary: A station's transactions, of the log and archived, by their ids
-    parameters:
-      - {name: station, in: path, required: true, schema: {type: string}}
-      - {$ref: '#/components/parameters/limit'}
-      - {$ref: '#/components/parameters/cursor'}
-    responses:
-      200: {description: A page, content: {application/json: {schema: {$ref: '#/components/schemas/Transactions'}}}}
-      404: {$ref: '#/components/responses/NotFound'}
-    """
+    """The transactions of a station."""
     name, paging = asked.path("station"), Paging.of(asked, [""])
     cell, row = await asked.desk.cells.station(asked.operator, name)
     values = (row["shard"], name)
@@ -366,19 +323,7 @@ def transaction_json(one: Any, station: Any, is_late: bool) -> Json:
 
 @view(SEES)
 async def transaction(asked: Asked) -> Response:
-    """A transaction with its events.
-    ---
-    summary: A transaction with its events from log and archive, in their order, each with the answer of the ledger
-    description: >-
-      An id is a station's own, so there may be several, of which `station` chooses one. A replay of `declarations`
-      and of the `line` of each of `lines`, and then of the line `board SITE`, shows the transaction as `board` has it.
-    parameters:
-      - {name: transaction, in: path, required: true, schema: {type: string}}
-      - {name: station, in: query, schema: {type: string}}
-    responses:
-      200: {description: All of them, content: {application/json: {schema: {$ref: '#/components/schemas/Histories'}}}}
-      404: {$ref: '#/components/responses/NotFound'}
-    """
+    """A transaction with its events."""
     name, desk = asked.path("transaction"), asked.desk
     if not TRANSACTION.fullmatch(name):
         raise Wrong(HTTPStatus.NOT_FOUND, f"no transaction {name!r}")
@@ -463,17 +408,7 @@ def deed_json(row: Any, zone: str) -> Json:
 
 @view(SEES)
 async def refusals(asked: Asked) -> Response:
-    """What was refused at a site.
-    ---
-    summary: Messages of a site's stations that the ledger refused, the same ones in one row
-    parameters:
-      - {$ref: '#/components/parameters/site'}
-      - {$ref: '#/components/parameters/limit'}
-      - {$ref: '#/components/parameters/cursor'}
-    responses:
-      200: {description: A page, content: {application/json: {schema: {$ref: '#/components/schemas/Refusals'}}}}
-      404: {$ref: '#/components/responses/NotFound'}
-    """
+    """What was refused at a site."""
     keys = ("station", "cause", "transaction", "number", "what")
     name, paging = asked.path("site"), Paging.of(asked, [""] * len(keys))
     rows, faults = await asked.desk.cells.site(asked.operator, name)
@@ -491,20 +426,7 @@ async def refusals(asked: Asked) -> Response:
 
 @view(SEES)
 async def month(asked: Asked) -> Response:
-    """A site's month for billing.
-    ---
-    summary: The sessions of a site's month as CSV, with OCPI's names of a CDR's fields
-    parameters:
-      - {$ref: '#/components/parameters/site'}
-      - {name: month, in: query, required: true, schema: {type: string}, description: Such as 2026-03}
-      - name: tokens
-        in: query
-        schema: {type: string, enum: [none, hash, plain], default: none}
-        description: How the idToken of a session is written
-    responses:
-      200: {description: A row a session, content: {text/csv: {schema: {type: string}}}}
-      404: {$ref: '#/components/responses/NotFound'}
-    """
+    """A site's month for billing."""
     desk, name = asked.desk, asked.path("site")
     words = (asked.word("month"), asked.word("tokens") or TOKENS[0])
     data = await billing.table(desk.cells, desk.program, asked.operator, name, *words)
@@ -513,7 +435,14 @@ async def month(asked: Asked) -> Response:
 
 async def openapi(_request: Request) -> Response:
     """This description."""
-    return JSONResponse(SCHEMAS.get_schema(ROUTES), media_type=OPENAPI)
+    return JSONResponse(description(), media_type=OPENAPI)
+
+
+@functools.cache
+def description() -> Json:
+    """The API's description (OpenAPI)."""
+    read = yaml.safe_load(Path(__file__).with_name("openapi.yaml").read_text("utf-8"))
+    return {name: part for name, part in read.items() if name != "x-parts"}
 
 
 async def nothing(request: Request) -> Response:
@@ -530,6 +459,6 @@ ROUTES: list[BaseRoute] = [
     Route(f"{FRONT}/sites/{{site}}/sessions.csv", month),
     Route(f"{FRONT}/stations/{{station}}/transactions", transactions),
     Route(f"{FRONT}/transactions/{{transaction:path}}", transaction),
-    Route(f"{FRONT}/openapi.json", openapi, include_in_schema=False),
-    Route("/api/{path:path}", nothing, include_in_schema=False),
+    Route(f"{FRONT}/openapi.json", openapi),
+    Route("/api/{path:path}", nothing),
 ]

@@ -1,29 +1,23 @@
 """The queries of the API's lists. Each takes a key that rows keep, and gives the rows behind it."""
 
+from ocpp_board.energies import FLOW
+from ocpp_board.fleet.database.states import SESSIONS, sums
+
 # What closings took out of the log that a board of a station's plan does not have any more.
 GONE = "(b.plan is null or c.plan <= b.plan)"
-STATIONS = """
+BOARD = (*SESSIONS, *FLOW)
+STATIONS = f"""
 select t.station, t.retired, b.at, b.place, coalesce(b.events, 0) as events, coalesce(b.voided, 0) as voided,
-    coalesce(b.transactions, 0) + coalesce(a.transactions, 0) - u.transactions as transactions,
-    coalesce(b.complete, 0) + coalesce(a.complete, 0) - u.complete as complete,
-    coalesce(b.missing, 0) + coalesce(a.missing, 0) - u.missing as missing,
-    coalesce(b.up, 0) + coalesce(a.up, 0) - u.up as up, coalesce(b.down, 0) + coalesce(a.down, 0) - u.down as down,
-    coalesce(b.export_up, 0) + coalesce(a.export_up, 0) - u.export_up as export_up,
-    coalesce(b.export_down, 0) + coalesce(a.export_down, 0) - u.export_down as export_down,
-    a.station is not null as is_archived, a.transactions as archived_transactions, a.complete as archived_complete,
-    a.missing as archived_missing, coalesce(a.corrected_transactions, 0) as corrected_transactions,
-    coalesce(a.corrected_complete, 0) as corrected_complete, coalesce(a.corrected_missing, 0) as corrected_missing,
-    coalesce(s.up, 0) as settled_up, coalesce(s.down, 0) as settled_down, coalesce(s.export_up, 0) as settled_export_up,
-    coalesce(s.export_down, 0) as settled_export_down, coalesce(s.rows, 0) as settled_rows,
+    {", ".join(f"coalesce(b.{name}, 0) + coalesce(a.{name}, 0) - u.{name} as {name}" for name in BOARD)},
+    a.station is not null as is_archived, {", ".join(f"a.{name} as archived_{name}" for name in SESSIONS)},
+    {", ".join(f"coalesce(a.corrected_{name}, 0) as corrected_{name}" for name in SESSIONS)},
+    {", ".join(f"coalesce(s.{name}, 0) as settled_{name}" for name in (*FLOW, "rows"))},
     coalesce(s.corrections, 0) as corrections
 from own_station t left join own_board_station b using (shard, site, station)
 left join own_settled s using (shard, site, station)
 left join own_archived_sum a using (shard, site, station)
 cross join lateral (
-    select coalesce(sum(x.transactions), 0)::bigint as transactions, coalesce(sum(x.complete), 0)::bigint as complete,
-        coalesce(sum(x.missing), 0)::bigint as missing, coalesce(sum(x.up), 0)::bigint as up,
-        coalesce(sum(x.down), 0)::bigint as down, coalesce(sum(x.export_up), 0)::bigint as export_up,
-        coalesce(sum(x.export_down), 0)::bigint as export_down
+    select {sums(BOARD, "x.")}
     from own_closing c join own_archived_total x using (shard, site, closing)
     where c.shard = t.shard and c.site = t.site and c.plan > b.plan and x.station = t.station) u
 where t.site = $1 and t.shard = any($2) and t.station collate "C" > $3
@@ -50,11 +44,9 @@ with flow as (
     where x.site = $1 and x.shard = any($2) and x.starts >= $3 and x.starts < $4
     group by x.shard, x.station, x.starts
 )
-select station, starts, coalesce(h.at, s.at) as at, coalesce(h.up, 0) as up, coalesce(h.down, 0) as down,
-    coalesce(h.export_up, 0) as export_up, coalesce(h.export_down, 0) as export_down,
-    coalesce(s.up, 0) as settled_up, coalesce(s.down, 0) as settled_down,
-    coalesce(s.export_up, 0) as settled_export_up, coalesce(s.export_down, 0) as settled_export_down,
-    coalesce(s.rows, 0) as settled_rows, coalesce(s.corrections, 0) as corrections
+select station, starts, coalesce(h.at, s.at) as at, {", ".join(f"coalesce(h.{name}, 0) as {name}" for name in FLOW)},
+    {", ".join(f"coalesce(s.{name}, 0) as settled_{name}" for name in (*FLOW, "rows"))},
+    coalesce(s.corrections, 0) as corrections
 from has h full join settled s using (shard, station, starts)
 where (starts, station collate "C") > ($5::timestamptz, $6::text)
 order by starts, station collate "C" limit $7

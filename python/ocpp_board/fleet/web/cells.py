@@ -31,7 +31,7 @@ from ocpp_board.fleet.database.connections import (
 from ocpp_board.fleet.database.figures import Figures, joined
 from ocpp_board.fleet.web.operators import Operator
 from ocpp_board.fleet.database.plans import Reckoning
-from ocpp_board.fleet.database.states import EVENTS, SESSIONS, energy_state, states_of
+from ocpp_board.fleet.database.states import EVENTS, SESSIONS, energy_state, states_of, sums
 from ocpp_board.limits import MOMENT
 from ocpp_board.replay.boards import Numbers
 
@@ -44,45 +44,30 @@ LATE = 30
 # Seconds for which no standby is asked, once none answered.
 WITHOUT = 5
 
+# What an archive has beside its number of sessions.
+BEHIND = (*SESSIONS[1:], *FLOW)
 # A site's figures, of its stations in this cell and a shard: what is in the log, what archives have, what is settled.
 # What a closing archived counts once the board of a station is without it, some seconds later.
-SITES = """
+SITES = f"""
 select p.shard, p.site, p.zone, p.period, p.reading_order, p.settle, h.moving_to, b.*, a.*, u.*, s.*,
        (select count(*) from own_station t
         where t.shard = p.shard and t.site = p.site and t.retired is null) as stations,
        (select at from own_board o where o.shard = p.shard and o.site = p.site) as board_at
 from own_site p join own_shard h using (shard)
 cross join lateral (
-    select coalesce(sum(events), 0)::bigint as events, coalesce(sum(voided), 0)::bigint as voided,
-           coalesce(sum(transactions), 0)::bigint as transactions, coalesce(sum(complete), 0)::bigint as complete,
-           coalesce(sum(missing), 0)::bigint as missing, coalesce(sum(up), 0)::bigint as up,
-           coalesce(sum(down), 0)::bigint as down, coalesce(sum(export_up), 0)::bigint as export_up,
-           coalesce(sum(export_down), 0)::bigint as export_down, max(at) as at, min(plan) as plan
+    select {sums((*EVENTS, *SESSIONS, *FLOW))}, max(at) as at, min(plan) as plan
     from own_board_station b where b.shard = p.shard and b.site = p.site) b
 cross join lateral (
-    select coalesce(sum(transactions), 0)::bigint as archived, coalesce(sum(complete), 0)::bigint as archived_complete,
-           coalesce(sum(missing), 0)::bigint as archived_missing, coalesce(sum(up), 0)::bigint as archived_up,
-           coalesce(sum(down), 0)::bigint as archived_down, coalesce(sum(export_up), 0)::bigint as archived_export_up,
-           coalesce(sum(export_down), 0)::bigint as archived_export_down,
-           coalesce(sum(corrected_transactions), 0)::bigint as corrected_transactions,
-           coalesce(sum(corrected_complete), 0)::bigint as corrected_complete,
-           coalesce(sum(corrected_missing), 0)::bigint as corrected_missing
+    select coalesce(sum(transactions), 0)::bigint as archived, {sums(BEHIND, front="archived_")},
+           {sums(f"corrected_{name}" for name in SESSIONS)}
     from own_archived_sum a where a.shard = p.shard and a.site = p.site) a
 cross join lateral (
-    select coalesce(sum(x.transactions), 0)::bigint as unknown,
-           coalesce(sum(x.complete), 0)::bigint as unknown_complete,
-           coalesce(sum(x.missing), 0)::bigint as unknown_missing, coalesce(sum(x.up), 0)::bigint as unknown_up,
-           coalesce(sum(x.down), 0)::bigint as unknown_down,
-           coalesce(sum(x.export_up), 0)::bigint as unknown_export_up,
-           coalesce(sum(x.export_down), 0)::bigint as unknown_export_down
+    select coalesce(sum(x.transactions), 0)::bigint as unknown, {sums(BEHIND, "x.", "unknown_")}
     from own_closing c join own_archived_total x using (shard, site, closing)
     join own_board_station o using (shard, site, station)
     where c.shard = p.shard and c.site = p.site and c.plan > b.plan and c.plan > o.plan) u
 cross join lateral (
-    select coalesce(sum(s.up), 0)::bigint as settled_up, coalesce(sum(s.down), 0)::bigint as settled_down,
-           coalesce(sum(s.export_up), 0)::bigint as settled_export_up,
-           coalesce(sum(s.export_down), 0)::bigint as settled_export_down,
-           coalesce(sum(s.corrections), 0)::bigint as corrections,
+    select {sums(FLOW, "s.", "settled_")}, {sums(["corrections"], "s.")},
            (select day from own_closing c where c.shard = p.shard and c.site = p.site
             order by closing desc limit 1) as settled_to
     from own_settled s where s.shard = p.shard and s.site = p.site) s
@@ -97,15 +82,10 @@ select p.shard, p.site, p.period, p.reading_order, p.settle, p.zone, h.moving_to
 from own_site p join own_shard h using (shard) left join own_board b using (shard, site)
 where p.site = $1 order by p.shard
 """
-ARCHIVED = """
-select s.station, s.transactions - coalesce(l.transactions, 0)::bigint as transactions,
-       s.complete - coalesce(l.complete, 0)::bigint as complete, s.missing - coalesce(l.missing, 0)::bigint as missing,
-       s.up - coalesce(l.up, 0)::bigint as up, s.down - coalesce(l.down, 0)::bigint as down,
-       s.export_up - coalesce(l.export_up, 0)::bigint as export_up,
-       s.export_down - coalesce(l.export_down, 0)::bigint as export_down
+ARCHIVED = f"""
+select s.station, {", ".join(f"s.{name} - coalesce(l.{name}, 0)::bigint as {name}" for name in (*SESSIONS, *FLOW))}
 from own_archived_sum s left join (
-    select station, sum(transactions) as transactions, sum(complete) as complete, sum(missing) as missing,
-        sum(up) as up, sum(down) as down, sum(export_up) as export_up, sum(export_down) as export_down
+    select station, {", ".join(f"sum({name}) as {name}" for name in (*SESSIONS, *FLOW))}
     from own_archived_total where shard = $1 and site = $2 and closing > $3 group by station) l using (station)
 where s.shard = $1 and s.site = $2
 """

@@ -33,7 +33,7 @@ from ocpp_board.fleet.web.cells import Cells, Wrong
 from ocpp_board.fleet.database.connections import LOST, Fault, Unreachable
 from ocpp_board.fleet.web.page_server import PageServer, listener_at
 from ocpp_board.fleet.database.plans import known_lines
-from ocpp_board.words import add_program, parser_of
+from ocpp_board.words import add_program, options_of, parser_of
 
 log = logging.getLogger(__name__)
 
@@ -140,4 +140,4 @@ def main(argv: Sequence[str], prog: str) -> int:
         action="store_true",
         help="what is shown comes from a standby among the hosts of --db, where one answers",
     )
-    return parts.ended(run, parts.options_of(Options, parts.parsed(parser, argv)))
+    return parts.ended(run, options_of(Options, parts.parsed(parser, argv)))

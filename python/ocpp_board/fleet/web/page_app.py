@@ -35,8 +35,9 @@ from ocpp_board.fleet.web.operators import (
     form_number,
     form_token,
 )
-from ocpp_board.fleet.web.page_render import drawn, environment, rendered
+from ocpp_board.fleet.web.page_render import drawn, moment
 from ocpp_board.fleet.gateway.passwords import address_by
+from ocpp_board.reports.rendering import rendered
 
 log = logging.getLogger(__name__)
 
@@ -84,7 +85,6 @@ class Desk:
         self.proxies, self.is_plain = proxies, is_plain
         self.seen = PageSeen()
         self.sign_ins = SignIns(cells.home.do)
-        self.templates = environment()
         self.cookie = "session" if is_plain else "__Host-session"
 
     def address(self, request: Request) -> str:
@@ -108,9 +108,13 @@ class Desk:
             "late": [],
             "is_one": False,
             "whole": "",
+            "refresh": None,
+            "links": [],
+            "here": "",
+            "drawn": drawn(),
+            "moment": moment,
         }
-        front |= {"links": [], "here": "", "drawn": drawn()}
-        response = HTMLResponse(rendered(self.templates, name, front | dict(values)), status)
+        response = HTMLResponse(rendered(f"fleet/{name}", **front | dict(values)), status)
         if is_live:
             response.headers["refresh"] = f"{AGAIN}; url=?{AGAIN_WORD}=1"
         return response

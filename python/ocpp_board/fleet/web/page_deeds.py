@@ -13,14 +13,15 @@ from typing import Any
 import asyncpg
 from starlette.responses import RedirectResponse, Response
 
-from ocpp_board.fleet.web.cells import Cell, Deed, Wrong
+from ocpp_board.fleet.web.cells import Deed, Wrong
 from ocpp_board.fleet.web.operators import CLOSES, VOIDS
 from ocpp_board.fleet.web.page_app import Asked, fields_of, view
-from ocpp_board.fleet.web.page_render import Line, heads_of, lines_of, moment, zone_of
+from ocpp_board.fleet.web.page_render import moment, zone_of
 from ocpp_board.fleet.web.page_views import site_path
 from ocpp_board.fleet.web.page_words import COMMANDS, ClosingWords, Words, meaning_of
 from ocpp_board.fleet.web.site_pages import session_path
 from ocpp_board.reports.page_sections import UNKNOWN
+from ocpp_board.reports.pages import MARK, Row, columns_of, lines_of
 
 log = logging.getLogger(__name__)
 
@@ -115,16 +116,15 @@ async def carry_out(asked: Asked) -> Response:
 # Closings -------------------------------------------------------------------------------------------------------------
 
 
-def request_line(row: Any) -> Line:
+def request_line(row: Any) -> Row:
     """The row of a request."""
     if row["ended_at"]:
         state = "done" if row["status"] == 0 else f"failed with status {row['status']}"
     else:
         state = "under way" if row["taken_at"] else "waits"
-    is_bad = row["status"] not in (None, 0)
     cells = [row["site"], str(row["day"]), state, moment(row["at"]), row["operator"]]
     cells += [row["address"], row["reason"], lines_of(*(row["told"] or UNKNOWN).splitlines()[:5])]
-    return Line(cells, is_bad)
+    return Row(cells, "" if row["status"] in (None, 0) else MARK)
 
 
 async def closings_page(
@@ -153,7 +153,7 @@ async def closings_page(
         fault=fault,
         token=asked.token("closing"),
         sites=sorted({row["site"] for _, row in sites.pairs()}),
-        heads=heads_of(*heads),
+        columns=columns_of(*heads),
         rows=[request_line(row) for row in rows],
         faults=sites.faults,
     )
@@ -179,7 +179,7 @@ async def ask_closing(asked: Asked) -> Response:
     try:
         day, reason = words.checked()
         rows, _ = await asked.desk.cells.site(asked.operator, words.site)
-        for cell in unique(cell for cell, _ in rows):
+        for cell in dict.fromkeys(cell for cell, _ in rows):
             values = (words.site, day, reason, asked.operator.name, asked.address, number)
             await cell.do(REQUEST, *values)
     except Wrong as why:
@@ -190,8 +190,3 @@ async def ask_closing(asked: Asked) -> Response:
         return await closings_page(asked, words, str(fault), HTTPStatus.BAD_REQUEST)
     log.info("%s, %s: closing of %s up to %s", asked.address, asked.operator.name, *words[:2])
     return RedirectResponse("/closings", HTTPStatus.SEE_OTHER)
-
-
-def unique(cells: Any) -> list[Cell]:
-    """Each cell once."""
-    return list(dict.fromkeys(cells))

@@ -14,7 +14,7 @@ from urllib.parse import quote, urlencode
 from markupsafe import Markup
 from starlette.responses import RedirectResponse, Response
 
-from ocpp_board.energies import flow_of, kwh, share
+from ocpp_board.energies import flow_of, share
 from ocpp_board.fleet.closing import billing
 from ocpp_board.fleet.web.api_queries import DAY
 from ocpp_board.fleet.web.cells import Cell, Site, Wrong, merged
@@ -22,7 +22,7 @@ from ocpp_board.fleet.database.figures import summed
 from ocpp_board.fleet.web.histories import Entry, History, history_of
 from ocpp_board.fleet.web.operators import SEES, VOIDS
 from ocpp_board.fleet.web.page_app import Asked, view
-from ocpp_board.fleet.web.page_render import Line, heads_of, lines_of, link, moment, zone_of
+from ocpp_board.fleet.web.page_render import in_utc, link, moment, zone_of
 from ocpp_board.fleet.database.plans import DEFAULT_ORDER, DEFAULT_SETTLE
 from ocpp_board.fleet.web.site_pages import fragment_of, session_path
 from ocpp_board.fleet.web.site_store import DAYS, SiteStore
@@ -36,10 +36,10 @@ from ocpp_board.fleet.database.states import (
 from ocpp_board.limits import TRANSACTION, is_name
 from ocpp_board.messages.times import seconds_of
 from ocpp_board.messages.transactions import moment as moment_of
-from ocpp_board.replay.boards import Numbers
-from ocpp_board.reports.page_sections import UNKNOWN
-from ocpp_board.reports.pages import flow_heads
-from ocpp_board.reports.session_times import duration
+from ocpp_board.reports.page_sections import UNKNOWN, Figure
+from ocpp_board.reports.pages import MARK, Row, cells_of, columns_of, flow_heads, lines_of, ranges
+from ocpp_board.reports.rendering import piece
+from ocpp_board.reports.session_pages import flow_figures, time_figures
 
 FILE = re.compile(
     r"board(\.\d{4}-\d\d-\d\d(\.\d{1,4})?|\.\d{1,4})?\.html|board\.(periods|transactions)\.csv"
@@ -88,7 +88,7 @@ STATES = {
     SETTLED: "Its figures are settled.",
     CORRECTED: "Its figures were settled, and corrected since by a later closing.",
 }
-DEED_HEADS = heads_of("When", " Who", " From where", " What", " Why", " Answer")
+DEEDS_SHOWN = columns_of("When", " Who", " From where", " What", " Why", " Answer")
 STORE = SiteStore()
 
 
@@ -106,17 +106,10 @@ def site_path(name: str) -> str:
     return f"/site/{quote(name, safe='')}/"
 
 
-def energy_cells(numbers: Numbers, is_exporting: bool) -> tuple[str, list[str]]:
-    """The net energy, and the others."""
-    flow = flow_of(numbers)
-    others = [kwh(flow.up), kwh(flow.down)]
-    others += [kwh(flow.export_up), kwh(flow.export_down)] if is_exporting else []
-    return kwh(flow.net), others
-
-
-def site_line(site: Site, is_exporting: bool) -> Line:
+def site_line(site: Site, is_exporting: bool) -> Row:
     """A site's row."""
-    numbers, (net, others) = site.numbers, energy_cells(site.numbers, is_exporting)
+    numbers = site.numbers
+    net, *others = cells_of(flow_of(numbers), is_exporting)
     name: str = link(site_path(site.name), site.name)
     rules = [
         text
@@ -141,7 +134,7 @@ def site_line(site: Site, is_exporting: bool) -> Line:
         sessions_said(site.states()),
         lines_of(moment(site.at, site.zone), site.zone),
     ]
-    return Line(cells, site.is_troubled)
+    return Row(cells, MARK if site.is_troubled else "")
 
 
 @view(SEES)
@@ -153,11 +146,11 @@ async def all_sites(asked: Asked) -> Response:
     rows = [site_line(site, is_exporting) for site in sites]
     if len(sites) > 1:
         whole = summed(site.numbers for site in sites)
-        net, others = energy_cells(whole, is_exporting)
+        net, *others = cells_of(flow_of(whole), is_exporting)
         complete = share(whole["complete"], whole["transactions"]) or UNKNOWN
         counts = [f"{whole[name]:,}" for name in ("transactions", "missing", "voided", "stations")]
         cells = ["All of these", net, complete, *counts[:2], *others, *counts[2:], "", "", ""]
-        rows.append(Line(cells))
+        rows.append(Row(cells))
     net_head, *flows = (f"{head}, kWh" for head in flow_heads(is_exporting))
     heads = ["Site", net_head, "Complete", "Sessions", "Missing numbers", *flows]
     heads += ["Voided events", "Stations", " Energy is", " Sessions are", " Last change"]
@@ -166,10 +159,10 @@ async def all_sites(asked: Asked) -> Response:
         "sites.html",
         "All sites",
         is_live=True,
-        heads=heads_of(*heads),
+        columns=columns_of(*heads),
         rows=rows,
         caption="1 site" if len(sites) == 1 else f"{len(sites):,} sites",
-        until=until and Markup("{} UTC").format(moment(until)),
+        until=in_utc(until),
         faults=faults,
         late=await asked.desk.cells.behind(),
     )
@@ -214,7 +207,7 @@ async def site_file(asked: Asked) -> Response:
         about=about,
         archived=f"{pages.archived:,}" if pages.archived else "",
         days=DAYS,
-        refused=refused_said(times),
+        refused=times,
         refused_path=f"/refused?{urlencode({'site': name})}",
         month=f"{datetime.now(timezone.utc):%Y-%m}",
         faults=faults,
@@ -253,13 +246,6 @@ async def day_about(rows: list[tuple[Cell, Any]], name: str, day: date) -> str:
     return f"The energy of this day is {'; '.join(parts)}."
 
 
-def refused_said(times: int) -> str:
-    """How many messages were refused."""
-    if not times:
-        return ""
-    return "1 message was refused" if times == 1 else f"{times:,} messages were refused"
-
-
 def csv_response(data: bytes, name: str) -> Response:
     """A table as a file."""
     safe = re.sub(r"[^A-Za-z0-9._-]", "_", name)
@@ -283,7 +269,7 @@ class Part(NamedTuple):
 
     title: str
     caption: str
-    rows: list[Line]
+    rows: list[Row]
     none: str
 
 
@@ -295,7 +281,7 @@ def gap_words(text: str | None) -> str:
     )
 
 
-def lacking_line(row: Any, voids: bool) -> Line:
+def lacking_line(row: Any, voids: bool) -> Row:
     """A session's row."""
     cells = [
         link(session_path(row["station"], row["transaction"]), row["transaction"]),
@@ -309,7 +295,7 @@ def lacking_line(row: Any, voids: bool) -> Line:
     if voids:
         words = urlencode({"station": row["station"], "transaction": row["transaction"]})
         cells.append(link(f"/operate?{words}", "void .."))
-    return Line(cells)
+    return Row(cells)
 
 
 @view(SEES)
@@ -346,8 +332,8 @@ async def lacking(asked: Asked) -> Response:
         "Sessions that lack messages",
         is_live=True,
         parts=parts,
-        heads=heads_of(*heads, *([" Command"] if voids else [])),
-        until=until and Markup("{} UTC").format(moment(until)),
+        columns=columns_of(*heads, *([" Command"] if voids else [])),
+        until=in_utc(until),
         faults=faults,
         late=await cells.behind(),
     )
@@ -373,7 +359,7 @@ def reading_text(entry: Entry) -> str:
     return f"{message.get('eventType')} {message.get('seqNo')}{read}"
 
 
-def entry_line(entry: Entry, zone: str) -> Line:
+def entry_line(entry: Entry, zone: str) -> Row:
     """The row of a line of a session."""
     message = entry.message or {}
     text = str(message.get("timestamp") or "")
@@ -383,7 +369,8 @@ def entry_line(entry: Entry, zone: str) -> Line:
     why = f"{who.operator}, {who.address}: {who.reason}" if who else ""
     is_bad = entry.answer.startswith(("[4,", "fault ", "refused "))
     heard = moment(entry.at, zone, UNKNOWN)
-    return Line([reading_text(entry), at, heard, entry.answer, where, why], is_bad)
+    cells = [reading_text(entry), at, heard, entry.answer, where, why]
+    return Row(cells, MARK if is_bad else "")
 
 
 def shown_of(lines: Iterable[str]) -> list[str]:
@@ -397,7 +384,7 @@ def shown_of(lines: Iterable[str]) -> list[str]:
     return found
 
 
-def deed_line(row: Any, zone: str, is_of_one: bool) -> Line:
+def deed_line(row: Any, zone: str, is_of_one: bool) -> Row:
     """The row of what an operator did."""
     what = f"{row['command']} {row['number']}"
     cells = [moment(row["at"], zone), row["operator"], row["address"]]
@@ -406,35 +393,24 @@ def deed_line(row: Any, zone: str, is_of_one: bool) -> Line:
     else:
         path = session_path(row["station"], row["transaction"])
         cells.append(
-            lines_of(what, Markup("{} {}").format(row["station"], link(path, row["transaction"])))
+            lines_of(what, piece("joined", [row["station"], link(path, row["transaction"])], " "))
         )
-    return Line([*cells, row["reason"], row["answer"] or UNKNOWN])
+    return Row([*cells, row["reason"], row["answer"] or UNKNOWN])
 
 
-def session_figures(history: History) -> list[tuple[str, str, bool]]:
+def session_figures(history: History) -> list[Figure]:
     """A session's figures: each with its name, and whether it is marked."""
     numbers, times = history.numbers, history.times
     if not numbers:
         return [("Events", "none that counts", True)]
-    flow = flow_of(numbers)
-    cells = [("Net", f"{kwh(flow.net)} kWh", False), ("Up", f"{kwh(flow.up)} kWh", False)]
-    cells.append(("Down", f"{kwh(flow.down)} kWh", False))
-    if flow.export_up or flow.export_down:
-        cells += [("Export up", f"{kwh(flow.export_up)} kWh", False)]
-        cells += [("Export down", f"{kwh(flow.export_down)} kWh", False)]
+    cells = flow_figures(flow_of(numbers))
     is_complete = bool(numbers["complete"])
     cells.append(("Complete", "yes" if is_complete else "no", not is_complete))
-    gaps = [str(a) if a == b else f"{a} to {b}" for a, b in history.gaps]
-    text = f"{numbers['missing']:,}" + (f": {gap_words(', '.join(gaps))}" if gaps else "")
+    gaps = ranges(history.gaps)
+    text = f"{numbers['missing']:,}" + (f": {gap_words(gaps)}" if gaps else "")
     cells.append(("Missing numbers", text, numbers["missing"] > 0))
     cells.append(("EVSE", str(numbers["evse"] or "not named"), False))
-    for name, at in (("Start", times.start), ("End", times.end)):
-        cells.append((name, moment(at, history.zone, UNKNOWN), False))
-    cells.append(("Duration", duration(times.seconds) or UNKNOWN, False))
-    for name, registers in (("Register", times.imported), ("Export register", times.exported)):
-        if registers:
-            read = f"{kwh(registers.first)} to {kwh(registers.last)} kWh"
-            cells.append((name, read, False))
+    cells += time_figures(times, lambda at: moment(at, history.zone, UNKNOWN))
     if times.reason:
         cells.append(("Stopped", times.reason, False))
     return cells
@@ -479,9 +455,9 @@ async def session(asked: Asked) -> Response:
         state=STATES[history.state],
         figures=session_figures(history),
         caption=caption,
-        heads=heads_of(*heads),
+        columns=columns_of(*heads),
         rows=rows,
-        deed_heads=DEED_HEADS,
+        deed_columns=DEEDS_SHOWN,
         deeds=[deed_line(row, history.zone, True) for row in history.deeds],
         script="\n".join(shown),
         left=f"{len(script) - len(shown):,}" if len(script) > len(shown) else "",
@@ -514,7 +490,7 @@ async def refused(asked: Asked) -> Response:
         " What to do",
     )
     lines = [
-        Line(
+        Row(
             [
                 kept(row["cause"]),
                 row["station"],
@@ -526,7 +502,7 @@ async def refused(asked: Asked) -> Response:
                 row["what"],
                 row["advice"],
             ],
-            True,
+            MARK,
         )
         for row in rows
     ]
@@ -536,7 +512,7 @@ async def refused(asked: Asked) -> Response:
     return asked.page(
         "refused.html",
         title,
-        heads=heads_of(*heads),
+        columns=columns_of(*heads),
         rows=lines,
         caption=caption,
         faults=found.faults,
@@ -550,7 +526,7 @@ def session_link(row: Any) -> str:
     return link(session_path(row["station"], row["transaction"].lower()), row["transaction"])
 
 
-def change_line(row: Any) -> Line:
+def change_line(row: Any) -> Row:
     """The row of a change of the plan."""
     before, after = (parsed(row[name]) for name in ("before", "after"))
     if before and after:
@@ -558,11 +534,11 @@ def change_line(row: Any) -> Line:
         pairs = [(key, f"{plain(before.get(key))} to {plain(after[key])}") for key in keys]
     else:
         pairs = [(key, plain(one)) for key, one in (after or before).items() if one]
-    text = Markup(", ").join(Markup("{}: {}").format(key, kept(one)) for key, one in pairs)
+    text = piece("joined", [piece("joined", [key, kept(one)], ": ") for key, one in pairs], ", ")
     own = row["station"] or row["site"] or (after or before).get("name") or row["in_shard"]
     what = lines_of(f"{row['command'].lower()} {row['part'].removeprefix('own_')}", kept(str(own)))
     who = f"{row['operator']} as {row['login']}" if row["operator"] else row["login"]
-    return Line(
+    return Row(
         [moment(row["at"]), who, row["address"] or UNKNOWN, what, text, row["reason"] or UNKNOWN]
     )
 
@@ -576,7 +552,7 @@ def plain(value: Any) -> str:
 
 def kept(text: str) -> str:
     """A value that is not broken, where it is short."""
-    return Markup('<span class="whole">{}</span>').format(text) if len(text) < 36 else text
+    return piece("whole", text) if len(text) < 36 else text
 
 
 def parsed(text: Any) -> dict[str, Any]:
@@ -597,9 +573,9 @@ async def changes(asked: Asked) -> Response:
     return asked.page(
         "changes.html",
         "Who did what",
-        deed_heads=DEED_HEADS,
+        deed_columns=DEEDS_SHOWN,
         deeds=[deed_line(row, "UTC", False) for row in deed_rows],
-        change_heads=heads_of(*change_heads),
+        change_columns=columns_of(*change_heads),
         changes=[change_line(row) for row in change_rows],
         faults=deeds.faults,
     )

@@ -3,9 +3,9 @@
     python3 -m ocpp_board.fleet.web.site_pages FOLDER < JSON
 
 writes into FOLDER what `ocpp-board tables` writes, for the frame that the fleet's page puts around it: the first
-line of a page is its title, the second its end, the third whether it is of one board, and what is between follows. The
-JSON has the text of the site's boards, its zone, up to when they are, the findings of its sessions, and
-the states of the figures of its stations.
+line of a page is JSON, with its title, the end of that, and whether it is of one board; its body follows. The JSON of
+the input has the text of the site's boards, its zone, up to when they are, the findings of its sessions, and the states
+of the figures of its stations.
 """
 
 import json
@@ -13,7 +13,6 @@ import sys
 from contextlib import ExitStack
 from dataclasses import dataclass, field
 from datetime import datetime, timezone
-from html import escape, unescape
 from pathlib import Path
 from tempfile import TemporaryFile
 from typing import Any, NamedTuple
@@ -25,8 +24,9 @@ from ocpp_board.replay.boards import Part, Reader, Sink
 from ocpp_board.reports.board_pages import Boards, DayPages, Index, Layout
 from ocpp_board.reports.calendars import Calendar
 from ocpp_board.reports.page_sections import UNKNOWN
-from ocpp_board.reports.pages import Heads
+from ocpp_board.reports.pages import Column
 from ocpp_board.reports.quality import Finding, Kind
+from ocpp_board.reports.rendering import piece, rendered
 from ocpp_board.reports.tables import Tables
 
 # How the files begin.
@@ -45,8 +45,9 @@ class Fragment(NamedTuple):
 
 def fragment_of(text: str) -> Fragment:
     """The page that a file has."""
-    title, whole, is_one, body = text.split("\n", 3)
-    return Fragment(unescape(title), unescape(whole), is_one == "one", body)
+    head, body = text.split("\n", 1)
+    title, whole, is_one = json.loads(head)
+    return Fragment(title, whole, is_one, body)
 
 
 def session_path(station: str, tx: str) -> str:
@@ -60,25 +61,22 @@ class Fragments(Layout):
 
     states: dict[str, str] = field(default_factory=dict)
 
-    def head(self, title: str, said: str, links: str, is_one: bool, whole: str = "") -> str:
-        """What `fragment_of` reads, and what is above."""
-        return f"{title}\n{whole}\n{'one' if is_one else ''}\n{said}{links}"
+    def page(self, name: str, title: str, whole: str = "", **values: Any) -> str:
+        """What `fragment_of` reads."""
+        body = rendered(name, frame="reports/fragment.html", layout=self, **values)
+        return f"{json.dumps([title, whole, values['is_one']])}\n{body}"
 
-    def foot(self) -> str:
-        """Nothing: the frame has it."""
-        return ""
-
-    def station_heads(self) -> Heads:
+    def station_heads(self) -> list[Column]:
         """The column with the states of a station's figures."""
-        return [" Figures are"]
+        return [Column("Figures are", "left")]
 
     def station_cells(self, station: str) -> list[str]:
         """How those of a station are."""
-        return [escape(self.states.get(station, UNKNOWN))]
+        return [self.states.get(station, UNKNOWN)]
 
     def session(self, station: str, tx: str) -> str:
         """A link to the session's history."""
-        return f'<a href="{escape(session_path(station, tx))}">{escape(tx)}</a>'
+        return piece("link", session_path(station, tx), tx)
 
 
 class Findings:

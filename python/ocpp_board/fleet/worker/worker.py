@@ -43,7 +43,7 @@ from ocpp_board.fleet.worker.numbering import Numbering
 from ocpp_board.fleet.worker.orders import INBOXES
 from ocpp_board.fleet.worker.shards import ANSWER, Common
 from ocpp_board.fleet.worker.shares import Shares
-from ocpp_board.words import add_program, parser_of
+from ocpp_board.words import add_program, options_of, parser_of
 
 log = logging.getLogger(__name__)
 
@@ -182,7 +182,7 @@ def main(argv: Sequence[str], prog: str) -> int:
             f"--{name}", type=float, default=default, help=f"{what} (default: {default:g})"
         )
     metrics.add_option(parser)
-    return parts.ended(run, parts.options_of(Options, parts.parsed(parser, argv)))
+    return parts.ended(run, options_of(Options, parts.parsed(parser, argv)))
 
 
 def run(options: Options) -> int:
