@@ -49,12 +49,11 @@ fn small_arena_quarters(rt: HostRuntime) -> Result<(), Fail> {
     assert!(rt; put(&mut table, half_past, Import, up));
     assert!(rt; put(&mut table, half_past, Import, down));
     let row = table.row(half_past);
-    assert_eq!(rt;
-        (row.pairs, row.energy.import.up(), row.energy.import.down()),
-        (2, 3, 2)
-    );
+    let flow = row.energy.import;
+    assert_eq!(rt; (row.pairs, flow.up(), flow.down()), (2, 3, 2));
     assert_eq!(rt; (table.rows().len(), table.room()), (1, 0));
-    assert!(rt; !put(&mut table, quarter(HALF_PAST_TEN + 1)?, Import, up));
+    let next = quarter(HALF_PAST_TEN + 1)?;
+    assert!(rt; !put(&mut table, next, Import, up));
     assert!(rt; cut(&mut table, half_past, Import, up) && table.holds(half_past));
     assert!(rt; cut(&mut table, half_past, Import, down) && !table.holds(half_past));
     assert_eq!(rt; (table.rows().len(), table.room()), (0, 1));
