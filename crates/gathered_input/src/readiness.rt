@@ -27,6 +27,13 @@ impl Readiness for StandardInput {
     }
 }
 
+/// Bytes in memory are there at once.
+impl Readiness for &[u8] {
+    fn is_ready_within(&self, _millis: u16) -> bool {
+        true
+    }
+}
+
 /// A buffered reader is ready while its buffer has bytes.
 impl<R: Read + Readiness> Readiness for BufReader<R> {
     fn is_ready_within(&self, millis: u16) -> bool {

@@ -1,7 +1,5 @@
 -- A comment behind a script changes nothing of what it leaves.
-use Rattle.std.proofs.Common.{◌≡◌, ◌&&◌, ℕ, Bool, true, false, not, List, [], ◌∷◌, ◌++◌, Option, None, Some, inr, refl, sym, ap, subst, ◌∙◌, append_assoc}
-use Rattle.std.specs.Io.KnownBytes.{Consumes}
-use Rattle.std.proofs.lemmas.Bool.{false≢true}
+use Rattle.std.proofs.Common.{◌≡◌, ◌&&◌, ℕ, Bool, true, false, not, List, [], ◌∷◌, ◌++◌, Some, inr, refl, sym, ap, subst, ◌∙◌, append_assoc}
 use Rattle.script_lines.specs.LineMeaning.{line_meaning, nothing}
 use Rattle.script_lines.specs.Lines.{lines_of}
 use Rattle.script_lines.specs.Ranges.{longest_line}
@@ -9,9 +7,9 @@ use Rattle.script_ledgers.specs.Script.{start, step_by, script_after}
 use Rattle.journal_script.specs.declared.restored.Restored.{Restored}
 use Rattle.journal_script.specs.Cuts.{run_begins}
 use Rattle.journal_script.specs.Journals.{EndsWhole, Shows}
-use Rattle.journal_script.specs.Restoring.{IsRestored, ReadsToListen, run_line}
+use Rattle.journal_script.specs.Restoring.{IsRestored, run_line}
 use Rattle.journal_script.proofs.Whole.{after_both, lines_apart}
-use Rattle.journal_server.specs.Served.{Begins, IsRefused, Leaves, after}
+use Rattle.journal_server.specs.Served.{Leaves, after}
 
 one_line : lines_of longest_line run_begins ≡ Some run_line ∷ []
 one_line = refl
@@ -36,23 +34,8 @@ restored_after read r is = record {
   shows = subst (λ s. Shows s r.draft.sites r.draft.stations r.cells.items) (sym (comment_after read is.whole)) is.shows;
 }
 
--- what was consumed was first
-pub consumed_first : (input rest : Option (List ℕ)) (front : List ℕ) → Consumes input rest front → Begins input front
-consumed_first None rest front consumed = tt
-consumed_first (Some bytes) None front consumed = absurd consumed
-consumed_first (Some bytes) (Some rest) front consumed = (rest, consumed)
-
--- what was read up to `listen` and not restored
-pub refused : (input rest : Option (List ℕ)) (why : List ℕ → Type 0) → ReadsToListen input rest why → IsRefused input why
-refused input rest why told = (told.0, told.1, consumed_first input rest (told.0 ++ told.1) told.2, told.3, told.4)
-
 -- what is served although it may not be is not lost
 pub kept_unless : (lost allows : Bool) → (lost && not allows) ≡ false → allows ≡ false → lost ≡ false
 kept_unless true true e f = f
 kept_unless true false e f = e
 kept_unless false allows e f = refl
-
-pub lost_so : (lost allows : Bool) → (lost && not allows) ≡ true → (lost ≡ true) × (allows ≡ false)
-lost_so true true e = absurd (false≢true e)
-lost_so true false e = (refl, refl)
-lost_so false allows e = absurd (false≢true e)

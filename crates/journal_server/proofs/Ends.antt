@@ -14,7 +14,7 @@ use Rattle.kept_desk.specs.Speaking.{AreSpoken, Speaks, SpeaksOf}
 use Rattle.journal_script.proofs.Boards.{boards_are_those_of_cells}
 use Rattle.journal_script.proofs.Journals.{journals_are_scripts}
 use Rattle.journal_script.specs.Restoring.{Grows}
-use Rattle.live_server.specs.Told.{Tells}
+use Rattle.live_server.specs.Told.{Tells, operator_input}
 use Rattle.site_book.specs.Prefix.{IsPrefix}
 use Rattle.site_desk.specs.declared.roster.StationPlace.{StationPlace}
 use Rattle.kept_desk.proofs.Fronts.{entry_accepted}
@@ -22,7 +22,6 @@ use Rattle.kept_desk.specs.Kept.{AreBoardsBehind, IsLeftFrom, commands_of}
 use Rattle.kept_desk.specs.Opened.{AreFirst, content_or_empty, contents_of, names_of}
 use Rattle.std.proofs.lemmas.List.{length-map}
 use Rattle.std.proofs.lemmas.Option.{slice_get_within}
-use Rattle.ledger_model.specs.declared.command.Command.{Command}
 use Rattle.ledger_model.specs.Content.{Content}
 use Rattle.ledger_model.specs.Limits.{Bounds}
 use Rattle.site_desk.specs.declared.plan.SitePlan.{SitePlan}
@@ -209,10 +208,10 @@ telling front sites stations firsts before left tells more on s = record {
 }
 
 -- what a console took behind a report
-pub reported : {E : Type 0} (ended : Result (Unit {0}) E) (sites : List SitePlan) (stations : List StationPlan) (firsts : List Cell) (rest before middle now : Option (List ℕ)) → Grows before middle
-    → (log : List Entry) → TellsNew ended stations rest middle now sites firsts log → TellsRestored ended before now rest sites stations firsts log
-reported (Ok _) sites stations firsts rest before middle now grows log t = (middle, grows, t)
-reported (Err _) sites stations firsts rest before middle now grows log t = t
+pub reported : {E : Type 0} (ended : Result (Unit {0}) E) (sites : List SitePlan) (stations : List StationPlan) (firsts : List Cell) (connections : Option ℕ) (rest before middle now : Option (List ℕ)) → Grows before middle
+    → (log : List Entry) → TellsNew ended stations (operator_input connections rest) middle now sites firsts log → TellsRestored ended connections before now rest sites stations firsts log
+reported (Ok _) sites stations firsts connections rest before middle now grows log t = (middle, grows, t)
+reported (Err _) sites stations firsts connections rest before middle now grows log t = t
 
 -- the answers at a desk, by the list of its lines
 pub ended_telling : {S E F : Type 0} (ended : Result (Unit {0}) E) (ran : Result S F) (handed : S → List (List Entry)) (sites : List SitePlan) (stations : List StationPlan) (firsts : List Cell) (places : List StationPlace) (first : ℕ → Content) (coming : Option (List Line)) (before now : Option (List ℕ)) (log : List Entry)

@@ -26,7 +26,7 @@ use Rattle.site_desk.specs.declared.plan.StationPlan.{StationPlan}
 use Rattle.site_desk.specs.declared.roster.StationPlace.{StationPlace}
 use Rattle.site_desk.specs.Roster.{AreNewPlaces}
 use Rattle.live_server.specs.Browsing.{IsSeenWithBoards}
-use Rattle.live_server.specs.Told.{Tells}
+use Rattle.live_server.specs.Told.{Tells, operator_input}
 use Rattle.running_desk.specs.Ordered.{lines_in}
 use Rattle.site_desk.specs.Close.{changes_of}
 use Rattle.station_cell.specs.Cell.{Cell, Held}
@@ -194,7 +194,7 @@ abbrev pub TellsNew : {E : Type 0} → Result (Unit {0}) E → List StationPlan 
 TellsNew ended stations input before now read firsts log = OnOk ended (IsToldOf read stations (contents_of firsts) log (lines_in input) before now)
 
 -- After Ok the console of a restored server took first the reports about the script; after them
--- `IsToldOf` holds. Its operator's lines are those of the rest of the input.
-abbrev pub TellsRestored : {E : Type 0} → Result (Unit {0}) E → Option (List ℕ) → Option (List ℕ) → Option (List ℕ) → List SitePlan → List StationPlan → List Cell → List Entry → Type 0
-TellsRestored ended before now rest sites stations firsts log =
-    OnOk ended ((reported : Option (List ℕ)) × Grows before reported × IsToldOf sites stations (contents_of firsts) log (lines_in rest) reported now)
+-- `IsToldOf` holds. Its operator's lines are those of the rest of the input, unless a number of connections ends it.
+abbrev pub TellsRestored : {E : Type 0} → Result (Unit {0}) E → Option ℕ → Option (List ℕ) → Option (List ℕ) → Option (List ℕ) → List SitePlan → List StationPlan → List Cell → List Entry → Type 0
+TellsRestored ended connections before now rest sites stations firsts log =
+    OnOk ended ((reported : Option (List ℕ)) × Grows before reported × IsToldOf sites stations (contents_of firsts) log (lines_in (operator_input connections rest)) reported now)

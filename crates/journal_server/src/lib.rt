@@ -5,8 +5,8 @@
 //! script: a comment, the plan's declarations, and one line for each accepted change; in front of each line may be a
 //! comment with the time of its receipt. [`serve_restored`] begins with such a script, up to the line `listen`, and
 //! goes on behind it. While its operator sends no line, it looks whether the journal can still be written, and ends if
-//! not. A server without a journal is the same server with a journal that is written nowhere: [`serve_live`],
-//! [`serve_counted`] for a number of connections, and [`simulate`] for simulated stations.
+//! not. A server without a journal is the same server with a journal that is written nowhere: [`serve_live`], and
+//! [`simulate`] for simulated stations.
 //!
 //! The crate's contract ([`Served`], `IsItsScript` of `specs/Served.antt`): the boards that a server writes at its end
 //! are the answers to `board <site>` behind one script, which is what it read and wrote. Behind its front that script
@@ -30,10 +30,8 @@ mod same;
 mod serve;
 mod serving;
 mod simulation;
-mod unwritten;
 
 pub use fault::JournalFault;
 pub use run::Served;
-pub use serve::{Journalling, Restoring, serve_journalled, serve_restored};
+pub use serve::{Journalling, Restoring, serve_journalled, serve_live, serve_restored};
 pub use simulation::{MAX_SIMULATED_EVENTS, simulate};
-pub use unwritten::{MAX_CONNECTIONS, Service, serve_counted, serve_live};

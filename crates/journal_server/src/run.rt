@@ -17,17 +17,17 @@ ghost use Rattle.script_ledgers.specs.Running.{AreTheirPasses};
 use crate::serve::Journalling;
 use crate::serving::Serving;
 use board_report::write_boards;
-use gathered_input::Readiness;
 use journal_script::Restored;
 use kept_desk::{JournalTable, KeptDesk, Moment, Opening};
-use live_server::{Clients, Ran, Run, serve_plan_at};
-use server_parts::{Host, ServiceFault};
+use live_server::{Ran, Run, serve_plan_at};
+use server_parts::{Host, Input, Output, ServiceFault};
 use site_book::{Naming, Tables, Viewer};
 use site_desk::{Parts, Plan};
 use station_cell::{Pass, StationCell};
 use std::alloc::{AllocError, Global};
-use std::io::{BufRead, BufWriter, Write};
+use std::io::BufWriter;
 use std::marker::Brand;
+use std::net::TcpListener;
 
 /// The result of a server with a journal.
 #[derive(Drop)]
@@ -45,7 +45,7 @@ pub struct Served<W, T> {
     pub passes: Vec<Pass>,
     /// How many texts of stations were answered with an accepted change.
     pub answers: usize,
-    /// How many boards browsers got.
+    /// How many boards were made for browsers. Each that a browser got is among them.
     pub browsed: usize,
     /// How the operator's lines ended.
     pub ended: Result<(), ServiceFault>,
@@ -53,16 +53,11 @@ pub struct Served<W, T> {
     pub console: T,
 }
 
-// The options of a server, and which connections it serves.
+// The outputs of a server: its journal, its console, and the lines of sessions and totals; and a listener that is there
+// already, if there is one.
 #[derive(Drop)]
-pub(crate) struct Asked {
-    pub(crate) journalling: Journalling,
-    pub(crate) clients: Clients,
-}
-
-// The outputs of a server: its journal, its console, and the lines of sessions and totals.
-#[derive(Drop)]
-pub(crate) struct Outputs<W: Write + Drop, T, L> {
+pub(crate) struct Ends<W: Output, T, L> {
+    pub(crate) listener: Option<TcpListener>,
     pub(crate) journal: BufWriter<W>,
     pub(crate) console: T,
     pub(crate) lines: L,
@@ -78,26 +73,20 @@ struct DeskParts {
 
 // Serves the stations of a restored script until the operator's lines, which come from the input, end, or until as many
 // connections have ended as are asked for.
-pub(crate) fn run_restored<
-    R: AllocGlobal + Host,
-    I: BufRead + Readiness,
-    W: Write + Send + Drop,
-    T: Write + Drop,
-    L: Write + Send + Drop,
->(
+pub(crate) fn run_restored<R: Host, I: Input, W: Output, T: Output, L: Output>(
     rt: &R,
     restored: Restored,
-    asked: Asked,
+    journalling: Journalling,
     input: &mut I,
-    outputs: Outputs<W, T, L>,
+    ends: Ends<W, T, L>,
 ) -> Result<Served<W, T>, ServiceFault>
     requires faultless { plan_fault restored.draft.sites restored.draft.stations ≡ None }
     requires cells { AreCellsOf restored.draft.sites restored.draft.stations restored.cells.items }
     requires passes { AreTheirPasses restored.cells.items restored.passes.items }
-    requires empty { writer_buffer outputs.journal ≡ [] }
+    requires empty { writer_buffer ends.journal ≡ [] }
     ensures { IfOk result (λ s. (front : List ℕ) → Leaves front restored.draft.sites restored.draft.stations restored.cells.items
-        → IsItsScript front restored.draft.sites restored.draft.stations restored.cells.items (W.contents (writer_inner outputs.journal)) (left_of W.contents s)
-        (TellsNew s.ended restored.draft.stations (operator_input asked.clients.connections (I.remaining input.old)) (T.contents outputs.console) (T.contents s.console) restored.draft.sites restored.cells.items)) }
+        → IsItsScript front restored.draft.sites restored.draft.stations restored.cells.items (W.contents (writer_inner ends.journal)) (left_of W.contents s)
+        (TellsNew s.ended restored.draft.stations (operator_input journalling.live.connections (I.remaining input.old)) (T.contents ends.console) (T.contents s.console) restored.draft.sites restored.cells.items)) }
 {
     let Restored {
         draft,
@@ -117,9 +106,9 @@ pub(crate) fn run_restored<
         draft.plan(),
         desk_parts,
         passes,
-        asked,
+        journalling,
         input,
-        outputs,
+        ends,
     )
 }
 
@@ -127,66 +116,59 @@ pub(crate) fn run_restored<
 fn run_over<
     J: Naming + Send + Sync,
     K: Opening + Send + Sync,
-    R: AllocGlobal + Host,
-    I: BufRead + Readiness,
-    W: Write + Send + Drop,
-    T: Write + Drop,
-    L: Write + Send + Drop,
+    R: Host,
+    I: Input,
+    W: Output,
+    T: Output,
+    L: Output,
 >(
     rt: &R,
     plan: &Plan,
     desk_parts: DeskParts,
     passes: Vec<Pass>,
-    asked: Asked,
+    journalling: Journalling,
     input: &mut I,
-    outputs: Outputs<W, T, L>,
+    ends: Ends<W, T, L>,
 ) -> Result<Served<W, T>, ServiceFault>
     requires named { NamedBy J.table desk_parts.tables }
     requires there { (site : ℕ) → site < length plan.now.sites.items → HasTable desk_parts.tables site }
     requires table { desk_parts.table ≡ K.table }
-    requires before { W.contents (writer_inner outputs.journal) ≡ K.before }
-    requires empty { writer_buffer outputs.journal ≡ [] }
+    requires before { W.contents (writer_inner ends.journal) ≡ K.before }
+    requires empty { writer_buffer ends.journal ≡ [] }
     requires first { K.first ≡ contents_of desk_parts.cells.items }
     requires names { K.name ≡ names_of plan.now.stations.items }
     requires faultless { plan_fault plan.now.sites.items plan.now.stations.items ≡ None }
     requires cells { AreCellsOf plan.now.sites.items plan.now.stations.items desk_parts.cells.items }
     requires passes { AreTheirPasses desk_parts.cells.items passes.items }
-    ensures { IfOk result (λ s. IsEnded (names_of plan.now.stations.items) (contents_of desk_parts.cells.items) (W.contents (writer_inner outputs.journal))
+    ensures { IfOk result (λ s. IsEnded (names_of plan.now.stations.items) (contents_of desk_parts.cells.items) (W.contents (writer_inner ends.journal))
         plan.now.sites.items plan.now.stations.items (left_of W.contents s)
-        (TellsNew s.ended plan.now.stations.items (operator_input asked.clients.connections (I.remaining input.old)) (T.contents outputs.console) (T.contents s.console) plan.now.sites.items desk_parts.cells.items)) }
+        (TellsNew s.ended plan.now.stations.items (operator_input journalling.live.connections (I.remaining input.old)) (T.contents ends.console) (T.contents s.console) plan.now.sites.items desk_parts.cells.items)) }
 {
     let alloc = rt.alloc();
-    let Asked {
-        journalling,
-        clients,
-    } = asked;
-    let Journalling {
-        live,
-        has_receipt_times,
-    } = journalling;
-    let Outputs {
+    let live = journalling.live;
+    let Ends {
+        listener,
         journal,
         console,
         lines,
-    } = outputs;
+    } = ends;
     let (kept, viewers) = open_over::<J, K, W>(alloc, plan, desk_parts, live.glances, journal)?;
     let serving = Serving {
         kept,
-        has_receipt_times,
+        has_receipt_times: journalling.has_receipt_times,
     };
     let run = Run {
         rt,
-        alloc,
         plan,
         live,
-        clients,
+        listener,
     };
     let ran = serve_plan_at(run, &serving, passes, viewers, input, console, lines)?;
     end_run(alloc, plan, serving.kept, ran)
 }
 
 // The desk of a plan over cells that took commands before, with a journal that has no lines yet, and its viewers.
-fn open_over<J: Naming, K: Opening, W: Write + Drop>(
+fn open_over<J: Naming, K: Opening, W: Output>(
     alloc: Global,
     plan: &Plan,
     desk_parts: DeskParts,
@@ -244,7 +226,7 @@ fn with_more<M: Drop>(mut seen: Vec<M>, mut more: Vec<M>) -> Result<Vec<M>, Allo
 
 // Closes a desk with a journal after its sessions have ended, and makes the board of each site, in the plan's
 // order.
-fn end_run<J: Naming + Send + Sync, K: Opening + Send + Sync, W: Write + Drop, T: Write + Drop>(
+fn end_run<J: Naming + Send + Sync, K: Opening + Send + Sync, W: Output, T: Output>(
     alloc: Global,
     plan: &Plan,
     kept: KeptDesk<J, K, W>,

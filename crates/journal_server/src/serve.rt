@@ -15,22 +15,26 @@ ghost use Rattle.journal_server.specs.Served.{IsNewRun, IsRefused, IsRestoredRun
 
 use crate::declared::{journal_head, run_head};
 use crate::fault::JournalFault;
-use crate::run::{Asked, Outputs, Served, run_restored};
+use crate::run::{Ends, Served, run_restored};
 use crate::same::is_declared;
-use gathered_input::Readiness;
+use board_report::BoardsFault;
 use itoa::Buffer;
 use journal_script::{RestoreFault, Restored, restore};
-use live_server::{Clients, Live};
+use live_server::Live;
 use script_lines::write_bytes;
-use server_parts::{Host, ServiceFault};
-use site_desk::Plan;
+use server_parts::{Host, Input, Output, ServiceFault};
+use site_desk::{CloseFault, Plan};
 use station_cell::StationCell;
 use std::io;
-use std::io::{BufRead, BufWriter, Write};
+use std::io::{BufWriter, Sink, Write};
+use std::net::TcpListener;
 use std::thread::Threads;
 
 // The end of a script to restore.
 const LISTEN: &[u8] = b"listen\n";
+
+// The fault of a head that declares another plan than its own, which no run meets.
+const TORN: ServiceFault = ServiceFault::Close(CloseFault::Torn);
 
 /// The options of a server with a journal.
 #[derive(Clone, Copy, Debug)]
@@ -60,13 +64,7 @@ pub struct Restoring {
 /// to `lines`.
 ///
 /// It reports a plan with a fault before it writes anything.
-pub fn serve_journalled<
-    R: AllocGlobal + Host,
-    I: BufRead + Readiness,
-    W: Write + Send + Drop,
-    T: Write + Drop,
-    L: Write + Send + Drop,
->(
+pub fn serve_journalled<R: Host, I: Input, W: Output, T: Output, L: Output>(
     rt: &R,
     plan: &Plan,
     journalling: Journalling,
@@ -76,40 +74,57 @@ pub fn serve_journalled<
     lines: L,
 ) -> Result<Served<W, T>, JournalFault>
     ensures { IfOk result (λ s. IsNewRun plan.now.sites.items plan.now.stations.items (writer_contents W.contents journal) (left_of W.contents s)
-        (TellsNew s.ended plan.now.stations.items (I.remaining input.old) (T.contents console) (T.contents s.console))) }
+        (TellsNew s.ended plan.now.stations.items (operator_input journalling.live.connections (I.remaining input.old)) (T.contents console) (T.contents s.console))) }
 {
-    let clients = Clients {
+    let ends = Ends {
         listener: None,
-        connections: None,
-    };
-    let asked = Asked {
-        journalling,
-        clients,
-    };
-    let outputs = Outputs {
         journal,
         console,
         lines,
     };
-    serve_plan(rt, plan, asked, input, outputs)
+    serve_plan(rt, plan, journalling, input, ends)
+}
+
+/// Serves a plan's stations as [`serve_journalled`] does, with a journal that is written nowhere; at this listener, if
+/// there is one already.
+pub fn serve_live<R: Host, I: Input, T: Output, L: Output>(
+    rt: &R,
+    plan: &Plan,
+    live: Live,
+    listener: Option<TcpListener>,
+    input: &mut I,
+    console: T,
+    lines: L,
+) -> Result<Served<Sink, T>, JournalFault>
+    ensures { IfOk result (λ s. IsNewRun plan.now.sites.items plan.now.stations.items None (left_of (λ _. None) s)
+        (TellsNew s.ended plan.now.stations.items (operator_input live.connections (I.remaining input.old)) (T.contents console) (T.contents s.console))) }
+{
+    let Ok(journal) = BufWriter::with_capacity(rt.alloc(), 0, io::sink()) else {
+        return Err(JournalFault::Service(ServiceFault::OutOfMemory));
+    };
+    let journalling = Journalling {
+        live,
+        has_receipt_times: false,
+    };
+    let ends = Ends {
+        listener,
+        journal,
+        console,
+        lines,
+    };
+    serve_plan(rt, plan, journalling, input, ends)
 }
 
 // Serves a plan's stations with these options.
-pub(crate) fn serve_plan<
-    R: AllocGlobal + Host,
-    I: BufRead + Readiness,
-    W: Write + Send + Drop,
-    T: Write + Drop,
-    L: Write + Send + Drop,
->(
+fn serve_plan<R: Host, I: Input, W: Output, T: Output, L: Output>(
     rt: &R,
     plan: &Plan,
-    asked: Asked,
+    journalling: Journalling,
     input: &mut I,
-    outputs: Outputs<W, T, L>,
+    mut ends: Ends<W, T, L>,
 ) -> Result<Served<W, T>, JournalFault>
-    ensures { IfOk result (λ s. IsNewRun plan.now.sites.items plan.now.stations.items (writer_contents W.contents outputs.journal) (left_of W.contents s)
-        (TellsNew s.ended plan.now.stations.items (operator_input asked.clients.connections (I.remaining input.old)) (T.contents outputs.console) (T.contents s.console))) }
+    ensures { IfOk result (λ s. IsNewRun plan.now.sites.items plan.now.stations.items (writer_contents W.contents ends.journal) (left_of W.contents s)
+        (TellsNew s.ended plan.now.stations.items (operator_input journalling.live.connections (I.remaining input.old)) (T.contents ends.console) (T.contents s.console))) }
 {
     if let Some(fault) = plan.fault() {
         return Err(JournalFault::Service(ServiceFault::from(fault)));
@@ -117,20 +132,10 @@ pub(crate) fn serve_plan<
     let head = journal_head(rt.alloc(), plan)?;
     let restored = restore_declared(rt, head.as_slice())?;
     if !is_declared(plan, restored.draft.plan(), restored.cells.as_slice()) {
-        return Err(JournalFault::Service(ServiceFault::Torn));
+        return Err(JournalFault::Service(TORN));
     }
-    let Outputs {
-        journal,
-        console,
-        lines,
-    } = outputs;
-    let journal = write_head(journal, head.as_slice())?;
-    let outputs = Outputs {
-        journal,
-        console,
-        lines,
-    };
-    let served = run_restored(rt, restored, asked, input, outputs)?;
+    write_head(&mut ends.journal, head.as_slice())?;
+    let served = run_restored(rt, restored, journalling, input, ends)?;
     Ok(served)
 }
 
@@ -142,47 +147,43 @@ pub(crate) fn serve_plan<
 /// If a line is lost, that is, it changed nothing and no kill cut it, the server ends with `LeftOut` before it writes a
 /// journal or listens, unless the options allow it: the stations then hold less than the script says, as when a
 /// declaration is missing.
-pub fn serve_restored<
-    R: AllocGlobal + Host,
-    I: BufRead + Readiness,
-    W: Write + Send + Drop,
-    T: Write + Drop,
-    L: Write + Send + Drop,
->(
+pub fn serve_restored<R: Host, I: Input, W: Output, T: Output, L: Output>(
     rt: &R,
     restoring: Restoring,
     input: &mut I,
-    journal: BufWriter<W>,
+    mut journal: BufWriter<W>,
     mut console: T,
     lines: L,
 ) -> Result<Served<W, T>, JournalFault>
     ensures serves { IfOk result (λ s. IsRestoredRun restoring.allows_left_out (I.remaining input.old) (writer_contents W.contents journal) (left_of W.contents s)
-        (TellsRestored s.ended (T.contents console) (T.contents s.console))) }
+        (TellsRestored s.ended restoring.journalling.live.connections (T.contents console) (T.contents s.console))) }
     ensures unmarked { IfErr result (λ e. e ≡ JournalFault.Restore RestoreFault.NotMarked → IsRefused (I.remaining input.old) (λ read. IsUnmarked read)) }
     ensures left_out { IfErr result (λ e. e ≡ JournalFault.LeftOut → (restoring.allows_left_out ≡ false) × IsRefused (I.remaining input.old) (λ read. loses start (lines_of longest_line read) ≡ true)) }
 {
-    let restored = restore(rt, input, &mut console)?;
+    let restored = match restore(rt, input, &mut console) {
+        Ok(restored) => restored,
+        Err(fault) => return Err(JournalFault::Restore(fault)),
+    };
     if is_refused(restored.has_lost, restoring.allows_left_out) {
         return Err(JournalFault::LeftOut);
     }
     tell_restored(&mut console, restored.cells.as_slice());
-    let head = run_head(rt.alloc())?;
-    let journal = write_head(journal, head.as_slice())?;
-    let clients = Clients {
+    let Ok(head) = run_head(rt.alloc()) else {
+        return Err(JournalFault::Service(ServiceFault::OutOfMemory));
+    };
+    if let Err(fault) = write_head(&mut journal, head.as_slice()) {
+        return Err(JournalFault::Service(fault));
+    }
+    let ends = Ends {
         listener: None,
-        connections: None,
-    };
-    let asked = Asked {
-        journalling: restoring.journalling,
-        clients,
-    };
-    let outputs = Outputs {
         journal,
         console,
         lines,
     };
-    let served = run_restored(rt, restored, asked, input, outputs)?;
-    Ok(served)
+    match run_restored(rt, restored, restoring.journalling, input, ends) {
+        Ok(served) => Ok(served),
+        Err(fault) => Err(JournalFault::Service(fault)),
+    }
 }
 
 // Returns whether a script is refused, by whether a line of it is lost and whether that is allowed.
@@ -193,20 +194,14 @@ fn is_refused(has_lost: bool, allows_left_out: bool) -> bool
 }
 
 // Writes the beginning of a run; nothing of it is left in the buffer then.
-fn write_head<W: Write + Drop>(
-    mut journal: BufWriter<W>,
-    head: &[u8],
-) -> Result<BufWriter<W>, ServiceFault>
-    ensures begins { IfOk result (λ w. Appends (writer_contents W.contents journal) (W.contents (writer_inner w)) head.now) }
-    ensures handed_on { IfOk result (λ w. writer_buffer w ≡ []) }
+fn write_head<W: Output>(journal: &mut BufWriter<W>, head: &[u8]) -> Result<(), ServiceFault>
+    ensures begins { OnOk result (Appends (writer_contents W.contents journal.old) (W.contents (writer_inner journal.new)) head.now) }
+    ensures handed_on { OnOk result (writer_buffer journal.new ≡ []) }
 {
-    if journal.write_all(head).is_err() {
-        return Err(ServiceFault::WriteFault);
+    if journal.write_all(head).is_err() || journal.flush().is_err() {
+        return Err(ServiceFault::Output(BoardsFault::WriteFault));
     }
-    match journal.flush() {
-        Ok(()) => Ok(journal),
-        Err(_) => Err(ServiceFault::WriteFault),
-    }
+    Ok(())
 }
 
 // Reports how many changes the restored stations hold. A report that can't be written is dropped.
@@ -243,7 +238,7 @@ fn restore_declared<R: AllocGlobal + Threads>(rt: &R, head: &[u8]) -> Result<Res
     let mut reader = text.as_slice();
     let restored = restore(rt, &mut reader, &mut io::sink())?;
     if !reader.is_empty() {
-        return Err(JournalFault::Service(ServiceFault::Torn));
+        return Err(JournalFault::Service(TORN));
     }
     Ok(restored)
 }

@@ -7,16 +7,16 @@ ghost use Rattle.journal_server.specs.Simulated.{IsSimulatedRun, simulated_name,
 
 use crate::fault::JournalFault;
 use crate::run::Served;
-use crate::unwritten::{NoLines, serve_unwritten};
+use crate::serve::serve_live;
 use arrayvec::ArrayString;
 use itoa::Buffer;
 use ledger_model::{Limits, Name, Order, Periods};
-use live_server::{Clients, Live};
-use server_parts::{Host, ServiceFault, Sockets, address_of, listen};
+use live_server::Live;
+use server_parts::{Host, Output, ServiceFault, Sockets, address_of, listen};
 use site_desk::Plan;
 use station_link::{SimFault, SimStation};
 use std::alloc::Global;
-use std::io::{Sink, Write};
+use std::io::Sink;
 use std::net::{SocketAddr, TcpListener, TcpStream};
 use std::random::RandomSource;
 use std::thread::{JoinHandle, Scope, Threads};
@@ -29,14 +29,6 @@ pub const MAX_SIMULATED_EVENTS: u32 = 64;
 // How long a simulated station waits for a reply.
 const REPLY_SECONDS: u64 = 60;
 
-// A server that glances at nothing, reports no session, and has no browsers.
-const QUIET: Live = Live {
-    port: 0,
-    glances: 0,
-    is_logged: false,
-    board_port: None,
-};
-
 type Played = JoinHandle<Result<(), SimFault>>;
 
 /// Plays `stations` simulated stations, each with a transaction of `events` events, against a server of their own on a
@@ -44,7 +36,7 @@ type Played = JoinHandle<Result<(), SimFault>>;
 /// their site, `sim`. The console comes back as it was.
 ///
 /// Condition: 1 to 64 stations, and 2 to 64 events.
-pub fn simulate<R: AllocGlobal + Host + RandomSource, T: Write + Drop>(
+pub fn simulate<R: Host + RandomSource, T: Output>(
     rt: &R,
     stations: u16,
     events: u32,
@@ -141,7 +133,7 @@ fn connect_all<R: Sockets>(
     let mut streams = Vec::with_capacity(alloc, stations as usize)?;
     for _ in 0..stations {
         let Ok(stream) = connect(rt, address) else {
-            return Err(ServiceFault::HandshakeFailed);
+            return Err(ServiceFault::Sim(SimFault::HandshakeFailed));
         };
         streams.push(stream)?;
     }
@@ -162,7 +154,7 @@ type Run = (Result<Served<Sink, Sink>, JournalFault>, Option<SimFault>);
 
 // Plays each station on a thread of its own while this one serves them. The listener closes when all are served, so no
 // station waits for an answer that never comes.
-fn play_all<R: AllocGlobal + Host + RandomSource>(
+fn play_all<R: Host + RandomSource>(
     rt: &R,
     plan: &Plan,
     listener: TcpListener,
@@ -185,12 +177,16 @@ fn play_all<R: AllocGlobal + Host + RandomSource>(
             ensures { IfOk result.0 (λ s. IsNewRun plan.entry.now.sites.items plan.entry.now.stations.items None (left_of (λ _. None) s) (TellsNew s.ended plan.entry.now.stations.items (Some []) None None)) }
         {
             let (played, refused) = start_all(scope, rt, rt.alloc(), streams, events, played);
-            let clients = Clients {
-                listener: Some(listener),
+            let live = Live {
+                port: 0,
+                glances: 0,
+                is_logged: false,
+                board_port: None,
                 connections: Some(connections),
             };
+            let mut nothing: &[u8] = &[];
             let (console, lines) = (io::sink(), io::sink());
-            let served = serve_unwritten(rt, plan, QUIET, clients, &mut NoLines, console, lines);
+            let served = serve_live(rt, plan, live, Some(listener), &mut nothing, console, lines);
             (served, first_fault(rt, played, refused))
         },
     )

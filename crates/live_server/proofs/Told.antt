@@ -1,5 +1,5 @@
 -- What a live server writes, piece by piece.
-use Rattle.std.proofs.Common.{◌≡◌, ℕ, List, [], ◌++◌, Option, None, Some, Result, Ok, Err, refl, subst, sym}
+use Rattle.std.proofs.Common.{◌≡◌, ℕ, List, [], codes, Option, None, Some, Result, Ok, Err, refl, subst, sym}
 use Rattle.std.specs.Prelude.{IfOk, OnOk}
 use Rattle.std.specs.Io.KnownBytes.{Appends}
 use Rattle.std.proofs.KnownBytes.{Appends-nil, Appends-trans}
@@ -12,15 +12,15 @@ use Rattle.script_lines.specs.Lines.{Line}
 use Rattle.site_book.specs.Book.{Known}
 use Rattle.site_desk.specs.declared.plan.SitePlan.{SitePlan}
 use Rattle.site_desk.specs.declared.roster.StationPlace.{StationPlace}
-use Rattle.server_parts.specs.Ports.{listening}
+use Rattle.server_parts.specs.Ports.{at_port}
 use Rattle.running_desk.specs.Ordered.{lines_in}
 use Rattle.running_desk.specs.Replied.{IsReplyOrMemory}
 use Rattle.running_desk.specs.Replies.{AddsReplies, Replied}
-use Rattle.live_server.specs.Told.{Tells, boards_at, operator_input, ports}
+use Rattle.live_server.specs.Told.{Tells, operator_input, ports}
 
 -- where it listens for stations, and then for browsers
-pub both_told : {T E : Type 0} (r : Result T E) (w0 w1 w2 : Option (List ℕ)) → (port : ℕ) × Appends w0 w1 (listening port) → OnOk r ((port : ℕ) × Appends w1 w2 (boards_at port)) → OnOk r ((port : ℕ) × (browsers : Option ℕ) × Appends w0 w2 (ports port browsers))
-both_told (Ok _) w0 w1 w2 first then = (first.0, Some then.0, Appends-trans w0 w1 w2 (listening first.0) (boards_at then.0) first.1 then.1)
+pub both_told : {T E : Type 0} (r : Result T E) (w0 w1 w2 : Option (List ℕ)) → (port : ℕ) × Appends w0 w1 (at_port (codes "listening") port) → OnOk r ((port : ℕ) × Appends w1 w2 (at_port (codes "boards") port)) → OnOk r ((port : ℕ) × (browsers : Option ℕ) × Appends w0 w2 (ports port browsers))
+both_told (Ok _) w0 w1 w2 first then = (first.0, Some then.0, Appends-trans w0 w1 w2 (at_port (codes "listening") first.0) (at_port (codes "boards") then.0) first.1 then.1)
 both_told (Err _) w0 w1 w2 first then = then
 
 module _ {M Z : Type 0} (gives : ℕ → StationPlace → Command → Answer → Option Known → Option M → Type 0) (shows : Z → ℕ → List (List ℕ × Board) → M → Type 0) where

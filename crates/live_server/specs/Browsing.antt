@@ -11,6 +11,7 @@ use Rattle.live_server.specs.declared.request.Request.TheVariants as request
 use Rattle.live_server.specs.Responses.{html, plain, response_bytes, status_bytes}
 use Rattle.site_desk.specs.declared.plan.SitePlan.{SitePlan}
 use Rattle.site_desk.specs.declared.roster.StationPlace.{StationPlace}
+use Rattle.station_link.specs.Attended.{if_seen}
 
 -- The answer shows the board of the site of this number, and what was seen of the desk's journal belongs to it.
 pub record ShowsBoard {M : Type 0} (shows : ℕ → List (List ℕ × Board) → M → Type 0) (sites : List SitePlan) (places : List StationPlace) (site : ℕ) (bytes : List ℕ) (seen : Option M) : Type 0 where
@@ -49,3 +50,7 @@ IsBrowsed shows sites places request.NotAllowed bytes seen = IsStatus NotAllowed
 IsBrowsed shows sites places request.Malformed bytes seen = IsStatus Malformed bytes seen
 IsBrowsed shows sites places request.Unfinished bytes seen = IsStatus Malformed bytes seen
 IsBrowsed shows sites places request.NoRoom bytes seen = IsStatus NoMemory bytes seen
+
+-- An answer to a request, and what was seen with it was put behind what was seen before.
+abbrev pub IsNoted : {M : Type 0} → (ℕ → List (List ℕ × Board) → M → Type 0) → List SitePlan → List StationPlace → Request → List ℕ → List M → List M → Type 0
+IsNoted {M} shows sites places request bytes old new = (own : Option M) × IsBrowsed shows sites places request bytes own × (new ≡ old ++ if_seen own)

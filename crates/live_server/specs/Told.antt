@@ -1,6 +1,5 @@
 -- What a live server writes to its output.
-use Rattle.std.specs.Prelude.{ℕ, List, [], ◌∷◌, ◌++◌, Option, None, Some, codes}
-use Rattle.std.specs.Fmt.{decimal}
+use Rattle.std.specs.Prelude.{ℕ, List, [], ◌++◌, Option, None, Some, codes}
 use Rattle.std.specs.Io.KnownBytes.{Appends}
 use Rattle.ledger_model.specs.declared.answer.Answer.{Answer}
 use Rattle.ledger_model.specs.declared.command.Command.{Command}
@@ -8,18 +7,14 @@ use Rattle.ledger_model.specs.Board.{Board}
 use Rattle.script_lines.specs.Lines.{Line}
 use Rattle.site_desk.specs.declared.plan.SitePlan.{SitePlan}
 use Rattle.site_desk.specs.declared.roster.StationPlace.{StationPlace}
-use Rattle.server_parts.specs.Ports.{listening}
+use Rattle.server_parts.specs.Ports.{at_port}
 use Rattle.running_desk.specs.Replies.{AddsReplies}
 use Rattle.site_book.specs.Book.{Known}
 
--- The line with the port of 127.0.0.1 where browsers find boards.
-abbrev pub boards_at : ℕ → List ℕ
-boards_at port = codes "boards 127.0.0.1:" ++ (decimal port ++ 10 ∷ [])
-
 -- The lines of its ports: for stations, and for browsers if it listens for them.
 abbrev pub ports : ℕ → Option ℕ → List ℕ
-ports port None = listening port
-ports port (Some browsers) = listening port ++ boards_at browsers
+ports port None = at_port (codes "listening") port
+ports port (Some browsers) = at_port (codes "listening") port ++ at_port (codes "boards") browsers
 
 -- The operator's bytes are those of the input; if a number of connections ends the server, there are none.
 abbrev pub operator_input : Option ℕ → Option (List ℕ) → Option (List ℕ)

@@ -18,24 +18,12 @@ const MOST_WAKINGS: u64 = 32;
 
 // The listeners of a live server: that of stations, and that of browsers, if it has one.
 #[derive(Drop)]
-pub(crate) struct Acceptors<'a> {
-    pub(crate) stations: Acceptor<'a>,
-    pub(crate) browsers: Option<Acceptor<'a>>,
+pub(crate) struct Acceptors {
+    pub(crate) stations: Acceptor,
+    pub(crate) browsers: Option<Acceptor>,
 }
 
-impl<'a> Acceptors<'a> {
-    // The acceptors of these listeners; nobody waits there yet.
-    pub(crate) fn open(stations: &'a TcpListener, browsers: Option<&'a TcpListener>) -> Self {
-        let browsers = match browsers {
-            Some(listener) => Some(Acceptor::new(listener)),
-            None => None,
-        };
-        Acceptors {
-            stations: Acceptor::new(stations),
-            browsers,
-        }
-    }
-
+impl Acceptors {
     // Waits until all threads have left. The server has to be closing.
     pub(crate) fn call_away<R: Wait + Clock + Sockets>(&self, rt: &R) {
         self.stations.call_away(rt);
@@ -47,16 +35,16 @@ impl<'a> Acceptors<'a> {
 
 // A listener, and how many threads came to it, wait there, and have left it for good.
 #[derive(Drop)]
-pub(crate) struct Acceptor<'a> {
-    listener: &'a TcpListener,
+pub(crate) struct Acceptor {
+    listener: TcpListener,
     entered: AtomicU64,
     waiting: AtomicU64,
     left: AtomicU64,
 }
 
-impl<'a> Acceptor<'a> {
+impl Acceptor {
     // The acceptor of a listener; nobody waits there yet.
-    fn new(listener: &'a TcpListener) -> Self {
+    pub(crate) fn new(listener: TcpListener) -> Self {
         Acceptor {
             listener,
             entered: AtomicU64::new(0),

@@ -1,9 +1,9 @@
 //! Boards in a browser: a listener of its own, one request at a time, and no request changes anything.
-ghost use Rattle.std.specs.Prelude.{◌≡◌, ◌++◌, All, IfOk, IfSome, OnOk};
+ghost use Rattle.std.specs.Prelude.{◌≡◌, ◌++◌, All, IfOk, OnOk};
 ghost use Rattle.std.specs.List.{position};
 ghost use Rattle.std.specs.Str.{bytes_eq};
 ghost use Rattle.live_server.specs.declared.reply.Status.{Status};
-ghost use Rattle.live_server.specs.Browsing.{IsBoardAnswer, IsBrowsed, IsSeenWithBoards, site_link, sites_page};
+ghost use Rattle.live_server.specs.Browsing.{IsBoardAnswer, IsBrowsed, IsNoted, IsSeenWithBoards, site_link, sites_page};
 ghost use Rattle.live_server.specs.Responses.{html, response_bytes, status_bytes};
 
 use crate::acceptor::Acceptor;
@@ -48,8 +48,8 @@ const NO_MEMORY: &[u8] =
 
 impl<S: Serves, R: Wait + Clock, L: Write + Drop> Shared<'_, S, R, L> {
     // Answers one request after the other until the server closes. Returns what was seen of the desk's journal with the
-    // boards; what finds no memory is let go.
-    pub(crate) fn serve_boards(&self, acceptor: &Acceptor<'_>) -> Vec<S::Seen>
+    // boards.
+    pub(crate) fn serve_boards(&self, acceptor: &Acceptor) -> Vec<S::Seen>
         ensures { All (IsSeenWithBoards (S.shows self.now.running.serves.now)) result.items }
     {
         let mut seen = Vec::new(self.alloc);
@@ -58,60 +58,54 @@ impl<S: Serves, R: Wait + Clock, L: Write + Drop> Shared<'_, S, R, L> {
                 acceptor.leave();
                 break;
             };
-            if let Some(own) = self.serve_request(stream) {
-                keep(self.running.serves, &mut seen, own);
-            }
+            self.serve_request(stream, &mut seen);
         }
         seen
     }
 
-    // Reads a request and writes its answer. Returns what was seen with a board.
-    fn serve_request(&self, stream: TcpStream) -> Option<S::Seen>
-        ensures { IfSome result (IsSeenWithBoards (S.shows self.now.running.serves.now)) }
+    // Reads a request and writes its answer. Adds what was seen with a board.
+    fn serve_request(&self, stream: TcpStream, seen: &mut Vec<S::Seen>)
+        requires { All (IsSeenWithBoards (S.shows self.now.running.serves.now)) seen.old.items }
+        ensures { All (IsSeenWithBoards (S.shows self.now.running.serves.now)) seen.new.items }
     {
         let unmarked = AtomicBool::new(false);
         let closing = &self.workers.closing;
         let Ok(connection) = Connection::open(self.rt, closing, &unmarked, PATIENCE) else {
-            return None;
+            return;
         };
         let Ok(mut stream) = ConnectionStream::open(&connection, stream) else {
-            return None;
+            return;
         };
-        self.answer_request(&connection, &mut stream)
-    }
-
-    // Answers the request of a connection over its stream. Returns what was seen with a board.
-    fn answer_request(
-        &self,
-        connection: &Connection<'_, R>,
-        stream: &mut ConnectionStream<'_, R>,
-    ) -> Option<S::Seen>
-        ensures { IfSome result (IsSeenWithBoards (S.shows self.now.running.serves.now)) }
-    {
-        let Ok(request) = request_of(self.alloc, stream) else {
-            return None;
+        let Ok(request) = request_of(self.alloc, &mut stream) else {
+            return;
         };
         connection.serves();
-        match answer(self.rt, self.alloc, &self.running, request) {
-            Ok((bytes, seen)) => {
-                let _ = write_answer(connection, stream, &bytes);
-                seen
-            }
-            Err(_) => {
-                let _ = write_answer(connection, stream, NO_MEMORY);
-                None
-            }
-        }
+        let _ = match answer_noted(self.rt, self.alloc, &self.running, request, seen) {
+            Ok(bytes) => write_answer(&connection, &mut stream, &bytes),
+            Err(_) => write_answer(&connection, &mut stream, NO_MEMORY),
+        };
     }
 }
 
-// Adds what was seen with a board; if there is no memory for it, it is let go.
-fn keep<S: Serves>(serves: &S, seen: &mut Vec<S::Seen>, own: S::Seen)
-    requires all { All (IsSeenWithBoards (S.shows serves.now)) seen.old.items }
-    requires own { IsSeenWithBoards (S.shows serves.now) own }
-    ensures { All (IsSeenWithBoards (S.shows serves.now)) seen.new.items }
+// The bytes that answer a request. What was seen with a board is put to the rest first: no browser gets a board
+// without it.
+fn answer_noted<S: Serves, R: Wait>(
+    rt: &R,
+    alloc: Global,
+    running: &Running<'_, S>,
+    request: Request,
+    seen: &mut Vec<S::Seen>,
+) -> Result<Vec<u8>, AllocError>
+    requires { All (IsSeenWithBoards (S.shows running.now.serves.now)) seen.old.items }
+    ensures all { All (IsSeenWithBoards (S.shows running.now.serves.now)) seen.new.items }
+    ensures noted { IfOk result (λ bytes. IsNoted (S.shows running.now.serves.now) running.now.plan.now.sites.items running.now.desk.now.stations
+        request bytes.items seen.old.items seen.new.items) }
 {
-    let _ = seen.push(own);
+    let (bytes, own) = answer(rt, alloc, running, request)?;
+    if let Some(own) = own {
+        seen.push(own)?;
+    }
+    Ok(bytes)
 }
 
 // The promise that the thread that answers browsers returns what was seen with boards of this desk.
@@ -205,7 +199,7 @@ fn answer<S: Serves, R: Wait>(
     running: &Running<'_, S>,
     request: Request,
 ) -> Result<Answered<S::Seen>, AllocError>
-    ensures { IfOk result (λ r. IsBrowsed (S.shows running.now.serves.now) running.now.plan.now.sites.items running.now.desk.desk.now.stations request r.0.items r.1) }
+    ensures { IfOk result (λ r. IsBrowsed (S.shows running.now.serves.now) running.now.plan.now.sites.items running.now.desk.now.stations request r.0.items r.1) }
 {
     match request {
         Request::Sites => Ok((answer_sites(alloc, running.plan)?, None)),
@@ -235,7 +229,8 @@ fn answer_board<S: Serves, R: Wait>(
     running: &Running<'_, S>,
     name: &Name,
 ) -> Result<Answered<S::Seen>, AllocError>
-    ensures { IfOk result (λ r. IsBoardAnswer (S.shows running.now.serves.now) running.now.plan.now.sites.items running.now.desk.desk.now.stations (position (λ s. bytes_eq name.now s.name) running.now.plan.now.sites.items) r.0.items r.1) }
+    ensures { IfOk result (λ r. IsBoardAnswer (S.shows running.now.serves.now) running.now.plan.now.sites.items running.now.desk.now.stations
+        (position (λ s. bytes_eq name.now s.name) running.now.plan.now.sites.items) r.0.items r.1) }
 {
     let Some(site) = site_of(running.plan, name) else {
         return told(alloc, Status::NotFound);

@@ -95,6 +95,17 @@ impl<'a, R: Clock> Connection<'a, R> {
         }
     }
 
+    // Returns whether the time of its phase is over, or the server wants it no longer before its session.
+    fn is_due(&self) -> bool {
+        match self.phase.get() {
+            Phase::Opening(since) => {
+                self.dismissal().is_some() || self.is_over(since, self.patience.opening)
+            }
+            Phase::Serving => false,
+            Phase::Leaving(since) => self.is_over(since, LEAVING_SECONDS),
+        }
+    }
+
     // Returns whether the write under way has to be given up.
     fn is_write_over(&self) -> bool {
         let Some(since) = self.writing.get() else {
@@ -191,13 +202,13 @@ impl<'a, R: Clock> ConnectionStream<'a, R> {
         self.stream.shutdown(Shutdown::Write)
     }
 
-    // A read of a handshake or a request, which ends if the connection is no longer wanted.
-    fn read_opening(&mut self, since: Instant, buf: &mut [u8]) -> io::Result<usize>
+    // A read of a handshake or a request, or of the bytes that are left at the end, which is tried again until the
+    // connection has to end.
+    fn read_patiently(&mut self, buf: &mut [u8]) -> io::Result<usize>
         ensures { ReadsAtMost result buf.new }
     {
         for _ in 0..MOST_TICKS {
-            let seconds = self.connection.patience.opening;
-            if self.connection.dismissal().is_some() || self.connection.is_over(since, seconds) {
+            if self.connection.is_due() {
                 break;
             }
             let read = self.stream.read(buf);
@@ -225,30 +236,13 @@ impl<'a, R: Clock> ConnectionStream<'a, R> {
         }
         read
     }
-
-    // A read of the bytes that are left.
-    fn read_last(&mut self, since: Instant, buf: &mut [u8]) -> io::Result<usize>
-        ensures { ReadsAtMost result buf.new }
-    {
-        for _ in 0..MOST_TICKS {
-            if self.connection.is_over(since, LEAVING_SECONDS) {
-                break;
-            }
-            let read = self.stream.read(buf);
-            if !is_tick(&read) {
-                return read;
-            }
-        }
-        Err(io::Error::from(ErrorKind::TimedOut))
-    }
 }
 
 impl<R: Clock> Read for ConnectionStream<'_, R> {
     fn read(&mut self, buf: &mut [u8]) -> io::Result<usize> {
         match self.connection.phase.get() {
-            Phase::Opening(since) => self.read_opening(since, buf),
             Phase::Serving => self.read_tick(buf),
-            Phase::Leaving(since) => self.read_last(since, buf),
+            Phase::Opening(_) | Phase::Leaving(_) => self.read_patiently(buf),
         }
     }
 }

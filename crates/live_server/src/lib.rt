@@ -36,4 +36,4 @@ mod watch;
 mod workers;
 
 pub use reply::{Status, response};
-pub use service::{Clients, Live, Ran, Run, serve_plan_at};
+pub use service::{Live, Ran, Run, serve_plan_at};

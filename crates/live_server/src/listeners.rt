@@ -1,24 +1,15 @@
 //! The ports that a live server listens on, and their lines.
-ghost use Rattle.std.specs.Prelude.{◌≡◌, ℕ, Option, OnOk};
+ghost use Rattle.std.specs.Prelude.{ℕ, Option, OnOk};
 ghost use Rattle.std.specs.Io.KnownBytes.{Appends};
-ghost use Rattle.live_server.specs.Told.{boards_at, ports};
+ghost use Rattle.live_server.specs.Told.{ports};
 
+use crate::acceptor::{Acceptor, Acceptors};
 use crate::service::Live;
-use arrayvec::ArrayString;
-use board_report::write_out;
-use itoa::Buffer;
-use server_parts::{ServiceFault, Sockets, address_of, listen, tell_port};
+use server_parts::{ServiceFault, Sockets, listen, tell_port};
 use std::io::Write;
 use std::net::TcpListener;
 
-// The listeners of a live server: that of stations, and that of browsers, if it is asked for.
-#[derive(Drop)]
-pub(crate) struct Listeners {
-    pub(crate) stations: TcpListener,
-    pub(crate) browsers: Option<TcpListener>,
-}
-
-impl Listeners {
+impl Acceptors {
     // The listeners that are asked for, after their ports are written; that of stations may be there
     // already.
     pub(crate) fn open<R: Sockets, W: Write>(
@@ -35,7 +26,13 @@ impl Listeners {
         };
         let browsers = listen_for_browsers(rt, live.board_port)?;
         tell(&stations, browsers.as_ref(), output)?;
-        Ok(Listeners { stations, browsers })
+        Ok(Acceptors {
+            stations: Acceptor::new(stations),
+            browsers: match browsers {
+                Some(listener) => Some(Acceptor::new(listener)),
+                None => None,
+            },
+        })
     }
 }
 
@@ -58,29 +55,9 @@ fn tell<W: Write>(
 ) -> Result<(), ServiceFault>
     ensures { OnOk result ((port : ℕ) × (browsers : Option ℕ) × Appends (W.contents output.old) (W.contents output.new) (ports port browsers)) }
 {
-    tell_port(stations, output)?;
+    tell_port(stations, "listening", output)?;
     match browsers {
-        Some(listener) => tell_board_port(listener, output),
+        Some(listener) => tell_port(listener, "boards", output),
         None => Ok(()),
     }
-}
-
-// Writes the line with the port where browsers find boards.
-fn tell_board_port<W: Write>(listener: &TcpListener, output: &mut W) -> Result<(), ServiceFault>
-    ensures { OnOk result ((port : ℕ) × Appends (W.contents output.old) (W.contents output.new) (boards_at port)) }
-{
-    let line = board_port_line(address_of(listener)?.port());
-    write_out(output, line.as_str().as_bytes())?;
-    Ok(())
-}
-
-// The line of this port.
-fn board_port_line(port: u16) -> ArrayString<32>
-    ensures { result.bytes ≡ boards_at port }
-{
-    let mut line = ArrayString::new();
-    line.push_str("boards 127.0.0.1:");
-    line.push_str(Buffer::new().format(port));
-    line.push_str("\n");
-    line
 }

@@ -16,21 +16,17 @@ use std::time::Clock;
 #[derive(Drop)]
 struct StationLimits {
     limits: Limits,
-    transactions: AtomicBool,
-    events: AtomicBool,
-    readings: AtomicBool,
-    changes: AtomicBool,
+    // For transactions, events, readings and changes.
+    reported: [AtomicBool; 4],
 }
 
 impl StationLimits {
     // These limits; none was reported yet.
     fn of(limits: Limits) -> Self {
+        let none = || AtomicBool::new(false);
         StationLimits {
             limits,
-            transactions: AtomicBool::new(false),
-            events: AtomicBool::new(false),
-            readings: AtomicBool::new(false),
-            changes: AtomicBool::new(false),
+            reported: [none(), none(), none(), none()],
         }
     }
 }
@@ -64,29 +60,23 @@ impl NearLimits {
             return;
         };
         let most = &own.limits;
+        let (of_transactions, transactions) = (most.transactions(), used.transactions);
         let rows = [
             (
                 "transactions",
-                &own.transactions,
-                u64::from(used.transactions),
-                u64::from(most.transactions()),
+                u64::from(transactions),
+                u64::from(of_transactions),
             ),
-            (
-                "events",
-                &own.events,
-                u64::from(used.events),
-                u64::from(most.events()),
-            ),
+            ("events", u64::from(used.events), u64::from(most.events())),
             (
                 "readings",
-                &own.readings,
                 u64::from(used.readings),
                 u64::from(most.readings()),
             ),
-            ("changes", &own.changes, used.changes, most.changes()),
+            ("changes", used.changes, most.changes()),
         ];
-        for (what, told, used, limit) in rows.iter() {
-            if is_new(told, *used, *limit) {
+        for (reported, (what, used, limit)) in own.reported.iter().zip(rows.iter()) {
+            if is_new(reported, *used, *limit) {
                 log.tell_near(rt, name, what, *used, *limit);
             }
         }

@@ -11,34 +11,25 @@ ghost use Rattle.running_desk.specs.Replies.{AddsReplies};
 
 use crate::acceptor::{Acceptor, Acceptors};
 use crate::boards::SeenWithBoards;
-use crate::listeners::Listeners;
-use crate::log::Log;
 use crate::shared::{Shared, Viewers};
 use core::thread::{Anything, Stack};
-use gathered_input::Readiness;
 use running_desk::{Running, Serves, operate};
-use server_parts::{Host, ServiceFault};
+use server_parts::{Host, Input, Output, ServiceFault};
 use site_book::Viewer;
 use site_desk::Plan;
 use station_cell::Pass;
 use station_link::Delivers;
 use std::alloc::Global;
-use std::io::{BufRead, Write};
 use std::net::TcpListener;
-use std::sync::Wait;
 use std::sync::atomic::Ordering;
 use std::thread;
 use std::thread::{PromisedHandle, Scope, Threads};
-use std::time::Clock;
 
 // The stack of a session's thread, in bytes of address space.
 const SESSION_STACK: usize = 8 * 1024 * 1024;
 
 // The stack of any other thread.
 const SMALL_STACK: usize = 1024 * 1024;
-
-// How many workers wait for connections while every station has two sessions.
-const SPARE_WORKERS: usize = 32;
 
 /// The options of a live server.
 #[derive(Clone, Copy, Debug)]
@@ -51,13 +42,6 @@ pub struct Live {
     pub is_logged: bool,
     /// The port of 127.0.0.1 where browsers find boards, if any; for 0 the system chooses one.
     pub board_port: Option<u16>,
-}
-
-/// Which connections a live server serves.
-#[derive(Drop)]
-pub struct Clients {
-    /// A listener for stations that is there already, in place of one at the port of the options.
-    pub listener: Option<TcpListener>,
     /// After how many connections the server ends, without an operator; `None` if its operator's lines end it.
     pub connections: Option<u8>,
 }
@@ -65,21 +49,19 @@ pub struct Clients {
 /// The parts of a live server.
 #[derive(Drop)]
 pub struct Run<'a, R> {
-    /// Threads, locks, the clock and sockets.
+    /// Memory, threads, locks, the clock and sockets.
     pub rt: &'a R,
-    /// The allocator.
-    pub alloc: Global,
     /// The plan that is served.
     pub plan: &'a Plan,
     /// The options.
     pub live: Live,
-    /// Which connections it serves.
-    pub clients: Clients,
+    /// A listener for stations that is there already, in place of one at the port of the options.
+    pub listener: Option<TcpListener>,
 }
 
 /// The result of a server, after all threads have ended.
 #[derive(Drop)]
-pub struct Ran<S: Serves, W: Write + Drop> {
+pub struct Ran<S: Serves, W: Output> {
     /// All passes in the desk's pool.
     pub passes: Vec<Pass>,
     /// The viewers.
@@ -104,13 +86,7 @@ pub struct Ran<S: Serves, W: Write + Drop> {
 ///
 /// Condition: the desk was opened for this plan, and the plan's limits allow no more than 1,048,576
 /// readings in all.
-pub fn serve_plan_at<
-    S: Serves + Sync,
-    R: Host,
-    I: BufRead + Readiness,
-    W: Write + Drop,
-    L: Write + Send + Drop,
->(
+pub fn serve_plan_at<S: Serves + Sync, R: Host, I: Input, W: Output, L: Output>(
     run: Run<'_, R>,
     serves: &S,
     passes: Vec<Pass>,
@@ -124,39 +100,24 @@ pub fn serve_plan_at<
     ensures answered { IfOk result (λ r. All (IsAnswered S.gives) r.answers.items) }
     ensures boards { IfOk result (λ r. All (IsSeenWithBoards (S.shows serves.now)) r.boards.items) }
     ensures tells { IfOk result (λ r. IfOk r.ended (λ seen. Tells S.gives (S.shows serves.now) run.entry.plan.now.sites.items (S.roster serves.now).stations
-        (lines_in (operator_input run.entry.clients.connections (I.remaining input.old))) (W.contents output) (W.contents r.output) seen.items)) }
+        (lines_in (operator_input run.entry.live.connections (I.remaining input.old))) (W.contents output) (W.contents r.output) seen.items)) }
 {
     let Run {
         rt,
-        alloc,
         plan,
         live,
-        clients,
+        listener,
     } = run;
-    let listeners = Listeners::open(rt, clients.listener, live, &mut output)?;
+    let acceptors = Acceptors::open(rt, listener, live, &mut output)?;
     let running = Running::open(plan, serves, passes);
-    let log = Log::open(lines, live.is_logged);
-    let workers = workers_for(plan);
-    let shared = Shared::open(rt, alloc, running, clients.connections, workers, log)?;
-    Ok(serve_all(shared, &listeners, live.glances, viewers, input, output))
-}
-
-// How many workers there are: two for each station, and some more.
-fn workers_for(plan: &Plan) -> usize {
-    let sessions = plan.stations.len().saturating_mul(2);
-    sessions.saturating_add(SPARE_WORKERS)
+    let shared = Shared::open(rt, rt.alloc(), running, live, lines)?;
+    Ok(serve_all(shared, &acceptors, live.glances, viewers, input, output))
 }
 
 // Serves to the end, and takes the passes from the pool.
-fn serve_all<
-    S: Serves + Sync,
-    R: Host,
-    I: BufRead + Readiness,
-    W: Write + Drop,
-    L: Write + Send + Drop,
->(
+fn serve_all<S: Serves + Sync, R: Host, I: Input, W: Output, L: Output>(
     shared: Shared<'_, S, R, L>,
-    listeners: &Listeners,
+    acceptors: &Acceptors,
     glances: u16,
     viewers: Viewers<S>,
     input: &mut I,
@@ -164,12 +125,11 @@ fn serve_all<
 ) -> Ran<S, W>
     ensures answered { All (IsAnswered S.gives) result.answers.items }
     ensures boards { All (IsSeenWithBoards (S.shows shared.entry.running.serves.now)) result.boards.items }
-    ensures tells { IfOk result.ended (λ seen. AddsReplies S.gives (S.shows shared.entry.running.serves.now) shared.entry.running.plan.now.sites.items shared.entry.running.desk.desk.now.stations
+    ensures tells { IfOk result.ended (λ seen. AddsReplies S.gives (S.shows shared.entry.running.serves.now) shared.entry.running.plan.now.sites.items shared.entry.running.desk.now.stations
         (lines_in (operator_input shared.entry.connections (I.remaining input.old))) (W.contents output) (W.contents result.output) seen.items) }
 {
-    let acceptors = Acceptors::open(&listeners.stations, listeners.browsers.as_ref());
     let (ended, boards, viewers, output) = serve_beside(
-        &shared, &acceptors, glances, viewers, input, output,
+        &shared, acceptors, glances, viewers, input, output,
     );
     let (passes, answers) = shared.into_parts();
     Ran {
@@ -192,21 +152,15 @@ type Ended<S, W> = (
 );
 
 // Serves on threads while this thread answers the operator's lines, and then ends them all.
-fn serve_beside<
-    S: Serves + Sync,
-    R: Host,
-    I: BufRead + Readiness,
-    W: Write + Drop,
-    L: Write + Send + Drop,
->(
+fn serve_beside<S: Serves + Sync, R: Host, I: Input, W: Output, L: Output>(
     shared: &Shared<'_, S, R, L>,
-    acceptors: &Acceptors<'_>,
+    acceptors: &Acceptors,
     glances: u16,
     viewers: Viewers<S>,
     input: &mut I,
     output: W,
 ) -> Ended<S, W>
-    ensures tells { IfOk result.0 (λ seen. AddsReplies S.gives (S.shows shared.now.running.serves.now) shared.now.running.plan.now.sites.items shared.now.running.desk.desk.now.stations
+    ensures tells { IfOk result.0 (λ seen. AddsReplies S.gives (S.shows shared.now.running.serves.now) shared.now.running.plan.now.sites.items shared.now.running.desk.now.stations
         (lines_in (operator_input shared.now.connections (I.remaining input.old))) (W.contents output) (W.contents result.3) seen.items) }
     ensures boards { All (IsSeenWithBoards (S.shows shared.now.running.serves.now)) result.1.items }
 {
@@ -215,7 +169,7 @@ fn serve_beside<
         shared.rt,
         |scope| -> Ended<S, W>
             requires { IsSync R.row × IsSend S.Names.row × IsSync S.Names.row × IsSend S.Cell.row × IsSend S.Seen.row × IsSync S.row × IsSend L.row }
-            ensures { IfOk result.0 (λ seen. AddsReplies S.gives (S.shows shared.entry.now.running.serves.now) shared.entry.now.running.plan.now.sites.items shared.entry.now.running.desk.desk.now.stations
+            ensures { IfOk result.0 (λ seen. AddsReplies S.gives (S.shows shared.entry.now.running.serves.now) shared.entry.now.running.plan.now.sites.items shared.entry.now.running.desk.now.stations
                 (lines_in (operator_input shared.entry.now.connections (I.remaining input.entry.now))) (W.contents output) (W.contents result.3) seen.items)
                 × All (IsSeenWithBoards (S.shows shared.entry.now.running.serves.now)) result.1.items }
         {
@@ -242,22 +196,14 @@ type Seen<S> = (
 
 // Starts the threads at both acceptors, answers the operator's lines or waits until as many connections have ended as
 // it serves, and then waits until the threads have left.
-fn serve_until_end<
-    's,
-    E: 's,
-    S: Serves + Sync,
-    R: Host,
-    I: BufRead + Readiness,
-    W: Write,
-    L: Write + Send + Drop,
->(
+fn serve_until_end<'s, E: 's, S: Serves + Sync, R: Host, I: Input, W: Output, L: Output>(
     scope: &'s Scope<'s, E>,
     shared: &'s Shared<'_, S, R, L>,
-    acceptors: &'s Acceptors<'_>,
+    acceptors: &'s Acceptors,
     input: &mut I,
     output: &mut W,
 ) -> Seen<S>
-    ensures tells { IfOk result.0 (λ seen. AddsReplies S.gives (S.shows shared.now.running.serves.now) shared.now.running.plan.now.sites.items shared.now.running.desk.desk.now.stations
+    ensures tells { IfOk result.0 (λ seen. AddsReplies S.gives (S.shows shared.now.running.serves.now) shared.now.running.plan.now.sites.items shared.now.running.desk.now.stations
         (lines_in (operator_input shared.now.connections (I.remaining input.old))) (W.contents output.old) (W.contents output.new) seen.items) }
     ensures boards { All (IsSeenWithBoards (S.shows shared.now.running.serves.now)) result.1.items }
 {
@@ -290,14 +236,12 @@ fn seen_with_boards<S: Serves, R: Threads>(
 }
 
 // Answers the operator's lines to their end, or waits until as many connections have ended as it serves.
-fn answer_lines<
-    S: Serves,
-    R: Threads + Wait + Clock,
-    I: BufRead + Readiness,
-    W: Write,
-    L: Write + Drop,
->(shared: &Shared<'_, S, R, L>, input: &mut I, output: &mut W) -> Result<Vec<S::Seen>, ServiceFault>
-    ensures { IfOk result (λ seen. AddsReplies S.gives (S.shows shared.now.running.serves.now) shared.now.running.plan.now.sites.items shared.now.running.desk.desk.now.stations
+fn answer_lines<S: Serves, R: Host, I: Input, W: Output, L: Output>(
+    shared: &Shared<'_, S, R, L>,
+    input: &mut I,
+    output: &mut W,
+) -> Result<Vec<S::Seen>, ServiceFault>
+    ensures { IfOk result (λ seen. AddsReplies S.gives (S.shows shared.now.running.serves.now) shared.now.running.plan.now.sites.items shared.now.running.desk.now.stations
         (lines_in (operator_input shared.now.connections (I.remaining input.old))) (W.contents output.old) (W.contents output.new) seen.items) }
 {
     match shared.connections {
@@ -313,10 +257,10 @@ fn answer_lines<
 type Browsing<S> = PromisedHandle<Vec<<S as Delivers>::Seen>, SeenWithBoards<S>>;
 
 // Starts the threads at both acceptors. Returns whether all could start, and the thread that answers browsers.
-fn start_all<'s, E: 's, S: Serves + Sync, R: Threads + Wait + Clock + Sync, L: Write + Send + Drop>(
+fn start_all<'s, E: 's, S: Serves + Sync, R: Host, L: Output>(
     scope: &'s Scope<'s, E>,
     shared: &'s Shared<'_, S, R, L>,
-    acceptors: &'s Acceptors<'_>,
+    acceptors: &'s Acceptors,
 ) -> (bool, Option<Browsing<S>>)
     ensures { IfSome result.1 (λ h. h.promise.0.value ≡ shared.now.running.serves.now) }
 {
@@ -333,16 +277,10 @@ fn start_all<'s, E: 's, S: Serves + Sync, R: Threads + Wait + Clock + Sync, L: W
 }
 
 // Starts a worker, and returns whether it could start.
-fn start_worker<
-    's,
-    E: 's,
-    S: Serves + Sync,
-    R: Threads + Wait + Clock + Sync,
-    L: Write + Send + Drop,
->(
+fn start_worker<'s, E: 's, S: Serves + Sync, R: Host, L: Output>(
     scope: &'s Scope<'s, E>,
     shared: &'s Shared<'_, S, R, L>,
-    acceptor: &'s Acceptor<'_>,
+    acceptor: &'s Acceptor,
     worker: usize,
 ) -> bool {
     let Some(mark) = shared.workers.marks.get(worker) else {
@@ -357,16 +295,10 @@ fn start_worker<
 }
 
 // Starts the thread that answers browsers; none if it can't start.
-fn start_boards<
-    's,
-    E: 's,
-    S: Serves + Sync,
-    R: Threads + Wait + Clock + Sync,
-    L: Write + Send + Drop,
->(
+fn start_boards<'s, E: 's, S: Serves + Sync, R: Host, L: Output>(
     scope: &'s Scope<'s, E>,
     shared: &'s Shared<'_, S, R, L>,
-    acceptor: &'s Acceptor<'_>,
+    acceptor: &'s Acceptor,
 ) -> Option<Browsing<S>>
     ensures { IfSome result (λ h. h.promise.0.value ≡ shared.now.running.serves.now) }
 {

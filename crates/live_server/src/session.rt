@@ -31,7 +31,7 @@ const PATIENCE: Patience = Patience {
 impl<S: Serves, R: Threads + Wait + Clock, L: Write + Drop> Shared<'_, S, R, L> {
     // Accepts connections and serves each, until the server closes or as many connections came as
     // it serves.
-    pub(crate) fn work(&self, acceptor: &Acceptor<'_>, worker: usize, mark: &AtomicBool) {
+    pub(crate) fn work(&self, acceptor: &Acceptor, worker: usize, mark: &AtomicBool) {
         for _ in self.rt.forever() {
             let Some(stream) = acceptor.next(self.rt, &self.workers.closing) else {
                 acceptor.leave();
@@ -95,7 +95,7 @@ impl<S: Serves, R: Threads + Wait + Clock, L: Write + Drop> Shared<'_, S, R, L> 
         pass: Pass,
         connection: &Connection<'_, R>,
     )
-        requires { IsNamed self.now.running.desk.desk.now.stations name.now pass.station }
+        requires { IsNamed self.now.running.desk.now.stations name.now pass.station }
     {
         self.log.tell_begun(self.rt, name);
         connection.serves();
@@ -129,7 +129,7 @@ impl<S: Serves, R: Threads + Wait + Clock, L: Write + Drop> Shared<'_, S, R, L> 
         if let Some(pass) = pass {
             let changes = pass.changes().saturating_sub(before);
             self.log.tell_ended(self.rt, name, why, texts, changes);
-            let _lost = self.running.desk.lay(self.rt, pass);
+            let _lost = self.running.lay(self.rt, pass);
         }
     }
 }

@@ -4,6 +4,7 @@ ghost use Rattle.station_link.specs.Attended.{IsAnswered};
 
 use crate::log::Log;
 use crate::near_limits::NearLimits;
+use crate::service::Live;
 use crate::session_answers::SessionAnswers;
 use crate::workers::Workers;
 use running_desk::{Running, Serves};
@@ -33,28 +34,28 @@ pub(crate) struct Shared<'a, S: Serves, R, L: Write + Drop> {
 }
 
 impl<'a, S: Serves, R, L: Write + Drop> Shared<'a, S, R, L> {
-    // A running desk, its workers, which serve nobody yet, and the log.
+    // A running desk, its workers, which serve nobody yet, and the log of these lines.
     pub(crate) fn open(
         rt: &'a R,
         alloc: Global,
         running: Running<'a, S>,
-        connections: Option<u8>,
-        workers: usize,
-        log: Log<L>,
+        live: Live,
+        lines: L,
     ) -> Result<Self, AllocError>
         ensures plan { IfOk result (λ s. s.running.plan.now ≡ running.entry.plan.now) }
         ensures serves { IfOk result (λ s. s.running.serves.now ≡ running.entry.serves.now) }
-        ensures desk { IfOk result (λ s. s.running.desk.desk.now ≡ running.entry.desk.desk.now) }
-        ensures connections { IfOk result (λ s. s.connections ≡ connections) }
+        ensures desk { IfOk result (λ s. s.running.desk.now ≡ running.entry.desk.now) }
+        ensures connections { IfOk result (λ s. s.connections ≡ live.connections) }
     {
         let near = NearLimits::open(alloc, running.plan)?;
+        let workers = Workers::open(alloc, running.plan, live.connections)?;
         Ok(Shared {
             rt,
             alloc,
             running,
-            connections,
-            workers: Workers::open(alloc, workers, connections)?,
-            log,
+            connections: live.connections,
+            workers,
+            log: Log::open(lines, live.is_logged),
             near,
             answers: Mutex::new(SessionAnswers::new(alloc)),
         })
@@ -65,6 +66,6 @@ impl<'a, S: Serves, R, L: Write + Drop> Shared<'a, S, R, L> {
         ensures { All (IsAnswered S.gives) result.1.items }
     {
         let answers = self.answers.into_inner();
-        (self.running.desk.into_passes(), answers.into_seen())
+        (self.running.into_passes(), answers.into_seen())
     }
 }

@@ -1,5 +1,6 @@
 //! The workers of a live server: which connections have to end, and whether the server closes.
 use crate::seats::Seats;
+use site_desk::Plan;
 use std::alloc::{AllocError, Global};
 use std::sync::atomic::{AtomicBool, AtomicU64, Ordering};
 use std::sync::{Mutex, Wait};
@@ -8,6 +9,9 @@ use std::time::{Clock, Duration};
 
 // The time between two looks at whether all connections have ended.
 const LOOK_MILLIS: u64 = 10;
+
+// How many workers wait for connections while every station has two sessions.
+const SPARE_WORKERS: usize = 32;
 
 // The state that workers look at while they wait.
 #[derive(Drop)]
@@ -24,12 +28,17 @@ pub(crate) struct Workers {
 }
 
 impl Workers {
-    // So many workers, which serve nobody, for so many connections in all, or without end.
+    // Two workers for each station and some more, which serve nobody, for so many connections in all, or without end.
     pub(crate) fn open(
         alloc: Global,
-        workers: usize,
+        plan: &Plan,
         connections: Option<u8>,
     ) -> Result<Self, AllocError> {
+        let workers = plan
+            .stations
+            .len()
+            .saturating_mul(2)
+            .saturating_add(SPARE_WORKERS);
         let mut marks = Vec::with_capacity(alloc, workers)?;
         for _ in 0..workers {
             marks.push(AtomicBool::new(false))?;

@@ -11,6 +11,7 @@ use Rattle.journal_server.specs.Simulated.{IsSimulatedRun}
 use Rattle.journal_server.proofs.Ends.{telling}
 use Rattle.journal_script.specs.Restoring.{Grows}
 use Rattle.kept_desk.specs.Opened.{contents_of}
+use Rattle.live_server.specs.Told.{operator_input}
 use Rattle.running_desk.specs.Ordered.{lines_in}
 use Rattle.site_desk.specs.declared.plan.SitePlan.{SitePlan}
 use Rattle.site_desk.specs.declared.plan.StationPlan.{StationPlan}
@@ -56,9 +57,9 @@ new_through kept served sites stations before left input told now well r = recor
 }
 
 -- the answers of a restored run, by the end of what kept it
-pub restored_through : (kept : Result (Unit {0}) JournalFault) (served : Result (Unit {0}) ServiceFault) (allows : Bool) (input before : Option (List ℕ)) (left : Left) (told now : Option (List ℕ)) → OnOk kept (served ≡ Ok tt)
-    → IsRestoredRun allows input before left (TellsRestored served told now) → IsRestoredRun allows input before left (TellsRestored kept told now)
-restored_through kept served allows input before left told now well r = record {
+pub restored_through : (kept : Result (Unit {0}) JournalFault) (served : Result (Unit {0}) ServiceFault) (allows : Bool) (connections : Option ℕ) (input before : Option (List ℕ)) (left : Left) (told now : Option (List ℕ)) → OnOk kept (served ≡ Ok tt)
+    → IsRestoredRun allows input before left (TellsRestored served connections told now) → IsRestoredRun allows input before left (TellsRestored kept connections told now)
+restored_through kept served allows connections input before left told now well r = record {
   read = r.read;
   last = r.last;
   rest = r.rest;
@@ -72,7 +73,7 @@ restored_through kept served allows input before left told now well r = record {
   stations = r.stations;
   firsts = r.firsts;
   script = telling _ _ _ _ _ _ _ _
-      (λ log t. on_through kept served ((reported : Option (List ℕ)) × Grows told reported × IsToldOf r.sites r.stations (contents_of r.firsts) log (lines_in r.rest) reported now) well t) r.script;
+      (λ log t. on_through kept served ((reported : Option (List ℕ)) × Grows told reported × IsToldOf r.sites r.stations (contents_of r.firsts) log (lines_in (operator_input connections r.rest)) reported now) well t) r.script;
 }
 
 -- the answers of a new run, at other names of its input and of what its outputs had before
@@ -88,16 +89,16 @@ new_run (Ok s) journals consoles sites stations before before' input input' told
 new_run (Err f) journals consoles sites stations before before' input input' told told' b i t is = is
 
 -- the same of a restored run
-pub restored_run : {N T : Type 0} (r : Result (Served N T) JournalFault) (journals : N → Option (List ℕ)) (consoles : T → Option (List ℕ)) (allows : Bool) (before before' input input' told told' : Option (List ℕ))
+pub restored_run : {N T : Type 0} (r : Result (Served N T) JournalFault) (journals : N → Option (List ℕ)) (consoles : T → Option (List ℕ)) (allows : Bool) (connections : Option ℕ) (before before' input input' told told' : Option (List ℕ))
     → before ≡ before' → input ≡ input' → told ≡ told'
-    → IfOk r (λ s. IsRestoredRun allows input before (left_of journals s) (TellsRestored s.ended told (consoles s.console)))
-    → IfOk r (λ s. (e : Result (Unit {0}) JournalFault) → OnOk e (s.ended ≡ Ok tt) → IsRestoredRun allows input' before' (left_of journals s) (TellsRestored e told' (consoles s.console)))
-restored_run (Ok s) journals consoles allows before before' input input' told told' b i t is = λ e well.
-    restored_through e s.ended allows input' before' (left_of journals s) told' (consoles s.console) well
-    (subst (λ (x : Option (List ℕ)). IsRestoredRun allows input' x (left_of journals s) (TellsRestored s.ended told' (consoles s.console))) b
-    (subst (λ (x : Option (List ℕ)). IsRestoredRun allows x before (left_of journals s) (TellsRestored s.ended told' (consoles s.console))) i
-    (subst (λ (x : Option (List ℕ)). IsRestoredRun allows input before (left_of journals s) (TellsRestored s.ended x (consoles s.console))) t is)))
-restored_run (Err f) journals consoles allows before before' input input' told told' b i t is = is
+    → IfOk r (λ s. IsRestoredRun allows input before (left_of journals s) (TellsRestored s.ended connections told (consoles s.console)))
+    → IfOk r (λ s. (e : Result (Unit {0}) JournalFault) → OnOk e (s.ended ≡ Ok tt) → IsRestoredRun allows input' before' (left_of journals s) (TellsRestored e connections told' (consoles s.console)))
+restored_run (Ok s) journals consoles allows connections before before' input input' told told' b i t is = λ e well.
+    restored_through e s.ended allows connections input' before' (left_of journals s) told' (consoles s.console) well
+    (subst (λ (x : Option (List ℕ)). IsRestoredRun allows input' x (left_of journals s) (TellsRestored s.ended connections told' (consoles s.console))) b
+    (subst (λ (x : Option (List ℕ)). IsRestoredRun allows x before (left_of journals s) (TellsRestored s.ended connections told' (consoles s.console))) i
+    (subst (λ (x : Option (List ℕ)). IsRestoredRun allows input before (left_of journals s) (TellsRestored s.ended connections x (consoles s.console))) t is)))
+restored_run (Err f) journals consoles allows connections before before' input input' told told' b i t is = is
 
 -- the same of simulated stations, which write nothing to the console
 pub simulated_run : {N T : Type 0} (r : Result (Served N T) JournalFault) (journals : N → Option (List ℕ)) (consoles : T → Option (List ℕ)) (stations : ℕ) (console : T) (before : Option (List ℕ))

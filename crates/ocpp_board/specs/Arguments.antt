@@ -1,5 +1,5 @@
 -- What the program can do, and what its words ask for.
-use Rattle.std.specs.Prelude.{◌≡◌, ◌≢◌, ℕ, ◌<◌, ◌≤◌, ◌^◌, ⊤, Bool, true, false, List, [], Option, None, Some, codes, nat_lt, if◌then◌else◌, option_map, unwrap_or}
+use Rattle.std.specs.Prelude.{◌≡◌, ◌≢◌, ℕ, ◌<◌, ◌≤◌, ◌^◌, ⊤, Bool, true, false, List, [], Option, None, Some, IfSome, is_some, not, codes, nat_lt, if◌then◌else◌, option_map, unwrap_or}
 use Rattle.core.specs.Str.Parse.{IsNumeral, digits_value, without_leading_plus}
 use Rattle.clap.specs.Matches.{first_value, matched_of, one_text, raw_values}
 use Rattle.clap.specs.Walk.{Row, rows_of}
@@ -8,7 +8,7 @@ use Rattle.std.specs.declared.result.Result.{Result}
 use Rattle.std.specs.declared.result.Result.TheVariants.{Err}
 use Rattle.site_desk.specs.declared.plan.Plan.{Plan}
 use Rattle.ocpp_board.specs.declared.asked.Asked.{Asked}
-use Rattle.ocpp_board.specs.declared.asked.Asked.TheVariants.{Replay, Serve, ServeLive, ServeJournalled, ServeRestored, Simulate}
+use Rattle.ocpp_board.specs.declared.asked.Asked.TheVariants.{Replay, Serve, ServeRestored, Simulate}
 use Rattle.journal_server.specs.declared.serve.Journalling.{Journalling}
 use Rattle.live_server.specs.declared.service.Live.{Live}
 use Rattle.ledger_model.specs.declared.order.Order.{Order}
@@ -23,16 +23,19 @@ use Rattle.ocpp_board.specs.LimitWords.{AsksLimits}
 use Rattle.ocpp_board.specs.StationWords.{AnswersWords}
 use Rattle.ocpp_board.specs.declared.station_words.WordFault.{WordFault}
 use Rattle.ocpp_board.specs.declared.station_words.WordFault.TheVariants.{BadLimits}
-use Rattle.journal_server.specs.declared.unwritten.Service.{Service}
 use Rattle.station_link.specs.Sim.{IsSimulated}
 
--- A server is asked for 1 to 64 connections, a simulation for 1 to 64 stations and 2 to 64 events.
+-- A server ends after 1 to 64 connections, or no number of them ends it.
+abbrev pub IsCounted : Option ℕ → Type 0
+IsCounted None = ⊤
+IsCounted (Some connections) = (1 ≤ connections) × (connections ≤ 64)
+
+-- A server is asked for 1 to 64 connections, if for a number of them; a simulation for 1 to 64 stations and 2 to 64
+-- events.
 abbrev pub IsAskable : Asked → Type 0
 IsAskable Replay = ⊤
-IsAskable (Serve plan service) = (1 ≤ service.connections) × (service.connections ≤ 64)
-IsAskable (ServeLive plan live) = ⊤
-IsAskable (ServeJournalled plan journalling) = ⊤
-IsAskable (ServeRestored restoring journalled) = ⊤
+IsAskable (Serve plan journalling journalled) = IsCounted journalling.live.connections
+IsAskable (ServeRestored restoring journalled) = IsCounted restoring.journalling.live.connections
 IsAskable (Simulate stations events) = IsSimulated stations events
 
 -- An option gives this number: that of its text, if the text is a decimal below this power of 2;
@@ -61,32 +64,23 @@ pub record GivesSome (found : Found) (option : List ℕ) (bits : ℕ) (number : 
       → number ≡ Some (digits_value 10 (without_leading_plus text))
   pub none : one_text found option ≡ None → number ≡ None
 
--- What the options of `serve --live` ask for.
+-- No number of connections ends a live server; that of its option ends any other.
+pub record AsksConnections (found : Found) (connections : Option ℕ) : Type 0 where
+  pub live : IsFlag found (codes "live") (not (is_some connections))
+  pub count : IfSome connections (GivesWithin found (codes "connections") 8 1 1 64)
+
+-- What the options of a server ask for.
 pub record AsksLive (found : Found) (live : Live) : Type 0 where
   pub port : Gives found (codes "port") 16 0 live.port
   pub watch : Gives found (codes "watch") 16 0 live.glances
   pub log : IsFlag found (codes "log") live.is_logged
   pub boards : GivesSome found (codes "board-port") 16 live.board_port
+  pub connections : AsksConnections found live.connections
 
--- What the options of `serve --live --journal` ask for.
+-- What the options of a server ask for, with that of its receipts' times.
 pub record AsksJournalling (found : Found) (journalling : Journalling) : Type 0 where
   pub live : AsksLive found journalling.live
   pub receipt_times : IsFlag found (codes "receipt-times") journalling.has_receipt_times
-
--- The words ask for a live server.
-abbrev pub is_live : Asked → Bool
-is_live Replay = false
-is_live (Serve plan service) = false
-is_live (ServeLive plan live) = true
-is_live (ServeJournalled plan journalling) = true
-is_live (ServeRestored restoring journalled) = true
-is_live (Simulate stations events) = false
-
--- What the options of `serve` without `--live` ask for.
-pub record AsksService (found : Found) (service : Service) : Type 0 where
-  pub port : Gives found (codes "port") 16 0 service.port
-  pub connections : GivesWithin found (codes "connections") 8 1 1 64 service.connections
-  pub watch : Gives found (codes "watch") 16 0 service.glances
 
 -- The rule of settling that a word asks for: the one that it names; by the later reading if it names none
 -- or there is no word.
@@ -134,7 +128,7 @@ AsksStations found glances (Some limits) plan = (period : Periods) × (AsksPerio
 abbrev pub AsksPlan : Found → ℕ → Result Plan WordFault → Type 0
 AsksPlan found glances plan = (limits : Option Bounds) × (AsksLimits (option_words found (codes "limits")) limits × AsksStations found glances limits plan)
 
--- Whether a live server has a journal, and whether it is restored.
+-- Whether a server has a journal, and whether it is restored.
 pub record AsksKept (found : Found) (journal restore : Bool) : Type 0 where
   pub journals : IsFlag found (codes "journal") journal
   pub restores : IsFlag found (codes "restore") restore
@@ -142,18 +136,14 @@ pub record AsksKept (found : Found) (journal restore : Bool) : Type 0 where
 -- The words ask for a server with these options, and with the plan of its words or of a script.
 abbrev pub AsksServe : Found → Asked → Type 0
 AsksServe found Replay = ⊥
-AsksServe found (Serve plan service) = AsksService found service × AsksPlan found service.glances plan
-AsksServe found (ServeLive plan live) = AsksLive found live × AsksPlan found live.glances plan × AsksKept found false false
-AsksServe found (ServeJournalled plan journalling) = AsksJournalling found journalling × AsksPlan found journalling.live.glances plan × AsksKept found true false
+AsksServe found (Serve plan journalling journalled) = AsksJournalling found journalling × AsksPlan found journalling.live.glances plan × AsksKept found journalled false
 AsksServe found (ServeRestored restoring journalled) = AsksJournalling found restoring.journalling × AsksKept found journalled true × IsFlag found (codes "allow-left-out") restoring.allows_left_out
 AsksServe found (Simulate stations events) = ⊥
 
 -- The words ask for a simulation.
 abbrev pub AsksSimulate : Found → Asked → Type 0
 AsksSimulate found Replay = ⊥
-AsksSimulate found (Serve plan service) = ⊥
-AsksSimulate found (ServeLive plan live) = ⊥
-AsksSimulate found (ServeJournalled plan live) = ⊥
+AsksSimulate found (Serve plan journalling journalled) = ⊥
 AsksSimulate found (ServeRestored restoring journalled) = ⊥
 AsksSimulate found (Simulate stations events) = GivesWithin found (codes "stations") 16 2 1 64 stations × GivesWithin found (codes "events") 32 3 2 64 events
 

@@ -13,6 +13,7 @@ use Rattle.journal_script.specs.declared.fault.RestoreFault.TheVariants as resto
 use Rattle.journal_server.specs.declared.fault.JournalFault.{JournalFault}
 use Rattle.journal_server.specs.declared.fault.JournalFault.TheVariants.{Service, Restore, LeftOut}
 use Rattle.journal_server.specs.Left.{Left}
+use Rattle.live_server.specs.Told.{operator_input}
 use Rattle.journal_server.specs.Served.{IsNewRun, IsRestoredRun, TellsNew, TellsRestored}
 use Rattle.script_lines.specs.declared.fault.ReplayFault.{ReplayFault}
 use Rattle.script_lines.specs.declared.fault.ReplayFault.TheVariants as replay
@@ -21,9 +22,13 @@ use Rattle.script_replay.specs.declared.whole.Ended.{Ended}
 use Rattle.site_desk.specs.declared.plan.Plan.{Plan}
 use Rattle.server_parts.specs.declared.fault.ServiceFault.{ServiceFault}
 use Rattle.server_parts.specs.declared.fault.ServiceFault.TheVariants as service
+use Rattle.board_report.specs.declared.closed.BoardsFault.TheVariants as board
+use Rattle.site_desk.specs.declared.fault.CloseFault.TheVariants as close
+use Rattle.site_desk.specs.declared.fault.DeskFault.TheVariants as desk
+use Rattle.station_link.specs.declared.sim.SimFault.TheVariants as sim
 use Rattle.journal_server.specs.Simulated.{IsSimulatedRun}
 use Rattle.ocpp_board.specs.declared.asked.Asked.{Asked}
-use Rattle.ocpp_board.specs.declared.asked.Asked.TheVariants.{Replay, Serve, ServeLive, ServeJournalled, ServeRestored, Simulate}
+use Rattle.ocpp_board.specs.declared.asked.Asked.TheVariants.{Replay, Serve, ServeRestored, Simulate}
 use Rattle.ocpp_board.specs.declared.station_words.WordFault.{WordFault}
 use Rattle.ocpp_board.specs.declared.station_words.WordFault.TheVariants.{BadLimits, BadStation, PlanLimit}
 use Rattle.ocpp_board.specs.declared.run.Ran.{Ran}
@@ -31,16 +36,24 @@ use Rattle.ocpp_board.specs.Arguments.{IsAskedBy}
 
 -- The name of a fault of a server.
 abbrev pub service_name : ServiceFault → List ℕ
-service_name service.PlanLimit = codes "PlanLimit"
-service_name service.StationTwice = codes "StationTwice"
 service_name (service.ListenFailed code) = codes "ListenFailed"
-service_name service.HandshakeFailed = codes "HandshakeFailed"
-service_name service.ReadFault = codes "ReadFault"
-service_name service.WriteFault = codes "WriteFault"
+service_name (service.Desk desk.PlanLimit) = codes "PlanLimit"
+service_name (service.Desk desk.StationTwice) = codes "StationTwice"
+service_name (service.Desk desk.OutOfMemory) = codes "OutOfMemory"
+service_name (service.Sim sim.HandshakeFailed) = codes "HandshakeFailed"
+service_name (service.Sim sim.ReadFault) = codes "ReadFault"
+service_name (service.Sim sim.WriteFault) = codes "WriteFault"
+service_name (service.Sim sim.OutOfMemory) = codes "OutOfMemory"
+service_name (service.Input replay.ReadFault) = codes "ReadFault"
+service_name (service.Input replay.WriteFault) = codes "WriteFault"
+service_name (service.Input replay.TooMuchInput) = codes "TooMuchInput"
+service_name (service.Input replay.OutOfMemory) = codes "OutOfMemory"
+service_name (service.Output board.OutOfMemory) = codes "OutOfMemory"
+service_name (service.Output board.WriteFault) = codes "WriteFault"
+service_name (service.Close close.PassMissing) = codes "PassMissing"
+service_name (service.Close close.ViewerMissing) = codes "ViewerMissing"
+service_name (service.Close close.Torn) = codes "Torn"
 service_name service.OutOfMemory = codes "OutOfMemory"
-service_name service.PassMissing = codes "PassMissing"
-service_name service.ViewerMissing = codes "ViewerMissing"
-service_name service.Torn = codes "Torn"
 
 -- The name of a fault of a script to restore.
 abbrev pub restore_name : RestoreFault → List ℕ
@@ -64,16 +77,15 @@ word_name (PlanLimit word) = codes "PlanLimit"
 
 -- The exit status after a fault of a server: 2 if its plan has a fault, else 1.
 abbrev pub fault_status : JournalFault → ℕ
-fault_status (Service service.PlanLimit) = 2
-fault_status (Service service.StationTwice) = 2
 fault_status (Service (service.ListenFailed code)) = 1
-fault_status (Service service.HandshakeFailed) = 1
-fault_status (Service service.ReadFault) = 1
-fault_status (Service service.WriteFault) = 1
+fault_status (Service (service.Desk desk.PlanLimit)) = 2
+fault_status (Service (service.Desk desk.StationTwice)) = 2
+fault_status (Service (service.Desk desk.OutOfMemory)) = 1
+fault_status (Service (service.Sim fault)) = 1
+fault_status (Service (service.Input fault)) = 1
+fault_status (Service (service.Output fault)) = 1
+fault_status (Service (service.Close fault)) = 1
 fault_status (Service service.OutOfMemory) = 1
-fault_status (Service service.PassMissing) = 1
-fault_status (Service service.ViewerMissing) = 1
-fault_status (Service service.Torn) = 1
 fault_status (Restore fault) = 1
 fault_status LeftOut = 1
 
@@ -124,19 +136,17 @@ IsWordMistake reports fault output errors run = (cause : List ℕ) × IsMistake 
 -- A run of what the words ask for, with this input, output, console and standard error.
 abbrev pub Runs : {W C E : Type 0} → (W → Option (List ℕ)) → (C → Option (List ℕ)) → (E → Option (List ℕ)) → Asked → Option (List ℕ) → W → C → E → Ran W C E → Type 0
 Runs contents consoles reports Replay input output console errors ran = IsReplayRun contents reports input output errors ran.ended
-Runs contents consoles reports (Serve (Err fault) service) input output console errors ran = IsWordMistake reports fault output errors ran.ended
-Runs contents consoles reports (Serve (Ok plan) service) input output console errors ran =
-    IsUnwrittenRun contents reports errors ran (λ left ended answered. IsNewRun plan.sites.items plan.stations.items None left (TellsNew ended plan.stations.items (Some []) (contents output) answered))
-Runs contents consoles reports (ServeLive (Err fault) live) input output console errors ran = IsWordMistake reports fault output errors ran.ended
-Runs contents consoles reports (ServeLive (Ok plan) live) input output console errors ran =
-    IsUnwrittenRun contents reports errors ran (λ left ended answered. IsNewRun plan.sites.items plan.stations.items None left (TellsNew ended plan.stations.items input (contents output) answered))
-Runs contents consoles reports (ServeJournalled (Err fault) journalling) input output console errors ran = IsWordMistake reports fault output errors ran.ended
-Runs contents consoles reports (ServeJournalled (Ok plan) journalling) input output console errors ran =
-    IsJournalRun contents consoles reports errors ran (λ left ended answered. IsNewRun plan.sites.items plan.stations.items (contents output) left (TellsNew ended plan.stations.items input (consoles console) answered))
+Runs contents consoles reports (Serve (Err fault) journalling journalled) input output console errors ran = IsWordMistake reports fault output errors ran.ended
+Runs contents consoles reports (Serve (Ok plan) journalling true) input output console errors ran =
+    IsJournalRun contents consoles reports errors ran
+    (λ left ended answered. IsNewRun plan.sites.items plan.stations.items (contents output) left (TellsNew ended plan.stations.items (operator_input journalling.live.connections input) (consoles console) answered))
+Runs contents consoles reports (Serve (Ok plan) journalling false) input output console errors ran =
+    IsUnwrittenRun contents reports errors ran
+    (λ left ended answered. IsNewRun plan.sites.items plan.stations.items None left (TellsNew ended plan.stations.items (operator_input journalling.live.connections input) (contents output) answered))
 Runs contents consoles reports (ServeRestored restoring true) input output console errors ran =
-    IsJournalRun contents consoles reports errors ran (λ left ended answered. IsRestoredRun restoring.allows_left_out input (contents output) left (TellsRestored ended (consoles console) answered))
+    IsJournalRun contents consoles reports errors ran (λ left ended answered. IsRestoredRun restoring.allows_left_out input (contents output) left (TellsRestored ended restoring.journalling.live.connections (consoles console) answered))
 Runs contents consoles reports (ServeRestored restoring false) input output console errors ran =
-    IsUnwrittenRun contents reports errors ran (λ left ended answered. IsRestoredRun restoring.allows_left_out input None left (TellsRestored ended (contents output) answered))
+    IsUnwrittenRun contents reports errors ran (λ left ended answered. IsRestoredRun restoring.allows_left_out input None left (TellsRestored ended restoring.journalling.live.connections (contents output) answered))
 Runs contents consoles reports (Simulate stations events) input output console errors ran =
     IsUnwrittenRun contents reports errors ran (λ left ended answered. (answered ≡ contents output) × IsSimulatedRun stations left)
 

@@ -1,12 +1,12 @@
 //! What the options of a command ask for.
-ghost use Rattle.std.specs.Prelude.{◌≡◌, ◌≤◌, codes, option_map, true};
+ghost use Rattle.std.specs.Prelude.{◌≡◌, option_map};
 ghost use Rattle.clap.specs.Matches.{found_of};
-ghost use Rattle.ocpp_board.specs.Arguments.{AsksLength, AsksLive, AsksOrder, AsksPeriod, AsksPlan, AsksServe, AsksService, AsksSimulate, IsAskable, IsFlag, asked_rule, is_live};
+ghost use Rattle.ocpp_board.specs.Arguments.{AsksConnections, AsksLength, AsksLive, AsksOrder, AsksPeriod, AsksPlan, AsksServe, AsksSimulate, IsAskable, IsCounted, asked_rule};
 
 use crate::limit_words::limits_of;
 use crate::station_words::{WordFault, plan_of};
 use clap::ArgMatches;
-use journal_server::{Journalling, MAX_CONNECTIONS, MAX_SIMULATED_EVENTS, Restoring, Service};
+use journal_server::{Journalling, MAX_SIMULATED_EVENTS, Restoring};
 use ledger_model::{MAX_STATIONS, Order, Period, Periods, Settle};
 use live_server::Live;
 use script_lines::{order_of, settle_of};
@@ -15,16 +15,16 @@ use site_desk::Plan;
 /// How many stations a simulation may have: as many as a plan.
 pub const MAX_SIMULATED_STATIONS: u16 = MAX_STATIONS as u16;
 
+/// How many connections a server may be asked to serve.
+pub const MAX_CONNECTIONS: u8 = 64;
+
 /// What the program is asked to do.
 pub enum Asked<'a> {
     /// To answer a script.
     Replay,
-    /// To serve the stations of a plan, over 1 to 64 connections; or what is wrong with their words.
-    Serve(Result<Plan, WordFault<'a>>, Service),
-    /// To serve the stations of a plan for as long as an operator's lines come; or what is wrong with their words.
-    ServeLive(Result<Plan, WordFault<'a>>, Live),
-    /// To serve a plan until the operator's lines end, with a journal on standard output.
-    ServeJournalled(Result<Plan, WordFault<'a>>, Journalling),
+    /// To serve the stations of a plan, and whether with a journal on standard output; or what is wrong with their
+    /// words.
+    Serve(Result<Plan, WordFault<'a>>, Journalling, bool),
     /// To serve the stations of a script that standard input begins with, and whether with a journal.
     ServeRestored(Restoring, bool),
     /// To play simulated stations: how many, 1 to 64, and how many events each has, 2 to 64.
@@ -35,25 +35,9 @@ pub enum Asked<'a> {
 pub fn serve_asked<'a>(matches: &ArgMatches<'a>) -> Asked<'a>
     ensures range { IsAskable result }
     ensures asked { AsksServe (found_of matches.now) result }
-    ensures lives { IsFlag (found_of matches.now) (codes "live") (is_live result) }
 {
-    if matches.get_flag("live") {
-        live_asked(matches)
-    } else {
-        let service = service_of(matches);
-        Asked::Serve(plan_asked(matches, service.glances), service)
-    }
-}
-
-// What the words of `serve --live` ask for.
-fn live_asked<'a>(matches: &ArgMatches<'a>) -> Asked<'a>
-    ensures range { IsAskable result }
-    ensures asked { AsksServe (found_of matches.now) result }
-    ensures lives { is_live result ≡ true }
-{
-    let live = live_of(matches);
     let journalling = Journalling {
-        live,
+        live: live_of(matches),
         has_receipt_times: matches.get_flag("receipt-times"),
     };
     let is_journalled = matches.get_flag("journal");
@@ -64,10 +48,9 @@ fn live_asked<'a>(matches: &ArgMatches<'a>) -> Asked<'a>
             allows_left_out,
         };
         Asked::ServeRestored(restoring, is_journalled)
-    } else if is_journalled {
-        Asked::ServeJournalled(plan_asked(matches, live.glances), journalling)
     } else {
-        Asked::ServeLive(plan_asked(matches, live.glances), live)
+        let plan = plan_asked(matches, journalling.live.glances);
+        Asked::Serve(plan, journalling, is_journalled)
     }
 }
 
@@ -84,31 +67,31 @@ fn plan_asked<'a>(matches: &ArgMatches<'a>, glances: u16) -> Result<Plan, WordFa
     plan_of(words, viewers, period, order, limits)
 }
 
-/// What the options of `serve --live` ask for.
+/// What the options of a server ask for.
 pub fn live_of(matches: &ArgMatches<'_>) -> Live
-    ensures { AsksLive (found_of matches.now) result }
+    ensures range { IsCounted result.connections }
+    ensures asked { AsksLive (found_of matches.now) result }
 {
     Live {
         port: matches.get_one::<u16>("port").unwrap_or(0),
         glances: matches.get_one::<u16>("watch").unwrap_or(0),
         is_logged: matches.get_flag("log"),
         board_port: matches.get_one::<u16>("board-port"),
+        connections: connections_of(matches),
     }
 }
 
-/// What the options of `serve` ask for. The number of connections is in range already; the clamp shows it to the
-/// checker.
-pub fn service_of(matches: &ArgMatches<'_>) -> Service
-    ensures range { (1 ≤ result.connections) × (result.connections ≤ 64) }
-    ensures asked { AsksService (found_of matches.now) result }
+// After how many connections a server ends; none if its operator's lines end it. The number is in range already; the
+// clamp shows it to the checker.
+fn connections_of(matches: &ArgMatches<'_>) -> Option<u8>
+    ensures range { IsCounted result }
+    ensures asked { AsksConnections (found_of matches.now) result }
 {
-    let connections = matches.get_one::<u8>("connections");
-    let watch = matches.get_one::<u16>("watch");
-    Service {
-        port: matches.get_one::<u16>("port").unwrap_or(0),
-        connections: connections.unwrap_or(1).clamp(1, MAX_CONNECTIONS),
-        glances: watch.unwrap_or(0),
+    if matches.get_flag("live") {
+        return None;
     }
+    let connections = matches.get_one::<u8>("connections").unwrap_or(1);
+    Some(connections.clamp(1, MAX_CONNECTIONS))
 }
 
 /// The settlement periods of all sites.

@@ -47,7 +47,7 @@ fn run_words<
         + Net<Listener = TcpListener, Stream = TcpStream>,
     R: Read + Readiness + Drop,
     W: Write + Send + Drop,
-    C: Write + Drop,
+    C: Write + Send + Drop,
     E: Write + Drop,
     L: Write + Send + Drop,
 >(rt: &X, input: R, output: W, console: C, errors: E, lines: L) -> u8 {

@@ -3,9 +3,9 @@ ghost use Rattle.std.specs.Prelude.{◌≡◌, IfOk, true};
 ghost use Rattle.clap.specs.Simple.{app_of, is_simple};
 ghost use Rattle.ocpp_board.specs.Options.{IsCommand, IsOption, IsPlaced, IsProgram, TakesOptions};
 
-use crate::asked::MAX_SIMULATED_STATIONS;
+use crate::asked::{MAX_CONNECTIONS, MAX_SIMULATED_STATIONS};
 use clap::{Arg, ArgAction, Command, value_parser};
-use journal_server::{MAX_CONNECTIONS, MAX_SIMULATED_EVENTS};
+use journal_server::MAX_SIMULATED_EVENTS;
 use std::alloc::{AllocError, Global};
 
 // How many times a server's totals may be shown.
@@ -19,6 +19,29 @@ const ORDERS: [&str; 2] = ["sequence", "moment"];
 
 // The rules by which differences may count in settlement periods.
 const RULES: [&str; 3] = ["later", "closing", "even"];
+
+// What options do that have no number.
+const ORDER: &str =
+    "How all sites take a transaction's readings: by the numbers of their events, or by their own moments";
+
+const SETTLE: &str =
+    "How all sites settle a difference: in the period of its later reading, in the one that this reading closes, or by even shares of the time";
+
+const LIVE: &str =
+    "Serve until standard input ends or says `close`, and answer its lines meanwhile";
+
+const JOURNAL: &str =
+    "With --live, write a journal to standard output: a line for each change before its answer";
+
+const TIMES: &str =
+    "With --journal, write the time at which each line was taken in front of it, as a comment";
+
+const RESTORE: &str =
+    "With --live, begin with the script on standard input up to its line `listen`";
+
+const LEFT_OUT: &str = "With --restore, serve although a line of the script is lost";
+
+const LOG: &str = "With --live, report on standard error which sessions begin and end";
 
 // What help calls the four limits.
 const LIMITS: [&str; 4] = ["TRANSACTIONS", "EVENTS", "READINGS", "CHANGES"];
@@ -172,7 +195,7 @@ fn serve_command<'a>(alloc: Global) -> Result<Command<'a>, AllocError>
     with_words(command, station_words(alloc)?)
 }
 
-// The command with the options that have a number.
+// The command with the options that have a value.
 fn with_numbers<'a>(alloc: Global, command: Command<'a>) -> Result<Command<'a>, AllocError>
     requires { TakesOptions command }
     ensures { IfOk result TakesOptions }
@@ -180,9 +203,13 @@ fn with_numbers<'a>(alloc: Global, command: Command<'a>) -> Result<Command<'a>, 
     let command = with_option(command, port_option(alloc))?;
     let command = with_option(command, connections_option(alloc))?;
     let command = with_option(command, watch_option(alloc))?;
-    let command = with_option(command, period_option(alloc))?;
-    let command = with_option(command, order_option(alloc))?;
-    let command = with_option(command, settle_option(alloc))?;
+    let help = "The settlement period of all sites' boards, in seconds";
+    let period = option(alloc, "period", "SECONDS", "900", help).value_parser(PERIODS.as_slice());
+    let command = with_option(command, period)?;
+    let order = option(alloc, "order", "WORD", "sequence", ORDER).value_parser(ORDERS.as_slice());
+    let command = with_option(command, order)?;
+    let settle = option(alloc, "settle", "WORD", "later", SETTLE).value_parser(RULES.as_slice());
+    let command = with_option(command, settle)?;
     with_option(command, limits_option(alloc))
 }
 
@@ -191,13 +218,29 @@ fn with_life<'a>(alloc: Global, command: Command<'a>) -> Result<Command<'a>, All
     requires { TakesOptions command }
     ensures { IfOk result TakesOptions }
 {
-    let command = with_option(command, live_option(alloc)?)?;
-    let command = with_option(command, journal_option(alloc)?)?;
-    let command = with_option(command, receipt_times_option(alloc)?)?;
+    let live = flag(alloc, "live", LIVE).conflicts_with("connections")?;
+    let command = with_option(command, live)?;
+    let command = with_option(
+        command,
+        flag(alloc, "journal", JOURNAL).requires_arg("live")?,
+    )?;
+    let times = flag(alloc, "receipt-times", TIMES).requires_arg("journal")?;
+    let command = with_option(command, times)?;
     let command = with_option(command, restore_option(alloc)?)?;
-    let command = with_option(command, allow_left_out_option(alloc)?)?;
-    let command = with_option(command, log_option(alloc)?)?;
+    let left_out = flag(alloc, "allow-left-out", LEFT_OUT).conflicts_with("stations")?;
+    let command = with_option(command, left_out.requires_arg("restore")?)?;
+    let command = with_option(command, flag(alloc, "log", LOG).requires_arg("live")?)?;
     with_option(command, board_port_option(alloc)?)
+}
+
+// An option without a value.
+fn flag<'a>(alloc: Global, name: &'a str, help: &'a str) -> Arg<'a>
+    ensures { IsOption result }
+{
+    Arg::new(alloc, name)
+        .long(name)
+        .action(ArgAction::SetTrue)
+        .help(help)
 }
 
 // An option with a value; this is its value if it is not used.
@@ -243,29 +286,6 @@ fn watch_option<'a>(alloc: Global) -> Arg<'a>
     ))
 }
 
-fn period_option<'a>(alloc: Global) -> Arg<'a>
-    ensures { IsOption result }
-{
-    let help = "The settlement period of all sites' boards, in seconds";
-    option(alloc, "period", "SECONDS", "900", help).value_parser(PERIODS.as_slice())
-}
-
-fn order_option<'a>(alloc: Global) -> Arg<'a>
-    ensures { IsOption result }
-{
-    let help =
-        "How all sites take a transaction's readings: by the numbers of their events, or by their own moments";
-    option(alloc, "order", "WORD", "sequence", help).value_parser(ORDERS.as_slice())
-}
-
-fn settle_option<'a>(alloc: Global) -> Arg<'a>
-    ensures { IsOption result }
-{
-    let help =
-        "How all sites settle a difference: in the period of its later reading, in the one that this reading closes, or by even shares of the time";
-    option(alloc, "settle", "WORD", "later", help).value_parser(RULES.as_slice())
-}
-
 fn limits_option<'a>(alloc: Global) -> Arg<'a>
     ensures { IsOption result }
 {
@@ -279,50 +299,11 @@ fn limits_option<'a>(alloc: Global) -> Arg<'a>
         .value_parser(value_parser!(u64))
 }
 
-fn live_option<'a>(alloc: Global) -> Result<Arg<'a>, AllocError>
-    ensures { IfOk result IsOption }
-{
-    Arg::new(alloc, "live")
-        .long("live")
-        .action(ArgAction::SetTrue)
-        .help("Serve until standard input ends or says `close`, and answer its lines meanwhile")
-        .conflicts_with("connections")
-}
-
-fn journal_option<'a>(alloc: Global) -> Result<Arg<'a>, AllocError>
-    ensures { IfOk result IsOption }
-{
-    Arg::new(alloc, "journal")
-        .long("journal")
-        .action(ArgAction::SetTrue)
-        .help(
-            "With --live, write a journal to standard output: a line for each change before its answer",
-        )
-        .requires_arg("live")
-}
-
-fn receipt_times_option<'a>(alloc: Global) -> Result<Arg<'a>, AllocError>
-    ensures { IfOk result IsOption }
-{
-    Arg::new(alloc, "receipt-times")
-        .long("receipt-times")
-        .action(ArgAction::SetTrue)
-        .help(
-            "With --journal, write the time at which each line was taken in front of it, as a comment",
-        )
-        .requires_arg("journal")
-}
-
 fn restore_option<'a>(alloc: Global) -> Result<Arg<'a>, AllocError>
     ensures { IfOk result IsOption }
 {
-    let option = Arg::new(alloc, "restore")
-        .long("restore")
-        .action(ArgAction::SetTrue)
-        .help("With --live, begin with the script on standard input up to its line `listen`")
-        .conflicts_with("stations")?
-        .requires_arg("live")?;
-    without_plan(option)
+    let option = flag(alloc, "restore", RESTORE).conflicts_with("stations")?;
+    without_plan(option.requires_arg("live")?)
 }
 
 // The option, which does not go with those that say how sites and stations are.
@@ -335,27 +316,6 @@ fn without_plan<'a>(option: Arg<'a>) -> Result<Arg<'a>, AllocError>
         .conflicts_with("order")?
         .conflicts_with("settle")?
         .conflicts_with("limits")
-}
-
-fn allow_left_out_option<'a>(alloc: Global) -> Result<Arg<'a>, AllocError>
-    ensures { IfOk result IsOption }
-{
-    Arg::new(alloc, "allow-left-out")
-        .long("allow-left-out")
-        .action(ArgAction::SetTrue)
-        .help("With --restore, serve although a line of the script is lost")
-        .conflicts_with("stations")?
-        .requires_arg("restore")
-}
-
-fn log_option<'a>(alloc: Global) -> Result<Arg<'a>, AllocError>
-    ensures { IfOk result IsOption }
-{
-    Arg::new(alloc, "log")
-        .long("log")
-        .action(ArgAction::SetTrue)
-        .help("With --live, report on standard error which sessions begin and end")
-        .requires_arg("live")
 }
 
 fn board_port_option<'a>(alloc: Global) -> Result<Arg<'a>, AllocError>

@@ -8,13 +8,13 @@ use std::random::RandomSource;
 /// The machine that the program runs on, and the types of its streams.
 pub trait Process {
     /// The machine.
-    type Runtime: AllocGlobal + Host + RandomSource;
+    type Runtime: Host + RandomSource;
     /// Standard input.
     type Input: Read + Readiness + Drop;
     /// Standard output.
     type Output: Write + Send + Drop;
     /// Standard error, as the console of a server with a journal.
-    type Console: Write + Drop;
+    type Console: Write + Send + Drop;
     /// Standard error, as a run reports its end there.
     type Errors: Write + Drop;
     /// Standard error, as a server shows totals and logs sessions there.
@@ -22,10 +22,10 @@ pub trait Process {
 }
 
 impl<
-    X: AllocGlobal + Host + RandomSource,
+    X: Host + RandomSource,
     R: Read + Readiness + Drop,
     W: Write + Send + Drop,
-    C: Write + Drop,
+    C: Write + Send + Drop,
     E: Write + Drop,
     L: Write + Send + Drop,
 > Process for (X, R, W, C, E, L) {

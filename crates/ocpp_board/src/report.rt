@@ -1,19 +1,21 @@
 //! How a server's end is reported on standard error.
 ghost use Rattle.std.specs.Prelude.{◌≡◌, ◌++◌, ℕ, List};
-ghost use Rattle.ocpp_board.specs.Run.{IsServerEnd, IsServerReport, IsWordMistake, server_name, server_status, word_name};
+ghost use Rattle.ocpp_board.specs.Run.{IsServerEnd, IsServerReport, IsWordMistake, server_name, server_status, service_name, word_name};
 ghost use Rattle.script_replay.specs.Whole.{Writes, fault_report};
 
 use crate::run::{Ran, unserved};
 use crate::station_words::WordFault;
+use board_report::BoardsFault;
 use journal_script::RestoreFault;
 use journal_server::JournalFault;
 use ledger_model::{
     MAX_CHANGES, MAX_EVENTS, MAX_PLAN_READINGS, MAX_SITES, MAX_STATIONS, MAX_TRANSACTIONS,
 };
-use script_lines::{WriteStopped, write_bytes};
+use script_lines::{ReplayFault, WriteStopped, write_bytes};
 use script_replay::{Ended, MISTAKEN};
 use server_parts::ServiceFault;
-use site_desk::Plan;
+use site_desk::{CloseFault, DeskFault, Plan};
+use station_link::SimFault;
 use std::alloc::Global;
 use std::io;
 use std::io::Write;
@@ -74,9 +76,11 @@ fn status_of(ended: Result<(), JournalFault>) -> u8
 {
     match ended {
         Ok(()) => 0,
-        Err(JournalFault::Service(ServiceFault::PlanLimit | ServiceFault::StationTwice)) => {
-            MISTAKEN
-        }
+        Err(
+            JournalFault::Service(
+                ServiceFault::Desk(DeskFault::PlanLimit | DeskFault::StationTwice),
+            ),
+        ) => MISTAKEN,
         Err(_) => STOPPED,
     }
 }
@@ -86,22 +90,40 @@ fn fault_line(fault: JournalFault) -> &'static [u8]
     ensures { result.now ≡ fault_report (server_name fault) }
 {
     match fault {
-        JournalFault::Service(ServiceFault::PlanLimit) => b"fault PlanLimit\n",
-        JournalFault::Service(ServiceFault::StationTwice) => b"fault StationTwice\n",
-        JournalFault::Service(ServiceFault::ListenFailed(_)) => b"fault ListenFailed\n",
-        JournalFault::Service(ServiceFault::HandshakeFailed) => b"fault HandshakeFailed\n",
-        JournalFault::Service(ServiceFault::ReadFault) => b"fault ReadFault\n",
-        JournalFault::Service(ServiceFault::WriteFault) => b"fault WriteFault\n",
-        JournalFault::Service(ServiceFault::OutOfMemory) => b"fault OutOfMemory\n",
-        JournalFault::Service(ServiceFault::PassMissing) => b"fault PassMissing\n",
-        JournalFault::Service(ServiceFault::ViewerMissing) => b"fault ViewerMissing\n",
-        JournalFault::Service(ServiceFault::Torn) => b"fault Torn\n",
+        JournalFault::Service(fault) => service_line(fault),
         JournalFault::Restore(RestoreFault::NotRestored) => b"fault NotRestored\n",
         JournalFault::Restore(RestoreFault::NotMarked) => b"fault NotMarked\n",
         JournalFault::Restore(RestoreFault::ReadFault) => b"fault ReadFault\n",
         JournalFault::Restore(RestoreFault::TooMuchInput) => b"fault TooMuchInput\n",
         JournalFault::Restore(RestoreFault::OutOfMemory) => b"fault OutOfMemory\n",
         JournalFault::LeftOut => b"fault LeftOut\n",
+    }
+}
+
+// The line `fault <name>` of a server, with a journal or without.
+fn service_line(fault: ServiceFault) -> &'static [u8]
+    ensures { result.now ≡ fault_report (service_name fault) }
+{
+    match fault {
+        ServiceFault::ListenFailed(_) => b"fault ListenFailed\n",
+        ServiceFault::Desk(DeskFault::PlanLimit) => b"fault PlanLimit\n",
+        ServiceFault::Desk(DeskFault::StationTwice) => b"fault StationTwice\n",
+        ServiceFault::Sim(SimFault::HandshakeFailed) => b"fault HandshakeFailed\n",
+        ServiceFault::Input(ReplayFault::TooMuchInput) => b"fault TooMuchInput\n",
+        ServiceFault::Sim(SimFault::ReadFault) | ServiceFault::Input(ReplayFault::ReadFault) => {
+            b"fault ReadFault\n"
+        }
+        ServiceFault::Sim(SimFault::WriteFault)
+        | ServiceFault::Input(ReplayFault::WriteFault)
+        | ServiceFault::Output(BoardsFault::WriteFault) => b"fault WriteFault\n",
+        ServiceFault::Close(CloseFault::PassMissing) => b"fault PassMissing\n",
+        ServiceFault::Close(CloseFault::ViewerMissing) => b"fault ViewerMissing\n",
+        ServiceFault::Close(CloseFault::Torn) => b"fault Torn\n",
+        ServiceFault::Desk(DeskFault::OutOfMemory)
+        | ServiceFault::Sim(SimFault::OutOfMemory)
+        | ServiceFault::Input(ReplayFault::OutOfMemory)
+        | ServiceFault::Output(BoardsFault::OutOfMemory)
+        | ServiceFault::OutOfMemory => b"fault OutOfMemory\n",
     }
 }
 
@@ -118,7 +140,7 @@ fn cause_of(
         return cause;
     };
     match (fault, plan, port) {
-        (ServiceFault::StationTwice, Some(plan), _) => {
+        (ServiceFault::Desk(DeskFault::StationTwice), Some(plan), _) => {
             if let Some(name) = plan.station_twice() {
                 let _ = writeln!(cause, "the station {} is there twice", name.text());
             }

@@ -13,7 +13,7 @@ use crate::asked::Asked;
 use crate::options::program;
 use crate::process::Process;
 use crate::report::refuse_plan;
-use crate::serving::{journalled, live, restored, restored_live, serve, simulated};
+use crate::serving::{journalled, live, restored, restored_live, simulated};
 use clap::Error;
 use script_replay::{Ended, ReplayFault, end_run, refuse, run_replay, show};
 use station_cell::Pass;
@@ -94,16 +94,9 @@ fn run_asked<P: Process>(rt: &P::Runtime, asked: Asked<'_>, streams: StreamsOf<P
             let ended = run_replay(rt, streams.input, streams.output, streams.errors);
             unserved(alloc, ended)
         }
-        Asked::Serve(plan, service) => match plan {
-            Ok(plan) => serve::<P>(rt, &plan, service, streams),
-            Err(fault) => refuse_plan(alloc, fault, streams.output, streams.errors),
-        },
-        Asked::ServeLive(plan, asked) => match plan {
+        Asked::Serve(plan, asked, is_journalled) => match plan {
+            Ok(plan) if is_journalled => journalled::<P>(rt, &plan, asked, streams),
             Ok(plan) => live::<P>(rt, &plan, asked, streams),
-            Err(fault) => refuse_plan(alloc, fault, streams.output, streams.errors),
-        },
-        Asked::ServeJournalled(plan, asked) => match plan {
-            Ok(plan) => journalled::<P>(rt, &plan, asked, streams),
             Err(fault) => refuse_plan(alloc, fault, streams.output, streams.errors),
         },
         Asked::ServeRestored(restoring, true) => restored::<P>(rt, restoring, streams),

@@ -8,13 +8,12 @@ ghost use Rattle.station_link.specs.Sim.{IsSimulated};
 
 use crate::process::Process;
 use crate::report::end_server;
-use crate::run::{Ran, RanOf, StreamsOf};
-use board_report::write_out;
+use crate::run::{Ran, RanOf, StreamsOf, unserved};
+use board_report::{BoardsFault, write_out};
 use journal_server::{
-    JournalFault, Journalling, Restoring, Served, Service, serve_counted, serve_journalled,
-    serve_live, serve_restored, simulate,
+    JournalFault, Journalling, Restoring, Served, serve_journalled, serve_live, serve_restored,
+    simulate,
 };
-use live_server::Live;
 use script_replay::buffered;
 use server_parts::ServiceFault;
 use site_desk::Plan;
@@ -25,43 +24,27 @@ use std::io::{BufWriter, Sink, Write};
 // The fault of a server without memory for its buffers.
 const NO_MEMORY: JournalFault = JournalFault::Service(ServiceFault::OutOfMemory);
 
-/// Serves a number of connections of a plan's stations.
-pub fn serve<P: Process>(
+// The fault of a server whose boards can't be written.
+const UNWRITTEN: JournalFault = JournalFault::Service(ServiceFault::Output(
+    BoardsFault::WriteFault,
+));
+
+/// Serves a plan until its operator's lines end, or a number of connections.
+pub fn live<P: Process>(
     rt: &P::Runtime,
     plan: &Plan,
-    service: Service,
+    asked: Journalling,
     streams: StreamsOf<P>,
 ) -> RanOf<P>
-    ensures { Runs P.Output.contents P.Console.contents P.Errors.contents (Asked.Serve (Ok plan.now) service) (P.Input.remaining streams.input) streams.output streams.console streams.errors result }
-{
-    let Ok((_reader, writer)) = buffered(rt, streams.input, streams.output) else {
-        return end_unwritten(rt.alloc(), Err(NO_MEMORY), None, None, streams.errors);
-    };
-    let served = serve_counted(rt, plan, service, writer, streams.lines);
-    end_unwritten(
-        rt.alloc(),
-        served,
-        Some(plan),
-        Some(service.port),
-        streams.errors,
-    )
-}
-
-/// Serves a plan until its operator's lines end.
-pub fn live<P: Process>(rt: &P::Runtime, plan: &Plan, live: Live, streams: StreamsOf<P>) -> RanOf<P>
-    ensures { Runs P.Output.contents P.Console.contents P.Errors.contents (Asked.ServeLive (Ok plan.now) live) (P.Input.remaining streams.input) streams.output streams.console streams.errors result }
+    ensures { Runs P.Output.contents P.Console.contents P.Errors.contents (Asked.Serve (Ok plan.now) asked false) (P.Input.remaining streams.input) streams.output streams.console streams.errors result }
 {
     let Ok((mut reader, writer)) = buffered(rt, streams.input, streams.output) else {
         return end_unwritten(rt.alloc(), Err(NO_MEMORY), None, None, streams.errors);
     };
-    let served = serve_live(rt, plan, live, &mut reader, writer, streams.lines);
-    end_unwritten(
-        rt.alloc(),
-        served,
-        Some(plan),
-        Some(live.port),
-        streams.errors,
-    )
+    let live = asked.live;
+    let served = serve_live(rt, plan, live, None, &mut reader, writer, streams.lines);
+    let port = Some(live.port);
+    end_unwritten(rt.alloc(), served, Some(plan), port, streams.errors)
 }
 
 /// Serves a plan until its operator's lines end; its output is a journal.
@@ -71,7 +54,7 @@ pub fn journalled<P: Process>(
     journalling: Journalling,
     streams: StreamsOf<P>,
 ) -> RanOf<P>
-    ensures { Runs P.Output.contents P.Console.contents P.Errors.contents (Asked.ServeJournalled (Ok plan.now) journalling) (P.Input.remaining streams.input) streams.output streams.console streams.errors result }
+    ensures { Runs P.Output.contents P.Console.contents P.Errors.contents (Asked.Serve (Ok plan.now) journalling true) (P.Input.remaining streams.input) streams.output streams.console streams.errors result }
 {
     let Ok((mut reader, journal)) = buffered(rt, streams.input, streams.output) else {
         return end_journalled(rt.alloc(), Err(NO_MEMORY), None, None, streams.errors);
@@ -158,11 +141,10 @@ fn end_unwritten<W: Write + Drop, C, E: Write>(
                 passes: served.passes,
             }
         }
-        Err(fault) => Ran {
-            ended: end_server(alloc, None, errors, Err(fault), plan, port),
-            console: None,
-            passes: Vec::new(alloc),
-        },
+        Err(fault) => {
+            let ended = end_server(alloc, None, errors, Err(fault), plan, port);
+            unserved(alloc, ended)
+        }
     }
 }
 
@@ -188,11 +170,10 @@ fn end_journalled<W, C: Write, E: Write>(
                 passes: served.passes,
             }
         }
-        Err(fault) => Ran {
-            ended: end_server(alloc, None, errors, Err(fault), plan, port),
-            console: None,
-            passes: Vec::new(alloc),
-        },
+        Err(fault) => {
+            let ended = end_server(alloc, None, errors, Err(fault), plan, port);
+            unserved(alloc, ended)
+        }
     }
 }
 
@@ -202,7 +183,7 @@ fn end_of(is_shown: bool, ended: Result<(), ServiceFault>) -> Result<(), Journal
     ensures well { OnOk result (ended ≡ Ok tt) }
 {
     match ended {
-        _ if !is_shown => Err(JournalFault::Service(ServiceFault::WriteFault)),
+        _ if !is_shown => Err(UNWRITTEN),
         Ok(()) => Ok(()),
         Err(fault) => Err(JournalFault::Service(fault)),
     }

@@ -26,8 +26,8 @@ use Rattle.station_ledger.specs.declared.listing.TxListing.{TxListing}
 use Rattle.station_link.specs.Answer.{Answers, AnswersMeaning, IsGivenAt}
 use Rattle.transaction_event.specs.Message.{Meaning, Event, Ready, Silence, message}
 use Rattle.transaction_event.specs.Reply.{event_reply_bytes}
-use Rattle.running_desk.specs.declared.operator.Asked.{Asked}
-use Rattle.running_desk.specs.declared.operator.Asked.TheVariants.{Figures, Import, Export}
+use Rattle.running_desk.specs.declared.operator.WhichTotals.{WhichTotals}
+use Rattle.running_desk.specs.declared.operator.WhichTotals.TheVariants.{Figures, Import, Export}
 use Rattle.running_desk.specs.Replied.{AreTotals, IsCommandLine, IsCommanded, IsExhausted, IsList, IsMessageLine, IsSent, IsStationOf, IsTotals, totals_line}
 
 -- a station of a name with this content
@@ -63,7 +63,7 @@ stepped at p command (Refused AlreadyVoided) p' told h = inl (step_of at p comma
 stepped at p command (Refused NotVoided) p' told h = inl (step_of at p command (Refused NotVoided) p' told h)
 
 -- totals of a station are those that a replay prints
-pub totals_told : (asked : Asked) (places : List StationPlace) (name : List ℕ) (f : figures.Figures) (e x : Energy) → AreTotalsOfName places name f e x → AreTotals places name asked (totals_line asked f e x)
+pub totals_told : (asked : WhichTotals) (places : List StationPlace) (name : List ℕ) (f : figures.Figures) (e x : Energy) → AreTotalsOfName places name f e x → AreTotals places name asked (totals_line asked f e x)
 unfolding stands_with
 totals_told Figures places name f e x h =
     record {
@@ -155,7 +155,7 @@ list_told (Ok _) what places name tx l now h put = inl (record {
 list_told (Err _) what places name tx l now h put = put
 
 -- the line of the totals that are asked for
-pub totals_line_told : {T E : Type 0} (r : Result T E) (asked : Asked) (places : List StationPlace) (name : List ℕ) (f : figures.Figures) (e x : Energy) (now : List ℕ) → AreTotalsOfName places name f e x
+pub totals_line_told : {T E : Type 0} (r : Result T E) (asked : WhichTotals) (places : List StationPlace) (name : List ℕ) (f : figures.Figures) (e x : Energy) (now : List ℕ) → AreTotalsOfName places name f e x
     → OnOk r (now ≡ totals_line asked f e x) → OnOk r (IsTotals places name asked now)
 totals_line_told (Ok _) asked places name f e x now totals put = inl (subst (AreTotals places name asked) (sym put) (totals_told asked places name f e x totals))
 totals_line_told (Err _) asked places name f e x now totals put = put

@@ -17,8 +17,8 @@ use Rattle.ledger_model.specs.World.{Station}
 use Rattle.board_report.specs.Texts.{board_text, total_text}
 use Rattle.board_report.specs.Running.{running_site}
 use Rattle.energy_flow.specs.Flow.{Energy}
-use Rattle.running_desk.specs.declared.operator.Asked.{Asked}
-use Rattle.running_desk.specs.declared.operator.Asked.TheVariants.{Figures, Import, Export}
+use Rattle.running_desk.specs.declared.operator.WhichTotals.{WhichTotals}
+use Rattle.running_desk.specs.declared.operator.WhichTotals.TheVariants.{Figures, Import, Export}
 use Rattle.ocppj_frame.specs.Frame.{frame}
 use Rattle.script_ledgers.specs.Script.{commanded_to, energy_answer, energy_line, export_answer, export_line, list_answer, mark_line, sent_to, start, total_answer}
 use Rattle.script_lines.specs.declared.script_line.TxList.{TxList}
@@ -64,7 +64,7 @@ abbrev pub torn : List ℕ
 torn = ended_line (codes "fault Torn")
 
 -- The totals of a station that a line asks for, with its readings in this order.
-abbrev pub asked_answer : Asked → Order → Option Station → List ℕ
+abbrev pub asked_answer : WhichTotals → Order → Option Station → List ℕ
 asked_answer Figures order station = total_answer (λ _. order) station
 asked_answer Import order station = energy_answer (λ _. order) station
 asked_answer Export order station = export_answer (λ _. order) station
@@ -92,20 +92,20 @@ abbrev pub IsList : List StationPlace → TxList → List ℕ → List ℕ → L
 IsList places what name tx text = IsListOf places what name tx text ⊎ (text ≡ torn)
 
 -- The text is a replay's answer to a question for the totals of the station of this name, by the order of its place.
-pub record AreTotals (places : List StationPlace) (name : List ℕ) (asked : Asked) (text : List ℕ) : Type 0 where
+pub record AreTotals (places : List StationPlace) (name : List ℕ) (asked : WhichTotals) (text : List ℕ) : Type 0 where
   pub station : Option Station
   pub stands : MayStand places name station
   pub is : text ≡ asked_answer asked (order_under places name station stands) station
 
 -- The line of the totals that a line asks for, from these figures and imported and exported
 -- energies.
-abbrev pub totals_line : Asked → figures.Figures → Energy → Energy → List ℕ
+abbrev pub totals_line : WhichTotals → figures.Figures → Energy → Energy → List ℕ
 totals_line Figures f e x = ended_line (total_text f)
 totals_line Import f e x = energy_line e
 totals_line Export f e x = export_line x
 
 -- The answer to a question for a station's totals.
-abbrev pub IsTotals : List StationPlace → List ℕ → Asked → List ℕ → Type 0
+abbrev pub IsTotals : List StationPlace → List ℕ → WhichTotals → List ℕ → Type 0
 IsTotals places name asked text = AreTotals places name asked text ⊎ (text ≡ torn)
 
 -- The text is that of the board over boards of the site's stations, each once and in the plan's

@@ -1,6 +1,6 @@
 //! A desk while it is served: passes that are used again, boards, and an operator's lines.
 //!
-//! A [`Running`] desk is the desk of a plan with a pool of passes ([`PooledDesk`], [`PassPool`]). A session puts its
+//! A [`Running`] desk is the desk of a plan with a pool of passes ([`PassPool`]). A session puts its
 //! pass into the pool at its end, and a later session of the same station takes it from there. So a station gives out
 //! only as many passes as it needed at one time. An operator's line borrows a pass in the same way. The desk is anything
 //! that [`Serves`]: a plain one, or one that keeps more. [`operate`] answers an operator's lines, one after the other;
@@ -15,7 +15,7 @@
 //! ```text
 //! let running = Running::open(&plan, &desk, passes);
 //! operate(rt, alloc, &running, &mut input, &mut output)?;   // until the input ends or says `close`
-//! let passes = running.desk.into_passes();
+//! let passes = running.into_passes();
 //! ```
 #![tactic(auto)]
 
@@ -23,13 +23,11 @@ mod attentive;
 mod operator;
 mod orders;
 mod pass_pool;
-mod pooled_desk;
 mod running;
 mod serves;
 
 pub use operator::operate;
 pub use orders::Came;
 pub use pass_pool::PassPool;
-pub use pooled_desk::{PassFault, PooledDesk};
-pub use running::{Running, site_of};
+pub use running::{PassFault, Running, site_of};
 pub use serves::{MayBreak, Seen, Serves};

@@ -5,21 +5,19 @@ ghost use Rattle.std.specs.Str.{bytes_eq};
 ghost use Rattle.script_lines.specs.LineMeaning.{commands, line_meaning};
 ghost use Rattle.script_lines.specs.Lines.{line_bytes};
 ghost use Rattle.script_lines.specs.declared.script_line.LineFault.{LineFault};
-ghost use Rattle.script_lines.specs.ScriptLines.{meaning_of};
 ghost use Rattle.script_lines.specs.Texts.{fault_line};
 ghost use Rattle.site_desk.specs.declared.roster.StationPlace.{StationPlace};
 ghost use Rattle.site_desk.specs.Roster.{IsNamed};
-ghost use Rattle.running_desk.specs.declared.pooled_desk.PassFault.{PassFault};
+ghost use Rattle.running_desk.specs.declared.running.PassFault.{PassFault};
 ghost use Rattle.running_desk.specs.Replied.{IsBoard, IsCommandLine, IsCommanded, IsList, IsMessageLine, IsMessaged, IsReply, IsSent, IsSubmitted, IsTotals, totals_line};
 ghost use Rattle.running_desk.specs.Ordered.{ends, is_close, lines_in};
 ghost use Rattle.running_desk.specs.Replies.{AddsReplies, AddsReply};
 ghost use Rattle.station_link.specs.Attended.{if_seen};
 
 use crate::orders::{Came, Orders};
-use crate::pooled_desk::PassFault;
-use crate::running::{Running, site_of};
+use crate::running::{PassFault, Running, site_of};
 use crate::serves::Serves;
-use board_report::{energy_text, export_text, total_text, write_out};
+use board_report::{BoardsFault, energy_text, export_text, total_text, write_out};
 use energy_flow::Flow;
 use gathered_input::Readiness;
 use ledger_model::{Command, Figures, Name, TxId};
@@ -59,7 +57,7 @@ pub fn operate<S: Serves, R: Threads + Wait + Clock, I: BufRead + Readiness, W: 
     input: &mut I,
     writer: &mut W,
 ) -> Result<Vec<S::Seen>, ServiceFault>
-    ensures { IfOk result (λ seen. AddsReplies S.gives (S.shows running.now.serves.now) running.now.plan.now.sites.items running.now.desk.desk.now.stations
+    ensures { IfOk result (λ seen. AddsReplies S.gives (S.shows running.now.serves.now) running.now.plan.now.sites.items running.now.desk.now.stations
         (lines_in (I.remaining input.old)) (W.contents writer.old) (W.contents writer.new) seen.items) }
 {
     let mut orders = Orders::open(rt, alloc, input, running.serves);
@@ -72,7 +70,7 @@ pub fn operate<S: Serves, R: Threads + Wait + Clock, I: BufRead + Readiness, W: 
         let own = put_reply(rt, alloc, running, orders.line(), writer)?;
         keep(&mut seen, own)?;
         if running.serves.is_broken() {
-            return Err(ServiceFault::WriteFault);
+            return Err(ServiceFault::Output(BoardsFault::WriteFault));
         }
         if let Came::LastLine = came {
             return Ok(seen);
@@ -120,7 +118,7 @@ fn put_reply<S: Serves, R: Threads + Wait + Clock, W: Write>(
     line: Option<&[u8]>,
     writer: &mut W,
 ) -> Result<Option<S::Seen>, ServiceFault>
-    ensures { IfOk result (λ seen. AddsReply S.gives (S.shows running.now.serves.now) running.now.plan.now.sites.items running.now.desk.desk.now.stations
+    ensures { IfOk result (λ seen. AddsReply S.gives (S.shows running.now.serves.now) running.now.plan.now.sites.items running.now.desk.now.stations
         (line_bytes line.entry) (W.contents writer.old) (W.contents writer.new) seen) }
 {
     let mut reply = Vec::new(alloc);
@@ -142,25 +140,9 @@ fn answer_line<S: Serves, R: Threads + Wait + Clock>(
     reply: &mut Vec<u8>,
 ) -> Result<Option<S::Seen>, AllocError>
     requires { reply.old.items ≡ [] }
-    ensures { IfOk result (λ seen. IsReply S.gives (S.shows running.now.serves.now) running.now.plan.now.sites.items running.now.desk.desk.now.stations (line_meaning (line_bytes line.entry)) reply.new.items seen) }
+    ensures { IfOk result (λ seen. IsReply S.gives (S.shows running.now.serves.now) running.now.plan.now.sites.items running.now.desk.now.stations (line_meaning (line_bytes line.entry)) reply.new.items seen) }
 {
-    answer_said(rt, alloc, running, read_line(line), line, reply)
-}
-
-// Appends the answer to what an operator's line says.
-fn answer_said<S: Serves, R: Threads + Wait + Clock>(
-    rt: &R,
-    alloc: Global,
-    running: &Running<'_, S>,
-    said: ScriptLine<'_>,
-    line: Option<&[u8]>,
-    reply: &mut Vec<u8>,
-) -> Result<Option<S::Seen>, AllocError>
-    requires said { meaning_of said ≡ line_meaning (line_bytes line) }
-    requires empty { reply.old.items ≡ [] }
-    ensures { IfOk result (λ seen. IsReply S.gives (S.shows running.now.serves.now) running.now.plan.now.sites.items running.now.desk.desk.now.stations (meaning_of said.entry) reply.new.items seen) }
-{
-    match said {
+    match read_line(line) {
         ScriptLine::Sends(name, text) => return receive(rt, alloc, running, &name, text, reply),
         ScriptLine::Commands(name, what) => {
             return put_command(rt, running, &name, what, line, reply);
@@ -174,9 +156,9 @@ fn answer_said<S: Serves, R: Threads + Wait + Clock>(
         | ScriptLine::SetsOrder(_, _)
         | ScriptLine::SetsSettle(_, _) => put_fault(reply, LineFault::DeclaredLate)?,
         ScriptLine::Tells(_) => put_fault(reply, LineFault::BadLine)?,
-        ScriptLine::AsksEnergy(name) => put_totals(rt, running, &name, Asked::Import, reply)?,
-        ScriptLine::AsksExport(name) => put_totals(rt, running, &name, Asked::Export, reply)?,
-        ScriptLine::AsksTotal(name) => put_totals(rt, running, &name, Asked::Figures, reply)?,
+        ScriptLine::AsksEnergy(name) => put_totals(rt, running, &name, WhichTotals::Import, reply)?,
+        ScriptLine::AsksExport(name) => put_totals(rt, running, &name, WhichTotals::Export, reply)?,
+        ScriptLine::AsksTotal(name) => put_totals(rt, running, &name, WhichTotals::Figures, reply)?,
         ScriptLine::Lists(what, name, tx) => put_list(rt, alloc, running, what, &name, &tx, reply)?,
         ScriptLine::Marks(word) => put_mark(reply, &word)?,
     }
@@ -193,13 +175,13 @@ fn receive<S: Serves, R: Threads + Wait + Clock>(
     reply: &mut Vec<u8>,
 ) -> Result<Option<S::Seen>, AllocError>
     requires { reply.old.items ≡ [] }
-    ensures sent { OnOk result ((moment : ℕ) × IsSent running.now.desk.desk.now.stations name.now text.now moment reply.new.items) }
-    ensures messaged { IfOk result (λ seen. IsMessaged S.gives running.now.desk.desk.now.stations name.now text.now reply.new.items seen) }
+    ensures sent { OnOk result ((moment : ℕ) × IsSent running.now.desk.now.stations name.now text.now moment reply.new.items) }
+    ensures messaged { IfOk result (λ seen. IsMessaged S.gives running.now.desk.now.stations name.now text.now reply.new.items seen) }
 {
-    match running.desk.pass_of(rt, name) {
+    match running.pass_of(rt, name) {
         Ok(mut pass) => {
             let delivered = deliver(rt, alloc, running, &mut pass, text, reply);
-            let _lost = running.desk.lay(rt, pass);
+            let _lost = running.lay(rt, pass);
             delivered
         }
         Err(fault) => {
@@ -219,7 +201,7 @@ fn deliver<S: Serves, R: Threads + Wait + Clock>(
     reply: &mut Vec<u8>,
 ) -> Result<Option<S::Seen>, AllocError>
     requires { reply.old.items ≡ [] }
-    ensures { IfOk result (λ seen. IsMessageLine S.gives running.now.desk.desk.now.stations pass.old text.now pass.new reply.new.items seen) }
+    ensures { IfOk result (λ seen. IsMessageLine S.gives running.now.desk.now.stations pass.old text.now pass.new reply.new.items seen) }
 {
     reply.reserve(MOST_ANSWER)?;
     let now = present(&mut SystemMoments { rt });
@@ -242,13 +224,13 @@ fn put_command<S: Serves, R: Threads + Wait + Clock>(
 ) -> Result<Option<S::Seen>, AllocError>
     requires line { line_meaning (line_bytes line) ≡ commands name.now what }
     requires empty { reply.old.items ≡ [] }
-    ensures answer { OnOk result (IsCommanded running.now.desk.desk.now.stations name.now what reply.new.items) }
-    ensures submitted { IfOk result (λ seen. IsSubmitted S.gives running.now.desk.desk.now.stations name.now what reply.new.items seen) }
+    ensures answer { OnOk result (IsCommanded running.now.desk.now.stations name.now what reply.new.items) }
+    ensures submitted { IfOk result (λ seen. IsSubmitted S.gives running.now.desk.now.stations name.now what reply.new.items seen) }
 {
-    match running.desk.pass_of(rt, name) {
+    match running.pass_of(rt, name) {
         Ok(mut pass) => {
             let submitted = submit(rt, running, &mut pass, name, what, line, reply);
-            let _lost = running.desk.lay(rt, pass);
+            let _lost = running.lay(rt, pass);
             submitted
         }
         Err(fault) => {
@@ -268,10 +250,10 @@ fn submit<S: Serves, R: Threads + Wait + Clock>(
     line: Option<&[u8]>,
     reply: &mut Vec<u8>,
 ) -> Result<Option<S::Seen>, AllocError>
-    requires named { IsNamed running.now.desk.desk.now.stations name.now pass.old.station }
+    requires named { IsNamed running.now.desk.now.stations name.now pass.old.station }
     requires line { line_meaning (line_bytes line) ≡ commands name.now what }
     requires empty { reply.old.items ≡ [] }
-    ensures { IfOk result (λ seen. (at : StationPlace) → slice_get running.now.desk.desk.now.stations pass.old.station ≡ Some at
+    ensures { IfOk result (λ seen. (at : StationPlace) → slice_get running.now.desk.now.stations pass.old.station ≡ Some at
         → IsCommandLine (S.gives pass.old.station at) at pass.old what pass.new reply.new.items seen) }
 {
     reply.reserve(MOST_ANSWER)?;
@@ -293,7 +275,7 @@ fn put_pass_fault(reply: &mut Vec<u8>, fault: PassFault) -> Result<(), AllocErro
 
 /// Which totals of a station a line asks for.
 #[derive(Clone, Copy)]
-pub enum Asked {
+pub enum WhichTotals {
     Figures,
     Import,
     Export,
@@ -304,13 +286,13 @@ fn put_totals<S: Serves, R: Wait>(
     rt: &R,
     running: &Running<'_, S>,
     name: &Name,
-    asked: Asked,
+    asked: WhichTotals,
     reply: &mut Vec<u8>,
 ) -> Result<(), AllocError>
     requires { reply.old.items ≡ [] }
-    ensures { OnOk result (IsTotals running.now.desk.desk.now.stations name.now asked reply.new.items) }
+    ensures { OnOk result (IsTotals running.now.desk.now.stations name.now asked reply.new.items) }
 {
-    match running.desk.desk.station_totals(rt, name) {
+    match running.desk.station_totals(rt, name) {
         Ok(totals) => put_total(reply, asked, totals),
         Err(BoardFault::UnknownStation) => put_fault(reply, LineFault::UnknownStation),
         Err(BoardFault::Torn) => put_line(reply, TORN),
@@ -321,16 +303,16 @@ fn put_totals<S: Serves, R: Wait>(
 // Appends the line of the totals that the line asks for: the figures, the imported or the exported energy.
 fn put_total(
     reply: &mut Vec<u8>,
-    asked: Asked,
+    asked: WhichTotals,
     totals: (Figures, Flow, Flow),
 ) -> Result<(), AllocError>
     requires { reply.old.items ≡ [] }
     ensures { OnOk result (reply.new.items ≡ totals_line asked totals.0 totals.1 totals.2) }
 {
     match asked {
-        Asked::Figures => put_line(reply, total_text(&totals.0).as_str()),
-        Asked::Import => put_line(reply, energy_text(totals.1).as_str()),
-        Asked::Export => put_line(reply, export_text(totals.2).as_str()),
+        WhichTotals::Figures => put_line(reply, total_text(&totals.0).as_str()),
+        WhichTotals::Import => put_line(reply, energy_text(totals.1).as_str()),
+        WhichTotals::Export => put_line(reply, export_text(totals.2).as_str()),
     }
 }
 
@@ -345,9 +327,9 @@ fn put_list<S: Serves, R: Wait>(
     reply: &mut Vec<u8>,
 ) -> Result<(), AllocError>
     requires { reply.old.items ≡ [] }
-    ensures { OnOk result (IsList running.now.desk.desk.now.stations what name.now tx.now reply.new.items) }
+    ensures { OnOk result (IsList running.now.desk.now.stations what name.now tx.now reply.new.items) }
 {
-    match running.desk.desk.station_listing(rt, alloc, name, tx) {
+    match running.desk.station_listing(rt, alloc, name, tx) {
         Ok(listing) => put_listed(alloc, reply, what, name, tx, &listing),
         Err(BoardFault::UnknownStation) => put_fault(reply, LineFault::UnknownStation),
         Err(BoardFault::Torn) => put_line(reply, TORN),
@@ -364,7 +346,7 @@ fn put_board<S: Serves, R: Wait>(
     reply: &mut Vec<u8>,
 ) -> Result<Option<S::Seen>, AllocError>
     requires { reply.old.items ≡ [] }
-    ensures { IfOk result (λ seen. IsBoard (S.shows running.now.serves.now) running.now.plan.now.sites.items running.now.desk.desk.now.stations
+    ensures { IfOk result (λ seen. IsBoard (S.shows running.now.serves.now) running.now.plan.now.sites.items running.now.desk.now.stations
         (position (λ s. bytes_eq name.now s.name) running.now.plan.now.sites.items) reply.new.items seen) }
 {
     let Some(site) = site_of(running.plan, name) else {

@@ -5,8 +5,9 @@ ghost use Rattle.running_desk.specs.Ordered.{Comes, came_of, lines_in};
 
 use crate::attentive::Attentive;
 use crate::serves::MayBreak;
+use board_report::BoardsFault;
 use gathered_input::Readiness;
-use script_lines::{LineEnd, LineReader, MAX_LINE_BYTES, ReplayFault};
+use script_lines::{LineEnd, LineReader, MAX_LINE_BYTES};
 use server_parts::ServiceFault;
 use std::alloc::Global;
 use std::io::BufRead;
@@ -55,8 +56,10 @@ impl<'a, I: BufRead + Readiness, S: MayBreak, R: Wait> Orders<'a, I, S, R> {
                 self.end = end;
                 Ok(ending_of(&self.lines, end))
             }
-            Err(_) if self.reader.serves.is_broken() => Err(ServiceFault::WriteFault),
-            Err(fault) => Err(fault_of(fault)),
+            Err(_) if self.reader.serves.is_broken() => {
+                Err(ServiceFault::Output(BoardsFault::WriteFault))
+            }
+            Err(fault) => Err(ServiceFault::Input(fault)),
         }
     }
 
@@ -76,14 +79,5 @@ fn ending_of(lines: &LineReader, end: LineEnd) -> Came
         LineEnd::Feed => Came::Line,
         LineEnd::Input if lines.held.is_empty() => Came::End,
         LineEnd::Input => Came::LastLine,
-    }
-}
-
-// Why no further line is read.
-fn fault_of(fault: ReplayFault) -> ServiceFault {
-    match fault {
-        ReplayFault::ReadFault | ReplayFault::TooMuchInput => ServiceFault::ReadFault,
-        ReplayFault::WriteFault => ServiceFault::WriteFault,
-        ReplayFault::OutOfMemory => ServiceFault::OutOfMemory,
     }
 }

@@ -1,35 +1,48 @@
 //! The desk of a plan while it is served.
-ghost use Rattle.std.specs.Prelude.{◌≡◌, ◌≤◌, ◌<◌, IfOk, IfSome, Some, length, sum_by};
-ghost use Rattle.std.specs.List.{position};
+ghost use Rattle.std.specs.Prelude.{◌≡◌, ◌≤◌, ◌<◌, Err, IfErr, IfOk, IfSome, Some, false, length, sum_by};
+ghost use Rattle.std.specs.List.{list_any, position};
 ghost use Rattle.std.specs.Str.{bytes_eq};
 ghost use Rattle.ledger_model.specs.Ranges.{most_plan_readings};
+ghost use Rattle.running_desk.specs.declared.running.PassFault.{PassFault};
 ghost use Rattle.running_desk.specs.Replied.{IsShownBoard};
 ghost use Rattle.site_desk.specs.Roster.{AreNewPlaces, IsNamed};
 ghost use Rattle.station_link.specs.Session.{MayLackPass};
 
-use crate::pooled_desk::{PassFault, PooledDesk};
+use crate::pass_pool::PassPool;
 use crate::serves::Serves;
 use board_report::running_text;
 use ledger_model::Name;
-use site_desk::{BoardFault, Plan};
+use site_desk::{BoardFault, Desk, EnlistFault, Plan};
 use station_cell::Pass;
 use station_link::Why;
 use std::alloc::Global;
-use std::sync::Wait;
+use std::sync::{Mutex, Wait};
 use std::thread::Threads;
 
-/// The desk of a plan while it is served, with the pool of its passes.
+/// Why there is no pass.
+#[derive(Clone, Copy, Debug, PartialEq, Eq)]
+pub enum PassFault {
+    /// No station of the desk has this name.
+    UnknownStation,
+    /// The station gave out 65,536 passes.
+    TooManyPasses,
+    /// There is no memory to put it back into the pool later.
+    OutOfMemory,
+}
+
+/// The desk of a plan while it is served, with a pool for the passes of its stations.
 #[derive(Drop)]
 pub struct Running<'a, S: Serves> {
     /// The plan.
     pub plan: &'a Plan,
     /// What is served.
     pub serves: &'a S,
-    /// Its desk, with the pool of its passes.
-    pub desk: PooledDesk<'a, S::Names, S::Cell>,
-    ghost same: { desk.desk.now ≡ S.roster serves.now },
-    ghost stations: { desk.desk.now.stations ≡ S.stations serves.now },
-    ghost opened: { AreNewPlaces plan.now.sites.items plan.now.stations.items desk.desk.now.stations },
+    /// Its desk.
+    pub desk: &'a Desk<S::Names, S::Cell>,
+    pub(crate) pool: Mutex<PassPool>,
+    ghost same: { desk.now ≡ S.roster serves.now },
+    ghost stations: { desk.now.stations ≡ S.stations serves.now },
+    ghost opened: { AreNewPlaces plan.now.sites.items plan.now.stations.items desk.now.stations },
     ghost readings: { sum_by (λ s. s.limits.readings) plan.now.stations.items ≤ most_plan_readings },
 }
 
@@ -43,10 +56,66 @@ impl<'a, S: Serves> Running<'a, S> {
         requires readings { sum_by (λ s. s.limits.readings) plan.now.stations.items ≤ most_plan_readings }
         ensures plan { result.plan.now ≡ plan.now }
         ensures serves { result.serves.now ≡ serves.now }
-        ensures desk { result.desk.desk.now ≡ S.roster serves.now }
+        ensures desk { result.desk.now ≡ S.roster serves.now }
     {
-        let desk = PooledDesk::open(serves.desk(), passes);
-        Running { plan, serves, desk }
+        let desk = serves.desk();
+        let pool = Mutex::new(PassPool::of(passes));
+        Running {
+            plan,
+            serves,
+            desk,
+            pool,
+        }
+    }
+
+    /// A pass of the station of this name: one from the pool, or else a new one; then the pool has room for it from
+    /// now on. It may wait for the station's lock.
+    pub fn pass_of<R: Wait + Threads>(&self, rt: &R, name: &Name) -> Result<Pass, PassFault>
+        ensures unknown { result ≡ Err PassFault.UnknownStation → list_any (λ s. bytes_eq name.now s.name) self.now.desk.now.stations ≡ false }
+        ensures named { IfOk result (λ p. IsNamed self.now.desk.now.stations name.now p.station) }
+    {
+        let Some(station) = self.desk.number(name) else {
+            return Err(PassFault::UnknownStation);
+        };
+        match self.left_pass(rt, station) {
+            Some(pass) => Ok(pass),
+            None => self.new_pass(rt, name),
+        }
+    }
+
+    // A pass of this station from the pool.
+    fn left_pass<R: Wait>(&self, rt: &R, station: u16) -> Option<Pass>
+        ensures { IfSome result (λ p. p.station ≡ station) }
+    {
+        self.pool.lock(rt).take(station)
+    }
+
+    // A new pass of the station of this name.
+    fn new_pass<R: Wait + Threads>(&self, rt: &R, name: &Name) -> Result<Pass, PassFault>
+        ensures unknown { result ≡ Err PassFault.UnknownStation → list_any (λ s. bytes_eq name.now s.name) self.now.desk.now.stations ≡ false }
+        ensures named { IfOk result (λ p. IsNamed self.now.desk.now.stations name.now p.station) }
+    {
+        if self.pool.lock(rt).reserve().is_err() {
+            return Err(PassFault::OutOfMemory);
+        }
+        match self.desk.enlist(rt, name) {
+            Ok(pass) => Ok(pass),
+            Err(EnlistFault::UnknownStation) => Err(PassFault::UnknownStation),
+            Err(EnlistFault::TooManyPasses) => Err(PassFault::TooManyPasses),
+        }
+    }
+
+    /// Puts a pass back into the pool, for the next session of its station. The error gives it back if there is no room
+    /// for it, which no run meets: room is made before a pass is given out.
+    pub fn lay<R: Wait>(&self, rt: &R, pass: Pass) -> Result<(), Pass>
+        ensures { IfErr result (λ back. back ≡ pass) }
+    {
+        self.pool.lock(rt).lay(pass)
+    }
+
+    /// All passes in the pool.
+    pub fn into_passes(self) -> Vec<Pass> {
+        self.pool.into_inner().into_passes()
     }
 
     /// A pass of the station that a request asks for, with its name.
@@ -55,10 +124,10 @@ impl<'a, S: Serves> Running<'a, S> {
         rt: &R,
         asked: Result<Name, Why>,
     ) -> Result<(Name, Pass), Why>
-        ensures { IfOk result (λ r. IsNamed self.now.desk.desk.now.stations r.0 r.1.station) }
+        ensures { IfOk result (λ r. IsNamed self.now.desk.now.stations r.0 r.1.station) }
     {
         let name = asked?;
-        match self.desk.pass_of(rt, &name) {
+        match self.pass_of(rt, &name) {
             Ok(pass) => Ok((name, pass)),
             Err(fault) => Err(why_of(fault)),
         }
@@ -75,7 +144,7 @@ impl<'a, S: Serves> Running<'a, S> {
         site: u16,
     ) -> Result<(Vec<u8>, S::Seen), BoardFault>
         requires { site < length self.now.plan.now.sites.items }
-        ensures { IfOk result (λ r. IsShownBoard (S.shows self.now.serves.now) self.now.plan.now.sites.items self.now.desk.desk.now.stations site r.0.items (Some r.1)) }
+        ensures { IfOk result (λ r. IsShownBoard (S.shows self.now.serves.now) self.now.plan.now.sites.items self.now.desk.now.stations site r.0.items (Some r.1)) }
     {
         let (boards, totals, seen) = self.serves.boards(rt, alloc, site)?;
         match running_text(alloc, self.plan, site, boards, totals) {

@@ -1,7 +1,7 @@
--- The line of a server's port.
-use Rattle.std.specs.Prelude.{ℕ, List, [], ◌∷◌, ◌++◌, codes}
+-- The line of a port that a server listens on.
+use Rattle.std.specs.Prelude.{ℕ, List, ◌++◌, codes}
 use Rattle.std.specs.Fmt.{decimal}
 
--- The line of the port of 127.0.0.1 that a server listens on.
-abbrev pub listening : ℕ → List ℕ
-listening port = codes "listening 127.0.0.1:" ++ (decimal port ++ 10 ∷ [])
+-- The line of a word and of a port of 127.0.0.1.
+abbrev pub at_port : List ℕ → ℕ → List ℕ
+at_port word port = ((word ++ codes " 127.0.0.1:") ++ decimal port) ++ codes "\n"

@@ -1,7 +1,7 @@
 //! The port of 127.0.0.1 that a server listens on.
-ghost use Rattle.std.specs.Prelude.{◌≡◌, ℕ, OnOk};
+ghost use Rattle.std.specs.Prelude.{◌≡◌, ◌≤◌, ℕ, OnOk, length};
 ghost use Rattle.std.specs.Io.KnownBytes.{Appends};
-ghost use Rattle.server_parts.specs.Ports.{listening};
+ghost use Rattle.server_parts.specs.Ports.{at_port};
 
 use crate::fault::ServiceFault;
 use crate::host::Sockets;
@@ -27,22 +27,28 @@ pub fn address_of(listener: &TcpListener) -> Result<SocketAddr, ServiceFault> {
     }
 }
 
-/// Writes the line `listening 127.0.0.1:<port>` of a listener.
-pub fn tell_port<W: Write>(listener: &TcpListener, output: &mut W) -> Result<(), ServiceFault>
-    ensures { OnOk result ((port : ℕ) × Appends (W.contents output.old) (W.contents output.new) (listening port)) }
+/// Writes the line `<word> 127.0.0.1:<port>` of a listener; the word has at most 9 bytes.
+pub fn tell_port<W: Write>(
+    listener: &TcpListener,
+    word: &str,
+    output: &mut W,
+) -> Result<(), ServiceFault>
+    requires { length word.now ≤ 9 }
+    ensures { OnOk result ((port : ℕ) × Appends (W.contents output.old) (W.contents output.new) (at_port word.now port)) }
 {
-    let address = address_of(listener)?;
-    let line = port_line(address.port());
+    let line = port_line(word, address_of(listener)?.port());
     write_out(output, line.as_str().as_bytes())?;
     Ok(())
 }
 
-// The line of a port.
-fn port_line(port: u16) -> ArrayString<32>
-    ensures { result.bytes ≡ listening port }
+// The line of a word and a port.
+fn port_line(word: &str, port: u16) -> ArrayString<32>
+    requires { length word.now ≤ 9 }
+    ensures { result.bytes ≡ at_port word.now port }
 {
     let mut line = ArrayString::new();
-    line.push_str("listening 127.0.0.1:");
+    line.push_str(word);
+    line.push_str(" 127.0.0.1:");
     line.push_str(Buffer::new().format(port));
     line.push_str("\n");
     line

@@ -3,9 +3,7 @@ use Rattle.site_book.specs.Prefix.{IsPrefix}
 use Rattle.board_report.specs.Closed.{boards_text}
 use Rattle.board_report.proofs.ClosedSites.{closed_of}
 use Rattle.kept_desk.specs.Journal.{IsWritten}
-use Rattle.ledger_model.specs.declared.command.Command.{Command}
 use Rattle.site_desk.specs.Close.{changes_of}
-use Rattle.site_desk.proofs.NewParts.{planned_readings}
 use Rattle.journal_server.proofs.Ends.{all_back, all_front, begin_those}
 use Rattle.journal_server.proofs.run.end_run.Goals as goal
 

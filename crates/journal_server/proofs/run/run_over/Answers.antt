@@ -1,4 +1,4 @@
-use Rattle.std.proofs.Common.{OnOk, ap, subst, sym, ◌∙◌}
+use Rattle.std.proofs.Common.{OnOk, subst, sym}
 use Rattle.board_report.proofs.ClosedSites.{value_told}
 use Rattle.journal_server.specs.Served.{IsToldOf}
 use Rattle.kept_desk.specs.Opened.{contents_of}
@@ -12,8 +12,8 @@ returns g c =
     let sites = c.args.plan.now.sites.items in
     let stations = c.args.plan.now.stations.items in
     let ran = c.in_ok-ran.ran in
-    let coming = lines_in (operator_input c.args.asked.clients.connections (g.I.Read.remaining c.args.input.now)) in
-    let before = g.T.Write.contents c.args.outputs.console in
+    let coming = lines_in (operator_input c.args.journalling.live.connections (g.I.Read.remaining c.args.input.now)) in
+    let before = g.T.Write.contents c.args.ends.console in
     value_told c.end_run.result _ _
     (λ s h.
     ended_as _ _ _ _ _ _ sites stations _ _ _ c.requires.names c.requires.first (sym c.requires.before)

@@ -1,7 +1,8 @@
-use Rattle.std.proofs.Common.{Err, refl}
+use Rattle.std.proofs.Common.{Err, ap, refl}
 use Rattle.std.specs.Io.Buffered.{reader_remaining, writer_contents}
 use Rattle.journal_server.specs.declared.fault.JournalFault.TheVariants.{Service}
 use Rattle.server_parts.specs.declared.fault.ServiceFault.TheVariants.{OutOfMemory}
+use Rattle.live_server.specs.Told.{operator_input}
 use Rattle.journal_server.specs.Served.{IsNewRun, TellsNew}
 use Rattle.ocpp_board.proofs.Runs.{journal_run, new_run}
 use Rattle.ocpp_board.proofs.serving.journalled.Goals as goal
@@ -14,11 +15,12 @@ returns g c =
     let consoles = g.P.Console.Write.contents in
     let sites = c.args.plan.now.sites.items in
     let stations = c.args.plan.now.stations.items in
-    let input = g.P.Input.Read.remaining streams.input in
+    let own = operator_input c.args.journalling.live.connections in
+    let input = own (g.P.Input.Read.remaining streams.input) in
     let served = c.serve_journalled-served in
     journal_run contents consoles reports streams.errors c.end_journalled-2.result served.result
     (λ left ended answered. IsNewRun sites stations (contents streams.output) left (TellsNew ended stations input (consoles streams.console) answered))
-    (new_run served.result contents consoles sites stations (writer_contents contents c.in-Ok.journal) (contents streams.output) (reader_remaining g.P.Input.Read.remaining c.in-Ok.reader) input (consoles streams.console) (consoles streams.console) c.in-Ok.ensures.output c.in-Ok.ensures.input refl served.ensures)
+    (new_run served.result contents consoles sites stations (writer_contents contents c.in-Ok.journal) (contents streams.output) (own (reader_remaining g.P.Input.Read.remaining c.in-Ok.reader)) input (consoles streams.console) (consoles streams.console) c.in-Ok.ensures.output (ap own c.in-Ok.ensures.input) refl served.ensures)
     c.end_journalled-2.ensures
 
 pub returns-in_default : goal.returns-in_default
@@ -29,7 +31,8 @@ returns-in_default g c =
     let consoles = g.P.Console.Write.contents in
     let sites = c.args.plan.now.sites.items in
     let stations = c.args.plan.now.stations.items in
-    let input = g.P.Input.Read.remaining streams.input in
+    let own = operator_input c.args.journalling.live.connections in
+    let input = own (g.P.Input.Read.remaining streams.input) in
     journal_run contents consoles reports streams.errors c.end_journalled.result (Err (Service OutOfMemory))
     (λ left ended answered. IsNewRun sites stations (contents streams.output) left (TellsNew ended stations input (consoles streams.console) answered))
     tt

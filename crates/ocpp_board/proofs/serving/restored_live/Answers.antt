@@ -12,11 +12,12 @@ returns g c =
     let reports = g.P.Errors.Write.contents in
     let streams = c.args.streams in
     let allows = c.args.restoring.allows_left_out in
+    let connections = c.args.restoring.journalling.live.connections in
     let input = g.P.Input.Read.remaining streams.input in
     let served = c.serve_restored-served in
     unwritten_run contents (λ _. None) (writer_contents contents) reports streams.errors c.end_unwritten-2.result served.result
-    (λ left ended answered. IsRestoredRun allows input None left (TellsRestored ended (contents streams.output) answered))
-    (restored_run served.result (λ _. None) (writer_contents contents) allows None None (reader_remaining g.P.Input.Read.remaining c.in-Ok.reader) input (writer_contents contents c.in-Ok.writer) (contents streams.output) refl c.in-Ok.ensures.input c.in-Ok.ensures.output served.ensures.serves)
+    (λ left ended answered. IsRestoredRun allows input None left (TellsRestored ended connections (contents streams.output) answered))
+    (restored_run served.result (λ _. None) (writer_contents contents) allows connections None None (reader_remaining g.P.Input.Read.remaining c.in-Ok.reader) input (writer_contents contents c.in-Ok.writer) (contents streams.output) refl c.in-Ok.ensures.input c.in-Ok.ensures.output served.ensures.serves)
     c.end_unwritten-2.ensures
 
 pub returns-in_default : goal.returns-in_default
@@ -25,7 +26,8 @@ returns-in_default g c =
     let reports = g.P.Errors.Write.contents in
     let streams = c.args.streams in
     let allows = c.args.restoring.allows_left_out in
+    let connections = c.args.restoring.journalling.live.connections in
     let input = g.P.Input.Read.remaining streams.input in
     unwritten_failed contents reports streams.errors c.end_unwritten.result (Service OutOfMemory)
-    (λ left ended answered. IsRestoredRun allows input None left (TellsRestored ended (contents streams.output) answered))
+    (λ left ended answered. IsRestoredRun allows input None left (TellsRestored ended connections (contents streams.output) answered))
     c.end_unwritten.ensures

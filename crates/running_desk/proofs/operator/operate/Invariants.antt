@@ -6,5 +6,5 @@ use Rattle.running_desk.proofs.operator.operate.Given as goal
 -- the lines that were answered so far
 abbrev pub invariant-loop : goal.invariant-loop
 invariant-loop g l =
-    SoFar g.S.Delivers.gives (g.S.Serves.shows l.running.serves.now) l.running.plan.now.sites.items l.running.desk.desk.now.stations
+    SoFar g.S.Delivers.gives (g.S.Serves.shows l.running.serves.now) l.running.plan.now.sites.items l.running.desk.now.stations
     (lines_in (g.I.Read.remaining l.fn.input)) (orders_coming g.I.Read.remaining l.orders) (g.W.Write.contents l.fn.writer) (g.W.Write.contents l.writer) l.seen.items
