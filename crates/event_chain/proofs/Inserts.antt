@@ -27,7 +27,7 @@ module _ {limits : Bounds} {table : Table} {store : Slots} {stored live : Index}
   none = none_at chains mid key row r0 absent entered number rank_is
 
   -- What the insertion did to each part.
-  pub record Inserted (t : Table) (s : Slots) (st l : Index) (c : Direction → Index) (n : Index) (after : TableRow) (s0 : ℕ) (event : EventContent) (carries : Direction → Bool) (names : Bool) : Type 0 where
+  pub record Inserted (t : Table) (s : Slots) (st l : Index) (c : Direction → Index) (n : Index) (after : TableRow) (s0 : ℕ) (event : EventContent) (carries : Direction → Bool) (names_evse : Bool) : Type 0 where
     pub rows : t.rows ≡ with_row key.tx after mid
     pub transactions : t.capacity ≡ table.capacity
     pub rising : AreRising t.rows
@@ -40,14 +40,14 @@ module _ {limits : Bounds} {table : Table} {store : Slots} {stored live : Index}
     pub stored_is : st ≡ index (put nat_cmp r0 s0 stored.entries) stored.capacity
     pub live_is : l ≡ index (put nat_cmp r0 s0 live.entries) live.capacity
     pub carriers_is : (d : Direction) → c d ≡ index (put_if (carries d) r0 s0 (carriers d).entries) (carriers d).capacity
-    pub naming_is : n ≡ index (put_if names r0 s0 naming.entries) naming.capacity
+    pub naming_is : n ≡ index (put_if names_evse r0 s0 naming.entries) naming.capacity
     pub carries_is : (d : Direction) → carries d ≡ is_carrier d (record { event = event; voided = false })
-    pub names_is : names ≡ is_naming (record { event = event; voided = false })
+    pub names_is : names_evse ≡ is_naming (record { event = event; voided = false })
     pub same : after.slot ≡ row.slot
     pub one_more : after.live ≡ row.live + 1
     pub ends : after.ends ≡ row.ends + cond (is_end event.kind) 1 0
 
-  module _ (t : Table) (s : Slots) (st l : Index) (c : Direction → Index) (n : Index) (after : TableRow) (s0 : ℕ) (event : EventContent) (carries : Direction → Bool) (names : Bool) (did : Inserted t s st l c n after s0 event carries names) where
+  module _ (t : Table) (s : Slots) (st l : Index) (c : Direction → Index) (n : Index) (after : TableRow) (s0 : ℕ) (event : EventContent) (carries : Direction → Bool) (names_evse : Bool) (did : Inserted t s st l c n after s0 event carries names_evse) where
     named : IsNamed table.rows t.rows key.tx row after
     named = named_after table.rows mid t.rows key.tx row after entered did.rows did.same
 
@@ -55,10 +55,10 @@ module _ {limits : Bounds} {table : Table} {store : Slots} {stored live : Index}
     pub inserted : IsChains limits t s st l c n
     inserted = let r = chains.roomy in
         seal limits t s st l c n t.rows table.capacity (set store.slots s0 (Some (r0, record { event = event; voided = false }))) (store.readings + length event.readings) store.capacity
-        (put nat_cmp r0 s0 stored.entries) (put nat_cmp r0 s0 live.entries) (λ d. put_if (carries d) r0 s0 (carriers d).entries) (put_if names r0 s0 naming.entries) limits.events
+        (put nat_cmp r0 s0 stored.entries) (put nat_cmp r0 s0 live.entries) (λ d. put_if (carries d) r0 s0 (carriers d).entries) (put_if names_evse r0 s0 naming.entries) limits.events
         refl did.transactions did.slots did.readings did.room (λ i. (did.stored_is i).entries) (λ i. (did.live_is i).entries) (λ d i. (did.carriers_is d i).entries) (λ i. (did.naming_is i).entries) ((λ i. (did.stored_is i).capacity) ∙ r.for_stored) ((λ i. (did.live_is i).capacity) ∙ r.for_live) (λ d. (λ i. (did.carriers_is d i).capacity) ∙ r.for_carriers d) ((λ i. (did.naming_is i).capacity) ∙ r.for_naming)
         (put_chains limits table.rows t.rows stored.entries live.entries (λ d. (carriers d).entries) naming.entries store.slots key row after r0 s0 table.capacity store.readings store.capacity chains.keyed chains.indexed chains.figured chains.counted named number rank_is did.rising did.apart
-        event did.free did.within none carries names did.carries_is did.names_is did.one_more did.ends (record { for_stored = refl; for_live = refl; for_carriers = λ d. refl; for_naming = refl }))
+        event did.free did.within none carries names_evse did.carries_is did.names_is did.one_more did.ends (record { for_stored = refl; for_live = refl; for_carriers = λ d. refl; for_naming = refl }))
 
     -- The event was put in.
     pub inserted_events : events_of t s st ≡ finite.insert (events_of table store stored) key (record { event = event; voided = false })

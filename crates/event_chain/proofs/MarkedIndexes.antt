@@ -237,30 +237,30 @@ module _ (o : Option Mark) (r : ℕ) (f : Filed ℕ) (es : List (Entry ℕ)) (h 
 
 -- The marks of a live event.
 abbrev pub live_marks : ByDirection Bool → Bool → Marks
-live_marks carries names = record { live = true; imports = carries.import; exports = carries.export; names = names }
+live_marks carries names_evse = record { live = true; imports = carries.import; exports = carries.export; names = names_evse }
 
 -- What a change of one index does to its places by each mark.
 module _ (old new : keyed.Index ℕ) (key : ℕ) (up : AreRising old.entries) (room : new.capacity ≡ old.capacity) where
   marked_is : (o : Option Mark) (xs : List EventPlace) → marked_places o new.entries ≡ xs → marked_index o new ≡ index xs old.capacity
   marked_is o xs is = λ i. index (is i) (room i)
 
-  more : (slot : ℕ) (carries : ByDirection Bool) (names : Bool) → ((m : Mark) → marked_index (Some m) new ≡ index (put_if (has_mark m (live_marks carries names)) key slot (marked_places (Some m) old.entries)) old.capacity) → IsLiveMore key slot carries names (placed old) (placed new)
-  more slot carries names each = record {
+  more : (slot : ℕ) (carries : ByDirection Bool) (names_evse : Bool) → ((m : Mark) → marked_index (Some m) new ≡ index (put_if (has_mark m (live_marks carries names_evse)) key slot (marked_places (Some m) old.entries)) old.capacity) → IsLiveMore key slot carries names_evse (placed old) (placed new)
+  more slot carries names_evse each = record {
     live = each Live;
     carriers = each_way (λ d. carriers_of (placed new) d ≡ index (put_if (in_direction d carries) key slot (carriers_of (placed old) d).entries) (carriers_of (placed old) d).capacity) (each Imports) (each Exports);
     naming = each Names;
   }
 
   -- A live event is put in.
-  module _ (slot : ℕ) (carries : ByDirection Bool) (names : Bool) (none : place_of key (marked_places None old.entries) ≡ None) (is : new.entries ≡ below key old.entries ++ (key, record { value = slot; marks = live_marks carries names }) ∷ from key old.entries) where
-    put_in : (o : Option Mark) → marked_index o new ≡ index (put_if (passes o (live_marks carries names)) key slot (marked_places o old.entries)) old.capacity
-    put_in o = marked_is o _ (ap (marked_places o) is ∙ marked_put o key (record { value = slot; marks = live_marks carries names }) old.entries up none)
+  module _ (slot : ℕ) (carries : ByDirection Bool) (names_evse : Bool) (none : place_of key (marked_places None old.entries) ≡ None) (is : new.entries ≡ below key old.entries ++ (key, record { value = slot; marks = live_marks carries names_evse }) ∷ from key old.entries) where
+    put_in : (o : Option Mark) → marked_index o new ≡ index (put_if (passes o (live_marks carries names_evse)) key slot (marked_places o old.entries)) old.capacity
+    put_in o = marked_is o _ (ap (marked_places o) is ∙ marked_put o key (record { value = slot; marks = live_marks carries names_evse }) old.entries up none)
 
     pub stored_more : marked_index None new ≡ index (put nat_cmp key slot (marked_places None old.entries)) old.capacity
     stored_more = put_in None
 
-    pub lives_more : IsLiveMore key slot carries names (placed old) (placed new)
-    lives_more = more slot carries names (λ m. put_in (Some m))
+    pub lives_more : IsLiveMore key slot carries names_evse (placed old) (placed new)
+    lives_more = more slot carries names_evse (λ m. put_in (Some m))
 
   -- The marks of an event change.
   module _ (slot : ℕ) (at : place_of key (marked_places None old.entries) ≡ Some slot) (marks : Marks) (is : new.entries ≡ below key old.entries ++ mark_at marks 0 (from key old.entries)) where
@@ -281,8 +281,8 @@ module _ (old new : keyed.Index ℕ) (key : ℕ) (up : AreRising old.entries) (r
           unmarked Exports = refl
           unmarked Names = refl
 
-    pub lives_again : (carries : ByDirection Bool) (names : Bool) → marks ≡ live_marks carries names → IsNotLive key (placed old) → IsLiveMore key slot carries names (placed old) (placed new)
-    lives_again carries names marks_are none = more slot carries names (λ m. marked_is (Some m) _ (ap (marked_places (Some m)) is ∙ marked_enter (Some m) key f.0 old.entries up f.1.0 marks (absent m)
+    pub lives_again : (carries : ByDirection Bool) (names_evse : Bool) → marks ≡ live_marks carries names_evse → IsNotLive key (placed old) → IsLiveMore key slot carries names_evse (placed old) (placed new)
+    lives_again carries names_evse marks_are none = more slot carries names_evse (λ m. marked_is (Some m) _ (ap (marked_places (Some m)) is ∙ marked_enter (Some m) key f.0 old.entries up f.1.0 marks (absent m)
         ∙ ap (λ s. put_if (has_mark m marks) key s (marked_places (Some m) old.entries)) f.1.1 ∙ ap (λ b. put_if (has_mark m b) key slot (marked_places (Some m) old.entries)) marks_are)) where
           absent : (m : Mark) → place_of key (marked_places (Some m) old.entries) ≡ None
           absent Live = none.live

@@ -132,12 +132,12 @@ module _ {limits : Bounds} {table : Table} {store : Slots} {stored live : Index}
           location_event now location_here location_within at.slot test sub never was)
 
       -- The indexes of an event that is live again.
-      pub in_indexes : (l : List EventPlace) (c : Direction → List EventPlace) (n : List EventPlace) (carries : Direction → Bool) (names : Bool) → voided ≡ false → location_event.voided ≡ true → l ≡ put_if true location.key location.slot live.entries → ((d : Direction) → c d ≡ put_if (carries d) location.key location.slot (carriers d).entries) → n ≡ put_if names location.key location.slot naming.entries
-          → ((d : Direction) → carries d ≡ is_some (first_reading (toward d location_event.event.readings))) → names ≡ is_some location_event.event.evse → AreIndexed stored.entries held l c n
-      in_indexes l c n carries names no_more was l_is c_is n_is carries_is names_is = record {
+      pub in_indexes : (l : List EventPlace) (c : Direction → List EventPlace) (n : List EventPlace) (carries : Direction → Bool) (names_evse : Bool) → voided ≡ false → location_event.voided ≡ true → l ≡ put_if true location.key location.slot live.entries → ((d : Direction) → c d ≡ put_if (carries d) location.key location.slot (carriers d).entries) → n ≡ put_if names_evse location.key location.slot naming.entries
+          → ((d : Direction) → carries d ≡ is_some (first_reading (toward d location_event.event.readings))) → names_evse ≡ is_some location_event.event.evse → AreIndexed stored.entries held l c n
+      in_indexes l c n carries names_evse no_more was l_is c_is n_is carries_is names_is = record {
         lives = location_in is_live live.entries l true l_is (sym (ap not no_more)) (ap not was) chains.indexed.lives;
         carry = λ d. location_in (is_carrier d) (carriers d).entries (c d) (carries d) (c_is d) (carries_is d ∙ sym (ap (λ v. not v && is_some (first_reading (toward d location_event.event.readings))) no_more)) (ap (λ v. not v && is_some (first_reading (toward d location_event.event.readings))) was) (chains.indexed.carry d);
-        names = location_in is_naming naming.entries n names n_is (names_is ∙ sym (ap (λ v. not v && is_some location_event.event.evse) no_more)) (ap (λ v. not v && is_some location_event.event.evse) was) chains.indexed.names;
+        names = location_in is_naming naming.entries n names_evse n_is (names_is ∙ sym (ap (λ v. not v && is_some location_event.event.evse) no_more)) (ap (λ v. not v && is_some location_event.event.evse) was) chains.indexed.names;
       }
 
       -- The indexes of an event that was voided.

@@ -122,11 +122,11 @@ module _ (limits : Bounds) (rows new : List TxRow) (es live : List EventPlace) (
         (put_if_here b r0 s0 sub (was.each r0 ∙ ap (chosen test slots) none) ∙ ap (λ c. cond c (Some s0) None) (is ∙ sym (ap test put_stored)) ∙ sym (ap (chosen test held) (put_here r0 s0 es)))
 
     -- Chains with an event put in.
-    pub put_chains : (carries : Direction → Bool) (names : Bool) → ((d : Direction) → carries d ≡ is_carrier d st) → names ≡ is_naming st → after.live ≡ row.live + 1 → after.ends ≡ row.ends + cond (is_end event.kind) 1 0 → AreRoomy limits.events limits.events limits.events (λ _. limits.events) limits.events
-        → IsChains limits (record { rows = new; capacity = transactions }) (record { slots = held; readings = readings + length event.readings; capacity = room }) (index more limits.events) (index (put_if true r0 s0 live) limits.events) (λ d. index (put_if (carries d) r0 s0 (carriers d)) limits.events) (index (put_if names r0 s0 naming) limits.events)
-    put_chains carries names carries_is names_is live_is ends_is roomy = record {
+    pub put_chains : (carries : Direction → Bool) (names_evse : Bool) → ((d : Direction) → carries d ≡ is_carrier d st) → names_evse ≡ is_naming st → after.live ≡ row.live + 1 → after.ends ≡ row.ends + cond (is_end event.kind) 1 0 → AreRoomy limits.events limits.events limits.events (λ _. limits.events) limits.events
+        → IsChains limits (record { rows = new; capacity = transactions }) (record { slots = held; readings = readings + length event.readings; capacity = room }) (index more limits.events) (index (put_if true r0 s0 live) limits.events) (λ d. index (put_if (carries d) r0 s0 (carriers d)) limits.events) (index (put_if names_evse r0 s0 naming) limits.events)
+    put_chains carries names_evse carries_is names_is live_is ends_is roomy = record {
       keyed = put_keyed rows es slots keyed new key.tx row after r0 s0 st named home free within rising apart put_ranks;
-      indexed = record { lives = put_sub is_live live true refl indexed.lives; carry = λ d. put_sub (is_carrier d) (carriers d) (carries d) (carries_is d) (indexed.carry d); names = put_sub is_naming naming names names_is indexed.names };
+      indexed = record { lives = put_sub is_live live true refl indexed.lives; carry = λ d. put_sub (is_carrier d) (carriers d) (carries d) (carries_is d) (indexed.carry d); names = put_sub is_naming naming names_evse names_is indexed.names };
       figured = subst (AreFigured new) (sym put_flat) (figured_put rows new es slots key st row after all_rising figured named
           (omega (arith, ap (at_key (live_one key.tx) key) put_absent, live_mine key st, live_is)) (omega (arith, ap (at_key (end_one key.tx) key) put_absent, end_mine key st, ends_is)));
       counted = record {

@@ -125,10 +125,10 @@ pub record CanRestore (key slot : ℕ) (p : Placed) : Type 0 where
   pub slot_for : IsSlotFor slot p
 
 -- A live event came, with readings of these directions and perhaps an EVSE.
-pub record IsLiveMore (key slot : ℕ) (carries : ByDirection Bool) (names : Bool) (old new : Placed) : Type 0 where
+pub record IsLiveMore (key slot : ℕ) (carries : ByDirection Bool) (names_evse : Bool) (old new : Placed) : Type 0 where
   pub live : new.live ≡ index (put nat_cmp key slot old.live.entries) old.live.capacity
   pub carriers : (d : Direction) → carriers_of new d ≡ index (put_if (in_direction d carries) key slot (carriers_of old d).entries) (carriers_of old d).capacity
-  pub naming : new.naming ≡ index (put_if names key slot old.naming.entries) old.naming.capacity
+  pub naming : new.naming ≡ index (put_if names_evse key slot old.naming.entries) old.naming.capacity
 
 -- A live event went.
 pub record IsLiveLess (key : ℕ) (old new : Placed) : Type 0 where

@@ -255,8 +255,8 @@ impl Chains {
         let (row, known) = enter(&mut self.table, found, tx);
         let at = IndexKey::new(row.slot, key.seq());
         let slot = self.store.put(at, event);
-        let names = event.evse().is_some();
-        self.places.insert(place, at, slot, carries, names);
+        let names_evse = event.evse().is_some();
+        self.places.insert(place, at, slot, carries, names_evse);
         let after = row_with(row, event.kind());
         renew(&mut self.table, known, tx, after);
         around
@@ -286,10 +286,10 @@ impl Chains {
         let at = locate(&self.table, &self.places, key);
         let event = self.store.get(at.slot);
         let carries = carried(&event);
-        let names = event.evse().is_some();
+        let names_evse = event.evse().is_some();
         let kind = event.kind();
         self.store.set_voided(at.slot, false);
-        self.places.restore(at.key, at.slot, carries, names);
+        self.places.restore(at.key, at.slot, carries, names_evse);
         let after = row_with(at.row, kind);
         self.table.set(key.tx(), after);
     }

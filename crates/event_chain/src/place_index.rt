@@ -244,11 +244,11 @@ impl PlaceIndex {
         key: IndexKey,
         slot: u32,
         carries: Carries,
-        names: bool,
+        names_evse: bool,
     )
         requires { CanPutIn key slot self.old }
         ensures stored { self.new.stored ≡ index (put nat_cmp key slot self.old.stored.entries) self.old.stored.capacity }
-        ensures lives { IsLiveMore key slot carries names self.old self.new }
+        ensures lives { IsLiveMore key slot carries names_evse self.old self.new }
     {
         let ends = self.ends_at(key, place);
         // The first key of a new transaction belongs where the transaction begins.
@@ -258,7 +258,7 @@ impl PlaceIndex {
             live: true,
             imports: carries.import,
             exports: carries.export,
-            names,
+            names: names_evse,
         };
         self.index.insert(place, key, Filed { value: slot, marks });
         self.near = place;
@@ -281,10 +281,10 @@ impl PlaceIndex {
     }
 
     // Makes a voided event live again.
-    pub(crate) fn restore(&mut self, key: IndexKey, slot: u32, carries: Carries, names: bool)
+    pub(crate) fn restore(&mut self, key: IndexKey, slot: u32, carries: Carries, names_evse: bool)
         requires { CanRestore key slot self.old }
         ensures stored { self.new.stored ≡ self.old.stored }
-        ensures lives { IsLiveMore key slot carries names self.old self.new }
+        ensures lives { IsLiveMore key slot carries names_evse self.old self.new }
     {
         let place = self.near;
         link_live(&self.index, &mut self.links, place, key, slot);
@@ -292,7 +292,7 @@ impl PlaceIndex {
             live: true,
             imports: carries.import,
             exports: carries.export,
-            names,
+            names: names_evse,
         };
         self.index.set_marks(key, marks);
     }

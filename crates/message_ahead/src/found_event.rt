@@ -1,4 +1,5 @@
 //! An event of a piece of lines; one vector has the readings of all events of the piece.
+//! A `Delivery` has a vector of its own, which another thread than its maker would free.
 ghost use Rattle.std.specs.Prelude.{◌≡◌, ◌≤◌, length, IfOk, IfSome, slice_range};
 ghost use Rattle.message_ahead.specs.Ahead.{Extends, HasRange, found_delivery};
 

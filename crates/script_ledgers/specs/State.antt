@@ -20,11 +20,19 @@ pub record State : Type 0 where
   pub script : Script
   pub posts : ℕ
 
+-- The script of opened ledgers.
+abbrev pub script_of : {J : Type 0} {named : Ghosts J} → OpenedScript J named → Script
+script_of o = running o.draft o.cells.items
+
+-- How many posts were made in all.
+abbrev pub posts_of : {J : Type 0} {named : Ghosts J} → OpenedScript J named → ℕ
+posts_of o = posts_in o.books.items
+
 -- The state with its ledgers opened. If there was no memory for them, there are none, and nothing is
 -- said about the state.
 abbrev pub opened_state : {J : Type 0} {named : Ghosts J} → Option (OpenedScript J named) → State
 opened_state None = record { script = opened_script start; posts = 0 }
-opened_state (Some o) = record { script = running o.draft o.cells.items; posts = posts_in o.books.items }
+opened_state (Some o) = record { script = script_of o; posts = posts_of o }
 
 -- The state: its declarations, until the ledgers are opened.
 abbrev pub state_of : {J : Type 0} {named : Ghosts J} → Option Declared → Option (OpenedScript J named) → State

@@ -13,6 +13,7 @@
 
 mod draft;
 mod hints;
+mod line_answers;
 mod listed;
 mod opened_script;
 mod script_state;

@@ -1,6 +1,6 @@
 -- What an event that comes or goes changes: the pairs of each direction that go and come, and what its transaction
 -- counts for.
-use Rattle.std.proofs.Common.{◌≡◌, ℕ, ◌+◌, ◌≤◌, Bool, zero, suc, List, [], ◌∷◌, Option, length, refl, sym, ap, subst, ◌∙◌, arith}
+use Rattle.std.proofs.Common.{◌≡◌, ℕ, ◌+◌, ◌≤◌, zero, suc, List, [], ◌∷◌, Option, length, refl, sym, ap, subst, ◌∙◌, arith}
 use Rattle.ledger_model.specs.declared.order.Order.{Order}
 use Rattle.ledger_model.specs.declared.order.Order.TheVariants.{Sequence}
 use Rattle.ledger_model.specs.declared.reading.Direction.{Direction}
@@ -16,15 +16,19 @@ use Rattle.ledger_model.specs.Limits.{Bounds}
 use Rattle.ledger_model.specs.Ranges.{most_event_readings}
 use Rattle.ledger_model.proofs.Callers.{few_moved, few_toward}
 use Rattle.event_chain.specs.Chains.{Chained, stored}
+use Rattle.station_ledger.specs.declared.pairs.Way.{Way}
+use Rattle.station_ledger.specs.declared.pairs.Way.TheVariants.{Coming, Going}
 use Rattle.station_ledger.specs.Moved.{IsMoved}
 use Rattle.station_ledger.specs.Quarters.{both_length, readings_at}
+use Rattle.event_chain.specs.Room.{readings_under}
 use Rattle.event_chain.specs.Sides.{AreSides, side_if}
 use Rattle.event_chain.specs.declared.around.Sides.{Sides}
+use Rattle.station_ledger.specs.Runs.{by_way}
 use Rattle.station_ledger.specs.Spent.{most_at}
 use Rattle.station_ledger.specs.Sides.{has_some, sides_across, sides_between}
-use Rattle.station_ledger.specs.Sums.{AreAllowed, IsToCome, IsToGo}
+use Rattle.station_ledger.specs.Sums.{AreAllowed, IsTurning}
 use Rattle.station_ledger.proofs.Moved.{moved_more, moved_back}
-use Rattle.station_ledger.proofs.Trades.{IsTraded, traded_more, traded_less}
+use Rattle.station_ledger.proofs.Trades.{IsTraded, traded}
 
 -- A change of a transaction's live events, with the pairs of each direction that go and come by sequence.
 pub record IsChange (limits : Bounds) (tx : List ℕ) (es new : List Entry) (gone came : Direction → List Pair) (most : ℕ) : Type 0 where
@@ -67,47 +71,49 @@ few_each {key = key} {es = es} chains place event d is own =
 few_of : (n : ℕ) (event : Stored) (d : Direction) → length event.event.readings ≤ most_event_readings → n ≤ most_for (length (toward d event.event.readings)) → n ≤ most_event_readings + 2
 few_of n event d few le = omega (arith, le, most_le (length (toward d event.event.readings)), few_toward d event.event.readings, few)
 
--- only the live events of the transaction change
-module _ (order : Order) {tx : List ℕ} {es : List Entry} {chains : Chained} {key : KeyName} {place : ByDirection Sides} (tx_is : tx ≡ key.tx) where
-  pub come_moved : {names : Bool} → IsToCome es chains key place names → IsMoved order tx es (stored chains)
-  come_moved h = subst (λ t. IsMoved order t es (stored chains)) (sym tx_is) (moved_more order es (stored chains) (before_key key es) (key, h.event) (behind_key key es) h.one)
+-- The pairs of each direction that go with an event that comes or goes.
+abbrev pub gone_sides : Way → ByDirection Sides → Chained → KeyName → Direction → List Pair
+gone_sides way place chains key d = by_way way (sides_across place d) (sides_between place chains key d)
 
-  pub go_moved : IsToGo es chains key place → IsMoved order tx es (stored chains)
-  go_moved h = subst (λ t. IsMoved order t es (stored chains)) (sym tx_is) (moved_back order key.tx (stored chains) es (moved_more order (stored chains) es (before_key key es) (key, h.event) (behind_key key es) h.one))
+-- And those that come.
+abbrev pub came_sides : Way → ByDirection Sides → Chained → KeyName → Direction → List Pair
+came_sides way place chains key d = by_way way (sides_between place chains key d) (sides_across place d)
 
-module _ {tx : List ℕ} {es : List Entry} {chains : Chained} {key : KeyName} {place : ByDirection Sides} (tx_is : tx ≡ key.tx) (allowed : AreAllowed Sequence chains.limits es) (after : AreAllowed Sequence chains.limits (stored chains)) where
-  -- the readings come
-  pub coming : {names : Bool} → IsToCome es chains key place names → IsChange chains.limits tx es (stored chains) (sides_across place) (sides_between place chains key) (most_at chains key)
-  coming h =
+both_long : (way : Way) (ps qs : List Pair) → length (by_way way ps qs) + length (by_way way qs ps) ≡ length ps + length qs
+both_long Coming ps qs = refl
+both_long Going ps qs = omega arith
+
+module _ {tx : List ℕ} {es : List Entry} {chains : Chained} {key : KeyName} {place : ByDirection Sides} (tx_is : tx ≡ key.tx) where
+  -- only the live events of the transaction change
+  pub turned_moved : (order : Order) (way : Way) → IsTurning way es chains key place → IsMoved order tx es (stored chains)
+  turned_moved order Coming h =
+      subst (λ t. IsMoved order t es (stored chains)) (sym tx_is) (moved_more order es (stored chains) (before_key key es) (key, h.event) (behind_key key es) h.one)
+  turned_moved order Going h =
+      subst (λ t. IsMoved order t es (stored chains)) (sym tx_is)
+      (moved_back order key.tx (stored chains) es (moved_more order (stored chains) es (before_key key es) (key, h.event) (behind_key key es) h.one))
+
+  -- the readings come or go
+  pub turned_pairs : AreAllowed Sequence chains.limits es → AreAllowed Sequence chains.limits (stored chains) → (way : Way) → IsTurning way es chains key place
+      → IsChange chains.limits tx es (stored chains) (gone_sides way place chains key) (came_sides way place chains key) (most_at chains key)
+  turned_pairs before after way h =
       let new = stored chains in let front = before_key key es in let back = behind_key key es in let e : Entry = (key, h.event) in
-      let few = λ (d : Direction). few_each chains place h.event d (h.sides d) (h.readings d) in
-      let each : (d : Direction) → length (sides_across place d) + length (sides_between place chains key d) ≤ most_event_readings + 2 = λ d. few_of _ h.event d h.few (omega (arith, few d, ap (λ rs. most_for (length rs)) (h.readings d))) in
+      let own : (d : Direction) → readings_at d chains key ≡ toward d h.event.event.readings = λ d. ap (readings_under d) h.there in
+      let few = λ (d : Direction). few_each chains place h.event d (h.sides d) (own d) in
+      let each : (d : Direction) → length (sides_across place d) + length (sides_between place chains key d) ≤ most_event_readings + 2 =
+      λ d. few_of _ h.event d h.few (omega (arith, few d, ap (λ rs. most_for (length rs)) (own d))) in
+      let long = λ (d : Direction). both_long way (sides_across place d) (sides_between place chains key d) in
+      let across = λ (d : Direction). across_then place h.event d (h.sides d) in
+      let between = λ (d : Direction). between_then chains place h.event d (h.sides d) (own d) in
+      let kept = λ (d : Direction). kept_by d (by_way way es new) front e back in
       record {
-        before = allowed;
+        before = before;
         after = after;
-        kept = λ d. kept_by d es front e back;
-        traded = λ d. subst (λ t. IsTraded d t es new (sides_across place d) (sides_between place chains key d) (kept_by d es front e back)) (sym tx_is)
-            (subst (λ ps. IsTraded d key.tx es new ps (sides_between place chains key d) (kept_by d es front e back)) (sym (across_then place h.event d (h.sides d)))
-            (subst (λ ps. IsTraded d key.tx es new (gone_by d front e back) ps (kept_by d es front e back)) (sym (between_then chains place h.event d (h.sides d) (h.readings d))) (traded_more d es new front e back h.one)));
-        few_gone = λ d. omega (arith, each d);
-        few_came = λ d. omega (arith, each d);
-        few = omega (arith, few Import, few Export);
-      }
-
-  -- the readings go
-  pub going : IsToGo es chains key place → IsChange chains.limits tx es (stored chains) (sides_between place chains key) (sides_across place) (most_at chains key)
-  going h =
-      let new = stored chains in let front = before_key key es in let back = behind_key key es in let e : Entry = (key, h.event) in
-      let few = λ (d : Direction). few_each chains place h.event d (h.sides d) (h.readings d) in
-      let each : (d : Direction) → length (sides_across place d) + length (sides_between place chains key d) ≤ most_event_readings + 2 = λ d. few_of _ h.event d h.few (omega (arith, few d, ap (λ rs. most_for (length rs)) (h.readings d))) in
-      record {
-        before = allowed;
-        after = after;
-        kept = λ d. kept_by d new front e back;
-        traded = λ d. subst (λ t. IsTraded d t es new (sides_between place chains key d) (sides_across place d) (kept_by d new front e back)) (sym tx_is)
-            (subst (λ ps. IsTraded d key.tx es new (sides_between place chains key d) ps (kept_by d new front e back)) (sym (across_then place h.event d (h.sides d)))
-            (subst (λ ps. IsTraded d key.tx es new ps (gone_by d front e back) (kept_by d new front e back)) (sym (between_then chains place h.event d (h.sides d) (h.readings d))) (traded_less d es new front e back h.one)));
-        few_gone = λ d. omega (arith, each d);
-        few_came = λ d. omega (arith, each d);
-        few = omega (arith, few Import, few Export);
+        kept = kept;
+        traded = λ d. subst (λ t. IsTraded d t es new (gone_sides way place chains key d) (came_sides way place chains key d) (kept d)) (sym tx_is)
+            (subst (λ ps. IsTraded d key.tx es new (by_way way ps (sides_between place chains key d)) (by_way way (sides_between place chains key d) ps) (kept d)) (sym (across d))
+            (subst (λ ps. IsTraded d key.tx es new (by_way way (gone_by d front e back) ps) (by_way way ps (gone_by d front e back)) (kept d)) (sym (between d))
+            (traded way d es new front e back h.one)));
+        few_gone = λ d. omega (arith, each d, long d);
+        few_came = λ d. omega (arith, each d, long d);
+        few = omega (arith, few Import, few Export, long Import, long Export);
       }

@@ -1,8 +1,9 @@
 -- What each command leaves for the sums to do.
-use Rattle.std.proofs.Common.{is_some, not, IfSome, ◌≡◌, ◌==◌, ◌&&◌, ℕ, ◌+◌, ◌<◌, ◌≤◌, Bool, true, false, cond, List, Option, Some, None, map, length, refl, sym, ap, subst, ◌∙◌, arith}
+use Rattle.std.proofs.Common.{not, IfSome, ◌≡◌, ◌==◌, ◌&&◌, ℕ, ◌+◌, ◌<◌, ◌≤◌, Bool, true, false, cond, List, Option, Some, None, map, length, refl, sym, ap, subst, ◌∙◌, arith}
 use Rattle.std.specs.List.{filter, filter_map, flat_map, count_by, sum_by}
 use Rattle.std.specs.FinMap as finite
 use Rattle.std.specs.FinMap.{find}
+use Rattle.ledger_model.specs.declared.command.Command.{Command}
 use Rattle.ledger_model.specs.declared.command.Command.TheVariants.{Deliver, Void, Restore, Erase}
 use Rattle.ledger_model.specs.declared.order.Order.{Order}
 use Rattle.ledger_model.specs.declared.order.Order.TheVariants.{Sequence, Moment}
@@ -29,15 +30,17 @@ use Rattle.event_chain.specs.Chains.{Chained, stored}
 use Rattle.event_chain.specs.Room.{found_of, readings_under}
 use Rattle.quarter_table.specs.Pairs.{rows_of}
 use Rattle.station_ledger.specs.declared.by_moment.ByMoment.{ByMoment}
+use Rattle.station_ledger.specs.declared.pairs.Way.{Way}
+use Rattle.station_ledger.specs.declared.pairs.Way.TheVariants.{Coming, Going}
 use Rattle.station_ledger.specs.declared.sums.Sums.{Sums}
 use Rattle.station_ledger.specs.ByMoment.{AreByMoment, ranked}
 use Rattle.station_ledger.specs.Kept.{CanDo, voided_in}
-use Rattle.station_ledger.specs.Quarters.{both_quartered, readings_at}
+use Rattle.station_ledger.specs.Quarters.{HasEvent, both_quartered, readings_at}
 use Rattle.event_chain.specs.Sides.{AreSides}
 use Rattle.event_chain.specs.declared.around.Sides.{Sides}
 use Rattle.station_ledger.specs.Sides.{has_some}
-use Rattle.station_ledger.specs.Spent.{most_in_runs, most_less, most_more, most_spent, most_under}
-use Rattle.station_ledger.specs.Sums.{AreAllowed, AreShrinking, AreSummed, IsToCome, IsToGo, order_in}
+use Rattle.station_ledger.specs.Spent.{most_in_runs, most_spent, most_turned, most_under}
+use Rattle.station_ledger.specs.Sums.{AreAllowed, AreSummed, AreTurning, IsTurning, order_in}
 use Rattle.station_ledger.proofs.Moved.{kept_same}
 
 -- an event that was found
@@ -54,65 +57,90 @@ pub found_live : (o : Option Stored) → found_of o ≡ Some Live → IsFound o 
 found_live None h = cc
 found_live (Some s) h = record { event = s; is = refl; marked_is = elim s.voided as (λ b. Some (cond b Voided Live) ≡ Some Live → b ≡ false) [ true ↦ λ f. cc | false ↦ λ _. refl ] h }
 
-none_of : (o : Option ℕ) → is_some o ≡ false → o ≡ None
-none_of None h = refl
-none_of (Some n) h = cc
-
 -- how it is found among the entries
 listed : (old : Chained) (key : KeyName) (o : Option Stored) → finite.get old.events key ≡ o → find key_cmp key (stored old) ≡ o
 listed old key o h = sym (finite.get-entries old.events key) ∙ h
 
-module _ (old new : Chained) (key : KeyName) (place : ByDirection Sides) (has : Direction → Bool) (sides : (d : Direction) → AreSides d (has d) key (stored old) (in_direction d place)) where
+-- a delivered event is under its key
+pub delivered_there : (old new : Chained) (key : KeyName) (event : EventContent) → new.events ≡ events_after old.events (Deliver key event) → HasEvent key event new
+delivered_there old new key event is = ap (λ m. finite.get m key) is ∙ inserted_there old.events key (record { event = event; voided = false })
+
+-- what a mark leaves under the key
+marked_there : (old new : Chained) (key : KeyName) (voided was : Bool) → new.events ≡ marked old.events key voided
+    → (f : IsFound (finite.get old.events key) was) → finite.get new.events key ≡ Some (record { event = f.event.event; voided = voided })
+marked_there old new key voided was is f =
+    ap (λ m. finite.get m key) is ∙ ap (λ o. finite.get (marked_at old.events key voided o) key) f.is ∙ inserted_there old.events key (record { event = f.event.event; voided = voided })
+
+module _ (old new : Chained) (key : KeyName) (place : ByDirection Sides) (has : Direction → Bool) (sums : Sums)
+    (sides : (d : Direction) → AreSides d (has d) key (stored old) (in_direction d place)) (limits : new.limits ≡ old.limits) where
   -- the sides, where it is known which directions have a reading
   sides_then : (rs : List MeterReading) → ((d : Direction) → has d ≡ has_some (toward d rs)) → (d : Direction) → AreSides d (has_some (toward d rs)) key (stored old) (in_direction d place)
   sides_then rs is d = subst (λ b. AreSides d b key (stored old) (in_direction d place)) (is d) (sides d)
 
+  -- those of a found event
+  sides_found : {voided : Bool} (f : IsFound (finite.get old.events key) voided) → ((d : Direction) → has d ≡ has_some (readings_at d old key))
+      → (d : Direction) → AreSides d (has_some (toward d f.event.event.readings)) key (stored old) (in_direction d place)
+  sides_found f has_is = sides_then f.event.event.readings (λ d. has_is d ∙ ap (λ o. has_some (readings_under d o)) f.is)
+
+  -- it has few readings
+  few_found : {voided : Bool} (f : IsFound (finite.get old.events key) voided) → AreAllowed (order_in sums) old.limits (stored old) → length f.event.event.readings ≤ most_event_readings
+  few_found f before = before.few_in_each key f.event (listed old key (Some f.event) f.is)
+
+  -- the sums are those of the events before
+  turns : {way : Way} {command : Command} → CanDo command old sums → IsTurning way (stored old) new key place → AreTurning way (stored old) new key place sums
+  turns can turning = record {
+    allowed = subst (λ l. AreAllowed (order_in sums) l (stored old)) (sym limits) can.before;
+    turning = turning;
+    summed = subst (λ l. AreSummed l (stored old) sums) (sym limits) can.summed;
+  }
+
   -- a delivered event comes
-  pub delivered : (event : EventContent) → new.events ≡ events_after old.events (Deliver key event) → finite.get old.events key ≡ None → length event.readings ≤ most_event_readings → ((d : Direction) → has d ≡ has_some (toward d event.readings)) → IsToCome (stored old) new key place (is_some event.evse)
-  delivered event is absent few has_is = record {
-    event = record { event = event; voided = false };
-    one = subst (λ es. IsOneMore (stored old) es (before_key key (stored old)) (key, record { event = event; voided = false }) (behind_key key (stored old))) (sym (ap finite.entries is ∙ entries_after_is old.events (Deliver key event)))
-        (delivered_more (stored old) key event (finite.entries_sorted old.events) (listed old key None absent));
-    readings = λ d. ap (λ m. readings_under d (finite.get m key)) is ∙ ap (readings_under d) (inserted_there old.events key (record { event = event; voided = false }));
-    sides = sides_then event.readings has_is;
-    few = few;
-    evse = none_of event.evse;
-  }
+  pub delivered : (event : EventContent) → new.events ≡ events_after old.events (Deliver key event) → CanDo (Deliver key event) old sums
+      → ((d : Direction) → has d ≡ has_some (toward d event.readings)) → AreTurning Coming (stored old) new key place sums
+  delivered event is can has_is =
+      let s : Stored = record { event = event; voided = false } in
+      turns can (record {
+        event = s;
+        one = subst (λ es. IsOneMore (stored old) es (before_key key (stored old)) (key, s) (behind_key key (stored old)))
+            (sym (ap finite.entries is ∙ entries_after_is old.events (Deliver key event)))
+            (delivered_more (stored old) key event (finite.entries_sorted old.events) (listed old key None can.ready.0));
+        there = delivered_there old new key event is;
+        sides = sides_then event.readings has_is;
+        few = can.after.few_in_each key s (ap (find key_cmp key) (ap finite.entries (sym is)) ∙ listed new key (Some s) (delivered_there old new key event is));
+      })
 
-  -- what a mark leaves under the key
-  marked_there : (voided : Bool) (s : Stored) → finite.get old.events key ≡ Some s → finite.get (marked old.events key voided) key ≡ Some (record { event = s.event; voided = voided })
-  marked_there voided s is = ap (λ o. finite.get (marked_at old.events key voided o) key) is ∙ inserted_there old.events key (record { event = s.event; voided = voided })
-
-  -- a restored event comes, whatever it names
-  pub restored : new.events ≡ events_after old.events (Restore key) → (f : IsFound (finite.get old.events key) true) → length f.event.event.readings ≤ most_event_readings → ((d : Direction) → has d ≡ has_some (readings_at d old key)) → IsToCome (stored old) new key place true
-  restored is f few has_is = record {
-    event = record { event = f.event.event; voided = false };
-    one = subst (λ es. IsOneMore (stored old) es (before_key key (stored old)) (key, record { event = f.event.event; voided = false }) (behind_key key (stored old))) (sym (ap finite.entries is ∙ entries_after_is old.events (Restore key)))
-        (restored_more (stored old) key f.event (finite.entries_sorted old.events) (listed old key (Some f.event) f.is) f.marked_is);
-    readings = λ d. ap (λ m. readings_under d (finite.get m key)) is ∙ ap (readings_under d) (marked_there false f.event f.is);
-    sides = sides_then f.event.event.readings (λ d. has_is d ∙ ap (λ o. has_some (readings_under d o)) f.is);
-    few = few;
-    evse = λ (no : true ≡ false). cc;
-  }
+  -- a restored event comes
+  pub restored : new.events ≡ events_after old.events (Restore key) → CanDo (Restore key) old sums
+      → ((d : Direction) → has d ≡ has_some (readings_at d old key)) → AreTurning Coming (stored old) new key place sums
+  restored is can has_is =
+      let f = found_voided (finite.get old.events key) can.ready in let s : Stored = record { event = f.event.event; voided = false } in
+      turns can (record {
+        event = s;
+        one = subst (λ es. IsOneMore (stored old) es (before_key key (stored old)) (key, s) (behind_key key (stored old))) (sym (ap finite.entries is ∙ entries_after_is old.events (Restore key)))
+            (restored_more (stored old) key f.event (finite.entries_sorted old.events) (listed old key (Some f.event) f.is) f.marked_is);
+        there = marked_there old new key false true is f;
+        sides = sides_found f has_is;
+        few = few_found f can.before;
+      })
 
   -- a voided event goes
-  voided_goes : new.events ≡ events_after old.events (Void key) → (f : IsFound (finite.get old.events key) false) → length f.event.event.readings ≤ most_event_readings → ((d : Direction) → has d ≡ has_some (readings_at d old key)) → IsToGo (stored old) new key place
-  voided_goes is f few has_is = record {
-    event = f.event;
-    one = subst (λ es. IsOneMore es (stored old) (before_key key (stored old)) (key, f.event) (behind_key key (stored old))) (sym (ap finite.entries is ∙ entries_after_is old.events (Void key)))
-        (voided_less (stored old) key f.event (finite.entries_sorted old.events) (listed old key (Some f.event) f.is) f.marked_is);
-    readings = λ d. ap (λ m. readings_under d (finite.get m key)) is ∙ ap (readings_under d) (marked_there true f.event f.is);
-    sides = sides_then f.event.event.readings (λ d. has_is d ∙ ap (λ o. has_some (readings_under d o)) f.is);
-    few = few;
-  }
+  pub voided : new.events ≡ events_after old.events (Void key) → CanDo (Void key) old sums
+      → ((d : Direction) → has d ≡ has_some (readings_at d old key)) → AreTurning Going (stored old) new key place sums
+  voided is can has_is =
+      let f = found_live (finite.get old.events key) can.ready in
+      turns can (record {
+        event = f.event;
+        one = subst (λ es. IsOneMore es (stored old) (before_key key (stored old)) (key, f.event) (behind_key key (stored old))) (sym (ap finite.entries is ∙ entries_after_is old.events (Void key)))
+            (voided_less (stored old) key f.event (finite.entries_sorted old.events) (listed old key (Some f.event) f.is) f.marked_is);
+        there = marked_there old new key true false is f;
+        sides = sides_found f has_is;
+        few = few_found f can.before;
+      })
 
 -- the readings of a marked event are what they were
 marked_readings : (d : Direction) (old new : Chained) (key : KeyName) (voided was : Bool) → new.events ≡ marked old.events key voided → IsFound (finite.get old.events key) was → most_for (length (readings_at d new key)) ≡ most_for (length (readings_at d old key))
 marked_readings d old new key voided was is f =
-    ap (λ m. most_for (length (readings_under d (finite.get m key)))) is
-    ∙ ap (λ o. most_for (length (readings_under d (finite.get (marked_at old.events key voided o) key)))) f.is
-    ∙ ap (λ o. most_for (length (readings_under d o))) (inserted_there old.events key (record { event = f.event.event; voided = voided }))
-    ∙ sym (ap (λ o. most_for (length (readings_under d o))) f.is)
+    ap (λ o. most_for (length (readings_under d o))) (marked_there old new key voided was is f) ∙ sym (ap (λ o. most_for (length (readings_under d o))) f.is)
 
 -- what a stored event may cost, by its readings of each direction
 most_found : (o : Option Stored) → most_under o ≡ most_for (length (readings_under Import o)) + most_for (length (readings_under Export o))
@@ -121,48 +149,26 @@ most_found (Some s) = refl
 
 -- those of a delivered event are its own
 delivered_readings : (d : Direction) (old new : Chained) (key : KeyName) (event : EventContent) → new.events ≡ events_after old.events (Deliver key event) → most_for (length (readings_at d new key)) ≡ most_for (length (toward d event.readings))
-delivered_readings d old new key event is = ap (λ m. most_for (length (readings_under d (finite.get m key)))) is ∙ ap (λ o. most_for (length (readings_under d o))) (inserted_there old.events key (record { event = event; voided = false }))
+delivered_readings d old new key event is = ap (λ o. most_for (length (readings_under d o))) (delivered_there old new key event is)
 
 -- what each command may cost, by the order
-pub delivered_spends : (order : Order) (old new : Chained) (key : KeyName) (event : EventContent) → new.events ≡ events_after old.events (Deliver key event) → most_more order new key ≡ most_spent order old.events (Deliver key event)
+pub delivered_spends : (order : Order) (old new : Chained) (key : KeyName) (event : EventContent) → new.events ≡ events_after old.events (Deliver key event)
+    → most_turned order Coming new key (stored old) ≡ most_spent order old.events (Deliver key event)
 unfolding most_spent
 delivered_spends Sequence old new key event is = omega (arith, delivered_readings Import old new key event is, delivered_readings Export old new key event is)
 delivered_spends Moment old new key event is = ap (λ m. most_in_runs key (finite.entries m)) is
 
-pub restored_spends : (order : Order) (old new : Chained) (key : KeyName) → new.events ≡ events_after old.events (Restore key) → IsFound (finite.get old.events key) true → most_more order new key ≡ most_spent order old.events (Restore key)
+pub restored_spends : (order : Order) (old new : Chained) (key : KeyName) → new.events ≡ events_after old.events (Restore key) → IsFound (finite.get old.events key) true
+    → most_turned order Coming new key (stored old) ≡ most_spent order old.events (Restore key)
 unfolding most_spent
 restored_spends Sequence old new key is f = omega (arith, marked_readings Import old new key false true is f, marked_readings Export old new key false true is f, most_found (finite.get old.events key))
 restored_spends Moment old new key is f = ap (λ m. most_in_runs key (finite.entries m)) is
 
-pub voided_spends : (order : Order) (old new : Chained) (key : KeyName) → new.events ≡ events_after old.events (Void key) → IsFound (finite.get old.events key) false → most_less order new key (stored old) ≡ most_spent order old.events (Void key)
+pub voided_spends : (order : Order) (old new : Chained) (key : KeyName) → new.events ≡ events_after old.events (Void key) → IsFound (finite.get old.events key) false
+    → most_turned order Going new key (stored old) ≡ most_spent order old.events (Void key)
 unfolding most_spent
 voided_spends Sequence old new key is f = omega (arith, marked_readings Import old new key true false is f, marked_readings Export old new key true false is f, most_found (finite.get old.events key))
 voided_spends Moment old new key is f = refl
-
--- the readings of a delivered event are those that came with it
-pub delivered_own : (d : Direction) (old new : Chained) (key : KeyName) (event : EventContent) → new.events ≡ events_after old.events (Deliver key event) → readings_at d new key ≡ toward d event.readings
-delivered_own d old new key event is = ap (λ m. readings_under d (finite.get m key)) is ∙ ap (readings_under d) (inserted_there old.events key (record { event = event; voided = false }))
-
--- a delivered event has few readings, where the events after are allowed
-pub few_delivered : (order : Order) (limits : Bounds) (old : Chained) (key : KeyName) (event : EventContent) → AreAllowed order limits (finite.entries (events_after old.events (Deliver key event))) → length event.readings ≤ most_event_readings
-few_delivered order limits old key event after =
-    let s : Stored = record { event = event; voided = false } in
-    after.few_in_each key s (sym (finite.get-entries (events_after old.events (Deliver key event)) key) ∙ inserted_there old.events key s)
-
--- a found one, where the events before are
-pub few_found : (order : Order) (limits : Bounds) (old : Chained) (key : KeyName) (voided : Bool) (f : IsFound (finite.get old.events key) voided) → AreAllowed order limits (stored old) → length f.event.event.readings ≤ most_event_readings
-few_found order limits old key voided f before = before.few_in_each key f.event (listed old key (Some f.event) f.is)
-
--- a voided event goes from all sums
-pub shrinks : (old new : Chained) (key : KeyName) (place : ByDirection Sides) (has : Direction → Bool) → ((d : Direction) → AreSides d (has d) key (stored old) (in_direction d place)) → {sums : Sums} → new.limits ≡ old.limits → new.events ≡ events_after old.events (Void key)
-    → CanDo (Void key) old sums → ((d : Direction) → has d ≡ has_some (readings_at d old key)) → AreShrinking (stored old) new key place sums
-shrinks old new key place has sides {sums = sums} limits is can has_is =
-    let f = found_live (finite.get old.events key) can.ready in
-    record {
-      allowed = subst (λ l. AreAllowed (order_in sums) l (stored old)) (sym limits) can.before;
-      go = voided_goes old new key place has sides is f (few_found (order_in sums) old.limits old key false f can.before) has_is;
-      summed = subst (λ l. AreSummed l (stored old) sums) (sym limits) can.summed;
-    }
 
 -- the live events are the same after an erasure
 pub erased : (old new : Chained) (key : KeyName) → new.events ≡ events_after old.events (Erase key) → IsFound (finite.get old.events key) true → live (stored new) ≡ live (stored old)

@@ -7,22 +7,25 @@ use Rattle.std.specs.declared.cmp.Ordering.TheVariants.{Less, Equal, Greater}
 use Rattle.std.proofs.lemmas.List.{append-nil}
 use Rattle.std.proofs.lemmas.List.Elements.{filter-append}
 use Rattle.ledger_model.specs.declared.by_direction.ByDirection.{ByDirection}
+use Rattle.ledger_model.specs.declared.order.Order.TheVariants.{Moment}
 use Rattle.ledger_model.specs.Content.{Entry, Stored, live}
 use Rattle.ledger_model.specs.Deltas.{IsOneMore, before_key, behind_key}
 use Rattle.ledger_model.specs.Key.{KeyName, key_cmp}
 use Rattle.ledger_model.specs.Limits.{Bounds}
 use Rattle.ledger_model.proofs.Callers.{turned}
 use Rattle.event_chain.specs.Chains.{Chained, stored}
+use Rattle.event_chain.specs.Room.{readings_under}
 use Rattle.event_chain.specs.declared.around.Sides.{Sides}
 use Rattle.station_ledger.specs.declared.by_moment.ByMoment.{ByMoment}
 use Rattle.station_ledger.specs.declared.sums.Sums.{Sums}
+use Rattle.station_ledger.specs.declared.pairs.Way.{Way}
 use Rattle.station_ledger.specs.declared.pairs.Way.TheVariants.{Coming, Going}
 use Rattle.station_ledger.specs.ByMoment.{AreByMoment}
 use Rattle.station_ledger.specs.Exchange.{IsMove}
-use Rattle.station_ledger.specs.Sides.{sides_across, sides_between}
 use Rattle.station_ledger.specs.Spent.{most_at}
-use Rattle.station_ledger.specs.Sums.{AreAllowed, AreGrowing, AreQuarterRows, AreShrinking, order_in, order_of}
-use Rattle.station_ledger.proofs.Changes.{IsChange, coming, going}
+use Rattle.station_ledger.specs.Runs.{by_way}
+use Rattle.station_ledger.specs.Sums.{AreAllowed, AreQuarterRows, AreTurning, IsTurning, order_in, order_of}
+use Rattle.station_ledger.proofs.Changes.{IsChange, came_sides, gone_sides, turned_pairs}
 
 -- what passes a test passes it again
 again : {X : Type 0} (p : X → Bool) (xs : List X) → filter p (filter p xs) ≡ filter p xs
@@ -48,9 +51,11 @@ one_side a b h = elim (key_cmp a b) as (λ (o : Ordering). key_cmp a b ≡ o →
   | Greater ↦ λ e no. cc
 ] refl h
 
--- a live event less, by the keys that are left
-left_keys : (less all : List Entry) (key : KeyName) (s : Stored) → IsOneMore less all (before_key key all) (key, s) (behind_key key all) → IsOneMore less all (before_key key less) (key, s) (behind_key key less)
-left_keys less all key s one =
+-- a live event that came or went, by the keys of the others
+other_keys : (way : Way) (es new : List Entry) (key : KeyName) (s : Stored) → IsOneMore (by_way way es new) (by_way way new es) (before_key key es) (key, s) (behind_key key es)
+    → IsOneMore (by_way way es new) (by_way way new es) (before_key key (by_way way es new)) (key, s) (behind_key key (by_way way es new))
+other_keys Coming es new key s one = one
+other_keys Going all less key s one =
     let p = λ (e : Entry). is_lt (key_cmp e.0 key) in let q = λ (e : Entry). is_lt (key_cmp key e.0) in
     let front : before_key key less ≡ before_key key all =
     ap (filter p) one.less_live ∙ filter-append p (before_key key all) (behind_key key all) ∙ (λ i. again p (live all) i ++ ruled_out q p (λ e. one_side key e.0) (live all) i) ∙ append-nil (before_key key all) in
@@ -59,6 +64,16 @@ left_keys less all key s one =
     let fore = sym front in let rear = sym back in
     record { less_live = one.less_live ∙ (λ i. fore i ++ rear i); more_live = one.more_live ∙ (λ i. fore i ++ (key, s) ∷ rear i) }
 
+-- what holds of both holds of either
+either : (way : Way) (P : List Entry → Type 0) {es fs : List Entry} → P es → P fs → P (by_way way es fs)
+either Coming P first second = first
+either Going P first second = second
+
+-- the events before, by those without the event and those with it
+pub were : (way : Way) (es new : List Entry) → by_way way (by_way way es new) (by_way way new es) ≡ es
+were Coming es new = refl
+were Going es new = refl
+
 -- what is allowed and what the rows are, by what is known of the order
 allowed_by : {limits : Bounds} {es : List Entry} (sums : Sums) {b : Option ByMoment} → sums.by_moment ≡ b → AreAllowed (order_in sums) limits es → AreAllowed (order_of b) limits es
 allowed_by {limits = limits} {es = es} sums is h = subst (λ o. AreAllowed (order_of o) limits es) is h
@@ -66,40 +81,26 @@ allowed_by {limits = limits} {es = es} sums is h = subst (λ o. AreAllowed (orde
 pub rows_by : {limits : Bounds} {es : List Entry} (sums : Sums) {b : Option ByMoment} → sums.by_moment ≡ b → AreQuarterRows (order_in sums) limits es sums.period sums.quarters → AreQuarterRows (order_of b) limits es sums.period sums.quarters
 rows_by {limits = limits} {es = es} sums is h = subst (λ o. AreQuarterRows (order_of o) limits es sums.period sums.quarters) is h
 
-module _ {es : List Entry} {chains : Chained} {key : KeyName} {place : ByDirection Sides} {sums : Sums} {b : ByMoment} (is : sums.by_moment ≡ Some b) (after : AreAllowed (order_in sums) chains.limits (stored chains)) where
-  -- an event comes to readings by moment
-  pub comes_in_time : {names : Bool} → AreGrowing es chains key place names sums → IsMove Coming es (stored chains) chains key b sums.period sums.quarters
-  comes_in_time h = record {
-    event = h.come.event;
-    one = h.come.one;
-    now_are = refl;
-    readings = h.come.readings;
-    few = h.come.few;
-    small = allowed_by sums is h.allowed;
-    large = allowed_by sums is after;
-    timed = subst (λ o. IfSome o (AreByMoment chains.limits es)) is h.summed.timed;
-    rows = rows_by sums is h.summed.by_quarter;
-  }
+module _ {way : Way} {es : List Entry} {chains : Chained} {key : KeyName} {place : ByDirection Sides} {sums : Sums}
+    (after : AreAllowed (order_in sums) chains.limits (stored chains)) (h : AreTurning way es chains key place sums) where
+  -- an event comes to readings by moment, or goes from them
+  pub turned_in_time : {b : ByMoment} → sums.by_moment ≡ Some b → IsMove way (by_way way es (stored chains)) (by_way way (stored chains) es) chains key b sums.period sums.quarters
+  turned_in_time {b = b} is =
+      let same = sym (were way es (stored chains)) in
+      record {
+        event = h.turning.event;
+        one = other_keys way es (stored chains) key h.turning.event h.turning.one;
+        now_are = were way (stored chains) es;
+        readings = λ d. ap (readings_under d) h.turning.there;
+        few = h.turning.few;
+        small = either way (AreAllowed Moment chains.limits) (allowed_by sums is h.allowed) (allowed_by sums is after);
+        large = either way (AreAllowed Moment chains.limits) (allowed_by sums is after) (allowed_by sums is h.allowed);
+        timed = subst (λ l. AreByMoment chains.limits l b) same (subst (λ o. IfSome o (AreByMoment chains.limits es)) is h.summed.timed);
+        rows = subst (λ l. AreQuarterRows Moment chains.limits l sums.period sums.quarters) same (rows_by sums is h.summed.by_quarter);
+      }
 
-  -- an event goes from them
-  pub goes_in_time : AreShrinking es chains key place sums → IsMove Going (stored chains) es chains key b sums.period sums.quarters
-  goes_in_time h = record {
-    event = h.go.event;
-    one = left_keys (stored chains) es key h.go.event h.go.one;
-    now_are = refl;
-    readings = h.go.readings;
-    few = h.go.few;
-    small = allowed_by sums is after;
-    large = allowed_by sums is h.allowed;
-    timed = subst (λ o. IfSome o (AreByMoment chains.limits es)) is h.summed.timed;
-    rows = rows_by sums is h.summed.by_quarter;
-  }
-
-module _ {es : List Entry} {chains : Chained} {key : KeyName} {place : ByDirection Sides} {sums : Sums} (is : sums.by_moment ≡ None) (after : AreAllowed (order_in sums) chains.limits (stored chains)) where
-  -- an event comes to readings by sequence
-  pub comes_in_turn : {names : Bool} → AreGrowing es chains key place names sums → IsChange chains.limits key.tx es (stored chains) (sides_across place) (sides_between place chains key) (most_at chains key)
-  comes_in_turn h = coming refl (allowed_by sums is h.allowed) (allowed_by sums is after) h.come
-
-  -- an event goes from them
-  pub goes_in_turn : AreShrinking es chains key place sums → IsChange chains.limits key.tx es (stored chains) (sides_between place chains key) (sides_across place) (most_at chains key)
-  goes_in_turn h = going refl (allowed_by sums is h.allowed) (allowed_by sums is after) h.go
+  -- or to readings by sequence, and it is known which
+  pub turned_in_turn : {to : Way} → sums.by_moment ≡ None → way ≡ to
+      → IsChange chains.limits key.tx es (stored chains) (gone_sides to place chains key) (came_sides to place chains key) (most_at chains key)
+  turned_in_turn {to = to} is way_is =
+      turned_pairs refl (allowed_by sums is h.allowed) (allowed_by sums is after) to (subst (λ w. IsTurning w es chains key place) way_is h.turning)

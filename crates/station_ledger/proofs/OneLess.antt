@@ -6,19 +6,23 @@ use Rattle.energy_flow.specs.Flow.{Energy}
 use Rattle.ledger_model.specs.declared.by_direction.ByDirection.{ByDirection}
 use Rattle.ledger_model.specs.Board.{last_or_zero}
 use Rattle.ledger_model.specs.BoardLaws.{AreRising}
-use Rattle.ledger_model.specs.Content.{Entry, live_of}
+use Rattle.ledger_model.specs.Content.{Entry, Stored, live_of}
 use Rattle.ledger_model.specs.Deltas.{own_events, before_key, behind_key}
+use Rattle.ledger_model.specs.Event.{EventContent}
 use Rattle.ledger_model.specs.Evse.{first_or_zero}
 use Rattle.ledger_model.specs.Gaps.{numbers_of, missing}
 use Rattle.ledger_model.specs.Key.{KeyName}
 use Rattle.ledger_model.proofs.Callers.{live_with, live_without}
 use Rattle.ledger_model.proofs.GapLemmas.{missing-fills}
 use Rattle.event_chain.specs.Chains.{Chained, stored}
+use Rattle.station_ledger.specs.declared.pairs.Way.{Way}
+use Rattle.station_ledger.specs.declared.pairs.Way.TheVariants.{Coming, Going}
 use Rattle.station_ledger.specs.declared.standing.Standing.{Standing}
 use Rattle.station_ledger.specs.Standing.{standing_with, kept_with}
 use Rattle.event_chain.specs.declared.around.Sides.{Sides}
 use Rattle.station_ledger.specs.Coming.{IsOneLess}
-use Rattle.station_ledger.specs.Sums.{IsToCome}
+use Rattle.station_ledger.specs.Quarters.{HasEvent}
+use Rattle.station_ledger.specs.Sums.{IsTurning}
 use Rattle.station_ledger.proofs.EndNumbers.{first_is}
 
 -- The last of two lists.
@@ -93,10 +97,11 @@ some_kept : (n : ℕ) (s was : Standing) → Some was ≡ cond (n == 0) None (So
 some_kept zero s was h = cc
 some_kept (suc n) s was h = omega arith
 
--- The standing of a transaction, compared with its events after one more has come.
-pub one_less : (es : List Entry) (chains : Chained) (key : KeyName) (place : ByDirection Sides) (names : Bool) → IsToCome es chains key place names → AreRising (numbers_of key.tx (stored chains))
-    → (energy : ByDirection Energy) (was : Standing) → Some was ≡ kept_with energy key.tx es → IsOneLess was key.tx key.seq names (stored chains)
-one_less es chains key place names come up energy was kept =
+-- The standing of a transaction, compared with its events after one more has come that names no EVSE.
+one_less : (es : List Entry) (chains : Chained) (key : KeyName) (place : ByDirection Sides) (come : IsTurning Coming es chains key place)
+    → come.event.event.evse ≡ None → AreRising (numbers_of key.tx (stored chains))
+    → (energy : ByDirection Energy) (was : Standing) → Some was ≡ kept_with energy key.tx es → IsOneLess was key.tx key.seq (stored chains)
+one_less es chains key place come none up energy was kept =
     let new = stored chains in let tx = key.tx in let e : Entry = (key, come.event) in let front = before_key key es in let back = behind_key key es in
     let own = own_events tx front in let rest = own_events tx back in
     let is = kept_is energy tx es was kept in
@@ -111,17 +116,30 @@ one_less es chains key place names come up energy was kept =
       live = omega (arith, ap length with, length-append own (e ∷ rest), ap (λ (s : Standing). s.live) is, ap length without, length-append own rest);
       first = λ lt. ap (λ ns. slice_get ns 0) now ∙ keeps_first (map seq_of own) (map seq_of rest) key.seq was.first rises (ap (λ (s : Standing). s.first) is ∙ ap (λ ns. unwrap_or (slice_get ns 0) 0) before)
           (omega (arith, lives, ap (λ (s : Standing). s.live) is, some_kept (length (live_of tx es)) (standing_with energy tx es) was kept)) lt;
-      evse = λ none. ap (λ xs. first_or_zero (filter_map (λ (x : Entry). x.1.event.evse) xs)) with ∙ ap first_or_zero (passed own e rest (come.evse none))
+      evse = ap (λ xs. first_or_zero (filter_map (λ (x : Entry). x.1.event.evse) xs)) with ∙ ap first_or_zero (passed own e rest none)
           ∙ sym (ap (λ (s : Standing). s.evse) is ∙ ap (λ xs. first_or_zero (filter_map (λ (x : Entry). x.1.event.evse) xs)) without);
       within = λ first at lt le. let so = (filled (map seq_of own) (map seq_of rest) key.seq first rises (ap (λ ns. slice_get ns 0) (sym now) ∙ at) lt).0 (omega (arith, le, lives, gone)) in omega (arith, so, ap missing now, gone);
       beyond = λ first at lt le. let so = (filled (map seq_of own) (map seq_of rest) key.seq first rises (ap (λ ns. slice_get ns 0) (sym now) ∙ at) lt).1 (omega (arith, le, lives, gone)) in omega (arith, so, ap missing now, gone, lives);
     }
 
--- The same, where anything was kept.
-pub all_less : (es : List Entry) (chains : Chained) (key : KeyName) (place : ByDirection Sides) (names : Bool) → IsToCome es chains key place names → AreRising (numbers_of key.tx (stored chains))
-    → (tx : List ℕ) (seq : ℕ) → tx ≡ key.tx → seq ≡ key.seq → (energy : ByDirection Energy) (was : Option Standing) → was ≡ kept_with energy tx es
-    → IfSome was (λ w. IsOneLess w tx seq names (stored chains))
-all_less es chains key place names come up tx seq tx_is seq_is energy None kept = tt
-all_less es chains key place names come up tx seq tx_is seq_is energy (Some was) kept =
-    subst (λ t. IsOneLess was t seq names (stored chains)) (sym tx_is) (subst (λ n. IsOneLess was key.tx n names (stored chains)) (sym seq_is)
-    (one_less es chains key place names come up energy was (kept ∙ ap (λ t. kept_with energy t es) tx_is)))
+-- The EVSE that a stored event names.
+abbrev evse_in : Option Stored → Option ℕ
+evse_in None = None
+evse_in (Some s) = s.event.evse
+
+-- The same of an event that the chains have, where anything was kept.
+pub all_less : (way : Way) (es : List Entry) (chains : Chained) (key : KeyName) (place : ByDirection Sides) → IsTurning way es chains key place
+    → AreRising (numbers_of key.tx (stored chains)) → (tx : List ℕ) (seq : ℕ) → tx ≡ key.tx → seq ≡ key.seq → (energy : ByDirection Energy) (was : Option Standing) → was ≡ kept_with energy tx es
+    → (event : EventContent) → HasEvent key event chains → event.evse ≡ None → IfSome was (λ w. IsOneLess w tx seq (stored chains))
+all_less way es chains key place turning up tx seq tx_is seq_is energy None kept event has none = tt
+all_less Coming es chains key place come up tx seq tx_is seq_is energy (Some was) kept event has none =
+    subst (λ t. IsOneLess was t seq (stored chains)) (sym tx_is) (subst (λ n. IsOneLess was key.tx n (stored chains)) (sym seq_is)
+    (one_less es chains key place come (ap evse_in (sym come.there ∙ has) ∙ none) up energy was (kept ∙ ap (λ t. kept_with energy t es) tx_is)))
+all_less Going es chains key place go up tx seq tx_is seq_is energy (Some was) kept event has none = absurd (live (ap voided_in (sym go.there ∙ has)))
+  where
+    voided_in : Option Stored → Bool
+    voided_in None = false
+    voided_in (Some s) = s.voided
+
+    live : true ≡ false → ⊥
+    live f = cc

@@ -1,5 +1,5 @@
 -- All sums after the pairs of one event came or went.
-use Rattle.std.proofs.Common.{◌≡◌, ◌≤◌, ℕ, Bool, List, Option, IfSome, sym, ap, subst, ◌∙◌, arith}
+use Rattle.std.proofs.Common.{◌≡◌, ◌≤◌, ℕ, List, Option, None, Some, IfSome, sym, ap, subst, ◌∙◌, arith}
 use Rattle.std.specs.FinMap.{find}
 use Rattle.energy_flow.specs.Flow.{Energy, plus}
 use Rattle.ledger_model.specs.Periods.{Periods}
@@ -17,6 +17,7 @@ use Rattle.event_chain.specs.Chains.{Chained, stored}
 use Rattle.event_chain.specs.declared.around.Sides.{Sides}
 use Rattle.quarter_table.specs.Table.{Table}
 use Rattle.transaction_map.specs.Map.{Mapped, id_cmp}
+use Rattle.station_ledger.specs.declared.pairs.Way.{Way}
 use Rattle.station_ledger.specs.declared.pairs.Way.TheVariants.{Coming, Going}
 use Rattle.station_ledger.specs.declared.standing.Standing.{Standing}
 use Rattle.station_ledger.specs.declared.sums.Sums.{Sums}
@@ -24,11 +25,16 @@ use Rattle.station_ledger.specs.ByMoment.{AreByMoment}
 use Rattle.station_ledger.specs.Moved.{CanExchange, IsExchanged, IsMoved, flows_in}
 use Rattle.station_ledger.specs.Quarters.{HasRoom, HoldsBoth, IsSumOf, IsTableMoved, both_length, both_quartered}
 use Rattle.station_ledger.specs.Standing.{kept_of, kept_with}
-use Rattle.station_ledger.specs.Sums.{AreAllowed, AreCounts, AreEvseSums, AreGrowing, ArePairsMoved, AreQuarterRows, AreShrinking, AreStanding, AreSummed, CanReplace, IsReplaced, order_in, order_of}
+use Rattle.station_ledger.specs.Sums.{AreAllowed, AreCounts, AreEvseSums, ArePairsMoved, AreQuarterRows, AreStanding, AreSummed, AreTurning, CanReplace, IsReplaced, order_in, order_of}
 use Rattle.station_ledger.proofs.Bounded.{own_up_le, own_down_le}
-use Rattle.station_ledger.proofs.Changes.{IsChange, come_moved, go_moved}
+use Rattle.station_ledger.proofs.Changes.{IsChange, turned_moved}
 use Rattle.station_ledger.proofs.Stands.{own_flow, was_kept, place, stands, room_at, counts_at, sums_stand, have_room, do_count, counts_stand}
 use Rattle.station_ledger.proofs.Trades.{station_exchanged, own_exchanged, may_exchange, is_left, holds, room, filled}
+
+-- what follows from what holds of a value, if there is one
+pub if_some : {X : Type 0} {P Q : X → Type 0} (o : Option X) → ((x : X) → P x → Q x) → IfSome o P → IfSome o Q
+if_some None then h = tt
+if_some (Some x) then h = then x h
 
 -- by sequence
 module _ {limits : Bounds} {tx : List ℕ} {es new : List Entry} {gone came : Direction → List Pair} {most : ℕ} (ch : IsChange limits tx es new gone came most) where
@@ -65,11 +71,15 @@ pub record AreTurned (limits : Bounds) (tx : List ℕ) (es new : List Entry) (su
 
 module _ {tx : List ℕ} {es : List Entry} {chains : Chained} {key : KeyName} {place : ByDirection Sides} {sums mid : Sums} {less more : ByDirection Energy} (tx_is : tx ≡ key.tx) (after : AreAllowed (order_in sums) chains.limits (stored chains))
     (energies : IsExchanged (order_in sums) key.tx es (stored chains) less more) (pairs : ArePairsMoved sums mid) where
-  pub turned_more : {names : Bool} → AreGrowing es chains key place names sums → AreTurned chains.limits tx es (stored chains) sums mid less more
-  turned_more h = record { moved = come_moved (order_in sums) tx_is h.come; before = h.allowed; after = after; summed = h.summed; energies = subst (λ t. IsExchanged (order_in sums) t es (stored chains) less more) (sym tx_is) energies; pairs = pairs }
-
-  pub turned_less : AreShrinking es chains key place sums → AreTurned chains.limits tx es (stored chains) sums mid less more
-  turned_less h = record { moved = go_moved (order_in sums) tx_is h.go; before = h.allowed; after = after; summed = h.summed; energies = subst (λ t. IsExchanged (order_in sums) t es (stored chains) less more) (sym tx_is) energies; pairs = pairs }
+  pub turned : {way : Way} → AreTurning way es chains key place sums → AreTurned chains.limits tx es (stored chains) sums mid less more
+  turned {way = way} h = record {
+    moved = turned_moved tx_is (order_in sums) way h.turning;
+    before = h.allowed;
+    after = after;
+    summed = h.summed;
+    energies = subst (λ t. IsExchanged (order_in sums) t es (stored chains) less more) (sym tx_is) energies;
+    pairs = pairs;
+  }
 
 module _ {limits : Bounds} {tx : List ℕ} {es new : List Entry} {sums mid : Sums} {less more : ByDirection Energy} (x : AreTurned limits tx es new sums mid less more) where
   all_was : (d : Direction) → in_direction d mid.energies ≡ energy_by (order_in sums) d es

@@ -19,8 +19,10 @@ use Rattle.quarter_table.specs.Table.{Table}
 use Rattle.quarter_table.specs.Pairs.{rows_of, rows_with, total}
 use Rattle.quarter_table.proofs.Several.{made_with, one_side, both_sides}
 use Rattle.quarter_table.proofs.Made.{made_alike}
+use Rattle.station_ledger.specs.declared.pairs.Way.{Way}
 use Rattle.station_ledger.specs.declared.pairs.Way.TheVariants.{Coming, Going}
 use Rattle.station_ledger.specs.Quarters.{HasRoom, HoldsBoth, IsTableMoved, both_length, both_quartered, quartered}
+use Rattle.station_ledger.specs.Runs.{by_way}
 use Rattle.station_ledger.specs.Sums.{AreAllowed, AreQuarterRows}
 use Rattle.station_ledger.proofs.Bounded.{few_up, few_down, few_pairs}
 use Rattle.station_ledger.proofs.Rows.{long, rows_less, up_append, down_append, up_quartered, down_quartered}
@@ -31,17 +33,16 @@ pub record IsTraded (d : Direction) (tx : List ℕ) (es new : List Entry) (gone 
   pub new_sum : (f : Pair → ℕ) → sum_by f (pairs d new) ≡ sum_by f (came ++ kept)
   pub own : (f : Pair → ℕ) → sum_by f (pairs_of d tx new) + sum_by f gone ≡ sum_by f (pairs_of d tx es) + sum_by f came
 
--- one more live event
-pub traded_more : (d : Direction) (es new front : List Entry) (e : Entry) (back : List Entry) → IsOneMore es new front e back → IsTraded d e.0.tx es new (gone_by d front e back) (came_by d front e back) (kept_by d es front e back)
-traded_more d es new front e back one = record {
+-- one live event came or went
+pub traded : (way : Way) (d : Direction) (es new front : List Entry) (e : Entry) (back : List Entry) → IsOneMore (by_way way es new) (by_way way new es) front e back
+    → IsTraded d e.0.tx es new (by_way way (gone_by d front e back) (came_by d front e back)) (by_way way (came_by d front e back) (gone_by d front e back))
+    (kept_by d (by_way way es new) front e back)
+traded Coming d es new front e back one = record {
   old_sum = λ f. less_kept d f es new front e back one;
   new_sum = λ f. more_kept d f es new front e back one;
   own = λ f. transaction_moved d f es new front e back one;
 }
-
--- one live event less
-pub traded_less : (d : Direction) (es new front : List Entry) (e : Entry) (back : List Entry) → IsOneMore new es front e back → IsTraded d e.0.tx es new (came_by d front e back) (gone_by d front e back) (kept_by d new front e back)
-traded_less d es new front e back one = record {
+traded Going d es new front e back one = record {
   old_sum = λ f. more_kept d f new es front e back one;
   new_sum = λ f. less_kept d f new es front e back one;
   own = λ f. sym (transaction_moved d f new es front e back one);

@@ -1,7 +1,7 @@
 -- The rows of pairs, each pair given by its settlement period and its difference.
 use Rattle.station_ledger.specs.declared.pairs.Way.{Way}
 use Rattle.station_ledger.specs.declared.pairs.Way.TheVariants.{Coming, Going}
-use Rattle.std.specs.Prelude.{◌≡◌, ℕ, ◌+◌, ◌*◌, ◌≤◌, List, ◌++◌, length}
+use Rattle.std.specs.Prelude.{◌≡◌, ℕ, ◌+◌, ◌*◌, ◌≤◌, false, List, ◌++◌, Some, length}
 use Rattle.std.specs.FinMap as finite
 use Rattle.event_chain.specs.Chains.{Chained}
 use Rattle.event_chain.specs.Room.{readings_under}
@@ -13,7 +13,7 @@ use Rattle.ledger_model.specs.declared.reading.Direction.{Direction}
 use Rattle.ledger_model.specs.declared.reading.Direction.TheVariants.{Import, Export}
 use Rattle.ledger_model.specs.Board.{Flowed}
 use Rattle.ledger_model.specs.Energy.{Pair, energy_over}
-use Rattle.ledger_model.specs.Event.{MeterReading}
+use Rattle.ledger_model.specs.Event.{EventContent, MeterReading}
 use Rattle.ledger_model.specs.Key.{KeyName}
 use Rattle.ledger_model.specs.Ranges.{greatest_reading, most_readings}
 use Rattle.quarter_table.specs.declared.row.QuarterRow.{QuarterRow}
@@ -103,3 +103,7 @@ pub record DidMoveBoth (way : Way) (period : Periods) (ps : Direction → List P
 -- The readings of a direction of the event of a key.
 abbrev pub readings_at : Direction → Chained → KeyName → List MeterReading
 readings_at d chains key = readings_under d (finite.get chains.events key)
+
+-- The chains have this event, live, under a key.
+abbrev pub HasEvent : KeyName → EventContent → Chained → Type 0
+HasEvent key event chains = finite.get chains.events key ≡ Some (record { event = event; voided = false })

@@ -14,7 +14,9 @@ use Rattle.ledger_model.specs.Content.{Entry, Stored}
 use Rattle.ledger_model.specs.ReadingOrder.{is_own, numbered_by, runs_of}
 use Rattle.ledger_model.specs.Step.{events_after}
 use Rattle.event_chain.specs.Chains.{Chained, stored}
+use Rattle.station_ledger.specs.declared.pairs.Way.{Way}
 use Rattle.station_ledger.specs.Quarters.{readings_at}
+use Rattle.station_ledger.specs.Runs.{by_way}
 use Rattle.ledger_model.specs.declared.answer.Answer.{Answer}
 use Rattle.ledger_model.specs.declared.answer.Answer.TheVariants.{Accepted, Repeat, Refused}
 
@@ -47,15 +49,10 @@ most_by_moment d key es = length (filter (is_own key.seq) (numbered_by Moment d 
 abbrev pub most_in_runs : KeyName → List Entry → ℕ
 most_in_runs key es = most_by_moment Import key es + most_by_moment Export key es
 
--- The most for the live event of a key that came to the chains.
-abbrev pub most_more : Order → Chained → KeyName → ℕ
-most_more Sequence chains key = most_at chains key
-most_more Moment chains key = most_in_runs key (stored chains)
-
--- The most for one of these events that the chains no longer have.
-abbrev pub most_less : Order → Chained → KeyName → List Entry → ℕ
-most_less Sequence chains key es = most_at chains key
-most_less Moment chains key es = most_in_runs key es
+-- The most for one live event that came to the chains, or went from them, which had these events before.
+abbrev pub most_turned : Order → Way → Chained → KeyName → List Entry → ℕ
+most_turned Sequence way chains key es = most_at chains key
+most_turned Moment way chains key es = most_in_runs key (by_way way (stored chains) es)
 
 -- The most differences that a command may evaluate: those of the event that it delivers, voids or restores, and none
 -- for an erasure.

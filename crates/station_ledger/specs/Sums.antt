@@ -1,7 +1,8 @@
 -- The sums over a station's live events.
-use Rattle.std.specs.Prelude.{◌≡◌, ℕ, ◌+◌, ◌<◌, ◌≤◌, Bool, false, not, List, Option, None, Some, All, IfSome, length, count_by, sum_by}
+use Rattle.std.specs.Prelude.{◌≡◌, ℕ, ◌+◌, ◌<◌, ◌≤◌, true, false, not, List, Option, None, Some, All, IfSome, length, count_by, sum_by}
 use Rattle.std.specs.List.{filter}
 use Rattle.std.specs.Ordering.{eq_by_cmp}
+use Rattle.std.specs.FinMap as finite
 use Rattle.std.specs.FinMap.{find, put}
 use Rattle.ledger_model.specs.Periods.{Periods}
 use Rattle.ledger_model.specs.declared.figures.Figures.{Figures}
@@ -36,7 +37,8 @@ use Rattle.station_ledger.specs.declared.sums.Sums.{Sums}
 use Rattle.station_ledger.specs.declared.totals.Change.{Change}
 use Rattle.station_ledger.specs.declared.totals.EvseSum.{EvseSum}
 use Rattle.station_ledger.specs.Moved.{sum_at, evse_sum, with_one, without_one, with_figures, without_figures, HasRoomAt, CountsAt, HaveRoom, DoCount}
-use Rattle.station_ledger.specs.Quarters.{readings_at}
+use Rattle.station_ledger.specs.declared.pairs.Way.{Way}
+use Rattle.station_ledger.specs.Runs.{by_way}
 use Rattle.event_chain.specs.Sides.{AreSides}
 use Rattle.event_chain.specs.declared.around.Sides.{Sides}
 use Rattle.station_ledger.specs.Sides.{has_some}
@@ -88,21 +90,12 @@ abbrev pub keep : List ℕ → Option Standing → List (List ℕ × Standing) �
 keep tx None rows = filter (λ r. not (eq_by_cmp id_cmp tx r.0)) rows
 keep tx (Some s) rows = put id_cmp tx s rows
 
--- The chains have one more live event than these events; it may name an EVSE. Given are its key,
--- and the readings on either side of its place in each direction in which it has a reading.
-pub record IsToCome (es : List Entry) (chains : Chained) (key : KeyName) (place : ByDirection Sides) (names : Bool) : Type 0 where
+-- One live event came to the chains, or went from them, which had these events before. Given are its key, and the
+-- readings on either side of its place in each direction in which it has a reading.
+pub record IsTurning (way : Way) (es : List Entry) (chains : Chained) (key : KeyName) (place : ByDirection Sides) : Type 0 where
   pub event : Stored
-  pub one : IsOneMore es (stored chains) (before_key key es) (key, event) (behind_key key es)
-  pub readings : (d : Direction) → readings_at d chains key ≡ toward d event.event.readings
-  pub sides : (d : Direction) → AreSides d (has_some (toward d event.event.readings)) key es (in_direction d place)
-  pub few : length event.event.readings ≤ most_event_readings
-  pub evse : names ≡ false → event.event.evse ≡ None
-
--- The chains no longer have one live event of these.
-pub record IsToGo (es : List Entry) (chains : Chained) (key : KeyName) (place : ByDirection Sides) : Type 0 where
-  pub event : Stored
-  pub one : IsOneMore (stored chains) es (before_key key es) (key, event) (behind_key key es)
-  pub readings : (d : Direction) → readings_at d chains key ≡ toward d event.event.readings
+  pub one : IsOneMore (by_way way es (stored chains)) (by_way way (stored chains) es) (before_key key es) (key, event) (behind_key key es)
+  pub there : finite.get chains.events key ≡ Some (record { event = event.event; voided = by_way way false true })
   pub sides : (d : Direction) → AreSides d (has_some (toward d event.event.readings)) key es (in_direction d place)
   pub few : length event.event.readings ≤ most_event_readings
 
@@ -118,16 +111,10 @@ pub record AreAllowed (order : Order) (limits : Bounds) (es : List Entry) : Type
   pub most_events_within : limits.events ≤ most_events
   pub most_readings_within : limits.readings ≤ most_readings
 
--- The sums are those of allowed events, and the chains have one more live event.
-pub record AreGrowing (es : List Entry) (chains : Chained) (key : KeyName) (place : ByDirection Sides) (names : Bool) (sums : Sums) : Type 0 where
+-- The sums are those of allowed events, and then one live event came or went.
+pub record AreTurning (way : Way) (es : List Entry) (chains : Chained) (key : KeyName) (place : ByDirection Sides) (sums : Sums) : Type 0 where
   pub allowed : AreAllowed (order_in sums) chains.limits es
-  pub come : IsToCome es chains key place names
-  pub summed : AreSummed chains.limits es sums
-
--- The sums are those of allowed events, and the chains no longer have one live event of these.
-pub record AreShrinking (es : List Entry) (chains : Chained) (key : KeyName) (place : ByDirection Sides) (sums : Sums) : Type 0 where
-  pub allowed : AreAllowed (order_in sums) chains.limits es
-  pub go : IsToGo es chains key place
+  pub turning : IsTurning way es chains key place
   pub summed : AreSummed chains.limits es sums
 
 -- A transaction that changes is in the sums, and what it becomes has room there.

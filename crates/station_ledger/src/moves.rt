@@ -10,7 +10,8 @@ ghost use Rattle.station_ledger.specs.Quarters.{IsWork};
 ghost use Rattle.station_ledger.specs.Spent.{most_spent};
 ghost use Rattle.station_ledger.specs.Sums.{order_in};
 
-use crate::sums::{Sums, add_event, take_event};
+use crate::pairs::Way;
+use crate::sums::{Sums, turn_event};
 use energy_flow::Work;
 use event_chain::{Around, Carries, Chains, Sides};
 use key_index::KeyPlace;
@@ -56,9 +57,7 @@ fn deliver(
 {
     let around = chains.admit(key, event, place);
     sums.kept.look_near(chains.near());
-    let names = event.evse().is_some();
-    let own = Some(event.readings());
-    add_event(chains, sums, key, names, own, &around, work);
+    turn_event(chains, sums, Way::Coming, key, Some(event), &around, work);
 }
 
 // Makes a voided event live again.
@@ -70,8 +69,7 @@ pub(crate) fn restore(chains: &mut Chains, sums: &mut Sums, key: &Key, work: &mu
     let has = chains.carries(key);
     let place = around(chains, key, has);
     chains.relink(key);
-    // Whether a restored event names an EVSE is not looked up.
-    add_event(chains, sums, key, true, None, &place, work);
+    turn_event(chains, sums, Way::Coming, key, None, &place, work);
     sums.figures.voided -= 1;
 }
 
@@ -84,7 +82,7 @@ pub(crate) fn void(chains: &mut Chains, sums: &mut Sums, key: &Key, work: &mut W
     let has = chains.carries(key);
     let place = around(chains, key, has);
     chains.unlink(key);
-    take_event(chains, sums, key, &place, work);
+    turn_event(chains, sums, Way::Going, key, None, &place, work);
     sums.figures.voided += 1;
 }
 

@@ -9,7 +9,7 @@ ghost use Rattle.station_ledger.specs.Sides.{sides_across, sides_between};
 
 use energy_flow::{Flow, Work, difference};
 use event_chain::{Around, Chains, Sides};
-use ledger_model::{ByDirection, Direction, Key, Periods, Reading};
+use ledger_model::{ByDirection, Direction, Event, Key, Periods, Reading};
 use quarter_table::QuarterTable;
 use reading_decimal::settled_quarter;
 
@@ -127,7 +127,7 @@ fn move_given(
     total.plus(flow)
 }
 
-// The same of an event whose readings the caller passes if it has them.
+// The same of an event that the caller passes if it has it.
 #[inline(always)]
 fn move_own(
     quarters: &mut QuarterTable,
@@ -137,16 +137,19 @@ fn move_own(
     sides: Sides,
     chains: &Chains,
     key: &Key,
-    own: Option<&[Reading]>,
+    own: Option<&Event>,
     work: &mut Work,
 ) -> Flow
-    requires own { IfSome own (λ rs. toward direction rs.now ≡ readings_at direction chains.now key.now) }
+    requires own { IfSome own (λ e. toward direction e.now.readings ≡ readings_at direction chains.now key.now) }
     requires may { MayMove way period direction (pairs_between sides.before (readings_at direction chains.now key.now) sides.behind) quarters.old }
     requires few { length (pairs_between sides.before (readings_at direction chains.now key.now) sides.behind) ≤ most_readings }
     ensures { DidMove way period direction (pairs_between sides.before (readings_at direction chains.now key.now) sides.behind) quarters.old quarters.new work.old work.new result }
 {
     match own {
-        Some(readings) => move_given(quarters, period, direction, way, sides, readings, work),
+        Some(event) => {
+            let readings = event.readings();
+            move_given(quarters, period, direction, way, sides, readings, work)
+        }
         None => move_stored(quarters, period, direction, way, sides, chains, key, work),
     }
 }
@@ -186,7 +189,7 @@ pub(crate) fn move_gap(
 }
 
 // Adds the pairs that an event's readings make in each direction, or takes them out, and returns their sums. The caller
-// passes the readings if it has them.
+// passes the event if it has it.
 pub(crate) fn move_both(
     quarters: &mut QuarterTable,
     period: Periods,
@@ -194,10 +197,10 @@ pub(crate) fn move_both(
     place: &Around,
     chains: &Chains,
     key: &Key,
-    own: Option<&[Reading]>,
+    own: Option<&Event>,
     work: &mut Work,
 ) -> Energies
-    requires own { (d : Direction) → IfSome own (λ rs. toward d rs.now ≡ readings_at d chains.now key.now) }
+    requires own { (d : Direction) → IfSome own (λ e. toward d e.now.readings ≡ readings_at d chains.now key.now) }
     requires may { MayMoveBoth way period (sides_between place.now chains.now key.now) quarters.old }
     requires few { both_length (sides_between place.now chains.now key.now) ≤ most_readings }
     ensures { DidMoveBoth way period (sides_between place.now chains.now key.now) quarters.old quarters.new work.old work.new result }

@@ -1,5 +1,5 @@
 //! The standing of each transaction, kept so that no figure needs a walk.
-ghost use Rattle.std.specs.Prelude.{◌≡◌, ◌<◌, ◌≤◌, false, IfSome};
+ghost use Rattle.std.specs.Prelude.{◌≡◌, ◌<◌, ◌≤◌, None, IfSome};
 ghost use Rattle.event_chain.specs.Chains.{stored};
 ghost use Rattle.ledger_model.specs.Complete.{kinds_of, is_complete, starts_and_ends as start_and_end};
 ghost use Rattle.ledger_model.specs.Gaps.{numbers_of, missing};
@@ -9,7 +9,7 @@ ghost use Rattle.station_ledger.specs.Standing.{kept_with, standing_with, starts
 use crate::pairs::Energies;
 use energy_flow::Flow;
 use event_chain::Chains;
-use ledger_model::{ByDirection, EvseId, Kind, TxId};
+use ledger_model::{ByDirection, Event, EvseId, Kind, TxId};
 
 /// What the ledger keeps of a transaction with a live event.
 #[derive(Clone, Copy, Debug, PartialEq, Eq)]
@@ -87,7 +87,7 @@ fn is_whole(chains: &Chains, tx: &TxId, lacking: u32) -> bool
 
 // The standing of a transaction after the event of this number came, behind its first one.
 fn one_more(chains: &Chains, tx: &TxId, seq: u32, was: Standing, energy: Energies) -> Standing
-    requires less { IsOneLess was tx.now seq false (stored chains.now) }
+    requires less { IsOneLess was tx.now seq (stored chains.now) }
     requires behind { was.first < seq }
     requires bounded { was.live ≤ 65536 }
     ensures { result ≡ standing_with energy tx.now (stored chains.now) }
@@ -109,21 +109,22 @@ fn one_more(chains: &Chains, tx: &TxId, seq: u32, was: Standing, energy: Energie
     }
 }
 
-// The standing of a transaction with one more live event, from its standing before, without a look at its
-// last event. If its first event came, or one that names an EVSE, it is made from the events.
+// The standing of a transaction with one more live event or one less, from its standing before. If a delivered
+// event came that names no EVSE and is not the first one, it is made without a look at the last event.
 pub(crate) fn standing_after(
     chains: &Chains,
     tx: &TxId,
     seq: u32,
-    names: bool,
+    own: Option<&Event>,
     was: Option<Standing>,
     energy: Energies,
 ) -> Option<Standing>
-    requires { IfSome was (λ w. IsOneLess w tx.now seq names (stored chains.now)) }
+    requires { IfSome own (λ e. e.now.evse ≡ None → IfSome was (λ w. IsOneLess w tx.now seq (stored chains.now))) }
     ensures { result ≡ kept_with energy tx.now (stored chains.now) }
 {
-    match was {
-        Some(was) if !names && was.live <= MOST_LIVE && was.first < seq => {
+    match (own, was) {
+        (Some(event), Some(was))
+            if event.evse().is_none() && was.live <= MOST_LIVE && was.first < seq => {
             Some(one_more(chains, tx, seq, was, energy))
         }
         _ => standing_of(chains, tx, energy),

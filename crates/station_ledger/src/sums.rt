@@ -1,30 +1,26 @@
 //! The sums over a station's live events, kept so that no figure needs a walk.
-ghost use Rattle.std.specs.Prelude.{◌≡◌, ℕ, ◌+◌, ◌<◌, Bool, List, [], None, length, IfOk, IfSome};
+ghost use Rattle.std.specs.Prelude.{◌≡◌, ℕ, ◌+◌, ◌<◌, List, [], None, length, IfOk, IfSome};
 ghost use Rattle.std.specs.FinMap.{find};
 ghost use Rattle.event_chain.specs.Chains.{stored};
 ghost use Rattle.ledger_model.specs.ByDirection.{no_flows, plus_flows, minus_flows};
 ghost use Rattle.ledger_model.specs.Content.{Entry};
-ghost use Rattle.ledger_model.specs.declared.reading.Direction.{Direction};
-ghost use Rattle.ledger_model.specs.Event.{toward};
 ghost use Rattle.ledger_model.specs.Figures.{no_figures};
 ghost use Rattle.ledger_model.specs.Ranges.{greatest_evse};
 ghost use Rattle.transaction_map.specs.Map.{id_cmp};
 ghost use Rattle.transaction_map.specs.Places.{IsAt};
 ghost use Rattle.station_ledger.specs.Moved.{sum_at, CanExchange, IsExchanged, flows_in};
-ghost use Rattle.station_ledger.specs.Quarters.{readings_at, IsWork};
+ghost use Rattle.station_ledger.specs.Quarters.{HasEvent, IsWork};
 ghost use Rattle.station_ledger.specs.ByMoment.{AreByMoment};
-ghost use Rattle.station_ledger.specs.Spent.{most_less, most_more};
-ghost use Rattle.station_ledger.specs.Sums.{keep, order_in, order_of, AreSummed, AreAllowed, AreGrowing, ArePairsMoved, AreQuarterRows, AreShrinking, CanReplace, IsReplaced};
+ghost use Rattle.station_ledger.specs.Spent.{most_turned};
+ghost use Rattle.station_ledger.specs.Sums.{keep, order_in, order_of, AreSummed, AreAllowed, ArePairsMoved, AreQuarterRows, AreTurning, CanReplace, IsReplaced};
 
 use crate::by_moment::{ByMoment, Exchange, move_event};
 use crate::pairs::{Energies, Way, move_both, move_gap};
-use crate::standing::{Standing, standing_after, standing_of};
+use crate::standing::{Standing, standing_after};
 use crate::totals::{Change, EvseSum, move_at_evses, move_in_figures};
 use energy_flow::{Flow, Work};
 use event_chain::{Around, Chains};
-use ledger_model::{
-    ByDirection, Figures, GREATEST_EVSE, Key, Limits, Order, Periods, Reading, TxId,
-};
+use ledger_model::{ByDirection, Event, Figures, GREATEST_EVSE, Key, Limits, Order, Periods, TxId};
 use quarter_table::QuarterTable;
 use std::alloc::{AllocError, Global};
 use transaction_map::TransactionMap;
@@ -168,131 +164,71 @@ fn replace_standing(sums: &mut Sums, at: Option<usize>, tx: &TxId, change: &Chan
     move_in_figures(&mut sums.figures, change);
 }
 
-// Adds the pairs that the readings of an event make, and takes out those across their places. The caller
-// passes the readings if it has them.
-fn add_pairs_of(
+// Moves the pairs of a live event that came to the chains, or went from them: those that its readings make come
+// or go with it, and those across its place go or come. What goes, goes first: so there is room. The caller passes
+// the event if it has it.
+fn turn_pairs(
     chains: &Chains,
     sums: &mut Sums,
+    way: Way,
     key: &Key,
-    own: Option<&[Reading]>,
+    own: Option<&Event>,
     place: &Around,
     work: &mut Work,
 ) -> Exchange
     requires within { AreAllowed (order_in sums.old) chains.now.limits (stored chains.now) }
-    requires own { (d : Direction) → IfSome own (λ rs. toward d rs.now ≡ readings_at d chains.now key.now) }
-    requires to_come { (es : List Entry) × ((names : Bool) × AreGrowing es chains.now key.now place.now names sums.old) }
+    requires own { IfSome own (λ e. HasEvent key.now e.now chains.now) }
+    requires turns { (es : List Entry) × AreTurning way es chains.now key.now place.now sums.old }
     ensures kept { ArePairsMoved sums.old sums.new }
     ensures rows { AreQuarterRows (order_in sums.old) chains.now.limits (stored chains.now) sums.old.period sums.new.quarters }
     ensures timed { IfSome sums.new.by_moment (AreByMoment chains.now.limits (stored chains.now)) }
-    ensures exchanged { (es : List Entry) (names : Bool) → AreGrowing es chains.now key.now place.now names sums.old → IsExchanged (order_in sums.old) key.now.tx es (stored chains.now) result.less result.more }
-    ensures work { IsWork (most_more (order_in sums.old) chains.now key.now) work.old work.new }
+    ensures exchanged { (es : List Entry) → AreTurning way es chains.now key.now place.now sums.old → IsExchanged (order_in sums.old) key.now.tx es (stored chains.now) result.less result.more }
+    ensures work { (es : List Entry) → AreTurning way es chains.now key.now place.now sums.old → IsWork (most_turned (order_in sums.old) way chains.now key.now es) work.old work.new }
 {
     let period = sums.period;
+    let quarters = &mut sums.quarters;
     match &mut sums.by_moment {
-        Some(by_moment) => move_event(
-            chains,
-            by_moment,
-            &mut sums.quarters,
-            period,
-            key,
-            Way::Coming,
-            work,
-        ),
-        None => {
-            let quarters = &mut sums.quarters;
-            let less = move_gap(quarters, period, Way::Going, place, work);
-            let more = move_both(quarters, period, Way::Coming, place, chains, key, own, work);
-            Exchange { less, more }
-        }
+        Some(by_moment) => move_event(chains, by_moment, quarters, period, key, way, work),
+        None => match way {
+            Way::Coming => {
+                let less = move_gap(quarters, period, Way::Going, place, work);
+                let more = move_both(quarters, period, Way::Coming, place, chains, key, own, work);
+                Exchange { less, more }
+            }
+            Way::Going => {
+                let less = move_both(quarters, period, Way::Going, place, chains, key, None, work);
+                let more = move_gap(quarters, period, Way::Coming, place, work);
+                Exchange { less, more }
+            }
+        },
     }
 }
 
-// Takes out the pairs that the readings of an event make, and adds those across their places.
-fn take_pairs_of(
+// Moves in all sums a live event that came to the chains, or went from them. The caller passes the event if it
+// was delivered.
+pub(crate) fn turn_event(
     chains: &Chains,
     sums: &mut Sums,
+    way: Way,
     key: &Key,
-    place: &Around,
-    work: &mut Work,
-) -> Exchange
-    requires within { AreAllowed (order_in sums.old) chains.now.limits (stored chains.now) }
-    requires to_go { (es : List Entry) × AreShrinking es chains.now key.now place.now sums.old }
-    ensures kept { ArePairsMoved sums.old sums.new }
-    ensures rows { AreQuarterRows (order_in sums.old) chains.now.limits (stored chains.now) sums.old.period sums.new.quarters }
-    ensures timed { IfSome sums.new.by_moment (AreByMoment chains.now.limits (stored chains.now)) }
-    ensures exchanged { (es : List Entry) → AreShrinking es chains.now key.now place.now sums.old → IsExchanged (order_in sums.old) key.now.tx es (stored chains.now) result.less result.more }
-    ensures work { (es : List Entry) → AreShrinking es chains.now key.now place.now sums.old → IsWork (most_less (order_in sums.old) chains.now key.now es) work.old work.new }
-{
-    let period = sums.period;
-    match &mut sums.by_moment {
-        Some(by_moment) => move_event(
-            chains,
-            by_moment,
-            &mut sums.quarters,
-            period,
-            key,
-            Way::Going,
-            work,
-        ),
-        None => {
-            let quarters = &mut sums.quarters;
-            let less = move_both(quarters, period, Way::Going, place, chains, key, None, work);
-            let more = move_gap(quarters, period, Way::Coming, place, work);
-            Exchange { less, more }
-        }
-    }
-}
-
-// Adds to all sums a live event that the chains already have. It may name an EVSE; the caller passes its
-// readings if it has them.
-pub(crate) fn add_event(
-    chains: &Chains,
-    sums: &mut Sums,
-    key: &Key,
-    names: bool,
-    own: Option<&[Reading]>,
+    own: Option<&Event>,
     place: &Around,
     work: &mut Work,
 )
     requires within { AreAllowed (order_in sums.old) chains.now.limits (stored chains.now) }
-    requires own { (d : Direction) → IfSome own (λ rs. toward d rs.now ≡ readings_at d chains.now key.now) }
-    requires to_come { (es : List Entry) × AreGrowing es chains.now key.now place.now names sums.old }
+    requires own { IfSome own (λ e. HasEvent key.now e.now chains.now) }
+    requires turns { (es : List Entry) × AreTurning way es chains.now key.now place.now sums.old }
     ensures summed { AreSummed chains.now.limits (stored chains.now) sums.new }
     ensures period { sums.new.period ≡ sums.old.period }
     ensures order { order_in sums.new ≡ order_in sums.old }
     ensures voided { sums.new.figures.voided ≡ sums.old.figures.voided }
-    ensures work { IsWork (most_more (order_in sums.old) chains.now key.now) work.old work.new }
+    ensures work { (es : List Entry) → AreTurning way es chains.now key.now place.now sums.old → IsWork (most_turned (order_in sums.old) way chains.now key.now es) work.old work.new }
 {
     let tx = key.tx();
     let (at, was) = found(&sums.kept, tx);
-    let exchange = add_pairs_of(chains, sums, key, own, place, work);
+    let exchange = turn_pairs(chains, sums, way, key, own, place, work);
     sums.energies = exchange.applied(sums.energies);
-    let own = exchange.applied(energies_of(&was));
-    let is = standing_after(chains, tx, key.seq(), names, was, own);
+    let energy = exchange.applied(energies_of(&was));
+    let is = standing_after(chains, tx, key.seq(), own, was, energy);
     replace_standing(sums, at, tx, &Change { was, is });
-}
-
-// Takes out of all sums a live event that the chains no longer have.
-pub(crate) fn take_event(
-    chains: &Chains,
-    sums: &mut Sums,
-    key: &Key,
-    place: &Around,
-    work: &mut Work,
-)
-    requires within { AreAllowed (order_in sums.old) chains.now.limits (stored chains.now) }
-    requires to_go { (es : List Entry) × AreShrinking es chains.now key.now place.now sums.old }
-    ensures summed { AreSummed chains.now.limits (stored chains.now) sums.new }
-    ensures period { sums.new.period ≡ sums.old.period }
-    ensures order { order_in sums.new ≡ order_in sums.old }
-    ensures voided { sums.new.figures.voided ≡ sums.old.figures.voided }
-    ensures work { (es : List Entry) → AreShrinking es chains.now key.now place.now sums.old → IsWork (most_less (order_in sums.old) chains.now key.now es) work.old work.new }
-{
-    let tx = key.tx();
-    let was = sums.kept.get(tx);
-    let exchange = take_pairs_of(chains, sums, key, place, work);
-    sums.energies = exchange.applied(sums.energies);
-    let own = exchange.applied(energies_of(&was));
-    let is = standing_of(chains, tx, own);
-    replace_standing(sums, None, tx, &Change { was, is });
 }

@@ -80,7 +80,7 @@ invariant_of-self c =
     let entered = subst (λ (x : Table). IsEntered x.rows mid key.tx row) c.seek-found.ensures.same (subst (λ t. IsEntered c.seek-found.new.self.rows mid t row) c.tx-tx.ensures c.enter-known.ensures.entered) in
     let number : key.seq < 2 ^ 31 = omega (arith, c.seq.ensures.value, c.seq.ensures.range) in let is = c.new-at.ensures ∙ ap (rank row.slot) c.seq.ensures.value in
     let absent = ap (λ (x : Chained). finite.get x.events key) c.self.view_is ∙ c.requires.absent in
-    inserted c.self.invariant key mid row c.new-at.result entered number is absent c.renew.new.table c.put-slot.new.self c.insert.new.self.stored c.insert.new.self.live (carriers_of c.insert.new.self) c.insert.new.self.naming c.row_with-after.result c.put-slot.result c.args.event.now (λ d. in_direction d c.carried_by-carries.result) c.is_some-names.result
+    inserted c.self.invariant key mid row c.new-at.result entered number is absent c.renew.new.table c.put-slot.new.self c.insert.new.self.stored c.insert.new.self.live (carriers_of c.insert.new.self) c.insert.new.self.naming c.row_with-after.result c.put-slot.result c.args.event.now (λ d. in_direction d c.carried_by-carries.result) c.is_some-names_evse.result
     (record {
       rows = c.renew.ensures.rows ∙ ap (λ t. with_row t c.row_with-after.result c.enter-known.new.table.rows) c.tx-tx.ensures;
       transactions = c.renew.ensures.capacity ∙ c.enter-known.ensures.capacity ∙ ap (λ (x : Table). x.capacity) c.seek-found.ensures.same;
@@ -96,7 +96,7 @@ invariant_of-self c =
       carriers_is = c.insert.ensures.lives.carriers;
       naming_is = c.insert.ensures.lives.naming;
       carries_is = λ d. c.carried_by-carries.ensures d ∙ ap (λ rs. is_some (first_reading (toward d rs))) c.readings.ensures.value;
-      names_is = c.is_some-names.ensures ∙ ap is_some c.evse.ensures.value;
+      names_is = c.is_some-names_evse.ensures ∙ ap is_some c.evse.ensures.value;
       same = ap (λ (r : TableRow). r.slot) c.row_with-after.ensures;
       one_more = ap (λ (r : TableRow). r.live) c.row_with-after.ensures;
       ends = ap (λ (r : TableRow). r.ends) c.row_with-after.ensures ∙ ap (λ k. c.enter-known.result.0.ends + end_count k) c.kind.ensures;
@@ -108,7 +108,7 @@ returns-clause-events c =
     let entered = subst (λ (x : Table). IsEntered x.rows mid key.tx row) c.seek-found.ensures.same (subst (λ t. IsEntered c.seek-found.new.self.rows mid t row) c.tx-tx.ensures c.enter-known.ensures.entered) in
     let number : key.seq < 2 ^ 31 = omega (arith, c.seq.ensures.value, c.seq.ensures.range) in let is = c.new-at.ensures ∙ ap (rank row.slot) c.seq.ensures.value in
     let absent = ap (λ (x : Chained). finite.get x.events key) c.self.view_is ∙ c.requires.absent in
-    inserted_events c.self.invariant key mid row c.new-at.result entered number is absent c.renew.new.table c.put-slot.new.self c.insert.new.self.stored c.insert.new.self.live (carriers_of c.insert.new.self) c.insert.new.self.naming c.row_with-after.result c.put-slot.result c.args.event.now (λ d. in_direction d c.carried_by-carries.result) c.is_some-names.result
+    inserted_events c.self.invariant key mid row c.new-at.result entered number is absent c.renew.new.table c.put-slot.new.self c.insert.new.self.stored c.insert.new.self.live (carriers_of c.insert.new.self) c.insert.new.self.naming c.row_with-after.result c.put-slot.result c.args.event.now (λ d. in_direction d c.carried_by-carries.result) c.is_some-names_evse.result
     (record {
       rows = c.renew.ensures.rows ∙ ap (λ t. with_row t c.row_with-after.result c.enter-known.new.table.rows) c.tx-tx.ensures;
       transactions = c.renew.ensures.capacity ∙ c.enter-known.ensures.capacity ∙ ap (λ (x : Table). x.capacity) c.seek-found.ensures.same;
@@ -124,7 +124,7 @@ returns-clause-events c =
       carriers_is = c.insert.ensures.lives.carriers;
       naming_is = c.insert.ensures.lives.naming;
       carries_is = λ d. c.carried_by-carries.ensures d ∙ ap (λ rs. is_some (first_reading (toward d rs))) c.readings.ensures.value;
-      names_is = c.is_some-names.ensures ∙ ap is_some c.evse.ensures.value;
+      names_is = c.is_some-names_evse.ensures ∙ ap is_some c.evse.ensures.value;
       same = ap (λ (r : TableRow). r.slot) c.row_with-after.ensures;
       one_more = ap (λ (r : TableRow). r.live) c.row_with-after.ensures;
       ends = ap (λ (r : TableRow). r.ends) c.row_with-after.ensures ∙ ap (λ k. c.enter-known.result.0.ends + end_count k) c.kind.ensures;

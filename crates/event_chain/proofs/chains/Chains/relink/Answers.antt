@@ -59,8 +59,8 @@ invariant_of-self c =
       readings = c.set_voided.ensures.readings;
       room = c.set_voided.ensures.capacity;
       indexes = in_indexes k key at c.set.new.self.rows c.row_with-after.result (c.set.ensures.rows ∙ ap (λ t. with_row t c.row_with-after.result m.table.rows) c.tx.ensures) (ap (λ (r : TableRow). r.slot) c.row_with-after.ensures) c.set.ensures.slotted.rising c.set.ensures.slotted.apart false
-          c.restore.new.self.live.entries (λ d. (carriers_of c.restore.new.self d).entries) c.restore.new.self.naming.entries (λ d. in_direction d c.carried-carries.result) c.is_some-names.result refl void (λ i. (c.restore.ensures.lives.live i).entries) (λ d i. (c.restore.ensures.lives.carriers d i).entries) (λ i. (c.restore.ensures.lives.naming i).entries)
-          (λ d. c.carried-carries.ensures d ∙ ap (λ (x : Stored). is_some (first_reading (toward d x.event.readings))) ev) (c.is_some-names.ensures ∙ ap is_some (c.evse.ensures ∙ ap (λ (x : Stored). x.event.evse) ev));
+          c.restore.new.self.live.entries (λ d. (carriers_of c.restore.new.self d).entries) c.restore.new.self.naming.entries (λ d. in_direction d c.carried-carries.result) c.is_some-names_evse.result refl void (λ i. (c.restore.ensures.lives.live i).entries) (λ d i. (c.restore.ensures.lives.carriers d i).entries) (λ i. (c.restore.ensures.lives.naming i).entries)
+          (λ d. c.carried-carries.ensures d ∙ ap (λ (x : Stored). is_some (first_reading (toward d x.event.readings))) ev) (c.is_some-names_evse.ensures ∙ ap is_some (c.evse.ensures ∙ ap (λ (x : Stored). x.event.evse) ev));
       live_cap = (λ i. (c.restore.ensures.lives.live i).capacity);
       carriers_cap = (λ d i. (c.restore.ensures.lives.carriers d i).capacity);
       naming_cap = (λ i. (c.restore.ensures.lives.naming i).capacity);
@@ -84,8 +84,8 @@ returns-clause-events c =
       readings = c.set_voided.ensures.readings;
       room = c.set_voided.ensures.capacity;
       indexes = in_indexes k key at c.set.new.self.rows c.row_with-after.result (c.set.ensures.rows ∙ ap (λ t. with_row t c.row_with-after.result m.table.rows) c.tx.ensures) (ap (λ (r : TableRow). r.slot) c.row_with-after.ensures) c.set.ensures.slotted.rising c.set.ensures.slotted.apart false
-          c.restore.new.self.live.entries (λ d. (carriers_of c.restore.new.self d).entries) c.restore.new.self.naming.entries (λ d. in_direction d c.carried-carries.result) c.is_some-names.result refl void (λ i. (c.restore.ensures.lives.live i).entries) (λ d i. (c.restore.ensures.lives.carriers d i).entries) (λ i. (c.restore.ensures.lives.naming i).entries)
-          (λ d. c.carried-carries.ensures d ∙ ap (λ (x : Stored). is_some (first_reading (toward d x.event.readings))) ev) (c.is_some-names.ensures ∙ ap is_some (c.evse.ensures ∙ ap (λ (x : Stored). x.event.evse) ev));
+          c.restore.new.self.live.entries (λ d. (carriers_of c.restore.new.self d).entries) c.restore.new.self.naming.entries (λ d. in_direction d c.carried-carries.result) c.is_some-names_evse.result refl void (λ i. (c.restore.ensures.lives.live i).entries) (λ d i. (c.restore.ensures.lives.carriers d i).entries) (λ i. (c.restore.ensures.lives.naming i).entries)
+          (λ d. c.carried-carries.ensures d ∙ ap (λ (x : Stored). is_some (first_reading (toward d x.event.readings))) ev) (c.is_some-names_evse.ensures ∙ ap is_some (c.evse.ensures ∙ ap (λ (x : Stored). x.event.evse) ev));
       live_cap = (λ i. (c.restore.ensures.lives.live i).capacity);
       carriers_cap = (λ d i. (c.restore.ensures.lives.carriers d i).capacity);
       naming_cap = (λ i. (c.restore.ensures.lives.naming i).capacity);

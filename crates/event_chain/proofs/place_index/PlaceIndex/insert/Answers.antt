@@ -28,7 +28,7 @@ pub invariant_of-self : goal.invariant_of-self
 invariant_of-self c =
     let m = c.self.inside in let key = c.args.key in let slot = c.args.slot in let up = c.self.invariant.rising in let L = marked_index (Some Live) m.index in
     let can = subst (CanPutIn key slot) (sym c.self.view_is) c.requires in
-    let lives = (lives_more m.index c.insert.new.self key up c.insert.ensures.capacity slot c.args.carries c.args.names can.absent c.insert.ensures.entries).live in
+    let lives = (lives_more m.index c.insert.new.self key up c.insert.ensures.capacity slot c.args.carries c.args.names_evse can.absent c.insert.ensures.entries).live in
     record {
       rising = c.insert.ensures.rising;
       listed = listed_same (marked_index (Some Live) c.insert.new.self) (index (put nat_cmp key slot L.entries) L.capacity) c.link_live.new.links _ (λ i. (lives i).entries) c.insert.ensures.capacity
@@ -38,11 +38,11 @@ invariant_of-self c =
 pub returns-clause-stored : goal.returns-clause-stored
 returns-clause-stored c =
     let can = subst (CanPutIn c.args.key c.args.slot) (sym c.self.view_is) c.requires in
-    stored_more c.self.inside.index c.insert.new.self c.args.key c.self.invariant.rising c.insert.ensures.capacity c.args.slot c.args.carries c.args.names can.absent c.insert.ensures.entries
+    stored_more c.self.inside.index c.insert.new.self c.args.key c.self.invariant.rising c.insert.ensures.capacity c.args.slot c.args.carries c.args.names_evse can.absent c.insert.ensures.entries
     ∙ ap (λ (x : Placed). index (put nat_cmp c.args.key c.args.slot x.stored.entries) x.stored.capacity) c.self.view_is
 
 pub returns-clause-lives : goal.returns-clause-lives
 returns-clause-lives c =
     let can = subst (CanPutIn c.args.key c.args.slot) (sym c.self.view_is) c.requires in
-    subst (λ x. IsLiveMore c.args.key c.args.slot c.args.carries c.args.names x (placed c.insert.new.self)) c.self.view_is
-    (lives_more c.self.inside.index c.insert.new.self c.args.key c.self.invariant.rising c.insert.ensures.capacity c.args.slot c.args.carries c.args.names can.absent c.insert.ensures.entries)
+    subst (λ x. IsLiveMore c.args.key c.args.slot c.args.carries c.args.names_evse x (placed c.insert.new.self)) c.self.view_is
+    (lives_more c.self.inside.index c.insert.new.self c.args.key c.self.invariant.rising c.insert.ensures.capacity c.args.slot c.args.carries c.args.names_evse can.absent c.insert.ensures.entries)

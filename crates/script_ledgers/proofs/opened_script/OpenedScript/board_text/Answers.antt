@@ -7,8 +7,8 @@ use Rattle.site_desk.specs.declared.plan.SitePlan.{SitePlan}
 use Rattle.site_desk.specs.declared.plan.StationPlan.{StationPlan}
 use Rattle.site_desk.specs.Plan.{order_at, period_at}
 use Rattle.board_report.specs.Boards.{AreOpenedFor, boards_at, site_named}
-use Rattle.script_ledgers.specs.Running.{running}
 use Rattle.script_ledgers.specs.Script.{order_named, period_named, stations_of}
+use Rattle.script_ledgers.specs.State.{script_of}
 use Rattle.script_ledgers.proofs.Answered.{value_told}
 use Rattle.script_ledgers.proofs.Boards.{board_is, site_shown, totals_are}
 use Rattle.script_ledgers.proofs.Places.{some_placed}
@@ -41,9 +41,9 @@ returns g c =
     let order = order_at s.draft.sites site in
     let period = period_at s.draft.sites site in
     let boards = boards_at order period s.draft.stations s.cells.items site in
-    let stations = stations_of name (running s.draft s.cells.items).world in
+    let stations = stations_of name (script_of s).world in
     let totals = c.totals-totals.ensures.sums ∙ totals_are s.draft s.cells.items s.books.items s.passes.items s.running period site c.index.result.now book in
     let alike : site_named name (period_at c.plan.result.now.sites.items site) (order_at c.plan.result.now.sites.items site) c.totals-totals.result (boards_at (order_at c.plan.result.now.sites.items site) (period_at c.plan.result.now.sites.items site) c.plan.result.now.stations.items c.deref.result.now site) ≡ site_named name period order c.totals-totals.result boards =
     (λ i. site_named name (period_at (c.plan.ensures.sites i) site) (order_at (c.plan.ensures.sites i) site) c.totals-totals.result (boards_at (order_at (c.plan.ensures.sites i) site) (period_at (c.plan.ensures.sites i) site) (c.plan.ensures.stations i) (c.deref.ensures.value i) site)) in
-    let is = board_is name (order_named (running s.draft s.cells.items) name) order (period_named (running s.draft s.cells.items) name) period (site_named name period order c.totals-totals.result boards) stations boards (site_shown order period s.draft.sites s.draft.stations s.cells.items name site s.running.plan.sites_once s.running.plan.placed c.requires) (order_found name s.draft.sites site c.requires) (period_found name s.draft.sites site c.requires) refl refl refl totals refl refl in
+    let is = board_is name (order_named (script_of s) name) order (period_named (script_of s) name) period (site_named name period order c.totals-totals.result boards) stations boards (site_shown order period s.draft.sites s.draft.stations s.cells.items name site s.running.plan.sites_once s.running.plan.placed c.requires) (order_found name s.draft.sites site c.requires) (period_found name s.draft.sites site c.requires) refl refl refl totals refl refl in
     value_told c.site_text.result _ _ (λ text h. h ∙ ap board_text alike ∙ ap board_text is) c.site_text.ensures

@@ -2,7 +2,8 @@ use Rattle.std.proofs.Common.{ap, ◌∙◌}
 use Rattle.ledger_model.specs.declared.command.Command.TheVariants.{Deliver}
 use Rattle.transaction_event.specs.Reply.{answers_delivery}
 use Rattle.transaction_event.proofs.Deliveries.{each_delivery_is_answered}
-use Rattle.script_ledgers.specs.Running.{Settles, running}
+use Rattle.script_ledgers.specs.Running.{Settles}
+use Rattle.script_ledgers.specs.State.{script_of}
 use Rattle.script_ledgers.proofs.Named.{is_at, some_of}
 use Rattle.script_ledgers.proofs.opened_script.OpenedScript.deliver.Goals as goal
 
@@ -10,5 +11,5 @@ pub put_event_reply-requires-clause-delivery : goal.put_event_reply-requires-cla
 put_event_reply-requires-clause-delivery g c =
     let s = c.args.self.now in
     let at = is_at s.draft s.cells.items s.books.items s.passes.items s.running c.args.number c.requires.there in
-    let did = some_of _ at.station (λ t. Settles (running s.draft s.cells.items) _ t (Deliver c.args.delivery.key c.args.delivery.event) c.settle-answer.result) at.there c.settle-answer.ensures.settled in
+    let did = some_of _ at.station (λ t. Settles (script_of s) _ t (Deliver c.args.delivery.key c.args.delivery.event) c.settle-answer.result) at.there c.settle-answer.ensures.settled in
     ap answers_delivery did.answer_is ∙ each_delivery_is_answered at.station.limits at.station.content c.args.delivery.key c.args.delivery.event

@@ -2,9 +2,9 @@ use Rattle.std.proofs.Common.{cond, ◌++◌, sym, ap, ◌∙◌}
 use Rattle.board_report.specs.Texts.{board_text}
 use Rattle.site_desk.specs.declared.plan.SitePlan.{SitePlan}
 use Rattle.script_lines.specs.declared.script_line.LineFault.TheVariants.{UnknownSite}
-use Rattle.script_ledgers.specs.Running.{running}
 use Rattle.script_lines.specs.Texts.{fault_line}
 use Rattle.script_ledgers.specs.Script.{order_named, period_named, shown_site, stations_of}
+use Rattle.script_ledgers.specs.State.{script_of}
 use Rattle.script_ledgers.proofs.Answered.{ok_told}
 use Rattle.script_ledgers.proofs.Places.{none_placed, some_placed}
 use Rattle.script_ledgers.proofs.opened_script.OpenedScript.put_board.Goals as goal
@@ -13,12 +13,12 @@ pub returns-in_ok-reply-in-Some : goal.returns-in_ok-reply-in-Some
 returns-in_ok-reply-in-Some g c =
     let s = c.args.self.now in
     let there = some_placed {X = SitePlan} (λ x. x.name) c.args.name.now s.draft.sites c.in-Some.site (sym c.site.ensures ∙ c.in-Some.is) in
-    let text = board_text (shown_site c.args.name.now (order_named (running s.draft s.cells.items) c.args.name.now) (period_named (running s.draft s.cells.items) c.args.name.now) (stations_of c.args.name.now (running s.draft s.cells.items).world)) in
+    let text = board_text (shown_site c.args.name.now (order_named (script_of s) c.args.name.now) (period_named (script_of s) c.args.name.now) (stations_of c.args.name.now (script_of s).world)) in
     c.in_ok-reply-in-Some.ensures ∙ sym (ap (λ b. cond b text (fault_line UnknownSite)) there.among)
 
 pub returns-in-None : goal.returns-in-None
 returns-in-None g c =
     let s = c.args.self.now in
     let none = none_placed {X = SitePlan} (λ x. x.name) c.args.name.now s.draft.sites (sym c.site.ensures ∙ c.in-None.is) in
-    let text = board_text (shown_site c.args.name.now (order_named (running s.draft s.cells.items) c.args.name.now) (period_named (running s.draft s.cells.items) c.args.name.now) (stations_of c.args.name.now (running s.draft s.cells.items).world)) in
+    let text = board_text (shown_site c.args.name.now (order_named (script_of s) c.args.name.now) (period_named (script_of s) c.args.name.now) (stations_of c.args.name.now (script_of s).world)) in
     ok_told c.put_fault.result _ _ (λ h. h ∙ ap (λ l. l ++ fault_line UnknownSite) c.requires ∙ sym (ap (λ b. cond b text (fault_line UnknownSite)) none)) c.put_fault.ensures

@@ -6,8 +6,8 @@ use Rattle.ledger_model.specs.declared.reading.Direction.TheVariants.{Import}
 use Rattle.ledger_model.specs.Energy.{energy_by}
 use Rattle.board_report.proofs.SiteBoards.{some_same}
 use Rattle.script_lines.specs.Texts.{ended_line}
-use Rattle.script_ledgers.specs.Running.{running}
 use Rattle.script_ledgers.specs.Script.{energy_answer, energy_line, order_named}
+use Rattle.script_ledgers.specs.State.{script_of}
 use Rattle.script_ledgers.proofs.Answered.{ok_told}
 use Rattle.script_ledgers.proofs.Named.{is_none, is_of}
 use Rattle.script_ledgers.proofs.opened_script.OpenedScript.put_energy.Goals as goal
@@ -20,11 +20,11 @@ returns-in-Some g c =
     let cell = some_same of.at.cell c.index.result.now (sym of.at.is_cell ∙ stands) in
     let content = of.at.content ∙ ap (λ (x : Cell). x.content) cell ∙ sym c.ledger.ensures.content in
     let order = of.at.order ∙ ap (λ (x : Cell). x.order) cell ∙ sym c.ledger.ensures.order in
-    let shown = ap (energy_answer (order_named (running s.draft s.cells.items))) of.named ∙ (λ i. energy_line (energy_by (order i) Import (entries (content i)))) ∙ ap energy_line (sym c.energy-energy.ensures) ∙ ap ended_line (sym c.energy_text.ensures) ∙ ap ended_line (sym c.as_str.ensures.value) in
+    let shown = ap (energy_answer (order_named (script_of s))) of.named ∙ (λ i. energy_line (energy_by (order i) Import (entries (content i)))) ∙ ap energy_line (sym c.energy-energy.ensures) ∙ ap ended_line (sym c.energy_text.ensures) ∙ ap ended_line (sym c.as_str.ensures.value) in
     ok_told c.put_line.result _ _ (λ h. h ∙ ap (λ l. c.args.reply.now.items ++ l) (sym shown)) c.put_line.ensures
 
 pub returns-in-None : goal.returns-in-None
 returns-in-None g c =
     let s = c.args.self.now in
     let none = is_none s.draft s.cells.items s.books.items s.passes.items s.running c.args.name.now c.station.result c.station.ensures c.in-None.is in
-    ok_told c.put_fault.result _ _ (λ h. h ∙ ap (λ o. c.args.reply.now.items ++ energy_answer (order_named (running s.draft s.cells.items)) o) (sym none)) c.put_fault.ensures
+    ok_told c.put_fault.result _ _ (λ h. h ∙ ap (λ o. c.args.reply.now.items ++ energy_answer (order_named (script_of s)) o) (sym none)) c.put_fault.ensures

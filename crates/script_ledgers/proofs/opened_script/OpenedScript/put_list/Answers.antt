@@ -4,8 +4,8 @@ use Rattle.ledger_model.specs.Content.{entries}
 use Rattle.station_cell.specs.Cell.{Cell}
 use Rattle.board_report.proofs.SiteBoards.{some_same}
 use Rattle.station_ledger.specs.Listing.{listing_by}
-use Rattle.script_ledgers.specs.Running.{running}
 use Rattle.script_ledgers.specs.Script.{list_answer, listed, order_named, period_named}
+use Rattle.script_ledgers.specs.State.{script_of}
 use Rattle.script_ledgers.proofs.Answered.{ok_told}
 use Rattle.script_ledgers.proofs.Named.{is_none, is_of}
 use Rattle.script_ledgers.proofs.opened_script.OpenedScript.put_list.Goals as goal
@@ -19,11 +19,11 @@ returns-in_ok-listing-in-Some g c =
     let content = of.at.content ∙ ap (λ (x : Cell). x.content) cell ∙ sym c.ledger.ensures.content in
     let order = of.at.order ∙ ap (λ (x : Cell). x.order) cell ∙ sym c.ledger.ensures.order in
     let period = of.at.period ∙ ap (λ (x : Cell). x.period) cell ∙ sym c.ledger.ensures.period in
-    let shown = ap (list_answer (order_named (running s.draft s.cells.items)) (period_named (running s.draft s.cells.items)) what name tx) of.named ∙ (λ i. listed what name tx (listing_by (order i) (period i) tx (entries (content i)))) ∙ ap (listed what name tx) (sym c.in_ok-listing-in-Some.ensures) in
+    let shown = ap (list_answer (order_named (script_of s)) (period_named (script_of s)) what name tx) of.named ∙ (λ i. listed what name tx (listing_by (order i) (period i) tx (entries (content i)))) ∙ ap (listed what name tx) (sym c.in_ok-listing-in-Some.ensures) in
     ok_told c.put_listed.result _ _ (λ h. h ∙ sym shown) c.put_listed.ensures
 
 pub returns-in-None : goal.returns-in-None
 returns-in-None g c =
-    let s = c.args.self.now in let answer = list_answer (order_named (running s.draft s.cells.items)) (period_named (running s.draft s.cells.items)) c.args.what c.args.name.now c.args.tx.now in
+    let s = c.args.self.now in let answer = list_answer (order_named (script_of s)) (period_named (script_of s)) c.args.what c.args.name.now c.args.tx.now in
     let none = is_none s.draft s.cells.items s.books.items s.passes.items s.running c.args.name.now c.station.result c.station.ensures c.in-None.is in
     ok_told c.put_fault.result _ _ (λ h. h ∙ (λ i. c.requires i ++ answer (sym none i))) c.put_fault.ensures

@@ -1,8 +1,8 @@
 use Rattle.std.proofs.Common.{refl, ap, subst}
 use Rattle.transaction_event.specs.MessageMeaning.{IsMeaningOf, with_reply}
 use Rattle.script_ledgers.specs.Received.{TakesMessage}
-use Rattle.script_ledgers.specs.Running.{running}
 use Rattle.script_ledgers.specs.Script.{sent_to}
+use Rattle.script_ledgers.specs.State.{script_of}
 use Rattle.script_ledgers.proofs.Answered.{ok_told, written_whole}
 use Rattle.script_ledgers.proofs.Named.{is_none, is_of, received, some_of}
 use Rattle.script_ledgers.proofs.opened_script.OpenedScript.receive.Goals as goal
@@ -11,8 +11,8 @@ pub returns-in-Some-clause-step : goal.returns-in-Some-clause-step
 returns-in-Some-clause-step g c =
     let s = c.args.self.now in
     let of = is_of s.draft s.cells.items s.books.items s.passes.items s.running c.args.name.now c.in-Some.number c.station_number.result c.station_number.ensures c.in-Some.is in
-    let old = running s.draft s.cells.items in
-    let new = running c.take_asked.new.self.draft c.take_asked.new.self.cells.items in
+    let old = script_of s in
+    let new = script_of c.take_asked.new.self in
     let m = with_reply c.read_message-asked.result c.read_message-asked.new.reply in
     let reply = c.take_asked.new.reply.items in
     let means = subst (λ n. IsMeaningOf c.args.text.now n m) c.moment.ensures c.read_message-asked.ensures.meaning in
@@ -26,4 +26,4 @@ pub returns-in-None-clause-step : goal.returns-in-None-clause-step
 returns-in-None-clause-step g c =
     let s = c.args.self.now in
     let none = is_none s.draft s.cells.items s.books.items s.passes.items s.running c.args.name.now c.station_number.result c.station_number.ensures c.in-None.is in
-    written_whole c.put_fault.result (running s.draft s.cells.items) _ c.args.reply.now.items c.put_fault.new.reply.items _ (ap (λ o. sent_to o (running s.draft s.cells.items) c.args.text.now) none) c.requires.empty c.put_fault.ensures
+    written_whole c.put_fault.result (script_of s) _ c.args.reply.now.items c.put_fault.new.reply.items _ (ap (λ o. sent_to o (script_of s) c.args.text.now) none) c.requires.empty c.put_fault.ensures

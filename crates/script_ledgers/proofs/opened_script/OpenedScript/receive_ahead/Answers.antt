@@ -1,8 +1,8 @@
 use Rattle.std.proofs.Common.{refl, ap}
 use Rattle.transaction_event.specs.MessageMeaning.{asking}
 use Rattle.script_ledgers.specs.Received.{TakesMessage}
-use Rattle.script_ledgers.specs.Running.{running}
 use Rattle.script_ledgers.specs.Script.{sent_to}
+use Rattle.script_ledgers.specs.State.{script_of}
 use Rattle.script_ledgers.proofs.Answered.{ok_told, written_whole}
 use Rattle.script_ledgers.proofs.Named.{is_none, is_of, received, some_of}
 use Rattle.script_ledgers.proofs.opened_script.OpenedScript.receive_ahead.Goals as goal
@@ -11,8 +11,8 @@ pub returns-in-Some-clause-step : goal.returns-in-Some-clause-step
 returns-in-Some-clause-step g c = λ text asks.
     let s = c.args.self.now in
     let of = is_of s.draft s.cells.items s.books.items s.passes.items s.running c.args.sent.station c.in-Some.number c.station_number.result c.station_number.ensures c.in-Some.is in
-    let old = running s.draft s.cells.items in
-    let new = running c.deliver.new.self.draft c.deliver.new.self.cells.items in
+    let old = script_of s in
+    let new = script_of c.deliver.new.self in
     let m = asking c.args.sent.delivery in
     let reply = c.deliver.new.reply.items in
     ok_told c.deliver.result _ _
@@ -25,4 +25,4 @@ pub returns-in-None-clause-step : goal.returns-in-None-clause-step
 returns-in-None-clause-step g c = λ text asks.
     let s = c.args.self.now in
     let none = is_none s.draft s.cells.items s.books.items s.passes.items s.running c.args.sent.station c.station_number.result c.station_number.ensures c.in-None.is in
-    written_whole c.put_fault.result (running s.draft s.cells.items) _ c.args.reply.now.items c.put_fault.new.reply.items _ (ap (λ o. sent_to o (running s.draft s.cells.items) text) none) c.requires.empty c.put_fault.ensures
+    written_whole c.put_fault.result (script_of s) _ c.args.reply.now.items c.put_fault.new.reply.items _ (ap (λ o. sent_to o (script_of s) text) none) c.requires.empty c.put_fault.ensures
