@@ -36,7 +36,9 @@ figures_alike order period (x ∷ xs) (c ∷ cells) site count sites orders =
     others = filter (λ (d : Cell). eqb d.site site) cells
 
     one : (t : Bool) → eqb x.site site ≡ t → map shown others ≡ map (λ (s : List ℕ × Board). s.1.figures) (boards_at order period xs cells site)
-        → map shown (cond t (c ∷ others) others) ≡ map (λ (s : List ℕ × Board). s.1.figures) (cond t ((x.name, board_by order period (entries c.content)) ∷ boards_at order period xs cells site) (boards_at order period xs cells site))
+        → map shown (cond t (c ∷ others) others)
+        ≡ map (λ (s : List ℕ × Board). s.1.figures)
+        (cond t ((x.name, board_by order period (entries c.content)) ∷ boards_at order period xs cells site) (boards_at order period xs cells site))
     one true here e = λ i. figures_by (orders zero x c refl refl (eqb-true x.site site here) i) (entries c.content) ∷ e i
     one false here e = e
 
@@ -47,9 +49,19 @@ name_at (p ∷ sites) zero other less = refl
 name_at (p ∷ sites) (suc site) other less = name_at sites site other (omega (arith, less))
 
 -- a board under the same name and totals is the same board
-pub named_alike : (name other : List ℕ) (period : Periods) (order : Order) (totals all : Figures) (boards : List (List ℕ × Board)) → name ≡ other → totals ≡ all → all ≡ (site_board period boards).figures
-    → site_named name period order totals boards ≡ record { name = other; period = period; order = order; figures = (site_board period boards).figures; quarters = (site_board period boards).quarters; stations = (site_board period boards).stations }
-named_alike name other period order totals all boards n t e = λ i. record { name = n i; period = period; order = order; figures = (t ∙ e) i; quarters = (site_board period boards).quarters; stations = boards }
+pub named_alike : (name other : List ℕ) (period : Periods) (order : Order) (totals all : Figures) (boards : List (List ℕ × Board))
+    → name ≡ other → totals ≡ all → all ≡ (site_board period boards).figures
+    → site_named name period order totals boards
+    ≡ record {
+      name = other;
+      period = period;
+      order = order;
+      figures = (site_board period boards).figures;
+      quarters = (site_board period boards).quarters;
+      stations = (site_board period boards).stations;
+    }
+named_alike name other period order totals all boards n t e =
+    λ i. record { name = n i; period = period; order = order; figures = (t ∙ e) i; quarters = (site_board period boards).quarters; stations = boards }
 
 -- what is known of a value
 pub value_told : {T E : Type 0} (r : Result T E) (P Q : T → Type 0) → ((x : T) → P x → Q x) → IfOk r P → IfOk r Q
@@ -57,7 +69,8 @@ value_told (Ok x) P Q f p = f x p
 value_told (Err e) P Q f p = p
 
 -- a desk that was closed is one of the stations that it was opened for
-pub closed_of : (sites : List SitePlan) (xs : List StationPlan) (desk : Roster) (closed : Ended) (passes : List Held) (viewers : List Known) → desk.sites ≡ length sites → AreNewPlaces sites xs desk.stations → length closed.cells ≡ length desk.stations
+pub closed_of : (sites : List SitePlan) (xs : List StationPlan) (desk : Roster) (closed : Ended) (passes : List Held) (viewers : List Known)
+    → desk.sites ≡ length sites → AreNewPlaces sites xs desk.stations → length closed.cells ≡ length desk.stations
     → length closed.books ≡ desk.sites → IsClosable desk.stations desk.viewers closed.cells closed.books passes viewers → IsClosedOf sites xs closed
 closed_of sites xs desk closed passes viewers planned new count books whole =
     let stands : (k : ℕ) (s : StationPlan) (c : Cell) → slice_get xs k ≡ Some s → slice_get closed.cells k ≡ Some c → StandsAt k (new_place sites xs k s) c
@@ -66,7 +79,12 @@ closed_of sites xs desk closed passes viewers planned new count books whole =
     subst (λ p. StandsAt k p c) (some_same placed.place (new_place sites xs k s) (sym placed.there ∙ new.each k s at)) placed.stands in
     record {
       books = books ∙ planned;
-      cells = record { count = count ∙ new.count; limits = λ k s c at is. (stands k s c at is).limits; periods = λ k s c at is. (stands k s c at is).period; orders = λ k s c at is. (stands k s c at is).order };
+      cells = record {
+        count = count ∙ new.count;
+        limits = λ k s c at is. (stands k s c at is).limits;
+        periods = λ k s c at is. (stands k s c at is).period;
+        orders = λ k s c at is. (stands k s c at is).order;
+      };
       at_sites = λ k s c at is. (stands k s c at is).site;
       summed = whole.summed;
     }

@@ -103,7 +103,8 @@ under-append p q [] ys = let none = part_none p in omega (arith, none)
 under-append p q (x ∷ xs) ys =
     let rest = under-append p q xs ys in
     ⊎_elim
-    (λ (same : x.0 ≡ q). omega (arith, ap p.measure (under-own x (xs ++ ys) q same), p.plus_of x.1 (flows_under q (xs ++ ys)), ap p.measure (under-own x xs q same), p.plus_of x.1 (flows_under q xs), rest))
+    (λ (same : x.0 ≡ q). omega
+    (arith, ap p.measure (under-own x (xs ++ ys) q same), p.plus_of x.1 (flows_under q (xs ++ ys)), ap p.measure (under-own x xs q same), p.plus_of x.1 (flows_under q xs), rest))
     (λ (apart : x.0 ≡ q → ⊥). omega (arith, ap p.measure (under-other x (xs ++ ys) q apart), ap p.measure (under-other x xs q apart), rest))
     (cases_eq x.0 q)
 
@@ -119,9 +120,16 @@ under-plan q (limits ∷ plan) (s ∷ stations) h =
     let rest = under-plan q plan stations h.1 in
     let all = station_quarters (s ∷ stations) in
     let more = sum_by-cons (λ (l : Bounds). l.readings) limits plan in
-    let step : (p : Part) → p.measure (flows_under q s.1.quarters) ≤ greatest_reading * limits.readings → p.measure (flows_under q (station_quarters stations)) ≤ greatest_reading * readings_of_plan plan → p.measure (flows_under q all) ≤ greatest_reading * readings_of_plan (limits ∷ plan) =
+    let step : (p : Part) → p.measure (flows_under q s.1.quarters) ≤ greatest_reading * limits.readings
+    → p.measure (flows_under q (station_quarters stations)) ≤ greatest_reading * readings_of_plan plan
+    → p.measure (flows_under q all) ≤ greatest_reading * readings_of_plan (limits ∷ plan) =
     λ p a b. omega (arith, under-append p q s.1.quarters (station_quarters stations), a, b, more) in
-    record { of_up = step up one.of_up rest.of_up; of_down = step down one.of_down rest.of_down; of_export_up = step export_up one.of_export_up rest.of_export_up; of_export_down = step export_down one.of_export_down rest.of_export_down }
+    record {
+      of_up = step up one.of_up rest.of_up;
+      of_down = step down one.of_down rest.of_down;
+      of_export_up = step export_up one.of_export_up rest.of_export_up;
+      of_export_down = step export_down one.of_export_down rest.of_export_down;
+    }
 
 -- the sums of each period fit for one plan
 pub plans_fit : (plan : List Bounds) (stations : List (List ℕ × Board)) → readings_of_plan plan ≤ most_plan_readings → AreBoardsWithin plan stations → QuartersFit (station_quarters stations)
@@ -133,7 +141,8 @@ plans_fit plan stations few h = record {
 }
 
 -- one board more, within one more limits
-pub AreBoardsWithin-more : (plan : List Bounds) (stations : List (List ℕ × Board)) (limits : Bounds) (s : List ℕ × Board) → AreBoardsWithin plan stations → IsBoardWithin limits s.1 → AreBoardsWithin (plan ++ limits ∷ []) (stations ++ s ∷ [])
+pub AreBoardsWithin-more : (plan : List Bounds) (stations : List (List ℕ × Board)) (limits : Bounds) (s : List ℕ × Board)
+    → AreBoardsWithin plan stations → IsBoardWithin limits s.1 → AreBoardsWithin (plan ++ limits ∷ []) (stations ++ s ∷ [])
 AreBoardsWithin-more [] [] limits s h one = (one, tt)
 AreBoardsWithin-more [] (t ∷ stations) limits s h one = absurd h
 AreBoardsWithin-more (l ∷ plan) [] limits s h one = absurd h

@@ -44,7 +44,8 @@ places_like sites stations places new =
 
 module _ (sites : List SitePlan) (site : ℕ) where
   -- each board keeps within its station's limits
-  pub boards_within : (stations : List StationPlan) (places : List StationPlace) (boards : List (List ℕ × Board)) → AreLike sites stations places → AreBoardsOf (filter (λ (p : StationPlace). eqb p.site site) places) boards
+  pub boards_within : (stations : List StationPlan) (places : List StationPlace) (boards : List (List ℕ × Board))
+      → AreLike sites stations places → AreBoardsOf (filter (λ (p : StationPlace). eqb p.site site) places) boards
       → AreBoardsWithin (limits_at stations site) boards
   boards_within [] [] [] like all = tt
   boards_within [] [] (b ∷ boards) like all = absurd all
@@ -52,7 +53,8 @@ module _ (sites : List SitePlan) (site : ℕ) where
   boards_within (s ∷ stations) [] boards like all = absurd like
   boards_within (s ∷ stations) (p ∷ places) boards like all = at (eqb s.site site) refl (λ bs h. boards_within stations places bs like.1 h)
     where
-      taken : ((bs : List (List ℕ × Board)) → AreBoardsOf (filter (λ (q : StationPlace). eqb q.site site) places) bs → AreBoardsWithin (limits_at stations site) bs) → (bs : List (List ℕ × Board)) → AreBoardsOf (p ∷ filter (λ (q : StationPlace). eqb q.site site) places) bs
+      taken : ((bs : List (List ℕ × Board)) → AreBoardsOf (filter (λ (q : StationPlace). eqb q.site site) places) bs → AreBoardsWithin (limits_at stations site) bs)
+          → (bs : List (List ℕ × Board)) → AreBoardsOf (p ∷ filter (λ (q : StationPlace). eqb q.site site) places) bs
           → AreBoardsWithin (s.limits ∷ limits_at stations site) bs
       taken others [] h = absurd h
       taken others (b ∷ bs) h = (
@@ -65,18 +67,25 @@ module _ (sites : List SitePlan) (site : ℕ) where
         others bs h.1,
       )
 
-      at : (t : Bool) → eqb s.site site ≡ t → ((bs : List (List ℕ × Board)) → AreBoardsOf (filter (λ (q : StationPlace). eqb q.site site) places) bs → AreBoardsWithin (limits_at stations site) bs) → AreBoardsWithin (limits_at (s ∷ stations) site) boards
+      at : (t : Bool) → eqb s.site site ≡ t
+          → ((bs : List (List ℕ × Board)) → AreBoardsOf (filter (λ (q : StationPlace). eqb q.site site) places) bs → AreBoardsWithin (limits_at stations site) bs)
+          → AreBoardsWithin (limits_at (s ∷ stations) site) boards
       at true e others =
           let here : eqb p.site site ≡ true = ap (λ n. eqb n site) like.0.site ∙ e in
-          subst (λ t. AreBoardsWithin (map (λ (u : StationPlan). u.limits) (cond t (s ∷ filter (λ (u : StationPlan). eqb u.site site) stations) (filter (λ (u : StationPlan). eqb u.site site) stations))) boards) (sym e)
+          subst (λ t. AreBoardsWithin
+          (map (λ (u : StationPlan). u.limits) (cond t (s ∷ filter (λ (u : StationPlan). eqb u.site site) stations) (filter (λ (u : StationPlan). eqb u.site site) stations)))
+          boards) (sym e)
           (taken others boards (subst (λ t. AreBoardsOf (cond t (p ∷ filter (λ (q : StationPlace). eqb q.site site) places) (filter (λ (q : StationPlace). eqb q.site site) places)) boards) here all))
       at false e others =
           let here : eqb p.site site ≡ false = ap (λ n. eqb n site) like.0.site ∙ e in
-          subst (λ t. AreBoardsWithin (map (λ (u : StationPlan). u.limits) (cond t (s ∷ filter (λ (u : StationPlan). eqb u.site site) stations) (filter (λ (u : StationPlan). eqb u.site site) stations))) boards) (sym e)
+          subst (λ t. AreBoardsWithin
+          (map (λ (u : StationPlan). u.limits) (cond t (s ∷ filter (λ (u : StationPlan). eqb u.site site) stations) (filter (λ (u : StationPlan). eqb u.site site) stations)))
+          boards) (sym e)
           (others boards (subst (λ t. AreBoardsOf (cond t (p ∷ filter (λ (q : StationPlace). eqb q.site site) places) (filter (λ (q : StationPlace). eqb q.site site) places)) boards) here all))
 
   -- each board is by the site's settlement period
-  pub boards_by : (stations : List StationPlan) (places : List StationPlace) (boards : List (List ℕ × Board)) → AreLike sites stations places → AreBoardsOf (filter (λ (p : StationPlace). eqb p.site site) places) boards
+  pub boards_by : (stations : List StationPlan) (places : List StationPlace) (boards : List (List ℕ × Board))
+      → AreLike sites stations places → AreBoardsOf (filter (λ (p : StationPlace). eqb p.site site) places) boards
       → AreOfPeriod (period_at sites site) boards
   boards_by [] [] [] like all = All-nil (λ (b : List ℕ × Board). b.1.period ≡ period_at sites site)
   boards_by [] [] (b ∷ boards) like all = absurd all
@@ -84,13 +93,20 @@ module _ (sites : List SitePlan) (site : ℕ) where
   boards_by (s ∷ stations) [] boards like all = absurd like
   boards_by (s ∷ stations) (p ∷ places) boards like all = at (eqb p.site site) refl (λ bs h. boards_by stations places bs like.1 h)
     where
-      taken : ((bs : List (List ℕ × Board)) → AreBoardsOf (filter (λ (q : StationPlace). eqb q.site site) places) bs → AreOfPeriod (period_at sites site) bs) → p.site ≡ site → (bs : List (List ℕ × Board)) → AreBoardsOf (p ∷ filter (λ (q : StationPlace). eqb q.site site) places) bs → AreOfPeriod (period_at sites site) bs
+      taken : ((bs : List (List ℕ × Board)) → AreBoardsOf (filter (λ (q : StationPlace). eqb q.site site) places) bs → AreOfPeriod (period_at sites site) bs)
+          → p.site ≡ site → (bs : List (List ℕ × Board)) → AreBoardsOf (p ∷ filter (λ (q : StationPlace). eqb q.site site) places) bs
+          → AreOfPeriod (period_at sites site) bs
       taken others here [] h = absurd h
       taken others here (b ∷ bs) h =
           let by : b.1.period ≡ p.period = ap (λ (c : Board). c.period) h.0.board.shown in
           let site_is : s.site ≡ site = sym like.0.site ∙ here in
           All-cons (λ (c : List ℕ × Board). c.1.period ≡ period_at sites site) b bs (by ∙ like.0.period ∙ ap (period_at sites) site_is) (others bs h.1)
 
-      at : (t : Bool) → eqb p.site site ≡ t → ((bs : List (List ℕ × Board)) → AreBoardsOf (filter (λ (q : StationPlace). eqb q.site site) places) bs → AreOfPeriod (period_at sites site) bs) → AreOfPeriod (period_at sites site) boards
-      at true e others = taken others (eqb-true p.site site e) boards (subst (λ t. AreBoardsOf (cond t (p ∷ filter (λ (q : StationPlace). eqb q.site site) places) (filter (λ (q : StationPlace). eqb q.site site) places)) boards) e all)
-      at false e others = others boards (subst (λ t. AreBoardsOf (cond t (p ∷ filter (λ (q : StationPlace). eqb q.site site) places) (filter (λ (q : StationPlace). eqb q.site site) places)) boards) e all)
+      at : (t : Bool) → eqb p.site site ≡ t
+          → ((bs : List (List ℕ × Board)) → AreBoardsOf (filter (λ (q : StationPlace). eqb q.site site) places) bs → AreOfPeriod (period_at sites site) bs)
+          → AreOfPeriod (period_at sites site) boards
+      at true e others =
+          taken others (eqb-true p.site site e) boards
+          (subst (λ t. AreBoardsOf (cond t (p ∷ filter (λ (q : StationPlace). eqb q.site site) places) (filter (λ (q : StationPlace). eqb q.site site) places)) boards) e all)
+      at false e others =
+          others boards (subst (λ t. AreBoardsOf (cond t (p ∷ filter (λ (q : StationPlace). eqb q.site site) places) (filter (λ (q : StationPlace). eqb q.site site) places)) boards) e all)

@@ -39,23 +39,31 @@ boards_next order period (x ∷ xs) (d ∷ cells) site zero s c at is =
     λ i. cond {A = List (List ℕ × Board)} (eqb (same i).site site) (((same i).name, board_by order period (entries (cell i).content)) ∷ []) []
 boards_next order period (x ∷ xs) (d ∷ cells) site (suc n) s c at is = more (eqb x.site site) (boards_next order period xs cells site n s c at is)
   where
-    more : (b : Bool) → boards_at order period (take (suc n) xs) cells site ≡ boards_at order period (take n xs) cells site ++ cond (eqb s.site site) ((s.name, board_by order period (entries c.content)) ∷ []) []
+    more : (b : Bool) → boards_at order period (take (suc n) xs) cells site
+        ≡ boards_at order period (take n xs) cells site ++ cond (eqb s.site site) ((s.name, board_by order period (entries c.content)) ∷ []) []
         → cond b ((x.name, board_by order period (entries d.content)) ∷ boards_at order period (take (suc n) xs) cells site) (boards_at order period (take (suc n) xs) cells site)
-        ≡ cond b ((x.name, board_by order period (entries d.content)) ∷ boards_at order period (take n xs) cells site) (boards_at order period (take n xs) cells site) ++ cond (eqb s.site site) ((s.name, board_by order period (entries c.content)) ∷ []) []
+        ≡ cond b ((x.name, board_by order period (entries d.content)) ∷ boards_at order period (take n xs) cells site) (boards_at order period (take n xs) cells site)
+        ++ cond (eqb s.site site) ((s.name, board_by order period (entries c.content)) ∷ []) []
     more true e = ap (λ l. (x.name, board_by order period (entries d.content)) ∷ l) e
     more false e = e
 
 boards_push : (order : Order) (period : Periods) (xs : List StationPlan) (cells : List Cell) (site n : ℕ) (s : StationPlan) (c : Cell) → slice_get xs n ≡ Some s → slice_get cells n ≡ Some c
     → boards_at order period (take (n + 1) xs) cells site ≡ boards_at order period (take n xs) cells site ++ cond (eqb s.site site) ((s.name, board_by order period (entries c.content)) ∷ []) []
-boards_push order period xs cells site n s c at is = let same : n + 1 ≡ suc n = omega arith in ap (λ m. boards_at order period (take m xs) cells site) same ∙ boards_next order period xs cells site n s c at is
+boards_push order period xs cells site n s c at is = let same : n + 1
+    ≡ suc n = omega arith in ap (λ m. boards_at order period (take m xs) cells site) same ∙ boards_next order period xs cells site n s c at is
 
-pub boards_more_yes : (order : Order) (period : Periods) (xs : List StationPlan) (cells : List Cell) (site n : ℕ) (s : StationPlan) (c : Cell) → slice_get xs n ≡ Some s → slice_get cells n ≡ Some c → s.site ≡ site
+pub boards_more_yes : (order : Order) (period : Periods) (xs : List StationPlan) (cells : List Cell) (site n : ℕ) (s : StationPlan) (c : Cell)
+    → slice_get xs n ≡ Some s → slice_get cells n ≡ Some c → s.site ≡ site
     → boards_at order period (take (n + 1) xs) cells site ≡ boards_at order period (take n xs) cells site ++ (s.name, board_by order period (entries c.content)) ∷ []
-boards_more_yes order period xs cells site n s c at is e = boards_push order period xs cells site n s c at is ∙ ap (λ b. boards_at order period (take n xs) cells site ++ cond b ((s.name, board_by order period (entries c.content)) ∷ []) []) (eq-eqb s.site site e)
+boards_more_yes order period xs cells site n s c at is e = boards_push order period xs cells site n s c at is
+    ∙ ap (λ b. boards_at order period (take n xs) cells site ++ cond b ((s.name, board_by order period (entries c.content)) ∷ []) []) (eq-eqb s.site site e)
 
-pub boards_more_no : (order : Order) (period : Periods) (xs : List StationPlan) (cells : List Cell) (site n : ℕ) (s : StationPlan) (c : Cell) → slice_get xs n ≡ Some s → slice_get cells n ≡ Some c → s.site ≢ site
+pub boards_more_no : (order : Order) (period : Periods) (xs : List StationPlan) (cells : List Cell) (site n : ℕ) (s : StationPlan) (c : Cell)
+    → slice_get xs n ≡ Some s → slice_get cells n ≡ Some c → s.site ≢ site
     → boards_at order period (take (n + 1) xs) cells site ≡ boards_at order period (take n xs) cells site
-boards_more_no order period xs cells site n s c at is e = boards_push order period xs cells site n s c at is ∙ ap (λ b. boards_at order period (take n xs) cells site ++ cond b ((s.name, board_by order period (entries c.content)) ∷ []) []) (ne_eqb s.site site e) ∙ append-nil (boards_at order period (take n xs) cells site)
+boards_more_no order period xs cells site n s c at is e = boards_push order period xs cells site n s c at is
+    ∙ ap (λ b. boards_at order period (take n xs) cells site ++ cond b ((s.name, board_by order period (entries c.content)) ∷ []) []) (ne_eqb s.site site e)
+    ∙ append-nil (boards_at order period (take n xs) cells site)
 
 -- one board more is within its limits
 pub within_more : (ls : List Bounds) (bs : List (List ℕ × Board)) (l : Bounds) (b : List ℕ × Board) → AreBoardsWithin ls bs → IsBoardWithin l b.1 → AreBoardsWithin (ls ++ l ∷ []) (bs ++ b ∷ [])
@@ -70,12 +78,15 @@ sum_at [] site = omega arith
 sum_at (x ∷ xs) site = one (eqb x.site site) (sum_at xs site)
   where
     one : (t : Bool) → sum_by (λ (l : Bounds). l.readings) (limits_at xs site) ≤ sum_by (λ (s : StationPlan). s.limits.readings) xs
-        → sum_by (λ (l : Bounds). l.readings) (map (λ (s : StationPlan). s.limits) (cond t (x ∷ filter (λ s. eqb s.site site) xs) (filter (λ s. eqb s.site site) xs))) ≤ sum_by (λ (s : StationPlan). s.limits.readings) (x ∷ xs)
+        → sum_by (λ (l : Bounds). l.readings) (map (λ (s : StationPlan). s.limits) (cond t (x ∷ filter (λ s. eqb s.site site) xs) (filter (λ s. eqb s.site site) xs)))
+        ≤ sum_by (λ (s : StationPlan). s.limits.readings) (x ∷ xs)
     one true e = omega (arith, e, sum_by-cons (λ (l : Bounds). l.readings) x.limits (limits_at xs site), sum_by-cons (λ (s : StationPlan). s.limits.readings) x xs)
     one false e = omega (arith, e, sum_by-cons (λ (s : StationPlan). s.limits.readings) x xs)
 
 -- a board with these parts is the site's
-pub named_is : (b : NamedBoard) (name : List ℕ) (period : Periods) (order : Order) (totals : Figures) (stations : List (List ℕ × Board)) → b.name ≡ name → b.figures ≡ totals → b.period ≡ period → b.order ≡ order → b.quarters ≡ (site_board period stations).quarters → b.stations ≡ stations
+pub named_is : (b : NamedBoard) (name : List ℕ) (period : Periods) (order : Order) (totals : Figures) (stations : List (List ℕ × Board))
+    → b.name ≡ name → b.figures ≡ totals → b.period ≡ period → b.order ≡ order → b.quarters ≡ (site_board period stations).quarters
+    → b.stations ≡ stations
     → b ≡ site_named name period order totals stations
 named_is b name period order totals stations n f p o q s = λ i. record { name = n i; period = p i; order = o i; figures = f i; quarters = q i; stations = s i }
 
@@ -85,7 +96,8 @@ boards_period order period [] cells site = All-nil (λ (s : List ℕ × Board). 
 boards_period order period (x ∷ xs) [] site = All-nil (λ (s : List ℕ × Board). s.1.period ≡ period)
 boards_period order period (x ∷ xs) (c ∷ cells) site = one (eqb x.site site) (boards_period order period xs cells site)
   where
-    one : (t : Bool) → AreOfPeriod period (boards_at order period xs cells site) → AreOfPeriod period (cond t ((x.name, board_by order period (entries c.content)) ∷ boards_at order period xs cells site) (boards_at order period xs cells site))
+    one : (t : Bool) → AreOfPeriod period (boards_at order period xs cells site)
+        → AreOfPeriod period (cond t ((x.name, board_by order period (entries c.content)) ∷ boards_at order period xs cells site) (boards_at order period xs cells site))
     one true h = All-cons (λ (s : List ℕ × Board). s.1.period ≡ period) (x.name, board_by order period (entries c.content)) (boards_at order period xs cells site) refl h
     one false h = h
 

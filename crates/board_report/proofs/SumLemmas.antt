@@ -294,14 +294,16 @@ line_own period (x ∷ xs) k own (inr h) = line_own period xs k (λ n d lt. own 
 
 lines_own : (period : Periods) (e : ℕ → ByDirection Energy) (ks : List ℕ) → ((k : ℕ) → IsIn k ks → IsQuarterOf period.length k) → AreQuartersOf period (map {B = Flowed} (λ k. (k, e k)) ks)
 lines_own period e [] each = All-nil (λ (line : Flowed). IsQuarterOf period.length line.0)
-lines_own period e (k ∷ ks) each = All-cons (λ (line : Flowed). IsQuarterOf period.length line.0) (k, e k) (map {B = Flowed} (λ j. (j, e j)) ks) (each k (inl refl)) (lines_own period e ks (λ j h. each j (inr h)))
+lines_own period e (k ∷ ks) each =
+    All-cons (λ (line : Flowed). IsQuarterOf period.length line.0) (k, e k) (map {B = Flowed} (λ j. (j, e j)) ks) (each k (inl refl)) (lines_own period e ks (λ j h. each j (inr h)))
 
 -- and so are those of their sums
 pub sums_own : (period : Periods) (xs : List Flowed) → AreQuartersOf period xs → AreQuartersOf period (quarter_sums xs)
 sums_own period xs own = lines_own period (λ k. flows_under k xs) (rising (numbers xs)) (λ k h. line_own period xs k own ((rising-IsIn k (numbers xs)).0 h))
 
 -- the lines of one station more
-pub stations_more : (stations : List (List ℕ × Board)) (k : ℕ) (s : List ℕ × Board) → k < length stations → s ≡ get_or stations k s → station_quarters (take (k + 1) stations) ≡ station_quarters (take k stations) ++ s.1.quarters
+pub stations_more : (stations : List (List ℕ × Board)) (k : ℕ) (s : List ℕ × Board) → k < length stations
+    → s ≡ get_or stations k s → station_quarters (take (k + 1) stations) ≡ station_quarters (take k stations) ++ s.1.quarters
 stations_more stations k s less is =
     ap station_quarters (take_more stations k s less ∙ ap (λ t. take k stations ++ t ∷ []) (sym is))
     ∙ flat_map-append (λ (t : List ℕ × Board). t.1.quarters) (take k stations) (s ∷ [])

@@ -26,4 +26,5 @@ AreBoardsWithin (limits ∷ plan) (s ∷ stations) = IsBoardWithin limits s.1 ×
 -- The sums of each period fit for the boards of each plan if its stations store no more readings in all than a
 -- plan may have.
 abbrev pub PlansFit : Type 0
-PlansFit = (plan : List Bounds) (stations : List (List ℕ × Board)) → sum_by (λ limits. limits.readings) plan ≤ most_plan_readings → AreBoardsWithin plan stations → QuartersFit (station_quarters stations)
+PlansFit = (plan : List Bounds) (stations : List (List ℕ × Board)) → sum_by (λ limits. limits.readings) plan ≤ most_plan_readings
+    → AreBoardsWithin plan stations → QuartersFit (station_quarters stations)

@@ -16,7 +16,8 @@ none_under t r n (e ∷ es) h le =
     let up = h.0 in let rest = none_under t r n es h.1 le in
     elim (e.0 / 2 ^ 31 == t) as (λ b. filter (λ x. nat_lt x.0 r) (cond b (e ∷ segment t es) (segment t es)) ≡ []) [
       | false ↦ rest
-      | true ↦ ap (λ b. cond b (e ∷ filter (λ (x : EventPlace). nat_lt x.0 r) (segment t es)) (filter (λ x. nat_lt x.0 r) (segment t es))) (not_so _ (Decides-ltb e.0 r) (λ lt. absurd (omega arith))) ∙ rest
+      | true ↦ ap (λ b. cond b (e ∷ filter (λ (x : EventPlace). nat_lt x.0 r) (segment t es)) (filter (λ x. nat_lt x.0 r) (segment t es)))
+          (not_so _ (Decides-ltb e.0 r) (λ lt. absurd (omega arith))) ∙ rest
     ]
 
 -- All greater ranks are behind.
@@ -26,7 +27,8 @@ all_over t r n (e ∷ es) h le =
     let up = h.0 in let rest = all_over t r n es h.1 le in
     elim (e.0 / 2 ^ 31 == t) as (λ b. filter (λ x. nat_lt r x.0) (cond b (e ∷ segment t es) (segment t es)) ≡ cond b (e ∷ segment t es) (segment t es)) [
       | false ↦ rest
-      | true ↦ ap (λ b. cond b (e ∷ filter (λ (x : EventPlace). nat_lt r x.0) (segment t es)) (filter (λ x. nat_lt r x.0) (segment t es))) ((Decides-ltb r e.0).1 (omega arith)) ∙ ap (λ (xs : List EventPlace). e ∷ xs) rest
+      | true ↦ ap (λ b. cond b (e ∷ filter (λ (x : EventPlace). nat_lt r x.0) (segment t es)) (filter (λ x. nat_lt r x.0) (segment t es))) ((Decides-ltb r e.0).1 (omega arith))
+          ∙ ap (λ (xs : List EventPlace). e ∷ xs) rest
     ]
 
 -- Those of a transaction in front of a rank.
@@ -84,7 +86,8 @@ first_on t n (e ∷ es) h le =
       | false ↦ λ never. let ge : n ≤ e.0 = not_less e.0 n never in
           elim (e.0 / 2 ^ 31 == t) as (λ b. (e.0 / 2 ^ 31 == t) ≡ b → cond b (Some e) None ≡ slice_get (cond b (e ∷ segment t es) (segment t es)) 0) [
             | true ↦ λ _. refl
-            | false ↦ λ other. let no_more : e.0 / 2 ^ 31 ≡ t → ⊥ = denied _ (Decides-eqb (e.0 / 2 ^ 31) t) other in let up : t < e.0 / 2 ^ 31 = omega (arith, no_more) in sym (ap (λ xs. slice_get xs 0) (seg_above t e.0 es h.0 up))
+            | false ↦ λ other. let no_more : e.0 / 2 ^ 31 ≡ t → ⊥ = denied _ (Decides-eqb (e.0 / 2 ^ 31) t) other in
+                let up : t < e.0 / 2 ^ 31 = omega (arith, no_more) in sym (ap (λ xs. slice_get xs 0) (seg_above t e.0 es h.0 up))
           ] refl
     ] refl
 
@@ -97,7 +100,8 @@ behind_seg t r n es h home up =
 pub from_past : (r n : ℕ) (es : List EventPlace) → n ≡ r + 1 → ((e : EventPlace) → first_of (from r es) ≡ Some e → e.0 ≡ r → ⊥) → from r es ≡ from n es
 from_past r n [] up apart = refl
 from_past r n (e ∷ es) up apart =
-    elim (nat_lt e.0 r) as (λ b. nat_lt e.0 r ≡ b → ((x : EventPlace) → first_of (cond b (from r es) (e ∷ es)) ≡ Some x → x.0 ≡ r → ⊥) → cond b (from r es) (e ∷ es) ≡ cond (nat_lt e.0 n) (from n es) (e ∷ es)) [
+    elim (nat_lt e.0 r) as (λ b. nat_lt e.0 r ≡ b → ((x : EventPlace) → first_of (cond b (from r es) (e ∷ es)) ≡ Some x → x.0 ≡ r → ⊥)
+    → cond b (from r es) (e ∷ es) ≡ cond (nat_lt e.0 n) (from n es) (e ∷ es)) [
       | true ↦ λ y none. let lt : e.0 < r = (Decides-ltb e.0 r).0 y in from_past r n es up none ∙ sym (ap (λ b. cond b (from n es) (e ∷ es)) ((Decides-ltb e.0 n).1 (omega (arith, up))))
       | false ↦ λ never none. let ge : r ≤ e.0 = not_less e.0 r never in let other : e.0 ≡ r → ⊥ = none e refl in let over : n ≤ e.0 = omega (arith, up, other) in
           sym (ap (λ b. cond b (from n es) (e ∷ es)) (not_so _ (Decides-ltb e.0 n) (λ lt. absurd (omega arith))))
@@ -118,14 +122,17 @@ pub behind_last : (t number r : ℕ) (es : List EventPlace) → t ≡ r / 2 ^ 31
 behind_last t number r es home is last = ap (λ xs. slice_get xs 0) (none_over (r / 2 ^ 31) r es (omega (arith, is, last)))
 
 -- What places of a transaction are turned into, cut by a test that is one of their ranks.
-pub map_cut : {X : Type 0} (h : EventPlace → X) (f : X → Bool) (g : ℕ → Bool) (t : ℕ) (es : List EventPlace) → ((e : EventPlace) → e.0 / 2 ^ 31 ≡ t → f (h e) ≡ g e.0) → filter f (map h (segment t es)) ≡ map h (filter (λ e. g e.0) (segment t es))
+pub map_cut : {X : Type 0} (h : EventPlace → X) (f : X → Bool) (g : ℕ → Bool) (t : ℕ) (es : List EventPlace)
+    → ((e : EventPlace) → e.0 / 2 ^ 31 ≡ t → f (h e) ≡ g e.0)
+    → filter f (map h (segment t es)) ≡ map h (filter (λ e. g e.0) (segment t es))
 map_cut h f g t [] same = refl
 map_cut {X = X} h f g t (e ∷ es) same =
     let rest = map_cut h f g t es same in let left = filter f (map h (segment t es)) in
     elim (e.0 / 2 ^ 31 == t) as (λ b. (e.0 / 2 ^ 31 == t) ≡ b → filter f (map h (cond b (e ∷ segment t es) (segment t es))) ≡ map h (filter (λ x. g x.0) (cond b (e ∷ segment t es) (segment t es)))) [
       | false ↦ λ _. rest
       | true ↦ λ y. ap (λ b. cond b (h e ∷ left) left) (same e ((Decides-eqb (e.0 / 2 ^ 31) t).0 y))
-          ∙ elim (g e.0) as (λ b. cond b (h e ∷ left) left ≡ map h (cond b (e ∷ filter (λ (x : EventPlace). g x.0) (segment t es)) (filter (λ x. g x.0) (segment t es)))) [ true ↦ ap (λ (xs : List X). h e ∷ xs) rest | false ↦ rest ]
+          ∙ elim (g e.0) as (λ b. cond b (h e ∷ left) left
+          ≡ map h (cond b (e ∷ filter (λ (x : EventPlace). g x.0) (segment t es)) (filter (λ x. g x.0) (segment t es)))) [ true ↦ ap (λ (xs : List X). h e ∷ xs) rest | false ↦ rest ]
     ] refl
 
 -- A smaller number is that of a smaller rank.

@@ -34,11 +34,15 @@ module _ (rows new : List TxRow) (es more : List EventPlace) (slots held : List 
   -- What was under the key.
   pub found_before : find key_cmp key (flat rows es slots) ≡ event_at slots (place_of r0 es)
   found_before =
-      find_flat key rows es slots rising ∙ move.before key.seq ∙ ap (λ b. event_at slots (cond b (place_of (rank slot key.seq) es) None)) ((Decides-ltb key.seq (2 ^ 31)).1 move.number) ∙ ap (λ r. event_at slots (place_of r es)) (sym move.rank_is)
+      find_flat key rows es slots rising ∙ move.before key.seq
+      ∙ ap (λ b. event_at slots (cond b (place_of (rank slot key.seq) es) None)) ((Decides-ltb key.seq (2 ^ 31)).1 move.number)
+      ∙ ap (λ r. event_at slots (place_of r es)) (sym move.rank_is)
 
   -- An event was put in or written.
   pub flat_put : (v : Stored) → event_at held (place_of r0 more) ≡ Some v → flat new more held ≡ put key_cmp key v (flat rows es slots)
-  flat_put v here = same_flat (flat new more held) (put key_cmp key v (flat rows es slots)) (flat_rising new more held rising_new ranks_more) (is_sorted-put key_cmp key_total key v (flat rows es slots) (flat_rising rows es slots rising ranks)) (λ q.
+  flat_put v here =
+      same_flat (flat new more held) (put key_cmp key v (flat rows es slots)) (flat_rising new more held rising_new ranks_more)
+      (is_sorted-put key_cmp key_total key v (flat rows es slots) (flat_rising rows es slots rising ranks)) (λ q.
       find_flat q new more held rising_new ∙ elim (eq_by_cmp key_cmp q key) as (λ b. eq_by_cmp key_cmp q key ≡ b → look new more held q ≡ cond b (Some v) (find key_cmp q (flat rows es slots))) [
         | true ↦ λ e. ap (look new more held) ((key_test q key).0 e) ∙ look_here rows new es more slots held key slot r0 s0 move ∙ here
         | false ↦ λ e. look_other rows new es more slots held key slot r0 s0 move q (denied _ (key_test q key) e) ∙ sym (find_flat q rows es slots rising)
@@ -46,14 +50,18 @@ module _ (rows new : List TxRow) (es more : List EventPlace) (slots held : List 
 
   -- An event was taken out.
   pub flat_out : place_of r0 more ≡ None → flat new more held ≡ entries_without key (flat rows es slots)
-  flat_out none = same_flat (flat new more held) (entries_without key (flat rows es slots)) (flat_rising new more held rising_new ranks_more) (is_sorted-where_key key_cmp (λ x. not (eq_by_cmp key_cmp key x)) (flat rows es slots) (flat_rising rows es slots rising ranks)) (λ q.
+  flat_out none =
+      same_flat (flat new more held) (entries_without key (flat rows es slots)) (flat_rising new more held rising_new ranks_more)
+      (is_sorted-where_key key_cmp (λ x. not (eq_by_cmp key_cmp key x)) (flat rows es slots) (flat_rising rows es slots rising ranks))
+      (λ q.
       find_flat q new more held rising_new ∙ elim (eq_by_cmp key_cmp q key) as (λ b. eq_by_cmp key_cmp q key ≡ b → look new more held q ≡ cond b None (find key_cmp q (flat rows es slots))) [
         | true ↦ λ e. ap (look new more held) ((key_test q key).0 e) ∙ look_here rows new es more slots held key slot r0 s0 move ∙ ap (event_at held) none
         | false ↦ λ e. look_other rows new es more slots held key slot r0 s0 move q (denied _ (key_test q key) e) ∙ sym (find_flat q rows es slots rising)
       ] refl ∙ sym (find_without q key (flat rows es slots)))
 
 -- The map of entries with one put in.
-pub map_put : (es more : List Entry) (key : KeyName) (v : Stored) → IsRising es → more ≡ put key_cmp key v es → finite.from_sorted {R = key_cmp} more ≡ finite.insert (finite.from_sorted {R = key_cmp} es) key v
+pub map_put : (es more : List Entry) (key : KeyName) (v : Stored) → IsRising es → more ≡ put key_cmp key v es
+    → finite.from_sorted {R = key_cmp} more ≡ finite.insert (finite.from_sorted {R = key_cmp} es) key v
 map_put es more key v rising is =
     let ok = is_sorted-put key_cmp key_total key v es rising in
     finite.same_entries_map _ _ (ap (λ xs. finite.entries (finite.from_sorted {R = key_cmp} xs)) is ∙ finite.entries-from_sorted key_cmp (put key_cmp key v es) ok
@@ -63,5 +71,8 @@ map_put es more key v rising is =
 pub map_out : (es more : List Entry) (key : KeyName) → IsRising es → more ≡ entries_without key es → finite.from_sorted {R = key_cmp} more ≡ finite.remove (finite.from_sorted {R = key_cmp} es) key
 map_out es more key rising is =
     let ok = is_sorted-where_key key_cmp (λ x. not (eq_by_cmp key_cmp key x)) es rising in
-    ap (λ xs. finite.from_sorted {R = key_cmp} xs) is ∙ finite.same_map key_total exact_keys (finite.from_sorted {R = key_cmp} (entries_without key es)) (finite.remove (finite.from_sorted {R = key_cmp} es) key) (λ q.
-    finite.get-from_sorted key_cmp (entries_without key es) q ok ∙ find_without q key es ∙ ap (cond (eq_by_cmp key_cmp q key) None) (sym (finite.get-from_sorted key_cmp es q rising)) ∙ sym (finite.get-remove key_total (finite.from_sorted {R = key_cmp} es) key q))
+    ap (λ xs. finite.from_sorted {R = key_cmp} xs) is
+    ∙ finite.same_map key_total exact_keys (finite.from_sorted {R = key_cmp} (entries_without key es)) (finite.remove (finite.from_sorted {R = key_cmp} es) key) (λ q.
+    finite.get-from_sorted key_cmp (entries_without key es) q ok ∙ find_without q key es
+    ∙ ap (cond (eq_by_cmp key_cmp q key) None) (sym (finite.get-from_sorted key_cmp es q rising))
+    ∙ sym (finite.get-remove key_total (finite.from_sorted {R = key_cmp} es) key q))

@@ -34,16 +34,29 @@ use Rattle.event_chain.proofs.Figures.{known_figures}
 use Rattle.event_chain.proofs.Ids.{ids_flat, has_flat}
 
 -- Chains of equal parts.
-pub seal : (limits : Bounds) (t : Table) (s : Slots) (st l : Index) (c : Direction → Index) (n : Index) (rows : List TxRow) (transactions : ℕ) (slots : List (Option Held)) (readings room : ℕ) (es le : List EventPlace) (ce : Direction → List EventPlace) (ne : List EventPlace) (events : ℕ)
-    → t.rows ≡ rows → t.capacity ≡ transactions → s.slots ≡ slots → s.readings ≡ readings → s.capacity ≡ room → st.entries ≡ es → l.entries ≡ le → ((d : Direction) → (c d).entries ≡ ce d) → n.entries ≡ ne → st.capacity ≡ events → l.capacity ≡ events → ((d : Direction) → (c d).capacity ≡ events) → n.capacity ≡ events
-    → IsChains limits (record { rows = rows; capacity = transactions }) (record { slots = slots; readings = readings; capacity = room }) (index es events) (index le events) (λ d. index (ce d) events) (index ne events) → IsChains limits t s st l c n
+pub seal : (limits : Bounds) (t : Table) (s : Slots) (st l : Index) (c : Direction → Index) (n : Index) (rows : List TxRow)
+    (transactions : ℕ) (slots : List (Option Held)) (readings room : ℕ) (es le : List EventPlace) (ce : Direction → List EventPlace)
+    (ne : List EventPlace) (events : ℕ)
+    → t.rows ≡ rows → t.capacity ≡ transactions → s.slots ≡ slots → s.readings ≡ readings → s.capacity ≡ room → st.entries ≡ es
+    → l.entries ≡ le → ((d : Direction) → (c d).entries ≡ ce d) → n.entries ≡ ne → st.capacity ≡ events → l.capacity ≡ events
+    → ((d : Direction) → (c d).capacity ≡ events) → n.capacity ≡ events
+    → IsChains limits (record { rows = rows; capacity = transactions })
+    (record { slots = slots; readings = readings; capacity = room }) (index es events) (index le events) (λ d. index (ce d) events)
+    (index ne events)
+    → IsChains limits t s st l c n
 seal limits t s st l c n rows transactions slots readings room es le ce ne events tr tc ss sr sc ste le_is ce_is ne_is stc lc cc_is nc h =
     subst (λ (x : Table). IsChains limits x s st l c n) (sym (λ i. record { rows = tr i; capacity = tc i }))
     (subst (λ (x : Slots). IsChains limits (record { rows = rows; capacity = transactions }) x st l c n) (sym (λ i. record { slots = ss i; readings = sr i; capacity = sc i }))
-    (subst (λ (x : Index). IsChains limits (record { rows = rows; capacity = transactions }) (record { slots = slots; readings = readings; capacity = room }) x l c n) (sym (λ i. record { entries = ste i; capacity = stc i }))
-    (subst (λ (x : Index). IsChains limits (record { rows = rows; capacity = transactions }) (record { slots = slots; readings = readings; capacity = room }) (index es events) x c n) (sym (λ i. record { entries = le_is i; capacity = lc i }))
-    (subst (λ (x : Direction → Index). IsChains limits (record { rows = rows; capacity = transactions }) (record { slots = slots; readings = readings; capacity = room }) (index es events) (index le events) x n) (sym (λ i d. record { entries = ce_is d i; capacity = cc_is d i }))
-    (subst (λ (x : Index). IsChains limits (record { rows = rows; capacity = transactions }) (record { slots = slots; readings = readings; capacity = room }) (index es events) (index le events) (λ d. index (ce d) events) x) (sym (λ i. record { entries = ne_is i; capacity = nc i })) h)))))
+    (subst (λ (x : Index). IsChains limits (record { rows = rows; capacity = transactions }) (record { slots = slots; readings = readings; capacity = room }) x l c n)
+    (sym (λ i. record { entries = ste i; capacity = stc i }))
+    (subst (λ (x : Index). IsChains limits (record { rows = rows; capacity = transactions }) (record { slots = slots; readings = readings; capacity = room }) (index es events) x c n)
+    (sym (λ i. record { entries = le_is i; capacity = lc i }))
+    (subst (λ (x : Direction → Index). IsChains limits (record { rows = rows; capacity = transactions })
+    (record { slots = slots; readings = readings; capacity = room }) (index es events) (index le events) x n)
+    (sym (λ i d. record { entries = ce_is d i; capacity = cc_is d i }))
+    (subst (λ (x : Index). IsChains limits (record { rows = rows; capacity = transactions })
+    (record { slots = slots; readings = readings; capacity = room }) (index es events) (index le events) (λ d. index (ce d) events) x)
+    (sym (λ i. record { entries = ne_is i; capacity = nc i })) h)))))
 
 -- No limit is reached.
 fits_all : (a b c : Bool) → cond a NoTransaction (cond b NoEvent (cond c NoReading Fits)) ≡ Fits → (a ≡ false) × ((b ≡ false) × (c ≡ false))
@@ -82,14 +95,19 @@ entered_named rows mid tx row entered = record {
 -- A found event is live or voided as it is marked.
 pub found_live : (o : Option Stored) → found_of o ≡ Some Live → (s : Stored) × ((o ≡ Some s) × (s.voided ≡ false))
 found_live None h = cc
-found_live (Some s) h = elim s.voided as (λ v. s.voided ≡ v → Some (cond v Voided Live) ≡ Some Live → (t : Stored) × ((Some s ≡ Some t) × (t.voided ≡ false))) [ true ↦ λ _ f. cc | false ↦ λ e _. (s, (refl, e)) ] refl h
+found_live (Some s) h =
+    elim s.voided as (λ v. s.voided ≡ v → Some (cond v Voided Live) ≡ Some Live
+    → (t : Stored) × ((Some s ≡ Some t) × (t.voided ≡ false))) [ true ↦ λ _ f. cc | false ↦ λ e _. (s, (refl, e)) ] refl h
 
 -- The same of a voided one.
 pub found_voided : (o : Option Stored) → found_of o ≡ Some Voided → (s : Stored) × ((o ≡ Some s) × (s.voided ≡ true))
 found_voided None h = cc
-found_voided (Some s) h = elim s.voided as (λ v. s.voided ≡ v → Some (cond v Voided Live) ≡ Some Voided → (t : Stored) × ((Some s ≡ Some t) × (t.voided ≡ true))) [ false ↦ λ _ f. cc | true ↦ λ e _. (s, (refl, e)) ] refl h
+found_voided (Some s) h =
+    elim s.voided as (λ v. s.voided ≡ v → Some (cond v Voided Live) ≡ Some Voided
+    → (t : Stored) × ((Some s ≡ Some t) × (t.voided ≡ true))) [ false ↦ λ _ f. cc | true ↦ λ e _. (s, (refl, e)) ] refl h
 
-module _ {limits : Bounds} {table : Table} {store : Slots} {stored live : Index} {carriers : Direction → Index} {naming : Index} (chains : IsChains limits table store stored live carriers naming) where
+module _ {limits : Bounds} {table : Table} {store : Slots} {stored live : Index} {carriers : Direction → Index} {naming : Index}
+    (chains : IsChains limits table store stored live carriers naming) where
   -- All events.
   abbrev all : List Entry
   all = flat table.rows stored.entries store.slots
@@ -121,7 +139,8 @@ module _ {limits : Bounds} {table : Table} {store : Slots} {stored live : Index}
   ids_count = ap length (ids_flat table.rows stored.entries store.slots chains.keyed.rising chains.keyed.filled) ∙ length-map table.rows (λ (r : TxRow). r.0)
 
   module _ (tx : List ℕ) (readings : ℕ) (fits : room_of limits (finite.entries events) tx readings ≡ Fits) where
-    parts : (not (has_transaction tx all) && nat_le limits.transactions (length (transactions_of all)) ≡ false) × ((nat_le limits.events (length all) ≡ false) × (nat_lt limits.readings (readings_stored all + readings) ≡ false))
+    parts : (not (has_transaction tx all) && nat_le limits.transactions (length (transactions_of all)) ≡ false)
+        × ((nat_le limits.events (length all) ≡ false) × (nat_lt limits.readings (readings_stored all + readings) ≡ false))
     parts = fits_all _ _ _ (ap (λ es. room_of limits es tx readings) (sym entries_all) ∙ fits)
 
     -- There is room for a new transaction.
@@ -140,7 +159,8 @@ module _ {limits : Bounds} {table : Table} {store : Slots} {stored live : Index}
     reading_room = omega (arith, at_least limits.readings (readings_stored all + readings) parts.1.1, chains.counted.readings_are, chains.counted.room_is)
 
   -- A new key has no place.
-  pub none_at : (mid : List TxRow) (key : KeyName) (row : TableRow) (r0 : ℕ) → finite.get events key ≡ None → IsEntered table.rows mid key.tx row → key.seq < 2 ^ 31 → r0 ≡ rank row.slot key.seq → place_of r0 stored.entries ≡ None
+  pub none_at : (mid : List TxRow) (key : KeyName) (row : TableRow) (r0 : ℕ) → finite.get events key ≡ None
+      → IsEntered table.rows mid key.tx row → key.seq < 2 ^ 31 → r0 ≡ rank row.slot key.seq → place_of r0 stored.entries ≡ None
   none_at mid key row r0 absent entered number is =
       let before = before_named table.rows stored.entries store.slots chains.keyed mid key.tx row row (entered_named table.rows mid key.tx row entered) key.seq in
       no_event (place_of r0 stored.entries) (ap (λ r. event_at store.slots (place_of r stored.entries)) is
@@ -162,11 +182,15 @@ module _ {limits : Bounds} {table : Table} {store : Slots} {stored live : Index}
   places_few = omega (arith, chains.counted.held_are, chains.counted.slots_are, count_by-le-length (is_some {T = Held}) store.slots)
 
   -- Three tests decide the room.
-  pub room_answer : (tx : List ℕ) (n : ℕ) (a b c : Bool) → (not (is_some (row_of tx table.rows)) && nat_le limits.transactions (length table.rows)) ≡ a → nat_le limits.events (length stored.entries) ≡ b → nat_lt limits.readings (readings_stored all + n) ≡ c
+  pub room_answer : (tx : List ℕ) (n : ℕ) (a b c : Bool)
+      → (not (is_some (row_of tx table.rows)) && nat_le limits.transactions (length table.rows)) ≡ a
+      → nat_le limits.events (length stored.entries) ≡ b → nat_lt limits.readings (readings_stored all + n) ≡ c
       → room_of limits (finite.entries events) tx n ≡ cond a NoTransaction (cond b NoEvent (cond c NoReading Fits))
   room_answer tx n a b c a_is b_is c_is =
       ap (λ es. room_of limits es tx n) entries_all
-      ∙ (λ i. cond (not (has_flat tx table.rows stored.entries store.slots chains.keyed.rising chains.keyed.filled i) && nat_le limits.transactions (ids_count i)) NoTransaction (cond (nat_le limits.events (chains.counted.all_are i)) NoEvent (cond (nat_lt limits.readings (readings_stored all + n)) NoReading Fits)))
+      ∙ (λ i. cond (not (has_flat tx table.rows stored.entries store.slots chains.keyed.rising chains.keyed.filled i) && nat_le limits.transactions (ids_count i))
+      NoTransaction
+      (cond (nat_le limits.events (chains.counted.all_are i)) NoEvent (cond (nat_lt limits.readings (readings_stored all + n)) NoReading Fits)))
       ∙ (λ i. cond (a_is i) NoTransaction (cond (b_is i) NoEvent (cond (c_is i) NoReading Fits)))
 
 -- No place, no slot.
@@ -175,12 +199,23 @@ none_held zero = refl
 none_held (suc n) = omega (arith, sum_by-cons (λ (o : Option Held). cond {A = ℕ} (is_some o) 1 0) None (replicate n None), none_held n)
 
 -- Chains without events.
-pub opened_chains : (limits : Bounds) → limits.events ≤ 65536 → IsChains limits (record { rows = []; capacity = limits.transactions }) (record { slots = replicate limits.events None; readings = 0; capacity = limits.readings }) (index [] limits.events) (index [] limits.events) (λ _. index [] limits.events) (index [] limits.events)
+pub opened_chains : (limits : Bounds) → limits.events ≤ 65536
+    → IsChains limits (record { rows = []; capacity = limits.transactions })
+    (record { slots = replicate limits.events None; readings = 0; capacity = limits.readings }) (index [] limits.events)
+    (index [] limits.events) (λ _. index [] limits.events) (index [] limits.events)
 opened_chains limits few = record {
   keyed = record { rising = tt; apart = λ tx other a b at there same. cc; ranks = tt; homes = λ r s is. absurd (no_place r s is); filled = λ tx row is. absurd (no_row tx row is) };
   indexed = record { lives = record { rising = tt; each = λ r. refl }; carry = λ d. record { rising = tt; each = λ r. refl }; names = record { rising = tt; each = λ r. refl } };
   figured = λ tx row is. absurd (no_row tx row is);
-  counted = record { all_are = refl; held_are = none_held limits.events; readings_are = refl; transactions_are = refl; slots_are = length-replicate limits.events None; room_is = refl; events_few = few };
+  counted = record {
+    all_are = refl;
+    held_are = none_held limits.events;
+    readings_are = refl;
+    transactions_are = refl;
+    slots_are = length-replicate limits.events None;
+    room_is = refl;
+    events_few = few;
+  };
   roomy = record { for_stored = refl; for_live = refl; for_carriers = λ d. refl; for_naming = refl };
 } where
   no_place : (r s : ℕ) → place_of r [] ≡ Some s → ⊥
@@ -191,7 +226,8 @@ opened_chains limits few = record {
 
 -- No event is stored.
 pub opened_events : (es : List Entry) → es ≡ [] → finite.from_sorted {R = key_cmp} es ≡ finite.empty
-opened_events es is = ap (λ (xs : List Entry). finite.from_sorted {R = key_cmp} xs) is ∙ finite.empty_of_len (finite.from_sorted {R = key_cmp} []) (finite.len-entries (finite.from_sorted {R = key_cmp} []) ∙ ap length (finite.entries-from_sorted key_cmp [] tt))
+opened_events es is = ap (λ (xs : List Entry). finite.from_sorted {R = key_cmp} xs) is
+    ∙ finite.empty_of_len (finite.from_sorted {R = key_cmp} []) (finite.len-entries (finite.from_sorted {R = key_cmp} []) ∙ ap length (finite.entries-from_sorted key_cmp [] tt))
 
 -- What is at most another passes the test.
 pub le_test : (a b : ℕ) → a ≤ b → nat_le a b ≡ true

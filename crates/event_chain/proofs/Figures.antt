@@ -20,7 +20,8 @@ module _ (f : Entry → ℕ) (tx : List ℕ) (zero_if : (e : Entry) → bytes_eq
   -- Events of another transaction count nothing.
   none_entries : (other : List ℕ) (slots : List (Option Held)) (ps : List EventPlace) → bytes_eq tx other ≡ false → sum_by f (map (entry_of other slots) ps) ≡ 0
   none_entries other slots [] apart = refl
-  none_entries other slots (p ∷ ps) apart = omega (arith, sum_by-cons f (entry_of other slots p) (map (entry_of other slots) ps), zero_if (entry_of other slots p) apart, none_entries other slots ps apart)
+  none_entries other slots (p ∷ ps) apart =
+      omega (arith, sum_by-cons f (entry_of other slots p) (map (entry_of other slots) ps), zero_if (entry_of other slots p) apart, none_entries other slots ps apart)
 
   -- Where the transaction is absent, nothing counts.
   pub none_flat : (rows : List TxRow) (es : List EventPlace) (slots : List (Option Held)) → row_of tx rows ≡ None → sum_by f (flat rows es slots) ≡ 0
@@ -28,7 +29,12 @@ module _ (f : Entry → ℕ) (tx : List ℕ) (zero_if : (e : Entry) → bytes_eq
   none_flat (r ∷ rows) es slots absent =
       elim (eq_by_cmp id_cmp tx r.0) as (λ b. eq_by_cmp id_cmp tx r.0 ≡ b → cond b (Some r.1) (row_of tx rows) ≡ None → sum_by f (flat (r ∷ rows) es slots) ≡ 0) [
         | true ↦ λ _ some. cc
-        | false ↦ λ e none. omega (arith, sum_by-append f (entries_of es slots r) (flat rows es slots), none_flat rows es slots none, none_entries r.0 slots (segment r.1.slot es) (not_so _ (bytes_eq-Decides tx r.0) (denied _ (id_test tx r.0) e)))
+        | false ↦ λ e none. omega (
+          arith,
+          sum_by-append f (entries_of es slots r) (flat rows es slots),
+          none_flat rows es slots none,
+          none_entries r.0 slots (segment r.1.slot es) (not_so _ (bytes_eq-Decides tx r.0) (denied _ (id_test tx r.0) e)),
+        )
       ] refl absent
 
 -- An event of another transaction counts nothing.
@@ -40,10 +46,14 @@ pub end_zero : (tx : List ℕ) (e : Entry) → bytes_eq tx e.0.tx ≡ false → 
 end_zero tx e apart = ap (λ b. cond {A = ℕ} (b && not e.1.voided && is_end e.1.event.kind) 1 0) apart
 
 -- What is counted of a transaction before the edit, where it may be new.
-pub known_figures : (rows new : List TxRow) (es : List EventPlace) (slots : List (Option Held)) (tx : List ℕ) (row after : TableRow) → IsNamed rows new tx row after → AreFigured rows (flat rows es slots) → IsFigured rows (flat rows es slots) tx row
+pub known_figures : (rows new : List TxRow) (es : List EventPlace) (slots : List (Option Held)) (tx : List ℕ) (row after : TableRow)
+    → IsNamed rows new tx row after → AreFigured rows (flat rows es slots) → IsFigured rows (flat rows es slots) tx row
 known_figures rows new es slots tx row after named figured = elim named.known [
   | inl was ↦ figured tx row was
-  | inr fresh ↦ record { live = fresh.none_live ∙ sym (none_flat (live_one tx) tx (live_zero tx) rows es slots fresh.absent); ends = fresh.no_ends ∙ sym (none_flat (end_one tx) tx (end_zero tx) rows es slots fresh.absent) }
+  | inr fresh ↦ record {
+    live = fresh.none_live ∙ sym (none_flat (live_one tx) tx (live_zero tx) rows es slots fresh.absent);
+    ends = fresh.no_ends ∙ sym (none_flat (end_one tx) tx (end_zero tx) rows es slots fresh.absent);
+  }
 ]
 
 -- A voided event does not count as live.
@@ -52,7 +62,8 @@ void_live tx key s voided = ap (λ v. cond {A = ℕ} (bytes_eq tx key.tx && not 
 
 -- Nor as an end.
 pub void_end : (tx : List ℕ) (key : KeyName) (s : Stored) → s.voided ≡ true → end_one tx (key, s) ≡ 0
-void_end tx key s voided = ap (λ v. cond {A = ℕ} (bytes_eq tx key.tx && not v && is_end s.event.kind) 1 0) voided ∙ elim (bytes_eq tx key.tx) as (λ b. cond {A = ℕ} (b && false && is_end s.event.kind) 1 0 ≡ 0) [ true ↦ refl | false ↦ refl ]
+void_end tx key s voided = ap (λ v. cond {A = ℕ} (bytes_eq tx key.tx && not v && is_end s.event.kind) 1 0) voided
+    ∙ elim (bytes_eq tx key.tx) as (λ b. cond {A = ℕ} (b && false && is_end s.event.kind) 1 0 ≡ 0) [ true ↦ refl | false ↦ refl ]
 
 -- A transaction has one row.
 one_row : (o : Option TableRow) (a b : TableRow) → o ≡ Some a → o ≡ Some b → a ≡ b
@@ -64,8 +75,11 @@ key_zero f key None zero_all = refl
 key_zero f key (Some s) zero_all = zero_all s
 
 -- The counts after an event was put in or written.
-pub figured_put : (rows new : List TxRow) (es : List EventPlace) (slots : List (Option Held)) (key : KeyName) (v : Stored) (row after : TableRow) → let all = flat rows es slots in IsRising all → AreFigured rows all → IsNamed rows new key.tx row after
-    → after.live + at_key (live_one key.tx) key (find key_cmp key all) ≡ row.live + live_one key.tx (key, v) → after.ends + at_key (end_one key.tx) key (find key_cmp key all) ≡ row.ends + end_one key.tx (key, v) → AreFigured new (put key_cmp key v all)
+pub figured_put : (rows new : List TxRow) (es : List EventPlace) (slots : List (Option Held)) (key : KeyName) (v : Stored) (row after : TableRow)
+    → let all = flat rows es slots in IsRising all → AreFigured rows all → IsNamed rows new key.tx row after
+    → after.live + at_key (live_one key.tx) key (find key_cmp key all) ≡ row.live + live_one key.tx (key, v)
+    → after.ends + at_key (end_one key.tx) key (find key_cmp key all) ≡ row.ends + end_one key.tx (key, v)
+    → AreFigured new (put key_cmp key v all)
 figured_put rows new es slots key v row after rising figured named live ends q of is =
     let all = flat rows es slots in
     elim (eq_by_cmp id_cmp q key.tx) as (λ b. eq_by_cmp id_cmp q key.tx ≡ b → IsFigured new (put key_cmp key v all) q of) [
@@ -86,7 +100,9 @@ figured_put rows new es slots key v row after rising figured named live ends q o
     ] refl
 
 -- The counts after a voided event was taken out.
-pub figured_out : (rows new : List TxRow) (all : List Entry) (key : KeyName) (st : Stored) → IsRising all → AreFigured rows all → find key_cmp key all ≡ Some st → st.voided ≡ true → ((q : List ℕ) (row : TableRow) → row_of q new ≡ Some row → row_of q rows ≡ Some row) → AreFigured new (entries_without key all)
+pub figured_out : (rows new : List TxRow) (all : List Entry) (key : KeyName) (st : Stored) → IsRising all → AreFigured rows all
+    → find key_cmp key all ≡ Some st → st.voided ≡ true
+    → ((q : List ℕ) (row : TableRow) → row_of q new ≡ Some row → row_of q rows ≡ Some row) → AreFigured new (entries_without key all)
 figured_out rows new all key st rising figured found voided back q of is =
     let was = figured q of (back q of is) in
     let l0 = ap (at_key (live_one q) key) found ∙ void_live q key st voided in let e0 = ap (at_key (end_one q) key) found ∙ void_end q key st voided in

@@ -29,14 +29,16 @@ either (Some x) b = Some x
 -- What is found in two lists, one after the other.
 pub find_both : {K X : Type 0} (R : K → K → Ordering) (q : K) (xs ys : List (K × X)) → find R q (xs ++ ys) ≡ either (find R q xs) (find R q ys)
 find_both R q [] ys = refl
-find_both R q (x ∷ xs) ys = elim (eq_by_cmp R q x.0) as (λ b. cond b (Some x.1) (find R q (xs ++ ys)) ≡ either (cond b (Some x.1) (find R q xs)) (find R q ys)) [ true ↦ refl | false ↦ find_both R q xs ys ]
+find_both R q (x ∷ xs) ys =
+    elim (eq_by_cmp R q x.0) as (λ b. cond b (Some x.1) (find R q (xs ++ ys)) ≡ either (cond b (Some x.1) (find R q xs)) (find R q ys)) [ true ↦ refl | false ↦ find_both R q xs ys ]
 
 -- A place and its rank, by its transaction's slot.
 rank_split : (r t : ℕ) → r / 2 ^ 31 ≡ t → r ≡ rank t (r % 2 ^ 31)
 rank_split r t e = omega (arith)
 
 -- A key of a transaction's place, by its rank.
-key_place : (q : KeyName) (tx : List ℕ) (t : ℕ) (e : EventPlace) → e.0 / 2 ^ 31 ≡ t → eq_by_cmp id_cmp q.tx tx ≡ true → eq_by_cmp key_cmp q (record { tx = tx; seq = e.0 % 2 ^ 31 }) ≡ eq_by_cmp nat_cmp (rank t q.seq) e.0
+key_place : (q : KeyName) (tx : List ℕ) (t : ℕ) (e : EventPlace) → e.0 / 2 ^ 31 ≡ t → eq_by_cmp id_cmp q.tx tx ≡ true
+    → eq_by_cmp key_cmp q (record { tx = tx; seq = e.0 % 2 ^ 31 }) ≡ eq_by_cmp nat_cmp (rank t q.seq) e.0
 key_place q tx t e home is =
     let id : q.tx ≡ tx = (id_test q.tx tx).0 is in let split = rank_split e.0 t home in
     same_test _ _ (key_test q (record { tx = tx; seq = e.0 % 2 ^ 31 })) (rank_test (rank t q.seq) e.0)
@@ -44,17 +46,24 @@ key_place q tx t e home is =
     (λ k. let n : q.seq ≡ e.0 % 2 ^ 31 = omega (arith, split, k) in λ i. record { tx = id i; seq = n i })
 
 -- What is found among the events of a transaction.
-pub find_entries : (q : KeyName) (tx : List ℕ) (t : ℕ) (slots : List (Option Held)) (es : List EventPlace) → find key_cmp q (map (entry_of tx slots) (segment t es)) ≡ cond (eq_by_cmp id_cmp q.tx tx) (event_at slots (place_of (rank t q.seq) (segment t es))) None
+pub find_entries : (q : KeyName) (tx : List ℕ) (t : ℕ) (slots : List (Option Held)) (es : List EventPlace)
+    → find key_cmp q (map (entry_of tx slots) (segment t es)) ≡ cond (eq_by_cmp id_cmp q.tx tx) (event_at slots (place_of (rank t q.seq) (segment t es))) None
 find_entries q tx t slots [] = elim (eq_by_cmp id_cmp q.tx tx) as (λ b. ◌≡◌ {A = Option Stored} None (cond b None None)) [ true ↦ refl | false ↦ refl ]
 find_entries q tx t slots (e ∷ es) =
     let rest = find_entries q tx t slots es in
-    elim (e.0 / 2 ^ 31 == t) as (λ b. (e.0 / 2 ^ 31 == t) ≡ b → find key_cmp q (map (entry_of tx slots) (cond b (e ∷ segment t es) (segment t es))) ≡ cond (eq_by_cmp id_cmp q.tx tx) (event_at slots (place_of (rank t q.seq) (cond b (e ∷ segment t es) (segment t es)))) None) [
+    elim (e.0 / 2 ^ 31 == t) as (λ b. (e.0 / 2 ^ 31 == t) ≡ b
+    → find key_cmp q (map (entry_of tx slots) (cond b (e ∷ segment t es) (segment t es)))
+    ≡ cond (eq_by_cmp id_cmp q.tx tx) (event_at slots (place_of (rank t q.seq) (cond b (e ∷ segment t es) (segment t es)))) None) [
       | false ↦ λ _. rest
-      | true ↦ λ home. elim (eq_by_cmp id_cmp q.tx tx) as (λ b. eq_by_cmp id_cmp q.tx tx ≡ b → find key_cmp q (map (entry_of tx slots) (segment t es)) ≡ cond b (event_at slots (place_of (rank t q.seq) (segment t es))) None
-          → cond (eq_by_cmp key_cmp q (record { tx = tx; seq = e.0 % 2 ^ 31 })) (Some (stored_at slots e.1)) (find key_cmp q (map (entry_of tx slots) (segment t es))) ≡ cond b (event_at slots (cond (eq_by_cmp nat_cmp (rank t q.seq) e.0) (Some e.1) (place_of (rank t q.seq) (segment t es)))) None) [
+      | true ↦ λ home. elim (eq_by_cmp id_cmp q.tx tx) as (λ b. eq_by_cmp id_cmp q.tx tx ≡ b
+          → find key_cmp q (map (entry_of tx slots) (segment t es)) ≡ cond b (event_at slots (place_of (rank t q.seq) (segment t es))) None
+          → cond (eq_by_cmp key_cmp q (record { tx = tx; seq = e.0 % 2 ^ 31 })) (Some (stored_at slots e.1)) (find key_cmp q (map (entry_of tx slots) (segment t es)))
+          ≡ cond b (event_at slots (cond (eq_by_cmp nat_cmp (rank t q.seq) e.0) (Some e.1) (place_of (rank t q.seq) (segment t es)))) None) [
             | true ↦ λ is same. ap (λ b. cond b (Some (stored_at slots e.1)) (find key_cmp q (map (entry_of tx slots) (segment t es)))) (key_place q tx t e ((Decides-eqb (e.0 / 2 ^ 31) t).0 home) is)
-                ∙ elim (eq_by_cmp nat_cmp (rank t q.seq) e.0) as (λ b. cond b (Some (stored_at slots e.1)) (find key_cmp q (map (entry_of tx slots) (segment t es))) ≡ event_at slots (cond b (Some e.1) (place_of (rank t q.seq) (segment t es)))) [ true ↦ refl | false ↦ same ]
-            | false ↦ λ other same. ap (λ b. cond b (Some (stored_at slots e.1)) (find key_cmp q (map (entry_of tx slots) (segment t es)))) (not_so _ (key_test q _) (λ k. denied _ (id_test q.tx tx) other (ap (λ (x : KeyName). x.tx) k))) ∙ same
+                ∙ elim (eq_by_cmp nat_cmp (rank t q.seq) e.0) as (λ b. cond b (Some (stored_at slots e.1)) (find key_cmp q (map (entry_of tx slots) (segment t es)))
+                ≡ event_at slots (cond b (Some e.1) (place_of (rank t q.seq) (segment t es)))) [ true ↦ refl | false ↦ same ]
+            | false ↦ λ other same. ap (λ b. cond b (Some (stored_at slots e.1)) (find key_cmp q (map (entry_of tx slots) (segment t es))))
+                (not_so _ (key_test q _) (λ k. denied _ (id_test q.tx tx) other (ap (λ (x : KeyName). x.tx) k))) ∙ same
           ] refl rest
     ] refl
 
@@ -80,10 +89,14 @@ pub find_flat : (q : KeyName) (rows : List TxRow) (es : List EventPlace) (slots 
 find_flat q [] es slots rising = refl
 find_flat q (r ∷ rows) es slots rising =
     let rest = find_flat q rows es slots (second _ _ rising) in
-    find_both key_cmp q (entries_of es slots r) (flat rows es slots) ∙ ap (λ o. either o (find key_cmp q (flat rows es slots))) (find_entries q r.0 r.1.slot slots es ∙ ap (λ o. cond (eq_by_cmp id_cmp q.tx r.0) (event_at slots o) None) (number_is r.1.slot q.seq es))
-    ∙ elim (eq_by_cmp id_cmp q.tx r.0) as (λ b. eq_by_cmp id_cmp q.tx r.0 ≡ b → either (cond b (event_at slots (number_at r.1.slot q.seq es)) None) (find key_cmp q (flat rows es slots)) ≡ look_in es slots q.seq (cond b (Some r.1) (row_of q.tx rows))) [
+    find_both key_cmp q (entries_of es slots r) (flat rows es slots)
+    ∙ ap (λ o. either o (find key_cmp q (flat rows es slots)))
+    (find_entries q r.0 r.1.slot slots es ∙ ap (λ o. cond (eq_by_cmp id_cmp q.tx r.0) (event_at slots o) None) (number_is r.1.slot q.seq es))
+    ∙ elim (eq_by_cmp id_cmp q.tx r.0) as (λ b. eq_by_cmp id_cmp q.tx r.0 ≡ b
+    → either (cond b (event_at slots (number_at r.1.slot q.seq es)) None) (find key_cmp q (flat rows es slots)) ≡ look_in es slots q.seq (cond b (Some r.1) (row_of q.tx rows))) [
       | false ↦ λ _. rest
-      | true ↦ λ is. let none : find key_cmp q (flat rows es slots) ≡ None = rest ∙ ap (look_in es slots q.seq) (missing q.tx rows (subst (λ tx. T (below_all id_cmp tx rows)) (sym ((id_test q.tx r.0).0 is)) (first _ _ rising))) in
+      | true ↦ λ is. let none : find key_cmp q (flat rows es slots) ≡ None =
+          rest ∙ ap (look_in es slots q.seq) (missing q.tx rows (subst (λ tx. T (below_all id_cmp tx rows)) (sym ((id_test q.tx r.0).0 is)) (first _ _ rising))) in
           elim (event_at slots (number_at r.1.slot q.seq es)) as (λ o. either o (find key_cmp q (flat rows es slots)) ≡ o) [ None ↦ none | Some s ↦ refl ]
     ] refl
 
@@ -113,7 +126,9 @@ below_both k [] ys a b = b
 below_both k (x ∷ xs) ys a b = both _ _ (first _ _ a) (below_both k xs ys (second _ _ a) b)
 
 -- A place's key is in front of those of greater rank.
-below_places : (tx : List ℕ) (t r : ℕ) (slots : List (Option Held)) (es : List EventPlace) → r / 2 ^ 31 ≡ t → T (below_all nat_cmp r es) → T (below_all key_cmp (record { tx = tx; seq = r % 2 ^ 31 }) (map (entry_of tx slots) (segment t es)))
+below_places : (tx : List ℕ) (t r : ℕ) (slots : List (Option Held)) (es : List EventPlace) → r / 2 ^ 31 ≡ t
+    → T (below_all nat_cmp r es)
+    → T (below_all key_cmp (record { tx = tx; seq = r % 2 ^ 31 }) (map (entry_of tx slots) (segment t es)))
 below_places tx t r slots [] home h = tt
 below_places tx t r slots (e ∷ es) home h =
     let rest = below_places tx t r slots es home (second _ _ h) in let up : r < e.0 = less_nat r e.0 (first _ _ h) in
@@ -123,29 +138,36 @@ below_places tx t r slots (e ∷ es) home h =
     ] refl
 
 -- The events of a transaction rise, and what comes after them.
-pub entries_rising : (tx : List ℕ) (t : ℕ) (slots : List (Option Held)) (es : List EventPlace) (ys : List Entry) → AreRanks es → IsRising ys → ((n : ℕ) → T (below_all key_cmp (record { tx = tx; seq = n }) ys)) → IsRising (map (entry_of tx slots) (segment t es) ++ ys)
+pub entries_rising : (tx : List ℕ) (t : ℕ) (slots : List (Option Held)) (es : List EventPlace) (ys : List Entry) → AreRanks es
+    → IsRising ys → ((n : ℕ) → T (below_all key_cmp (record { tx = tx; seq = n }) ys))
+    → IsRising (map (entry_of tx slots) (segment t es) ++ ys)
 entries_rising tx t slots [] ys ranks rising below = rising
 entries_rising tx t slots (e ∷ es) ys ranks rising below =
     let rest = entries_rising tx t slots es ys (second _ _ ranks) rising below in
     elim (e.0 / 2 ^ 31 == t) as (λ b. (e.0 / 2 ^ 31 == t) ≡ b → IsRising (map (entry_of tx slots) (cond b (e ∷ segment t es) (segment t es)) ++ ys)) [
-      | true ↦ λ is. both _ _ (below_both _ (map (entry_of tx slots) (segment t es)) ys (below_places tx t e.0 slots es ((Decides-eqb (e.0 / 2 ^ 31) t).0 is) (first _ _ ranks)) (below (e.0 % 2 ^ 31))) rest
+      | true ↦ λ is. both _ _ (below_both _ (map (entry_of tx slots) (segment t es)) ys
+          (below_places tx t e.0 slots es ((Decides-eqb (e.0 / 2 ^ 31) t).0 is) (first _ _ ranks)) (below (e.0 % 2 ^ 31))) rest
       | false ↦ λ _. rest
     ] refl
 
 -- A key is in front of the events of a transaction of greater id.
-below_entries : (tx other : List ℕ) (n : ℕ) (slots : List (Option Held)) (ps : List EventPlace) → id_cmp tx other ≡ Less → T (below_all key_cmp (record { tx = tx; seq = n }) (map (entry_of other slots) ps))
+below_entries : (tx other : List ℕ) (n : ℕ) (slots : List (Option Held)) (ps : List EventPlace) → id_cmp tx other ≡ Less
+    → T (below_all key_cmp (record { tx = tx; seq = n }) (map (entry_of other slots) ps))
 below_entries tx other n slots [] p = tt
 below_entries tx other n slots (e ∷ ps) p = both _ _ (less_id tx other n (e.0 % 2 ^ 31) p) (below_entries tx other n slots ps p)
 
 -- A key is in front of the events of all transactions of greater ids.
-below_flat : (tx : List ℕ) (n : ℕ) (rows : List TxRow) (es : List EventPlace) (slots : List (Option Held)) → T (below_all id_cmp tx rows) → T (below_all key_cmp (record { tx = tx; seq = n }) (flat rows es slots))
+below_flat : (tx : List ℕ) (n : ℕ) (rows : List TxRow) (es : List EventPlace) (slots : List (Option Held))
+    → T (below_all id_cmp tx rows) → T (below_all key_cmp (record { tx = tx; seq = n }) (flat rows es slots))
 below_flat tx n [] es slots h = tt
-below_flat tx n (r ∷ rows) es slots h = below_both _ (entries_of es slots r) (flat rows es slots) (below_entries tx r.0 n slots (segment r.1.slot es) (less _ (first _ _ h))) (below_flat tx n rows es slots (second _ _ h))
+below_flat tx n (r ∷ rows) es slots h =
+    below_both _ (entries_of es slots r) (flat rows es slots) (below_entries tx r.0 n slots (segment r.1.slot es) (less _ (first _ _ h))) (below_flat tx n rows es slots (second _ _ h))
 
 -- All events rise by key.
 pub flat_rising : (rows : List TxRow) (es : List EventPlace) (slots : List (Option Held)) → AreRising rows → AreRanks es → IsRising (flat rows es slots)
 flat_rising [] es slots rising ranks = tt
-flat_rising (r ∷ rows) es slots rising ranks = entries_rising r.0 r.1.slot slots es (flat rows es slots) ranks (flat_rising rows es slots (second _ _ rising) ranks) (λ n. below_flat r.0 n rows es slots (first _ _ rising))
+flat_rising (r ∷ rows) es slots rising ranks =
+    entries_rising r.0 r.1.slot slots es (flat rows es slots) ranks (flat_rising rows es slots (second _ _ rising) ranks) (λ n. below_flat r.0 n rows es slots (first _ _ rising))
 
 -- Entries that rise, and in which each key finds the same, are the same.
 pub same_flat : (xs ys : List Entry) → IsRising xs → IsRising ys → ((q : KeyName) → find key_cmp q xs ≡ find key_cmp q ys) → xs ≡ ys

@@ -41,11 +41,13 @@ others_twice x (y ∷ ys) = elim (bytes_eq x y) as (λ b. bytes_eq x y ≡ b →
 ] refl
 
 -- The ids of one transaction's events, and what follows.
-run_distinct : (x : List ℕ) (slots : List (Option Held)) (p : EventPlace) (ps : List EventPlace) (ys : List (List ℕ)) → distinct (ids (map (entry_of x slots) (p ∷ ps)) ++ ys) ≡ x ∷ others x (distinct ys)
+run_distinct : (x : List ℕ) (slots : List (Option Held)) (p : EventPlace) (ps : List EventPlace) (ys : List (List ℕ))
+    → distinct (ids (map (entry_of x slots) (p ∷ ps)) ++ ys) ≡ x ∷ others x (distinct ys)
 run_distinct x slots p [] ys = refl
 run_distinct x slots p (q ∷ ps) ys =
     ap (λ (zs : List (List ℕ)). x ∷ others x zs) (run_distinct x slots q ps ys)
-    ∙ ap (λ b. x ∷ cond (not b) (x ∷ others x (others x (distinct ys))) (others x (others x (distinct ys)))) ((bytes_eq-Decides x x).1 refl) ∙ ap (λ (zs : List (List ℕ)). x ∷ zs) (others_twice x (distinct ys))
+    ∙ ap (λ b. x ∷ cond (not b) (x ∷ others x (others x (distinct ys))) (others x (others x (distinct ys)))) ((bytes_eq-Decides x x).1 refl)
+    ∙ ap (λ (zs : List (List ℕ)). x ∷ zs) (others_twice x (distinct ys))
 
 -- Greater ids are others.
 others_below : (x : List ℕ) (rows : List TxRow) → T (below_all id_cmp x rows) → others x (names rows) ≡ names rows
@@ -68,7 +70,11 @@ all_filled : (rows : List TxRow) (es : List EventPlace) → AreRising rows → (
 all_filled [] es rising filled = tt
 all_filled (r ∷ rows) es rising filled = (
   filled r.0 r.1 (ap (λ b. cond b (Some r.1) (row_of r.0 rows)) ((id_test r.0 r.0).1 refl)),
-  all_filled rows es (second _ _ rising) (λ tx row is. filled tx row (ap (λ b. cond b (Some r.1) (row_of tx rows)) (not_so _ (id_test tx r.0) (λ e. gone (row_of tx rows) row is (ap (λ k. row_of k rows) e ∙ missing r.0 rows (first _ _ rising)))) ∙ is)),
+  all_filled rows es (second _ _ rising)
+      (λ tx row is. filled tx row
+      (ap (λ b. cond b (Some r.1) (row_of tx rows))
+      (not_so _ (id_test tx r.0) (λ e. gone (row_of tx rows) row is (ap (λ k. row_of k rows) e ∙ missing r.0 rows (first _ _ rising))))
+      ∙ is)),
 )
 
 -- What is found in a list makes it no empty one.
@@ -82,7 +88,8 @@ some_segment t es has = split (segment t es) (
   has.rank,
   (
     has.place,
-    find-where_key nat_cmp (λ r. r / 2 ^ 31 == t) has.rank (λ x e. ap (λ r. r / 2 ^ 31 == t) (sym (nat_cmp-IsAntisymmetric has.rank x e))) es ∙ ap (λ b. cond b (place_of has.rank es) None) ((Decides-eqb (has.rank / 2 ^ 31) t).1 has.slot_is) ∙ has.found,
+    find-where_key nat_cmp (λ r. r / 2 ^ 31 == t) has.rank (λ x e. ap (λ r. r / 2 ^ 31 == t) (sym (nat_cmp-IsAntisymmetric has.rank x e))) es
+        ∙ ap (λ b. cond b (place_of has.rank es) None) ((Decides-eqb (has.rank / 2 ^ 31) t).1 has.slot_is) ∙ has.found,
   ),
 )
 
@@ -96,11 +103,15 @@ ids_rows (r ∷ rows) es slots rising filled =
     ∙ ap (λ (zs : List (List ℕ)). r.0 ∷ others r.0 zs) (ids_rows rows es slots (second _ _ rising) filled.1) ∙ ap (λ (zs : List (List ℕ)). r.0 ∷ zs) (others_below r.0 rows (first _ _ rising))
 
 -- The same, where each transaction found has a place.
-pub ids_flat : (rows : List TxRow) (es : List EventPlace) (slots : List (Option Held)) → AreRising rows → ((tx : List ℕ) (row : TableRow) → row_of tx rows ≡ Some row → HasPlace es row.slot) → transactions_of (flat rows es slots) ≡ map (λ (r : TxRow). r.0) rows
+pub ids_flat : (rows : List TxRow) (es : List EventPlace) (slots : List (Option Held)) → AreRising rows
+    → ((tx : List ℕ) (row : TableRow) → row_of tx rows ≡ Some row → HasPlace es row.slot)
+    → transactions_of (flat rows es slots) ≡ map (λ (r : TxRow). r.0) rows
 ids_flat rows es slots rising filled = ids_rows rows es slots rising (all_filled rows es rising filled)
 
 -- A transaction has an event where the table has it.
-pub has_flat : (tx : List ℕ) (rows : List TxRow) (es : List EventPlace) (slots : List (Option Held)) → AreRising rows → ((q : List ℕ) (row : TableRow) → row_of q rows ≡ Some row → HasPlace es row.slot) → has_transaction tx (flat rows es slots) ≡ is_some (row_of tx rows)
+pub has_flat : (tx : List ℕ) (rows : List TxRow) (es : List EventPlace) (slots : List (Option Held)) → AreRising rows
+    → ((q : List ℕ) (row : TableRow) → row_of q rows ≡ Some row → HasPlace es row.slot)
+    → has_transaction tx (flat rows es slots) ≡ is_some (row_of tx rows)
 has_flat tx rows es slots rising filled =
     sym (transactions-any tx (flat rows es slots)) ∙ ap (list_any (bytes_eq tx)) (ids_flat rows es slots rising filled)
     ∙ sym (λ i. list_any (λ y. is_eq-slice_cmp tx y i) (names rows)) ∙ sym (is_some-find id_cmp tx rows)

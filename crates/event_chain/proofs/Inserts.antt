@@ -22,12 +22,15 @@ use Rattle.event_chain.proofs.Ops.{put_chains, put_all}
 use Rattle.event_chain.proofs.Effects.{map_put}
 
 module _ {limits : Bounds} {table : Table} {store : Slots} {stored live : Index} {carriers : Direction → Index} {naming : Index} (chains : IsChains limits table store stored live carriers naming)
-    (key : KeyName) (mid : List TxRow) (row : TableRow) (r0 : ℕ) (entered : IsEntered table.rows mid key.tx row) (number : key.seq < 2 ^ 31) (rank_is : r0 ≡ rank row.slot key.seq) (absent : finite.get (events_of table store stored) key ≡ None) where
+    (key : KeyName) (mid : List TxRow) (row : TableRow) (r0 : ℕ) (entered : IsEntered table.rows mid key.tx row)
+    (number : key.seq < 2 ^ 31) (rank_is : r0 ≡ rank row.slot key.seq)
+    (absent : finite.get (events_of table store stored) key ≡ None) where
   none : place_of r0 stored.entries ≡ None
   none = none_at chains mid key row r0 absent entered number rank_is
 
   -- What the insertion did to each part.
-  pub record Inserted (t : Table) (s : Slots) (st l : Index) (c : Direction → Index) (n : Index) (after : TableRow) (s0 : ℕ) (event : EventContent) (carries : Direction → Bool) (names_evse : Bool) : Type 0 where
+  pub record Inserted (t : Table) (s : Slots) (st l : Index) (c : Direction → Index) (n : Index) (after : TableRow) (s0 : ℕ)
+      (event : EventContent) (carries : Direction → Bool) (names_evse : Bool) : Type 0 where
     pub rows : t.rows ≡ with_row key.tx after mid
     pub transactions : t.capacity ≡ table.capacity
     pub rising : AreRising t.rows
@@ -47,7 +50,9 @@ module _ {limits : Bounds} {table : Table} {store : Slots} {stored live : Index}
     pub one_more : after.live ≡ row.live + 1
     pub ends : after.ends ≡ row.ends + cond (is_end event.kind) 1 0
 
-  module _ (t : Table) (s : Slots) (st l : Index) (c : Direction → Index) (n : Index) (after : TableRow) (s0 : ℕ) (event : EventContent) (carries : Direction → Bool) (names_evse : Bool) (did : Inserted t s st l c n after s0 event carries names_evse) where
+  module _ (t : Table) (s : Slots) (st l : Index) (c : Direction → Index) (n : Index) (after : TableRow) (s0 : ℕ)
+      (event : EventContent) (carries : Direction → Bool) (names_evse : Bool)
+      (did : Inserted t s st l c n after s0 event carries names_evse) where
     named : IsNamed table.rows t.rows key.tx row after
     named = named_after table.rows mid t.rows key.tx row after entered did.rows did.same
 
@@ -56,13 +61,23 @@ module _ {limits : Bounds} {table : Table} {store : Slots} {stored live : Index}
     inserted = let r = chains.roomy in
         seal limits t s st l c n t.rows table.capacity (set store.slots s0 (Some (r0, record { event = event; voided = false }))) (store.readings + length event.readings) store.capacity
         (put nat_cmp r0 s0 stored.entries) (put nat_cmp r0 s0 live.entries) (λ d. put_if (carries d) r0 s0 (carriers d).entries) (put_if names_evse r0 s0 naming.entries) limits.events
-        refl did.transactions did.slots did.readings did.room (λ i. (did.stored_is i).entries) (λ i. (did.live_is i).entries) (λ d i. (did.carriers_is d i).entries) (λ i. (did.naming_is i).entries) ((λ i. (did.stored_is i).capacity) ∙ r.for_stored) ((λ i. (did.live_is i).capacity) ∙ r.for_live) (λ d. (λ i. (did.carriers_is d i).capacity) ∙ r.for_carriers d) ((λ i. (did.naming_is i).capacity) ∙ r.for_naming)
-        (put_chains limits table.rows t.rows stored.entries live.entries (λ d. (carriers d).entries) naming.entries store.slots key row after r0 s0 table.capacity store.readings store.capacity chains.keyed chains.indexed chains.figured chains.counted named number rank_is did.rising did.apart
-        event did.free did.within none carries names_evse did.carries_is did.names_is did.one_more did.ends (record { for_stored = refl; for_live = refl; for_carriers = λ d. refl; for_naming = refl }))
+        refl did.transactions did.slots did.readings did.room (λ i. (did.stored_is i).entries) (λ i. (did.live_is i).entries)
+        (λ d i. (did.carriers_is d i).entries) (λ i. (did.naming_is i).entries) ((λ i. (did.stored_is i).capacity) ∙ r.for_stored)
+        ((λ i. (did.live_is i).capacity) ∙ r.for_live) (λ d. (λ i. (did.carriers_is d i).capacity) ∙ r.for_carriers d)
+        ((λ i. (did.naming_is i).capacity) ∙ r.for_naming)
+        (put_chains limits table.rows t.rows stored.entries live.entries (λ d. (carriers d).entries) naming.entries store.slots key row
+        after r0 s0 table.capacity store.readings store.capacity chains.keyed chains.indexed chains.figured chains.counted named number
+        rank_is did.rising did.apart
+        event did.free did.within none carries names_evse did.carries_is did.names_is did.one_more did.ends
+        (record { for_stored = refl; for_live = refl; for_carriers = λ d. refl; for_naming = refl }))
 
     -- The event was put in.
     pub inserted_events : events_of t s st ≡ finite.insert (events_of table store stored) key (record { event = event; voided = false })
     inserted_events =
         (λ i. finite.from_sorted {R = key_cmp} (flat t.rows ((did.stored_is i).entries) (did.slots i)))
-        ∙ map_put (flat table.rows stored.entries store.slots) (flat t.rows (put nat_cmp r0 s0 stored.entries) (set store.slots s0 (Some (r0, record { event = event; voided = false })))) key (record { event = event; voided = false }) (all_rising chains)
-        (put_all limits table.rows t.rows stored.entries live.entries (λ d. (carriers d).entries) naming.entries store.slots key row after r0 s0 table.capacity store.readings store.capacity chains.keyed chains.indexed chains.figured chains.counted named number rank_is did.rising did.apart event did.free did.within none)
+        ∙ map_put (flat table.rows stored.entries store.slots)
+        (flat t.rows (put nat_cmp r0 s0 stored.entries) (set store.slots s0 (Some (r0, record { event = event; voided = false })))) key
+        (record { event = event; voided = false }) (all_rising chains)
+        (put_all limits table.rows t.rows stored.entries live.entries (λ d. (carriers d).entries) naming.entries store.slots key row after
+        r0 s0 table.capacity store.readings store.capacity chains.keyed chains.indexed chains.figured chains.counted named number rank_is
+        did.rising did.apart event did.free did.within none)

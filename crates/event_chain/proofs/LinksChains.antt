@@ -22,12 +22,14 @@ last_some before [] last e = absurd (cc)
 last_some before (x ∷ xs) last e = e
 
 -- Two chains are one if the second goes on where the first ends.
-pub chain_both : (l : Links) (before : Option ℕ) (xs ys : List ℕ) (after : Option ℕ) → IsChain l before xs (head_or after ys) → IsChain l (last_or before xs) ys after → IsChain l before (xs ++ ys) after
+pub chain_both : (l : Links) (before : Option ℕ) (xs ys : List ℕ) (after : Option ℕ) → IsChain l before xs (head_or after ys)
+    → IsChain l (last_or before xs) ys after → IsChain l before (xs ++ ys) after
 chain_both l before [] ys after a b = b
 chain_both l before (x ∷ xs) ys after a b = (a.0, a.1 ∙ sym (head_append after xs ys), chain_both l (Some x) xs ys after a.2 b)
 
 -- A chain, cut in two.
-pub chain_parts : (l : Links) (before : Option ℕ) (xs ys : List ℕ) (after : Option ℕ) → IsChain l before (xs ++ ys) after → IsChain l before xs (head_or after ys) × IsChain l (last_or before xs) ys after
+pub chain_parts : (l : Links) (before : Option ℕ) (xs ys : List ℕ) (after : Option ℕ) → IsChain l before (xs ++ ys) after
+    → IsChain l before xs (head_or after ys) × IsChain l (last_or before xs) ys after
 chain_parts l before [] ys after chain = (tt, chain)
 chain_parts l before (x ∷ xs) ys after chain = let rest = chain_parts l (Some x) xs ys after chain.2 in
     ((chain.0, chain.1 ∙ head_append after xs ys, rest.0), rest.1)
@@ -48,9 +50,12 @@ slots_parts l [] ys slots = (tt, slots)
 slots_parts l (x ∷ xs) ys slots = let rest = slots_parts l xs ys slots.1 in ((slots.0, rest.0), rest.1)
 
 -- A run put in writes as many links as there are.
-pub length-linked_in : (l : Links) (before : Option ℕ) (first last : ℕ) (after : Option ℕ) → (length (linked_in l before first last after).prevs ≡ length l.prevs) × (length (linked_in l before first last after).nexts ≡ length l.nexts)
-length-linked_in l before first last after =
-    (length-written (written l.prevs (Some first) before) after (Some last) ∙ length-written l.prevs (Some first) before, length-written (written l.nexts (Some last) after) before (Some first) ∙ length-written l.nexts (Some last) after)
+pub length-linked_in : (l : Links) (before : Option ℕ) (first last : ℕ) (after : Option ℕ)
+    → (length (linked_in l before first last after).prevs ≡ length l.prevs) × (length (linked_in l before first last after).nexts ≡ length l.nexts)
+length-linked_in l before first last after = (
+  length-written (written l.prevs (Some first) before) after (Some last) ∙ length-written l.prevs (Some first) before,
+  length-written (written l.nexts (Some last) after) before (Some first) ∙ length-written l.nexts (Some last) after,
+)
 
 -- A run left out, too.
 pub length-linked_out : (l : Links) (before after : Option ℕ) → (length (linked_out l before after).prevs ≡ length l.prevs) × (length (linked_out l before after).nexts ≡ length l.nexts)
@@ -90,14 +95,18 @@ chain_front_in l front first last next after apart slots hf hl ha chain =
     )
 
 -- The run that is put in.
-pub chain_run_in : (l : Links) (mid : List ℕ) (first last : ℕ) (b a before after : Option ℕ) → head_or None mid ≡ Some first → last_or None mid ≡ Some last → AreApart mid → AreSlots l mid → IsBeside before mid → IsBeside after mid
+pub chain_run_in : (l : Links) (mid : List ℕ) (first last : ℕ) (b a before after : Option ℕ) → head_or None mid ≡ Some first
+    → last_or None mid ≡ Some last → AreApart mid → AreSlots l mid → IsBeside before mid → IsBeside after mid
     → IsChain l b mid a → IsChain (linked_in l before first last after) before mid after
 chain_run_in l mid first last b a before after is_first is_last apart slots hb ha chain =
     let p1 = written l.prevs (Some first) before in let p2 = written p1 after (Some last) in let n1 = written l.nexts (Some last) after in
     let p_as : length p2 ≡ length l.prevs = length-written p1 after (Some last) ∙ length-written l.prevs (Some first) before in
-    let headed : IsChain (links p1 l.nexts) before mid a = subst (λ f. IsChain (links (written l.prevs f before) l.nexts) before mid a) is_first (chain_prev_first l.prevs l.nexts before b mid a apart slots chain) in
+    let headed : IsChain (links p1 l.nexts) before mid a =
+    subst (λ f. IsChain (links (written l.prevs f before) l.nexts) before mid a) is_first (chain_prev_first l.prevs l.nexts before b mid a apart slots chain) in
     let beside : IsChain (links p2 l.nexts) before mid a = chain_prev_beside p1 l.nexts after (Some last) before mid a ha headed in
-    let ended : IsChain (links p2 n1) before mid after = subst (λ e. IsChain (links p2 (written l.nexts e after)) before mid after) is_last (chain_next_last p2 l.nexts after before mid a apart (slots_kept l (links p2 l.nexts) mid p_as refl slots) beside) in
+    let ended : IsChain (links p2 n1) before mid after =
+    subst (λ e. IsChain (links p2 (written l.nexts e after)) before mid after) is_last
+    (chain_next_last p2 l.nexts after before mid a apart (slots_kept l (links p2 l.nexts) mid p_as refl slots) beside) in
     chain_next_beside p2 n1 before (Some first) before mid after hb ended
 
 -- What is behind a run, once that is put in.

@@ -24,9 +24,15 @@ linked_with_run l front mid back first last is_first is_last elsewhere run list 
     let apart = apart_parts front back list.apart in let slots = slots_parts l front back list.slots in let chain = chain_parts l None front back None list.chain in
     let mid_else = elsewhere_parts mid front back elsewhere in
     let front_mid = elsewhere_back mid front mid_else.0 in let back_mid = elsewhere_back mid back mid_else.1 in let back_front = elsewhere_back front back apart.2 in
-    let in_front : IsChain m None front (Some first) = chain_front_in l front first last after after apart.0 slots.0 (first_absent mid front first is_first mid_else.0) (last_absent mid front last is_last mid_else.0) (head_beside back front back_front) chain.0 in
-    let in_run : IsChain m before mid after = chain_run_in l mid first last run.before run.after before after is_first is_last run.apart run.slots (last_beside None front mid tt front_mid) (head_beside back mid back_mid) run.chain in
-    let in_back : IsChain m (Some last) back None = chain_back_in l back first last before before apart.1 slots.1 (first_absent mid back first is_first mid_else.1) (last_absent mid back last is_last mid_else.1) (last_beside None front back tt apart.2) chain.1 in
+    let in_front : IsChain m None front (Some first) =
+    chain_front_in l front first last after after apart.0 slots.0 (first_absent mid front first is_first mid_else.0)
+    (last_absent mid front last is_last mid_else.0) (head_beside back front back_front) chain.0 in
+    let in_run : IsChain m before mid after =
+    chain_run_in l mid first last run.before run.after before after is_first is_last run.apart run.slots
+    (last_beside None front mid tt front_mid) (head_beside back mid back_mid) run.chain in
+    let in_back : IsChain m (Some last) back None =
+    chain_back_in l back first last before before apart.1 slots.1 (first_absent mid back first is_first mid_else.1)
+    (last_absent mid back last is_last mid_else.1) (last_beside None front back tt apart.2) chain.1 in
     let ends : head_or None (mid ++ back) ≡ Some first = head_append None mid back ∙ head_some after mid first is_first in
     let lens = length-linked_in l before first last after in
     record {
@@ -64,7 +70,8 @@ linked_without_run l front mid back list =
     chain_prev_beside l.prevs l.nexts after before None front (head_or None (mid ++ back)) (head_beside back front (elsewhere_back front back front_back)) cut.0
     ) in
     let in_back : IsChain m before back None =
-    chain_next_beside p1 l.nexts before after before back None (last_beside None front back tt front_back) (chain_prev_first l.prevs l.nexts before (last_or before mid) back None apart_rest.1 slots_rest.1 rest.1) in
+    chain_next_beside p1 l.nexts before after before back None (last_beside None front back tt front_back)
+    (chain_prev_first l.prevs l.nexts before (last_or before mid) back None apart_rest.1 slots_rest.1 rest.1) in
     record {
       chain = chain_both m None front back None in_front in_back;
       apart = apart_both front back apart.0 apart_rest.1 front_back;
@@ -85,7 +92,8 @@ run_beside_in l front mid back zs first last is_first is_last elsewhere run =
     record {
       before = run.before;
       after = run.after;
-      chain = chain_beside_in l before first last after run.before zs run.after (last_beside None front zs tt cut.0) (first_absent mid zs first is_first rest.0) (last_absent mid zs last is_last rest.0) (head_beside back zs rest.1) run.chain;
+      chain = chain_beside_in l before first last after run.before zs run.after (last_beside None front zs tt cut.0)
+          (first_absent mid zs first is_first rest.0) (last_absent mid zs last is_last rest.0) (head_beside back zs rest.1) run.chain;
       apart = run.apart;
       slots = slots_kept l (linked_in l before first last after) zs lens.0 lens.1 run.slots;
     }

@@ -72,7 +72,9 @@ elsewhere_left f zs (p ∷ ps) h = elim (f p) as (λ b. f p ≡ b → AreElsewhe
 
 -- A slot that has no place of a transaction is absent from its list.
 pub absent_of : (s t : ℕ) (es : List EventPlace) → AreRanks es → ((r : ℕ) → place_of r es ≡ Some s → r / 2 ^ 31 ≡ t → ⊥) → IsApart s (slots_of t es)
-absent_of s t es ranks never = absent_left s (λ e. e.0 / 2 ^ 31 == t) es (all_found (λ p. (p.0 / 2 ^ 31 == t) ≡ true → s ≢ p.1) es ranks (λ p at y e. never p.0 (at ∙ ap Some (sym e)) ((Decides-eqb (p.0 / 2 ^ 31) t).0 y)))
+absent_of s t es ranks never =
+    absent_left s (λ e. e.0 / 2 ^ 31 == t) es
+    (all_found (λ p. (p.0 / 2 ^ 31 == t) ≡ true → s ≢ p.1) es ranks (λ p at y e. never p.0 (at ∙ ap Some (sym e)) ((Decides-eqb (p.0 / 2 ^ 31) t).0 y)))
 
 -- The lists of two transactions share no slot.
 pub lists_elsewhere : (t q : ℕ) (es : List EventPlace) → AreRanks es → AreOwn es → (t ≡ q → ⊥) → AreElsewhere (slots_of t es) (slots_of q es)
@@ -99,7 +101,8 @@ not_gone o s a b = cc
 -- Nor where one is taken out.
 pub own_out : (r0 : ℕ) (es : List EventPlace) → AreOwn es → AreOwn (out r0 es)
 own_out r0 es own q r s a b =
-    let still : (k : ℕ) → place_of k (out r0 es) ≡ Some s → place_of k es ≡ Some s = λ k at. sym (out_other k r0 es (λ e. not_gone (place_of k (out r0 es)) s at (ap (λ x. place_of x (out r0 es)) e ∙ out_here r0 es))) ∙ at in
+    let still : (k : ℕ) → place_of k (out r0 es) ≡ Some s
+    → place_of k es ≡ Some s = λ k at. sym (out_other k r0 es (λ e. not_gone (place_of k (out r0 es)) s at (ap (λ x. place_of x (out r0 es)) e ∙ out_here r0 es))) ∙ at in
     own q r s (still q a) (still r b)
 
 -- What is in front of a place put in, and what behind it.
@@ -228,7 +231,8 @@ module _ (live : Index) (l : Links) (listed : AreListed live l) (rising : AreRis
           nexts = lens.1 ∙ listed.nexts;
           own = own;
           lists = λ q. elim (cases_eq t q) [
-            | inl same ↦ subst (λ k. IsLinked left (slots_of k fewer)) same (subst (IsLinked left) (sym rest_is) (subst (λ x. IsLinked x (front ++ back)) unlinked (linked_without_slot l front s back whole)))
+            | inl same ↦ subst (λ k. IsLinked left (slots_of k fewer)) same
+                (subst (IsLinked left) (sym rest_is) (subst (λ x. IsLinked x (front ++ back)) unlinked (linked_without_slot l front s back whole)))
             | inr other ↦
                 let apart = subst (λ zs. AreElsewhere zs (slots_of q fewer)) rest_is (lists_elsewhere t q fewer up own other) in
                 let same = ap (map slot_in) (seg_out_other r es rising s some q other) in

@@ -55,11 +55,13 @@ filter_rising p (e ∷ es) h =
     elim (p e) as (λ b. IsRising (cond b (e ∷ filter p es) (filter p es))) [ true ↦ both _ _ (below_filter p e.0 es (first _ _ h)) rest | false ↦ rest ]
 
 -- What is found among those that pass.
-pub find_passing : (test : Stored → Bool) (tx : List ℕ) (q : KeyName) (es : List Entry) → IsRising es → find key_cmp q (passing_of test tx es) ≡ cond (bytes_eq tx q.tx) (passing test (find key_cmp q es)) None
+pub find_passing : (test : Stored → Bool) (tx : List ℕ) (q : KeyName) (es : List Entry) → IsRising es
+    → find key_cmp q (passing_of test tx es) ≡ cond (bytes_eq tx q.tx) (passing test (find key_cmp q es)) None
 find_passing test tx q [] h = elim (bytes_eq tx q.tx) as (λ b. ◌≡◌ {A = Option Stored} None (cond b None None)) [ true ↦ refl | false ↦ refl ]
 find_passing test tx q (e ∷ es) h =
     let rest = find_passing test tx q es (second _ _ h) in let left = passing_of test tx es in
-    elim (eq_by_cmp key_cmp q e.0) as (λ b. eq_by_cmp key_cmp q e.0 ≡ b → find key_cmp q (cond (bytes_eq tx e.0.tx && test e.1) (e ∷ left) left) ≡ cond (bytes_eq tx q.tx) (passing test (cond b (Some e.1) (find key_cmp q es))) None) [
+    elim (eq_by_cmp key_cmp q e.0) as (λ b. eq_by_cmp key_cmp q e.0 ≡ b
+    → find key_cmp q (cond (bytes_eq tx e.0.tx && test e.1) (e ∷ left) left) ≡ cond (bytes_eq tx q.tx) (passing test (cond b (Some e.1) (find key_cmp q es))) None) [
       | false ↦ λ other. elim (bytes_eq tx e.0.tx && test e.1) as (λ b. find key_cmp q (cond b (e ∷ left) left) ≡ cond (bytes_eq tx q.tx) (passing test (find key_cmp q es)) None) [
         | true ↦ ap (λ b. cond b (Some e.1) (find key_cmp q left)) other ∙ rest
         | false ↦ rest
@@ -67,7 +69,9 @@ find_passing test tx q (e ∷ es) h =
       | true ↦ λ same.
           let is : q ≡ e.0 = (key_test q e.0).0 same in
           let gone : find key_cmp q es ≡ None = find_below q es (subst (λ k. T (below_all key_cmp k es)) (sym is) (first _ _ h)) in
-          let none : find key_cmp q left ≡ None = rest ∙ ap (λ o. cond (bytes_eq tx q.tx) (passing test o) None) gone ∙ elim (bytes_eq tx q.tx) as (λ b. ◌≡◌ {A = Option Stored} (cond b None None) None) [ true ↦ refl | false ↦ refl ] in
+          let none : find key_cmp q left ≡ None =
+          rest ∙ ap (λ o. cond (bytes_eq tx q.tx) (passing test o) None) gone
+          ∙ elim (bytes_eq tx q.tx) as (λ b. ◌≡◌ {A = Option Stored} (cond b None None) None) [ true ↦ refl | false ↦ refl ] in
           ap (λ (k : KeyName). find key_cmp q (cond (bytes_eq tx k.tx && test e.1) (e ∷ left) left)) (sym is)
           ∙ elim (bytes_eq tx q.tx) as (λ b. find key_cmp q (cond (b && test e.1) (e ∷ left) left) ≡ cond b (cond (test e.1) (Some e.1) None) None) [
             | false ↦ none
@@ -92,10 +96,13 @@ live_of_is tx (e ∷ es) =
     let rest = live_of_is tx es in
     elim e.1.voided as (λ v. filter (λ x. bytes_eq tx x.0.tx) (cond (not v) (e ∷ live es) (live es)) ≡ cond (bytes_eq tx e.0.tx && not v) (e ∷ passing_of is_live tx es) (passing_of is_live tx es)) [
       | true ↦ rest ∙ sym (ap (λ b. cond b (e ∷ passing_of is_live tx es) (passing_of is_live tx es)) (and_false (bytes_eq tx e.0.tx)))
-      | false ↦ elim (bytes_eq tx e.0.tx) as (λ b. cond b (e ∷ live_of tx es) (live_of tx es) ≡ cond (b && true) (e ∷ passing_of is_live tx es) (passing_of is_live tx es)) [ true ↦ ap (λ (xs : List Entry). e ∷ xs) rest | false ↦ rest ]
+      | false ↦ elim (bytes_eq tx e.0.tx) as (λ b. cond b (e ∷ live_of tx es) (live_of tx es)
+          ≡ cond (b && true) (e ∷ passing_of is_live tx es) (passing_of is_live tx es)) [ true ↦ ap (λ (xs : List Entry). e ∷ xs) rest | false ↦ rest ]
     ]
 
-module _ (rows : List TxRow) (es : List EventPlace) (slots : List (Option Held)) (rising : AreRising rows) (ranks : AreRanks es) (test : Stored → Bool) (sub : List EventPlace) (is_sub : IsSub test es slots sub) (tx : List ℕ) (row : TableRow) (row_is : row_of tx rows ≡ Some row) where
+module _ (rows : List TxRow) (es : List EventPlace) (slots : List (Option Held)) (rising : AreRising rows) (ranks : AreRanks es)
+    (test : Stored → Bool) (sub : List EventPlace) (is_sub : IsSub test es slots sub) (tx : List ℕ) (row : TableRow)
+    (row_is : row_of tx rows ≡ Some row) where
   -- The event of a number in the sub-index.
   sub_number : (seq : ℕ) → event_at slots (number_at row.slot seq sub) ≡ passing test (event_at slots (number_at row.slot seq es))
   sub_number seq =
@@ -115,13 +122,19 @@ module _ (rows : List TxRow) (es : List EventPlace) (slots : List (Option Held))
       (subst IsRising (append-nil seg) (entries_rising tx row.slot slots sub [] is_sub.rising tt (λ n. tt))) (λ q.
       find_passing test tx q all (flat_rising rows es slots rising ranks) ∙ ap (λ o. cond (bytes_eq tx q.tx) (passing test o) None) (find_flat q rows es slots rising)
       ∙ elim (bytes_eq tx q.tx) as (λ b. bytes_eq tx q.tx ≡ b → cond b (passing test (look rows es slots q)) None ≡ find key_cmp q seg) [
-        | false ↦ λ other. sym (find_entries q tx row.slot slots sub ∙ ap (λ b. cond b (event_at slots (place_of (rank row.slot q.seq) (segment row.slot sub))) None) (not_so _ (id_test q.tx tx) (λ e. denied _ (bytes_eq-Decides tx q.tx) other (sym e))))
+        | false ↦ λ other. sym
+            (find_entries q tx row.slot slots sub
+            ∙ ap (λ b. cond b (event_at slots (place_of (rank row.slot q.seq) (segment row.slot sub))) None)
+            (not_so _ (id_test q.tx tx) (λ e. denied _ (bytes_eq-Decides tx q.tx) other (sym e))))
         | true ↦ λ same. let id : tx ≡ q.tx = (bytes_eq-Decides tx q.tx).0 same in
-            ap (λ t. passing test (look_in es slots q.seq (row_of t rows))) (sym id) ∙ ap (λ o. passing test (look_in es slots q.seq o)) row_is ∙ sym (sub_number q.seq) ∙ ap (event_at slots) (sym (number_is row.slot q.seq sub))
+            ap (λ t. passing test (look_in es slots q.seq (row_of t rows))) (sym id)
+            ∙ ap (λ o. passing test (look_in es slots q.seq o)) row_is ∙ sym (sub_number q.seq)
+            ∙ ap (event_at slots) (sym (number_is row.slot q.seq sub))
             ∙ sym (find_entries q tx row.slot slots sub ∙ ap (λ b. cond b (event_at slots (place_of (rank row.slot q.seq) (segment row.slot sub))) None) ((id_test q.tx tx).1 (sym id)))
       ] refl)
 
-module _ (rows : List TxRow) (es : List EventPlace) (slots : List (Option Held)) (rising : AreRising rows) (ranks : AreRanks es) (test : Stored → Bool) (tx : List ℕ) (absent : row_of tx rows ≡ None) where
+module _ (rows : List TxRow) (es : List EventPlace) (slots : List (Option Held)) (rising : AreRising rows) (ranks : AreRanks es)
+    (test : Stored → Bool) (tx : List ℕ) (absent : row_of tx rows ≡ None) where
   -- None of an absent transaction pass.
   pub none_passing : passing_of test tx (flat rows es slots) ≡ []
   none_passing =
@@ -150,8 +163,15 @@ ends_length tx es = ap (λ (xs : List Entry). count_by is_end (map (λ e. e.1.ev
   counted : (xs : List Entry) → count_by is_end (map (λ (e : Entry). e.1.event.kind) (passing_of is_live tx xs)) ≡ sum_by (end_one tx) xs
   counted [] = refl
   counted (e ∷ xs) = let rest = counted xs in
-      elim (bytes_eq tx e.0.tx && not e.1.voided) as (λ b. end_one tx e ≡ cond (b && is_end e.1.event.kind) 1 0 → count_by is_end (map (λ (x : Entry). x.1.event.kind) (cond b (e ∷ passing_of is_live tx xs) (passing_of is_live tx xs))) ≡ sum_by (end_one tx) (e ∷ xs)) [
-        | true ↦ λ one. omega (arith, sum_by-cons (end_one tx) e xs, one, rest, sum_by-cons (λ (k : Kind). cond {A = ℕ} (is_end k) 1 0) e.1.event.kind (map (λ (x : Entry). x.1.event.kind) (passing_of is_live tx xs)))
+      elim (bytes_eq tx e.0.tx && not e.1.voided) as (λ b. end_one tx e ≡ cond (b && is_end e.1.event.kind) 1 0
+      → count_by is_end (map (λ (x : Entry). x.1.event.kind) (cond b (e ∷ passing_of is_live tx xs) (passing_of is_live tx xs))) ≡ sum_by (end_one tx) (e ∷ xs)) [
+        | true ↦ λ one. omega (
+          arith,
+          sum_by-cons (end_one tx) e xs,
+          one,
+          rest,
+          sum_by-cons (λ (k : Kind). cond {A = ℕ} (is_end k) 1 0) e.1.event.kind (map (λ (x : Entry). x.1.event.kind) (passing_of is_live tx xs)),
+        )
         | false ↦ λ one. omega (arith, sum_by-cons (end_one tx) e xs, one, rest)
       ] (and_assoc (bytes_eq tx e.0.tx) (not e.1.voided) (is_end e.1.event.kind))
 
@@ -166,11 +186,14 @@ numbers_map tx slots [] = refl
 numbers_map tx slots (p ∷ ps) = ap (λ (ns : List ℕ). number_in p ∷ ns) (numbers_map tx slots ps)
 
 -- The live numbers of a transaction are those of its live places.
-pub live_numbers : (rows : List TxRow) (es lives : List EventPlace) (slots : List (Option Held)) → AreRising rows → AreRanks es → IsSub is_live es slots lives → (tx : List ℕ) → numbers_of tx (flat rows es slots) ≡ numbers_at lives (option_map (λ r. r.slot) (row_of tx rows))
+pub live_numbers : (rows : List TxRow) (es lives : List EventPlace) (slots : List (Option Held)) → AreRising rows → AreRanks es
+    → IsSub is_live es slots lives → (tx : List ℕ)
+    → numbers_of tx (flat rows es slots) ≡ numbers_at lives (option_map (λ r. r.slot) (row_of tx rows))
 live_numbers rows es lives slots rising ranks sub tx = told (row_of tx rows) refl where
   told : (o : Option TableRow) → row_of tx rows ≡ o → numbers_of tx (flat rows es slots) ≡ numbers_at lives (option_map (λ r. r.slot) o)
   told None is = ap (λ (xs : List Entry). map (λ e. e.0.seq) xs) (live_of_is tx (flat rows es slots) ∙ none_passing rows es slots rising ranks is_live tx is)
-  told (Some row) is = ap (λ (xs : List Entry). map (λ e. e.0.seq) xs) (live_of_is tx (flat rows es slots) ∙ segment_passing rows es slots rising ranks is_live lives sub tx row is) ∙ numbers_map tx slots (segment row.slot lives)
+  told (Some row) is = ap (λ (xs : List Entry). map (λ e. e.0.seq) xs) (live_of_is tx (flat rows es slots) ∙ segment_passing rows es slots rising ranks is_live lives sub tx row is)
+      ∙ numbers_map tx slots (segment row.slot lives)
 
 -- The last of what a list is turned into.
 last_map : {X Y : Type 0} (f : X → Y) (xs : List X) (n : ℕ) → slice_get (map f xs) n ≡ option_map f (slice_get xs n)
@@ -202,20 +225,25 @@ passing_any : (tx : List ℕ) (es : List Entry) → filter (λ e. bytes_eq tx e.
 unfolding any
 passing_any tx [] = refl
 passing_any tx (e ∷ es) =
-    elim (bytes_eq tx e.0.tx) as (λ b. cond b (e ∷ filter (λ (x : Entry). bytes_eq tx x.0.tx) es) (filter (λ x. bytes_eq tx x.0.tx) es) ≡ cond (b && true) (e ∷ passing_of any tx es) (passing_of any tx es)) [
+    elim (bytes_eq tx e.0.tx) as (λ b. cond b (e ∷ filter (λ (x : Entry). bytes_eq tx x.0.tx) es) (filter (λ x. bytes_eq tx x.0.tx) es)
+    ≡ cond (b && true) (e ∷ passing_of any tx es) (passing_of any tx es)) [
       | true ↦ ap (λ (xs : List Entry). e ∷ xs) (passing_any tx es)
       | false ↦ passing_any tx es
     ]
 
-pub events_under : (rows : List TxRow) (es : List EventPlace) (slots : List (Option Held)) → AreRising rows → AreRanks es → (tx : List ℕ) (row : TableRow) → row_of tx rows ≡ Some row → events_of tx (flat rows es slots) ≡ map (line_at slots) (segment row.slot es)
+pub events_under : (rows : List TxRow) (es : List EventPlace) (slots : List (Option Held)) → AreRising rows → AreRanks es
+    → (tx : List ℕ) (row : TableRow) → row_of tx rows ≡ Some row
+    → events_of tx (flat rows es slots) ≡ map (line_at slots) (segment row.slot es)
 events_under rows es slots rising ranks tx row is =
     ap (map (λ (e : Entry). line_of e.0.seq e.1)) (passing_any tx (flat rows es slots) ∙ segment_passing rows es slots rising ranks any es (all_sub es slots ranks) tx row is)
     ∙ turned_map (λ (e : Entry). line_of e.0.seq e.1) tx slots (segment row.slot es)
 
-pub events_absent : (rows : List TxRow) (es : List EventPlace) (slots : List (Option Held)) → AreRising rows → AreRanks es → (tx : List ℕ) → row_of tx rows ≡ None → events_of tx (flat rows es slots) ≡ []
+pub events_absent : (rows : List TxRow) (es : List EventPlace) (slots : List (Option Held)) → AreRising rows → AreRanks es
+    → (tx : List ℕ) → row_of tx rows ≡ None → events_of tx (flat rows es slots) ≡ []
 events_absent rows es slots rising ranks tx is = ap (map (λ (e : Entry). line_of e.0.seq e.1)) (passing_any tx (flat rows es slots) ∙ none_passing rows es slots rising ranks any tx is)
 
-module _ {Y : Type 0} (f : Entry → Y) (rows : List TxRow) (es lives : List EventPlace) (slots : List (Option Held)) (rising : AreRising rows) (ranks : AreRanks es) (sub : IsSub is_live es slots lives) (tx : List ℕ) where
+module _ {Y : Type 0} (f : Entry → Y) (rows : List TxRow) (es lives : List EventPlace) (slots : List (Option Held))
+    (rising : AreRising rows) (ranks : AreRanks es) (sub : IsSub is_live es slots lives) (tx : List ℕ) where
   -- All events.
   abbrev whole : List Entry
   whole = flat rows es slots
@@ -239,19 +267,27 @@ module _ {Y : Type 0} (f : Entry → Y) (rows : List TxRow) (es lives : List Eve
         ∙ ap (λ ys. slice_get ys (length ys - 1)) (turned_map f tx slots (segment row.slot lives)) ∙ last_turned (λ p. f (entry_of tx slots p)) (segment row.slot lives)
 
 -- The first live number of a transaction is that of its first live place.
-pub first_number : (rows : List TxRow) (es lives : List EventPlace) (slots : List (Option Held)) → AreRising rows → AreRanks es → IsSub is_live es slots lives → (tx : List ℕ) → slice_get (numbers_of tx (flat rows es slots)) 0 ≡ option_map number_in (first_under lives (row_of tx rows))
+pub first_number : (rows : List TxRow) (es lives : List EventPlace) (slots : List (Option Held)) → AreRising rows → AreRanks es
+    → IsSub is_live es slots lives → (tx : List ℕ)
+    → slice_get (numbers_of tx (flat rows es slots)) 0 ≡ option_map number_in (first_under lives (row_of tx rows))
 first_number rows es lives slots rising ranks sub tx = first_live (λ e. e.0.seq) rows es lives slots rising ranks sub tx
 
 -- The last is that of its last one.
-pub last_number : (rows : List TxRow) (es lives : List EventPlace) (slots : List (Option Held)) → AreRising rows → AreRanks es → IsSub is_live es slots lives → (tx : List ℕ) → let numbers = numbers_of tx (flat rows es slots) in slice_get numbers (length numbers - 1) ≡ option_map number_in (last_under lives (row_of tx rows))
+pub last_number : (rows : List TxRow) (es lives : List EventPlace) (slots : List (Option Held)) → AreRising rows → AreRanks es
+    → IsSub is_live es slots lives → (tx : List ℕ)
+    → let numbers = numbers_of tx (flat rows es slots) in slice_get numbers (length numbers - 1) ≡ option_map number_in (last_under lives (row_of tx rows))
 last_number rows es lives slots rising ranks sub tx = last_live (λ e. e.0.seq) rows es lives slots rising ranks sub tx
 
 -- The first kind of a transaction is that of its first live place.
-pub first_kind : (rows : List TxRow) (es lives : List EventPlace) (slots : List (Option Held)) → AreRising rows → AreRanks es → IsSub is_live es slots lives → (tx : List ℕ) → slice_get (kinds_of tx (flat rows es slots)) 0 ≡ option_map (kind_in slots) (first_under lives (row_of tx rows))
+pub first_kind : (rows : List TxRow) (es lives : List EventPlace) (slots : List (Option Held)) → AreRising rows → AreRanks es
+    → IsSub is_live es slots lives → (tx : List ℕ)
+    → slice_get (kinds_of tx (flat rows es slots)) 0 ≡ option_map (kind_in slots) (first_under lives (row_of tx rows))
 first_kind rows es lives slots rising ranks sub tx = first_live (λ e. e.1.event.kind) rows es lives slots rising ranks sub tx
 
 -- The last is that of its last one.
-pub last_kind : (rows : List TxRow) (es lives : List EventPlace) (slots : List (Option Held)) → AreRising rows → AreRanks es → IsSub is_live es slots lives → (tx : List ℕ) → let kinds = kinds_of tx (flat rows es slots) in slice_get kinds (length kinds - 1) ≡ option_map (kind_in slots) (last_under lives (row_of tx rows))
+pub last_kind : (rows : List TxRow) (es lives : List EventPlace) (slots : List (Option Held)) → AreRising rows → AreRanks es
+    → IsSub is_live es slots lives → (tx : List ℕ)
+    → let kinds = kinds_of tx (flat rows es slots) in slice_get kinds (length kinds - 1) ≡ option_map (kind_in slots) (last_under lives (row_of tx rows))
 last_kind rows es lives slots rising ranks sub tx = last_live (λ e. e.1.event.kind) rows es lives slots rising ranks sub tx
 
 -- The EVSE of an entry, or 0.
@@ -260,12 +296,14 @@ evse_first None = 0
 evse_first (Some e) = unwrap_or e.1.event.evse 0
 
 -- One entry more.
-named : (e : Entry) (mine voided : Bool) (evse : Option ℕ) → e.1.event.evse ≡ evse → (lives names : List Entry) → first_or_zero (filter_map (λ x. x.1.event.evse) lives) ≡ evse_first (slice_get names 0)
+named : (e : Entry) (mine voided : Bool) (evse : Option ℕ) → e.1.event.evse ≡ evse → (lives names : List Entry)
+    → first_or_zero (filter_map (λ x. x.1.event.evse) lives) ≡ evse_first (slice_get names 0)
     → first_or_zero (filter_map (λ x. x.1.event.evse) (cond (mine && not voided) (e ∷ lives) lives)) ≡ evse_first (slice_get (cond (mine && (not voided && is_some evse)) (e ∷ names) names) 0)
 named e false voided evse is lives names rest = rest
 named e true true evse is lives names rest = rest
 named e true false None is lives names rest = ap (λ (o : Option ℕ). first_or_zero (cons_option o (filter_map (λ (x : Entry). x.1.event.evse) lives))) is ∙ rest
-named e true false (Some n) is lives names rest = ap (λ (o : Option ℕ). first_or_zero (cons_option o (filter_map (λ (x : Entry). x.1.event.evse) lives))) is ∙ sym (ap (λ (o : Option ℕ). unwrap_or o 0) is)
+named e true false (Some n) is lives names rest = ap (λ (o : Option ℕ). first_or_zero (cons_option o (filter_map (λ (x : Entry). x.1.event.evse) lives))) is
+    ∙ sym (ap (λ (o : Option ℕ). unwrap_or o 0) is)
 
 -- The first EVSE that is named is that of the first event that names one.
 evse_naming : (tx : List ℕ) (es : List Entry) → first_or_zero (filter_map (λ e. e.1.event.evse) (passing_of is_live tx es)) ≡ evse_first (slice_get (passing_of is_naming tx es) 0)
@@ -273,7 +311,9 @@ evse_naming tx [] = refl
 evse_naming tx (e ∷ es) = let rest = evse_naming tx es in named e (bytes_eq tx e.0.tx) e.1.voided e.1.event.evse refl (passing_of is_live tx es) (passing_of is_naming tx es) rest
 
 -- The EVSE of a transaction is that of its first naming place.
-pub evse_number : (rows : List TxRow) (es names : List EventPlace) (slots : List (Option Held)) → AreRising rows → AreRanks es → IsSub is_naming es slots names → (tx : List ℕ) → evse_of tx (flat rows es slots) ≡ evse_at slots (first_under names (row_of tx rows))
+pub evse_number : (rows : List TxRow) (es names : List EventPlace) (slots : List (Option Held)) → AreRising rows → AreRanks es
+    → IsSub is_naming es slots names → (tx : List ℕ)
+    → evse_of tx (flat rows es slots) ≡ evse_at slots (first_under names (row_of tx rows))
 evse_number rows es names slots rising ranks sub tx =
     ap (λ (xs : List Entry). first_or_zero (filter_map (λ e. e.1.event.evse) xs)) (live_of_is tx (flat rows es slots)) ∙ evse_naming tx (flat rows es slots) ∙ told (row_of tx rows) refl where
       placed : (ps : List EventPlace) → evse_first (slice_get (map (entry_of tx slots) ps) 0) ≡ evse_at slots (slice_get ps 0)

@@ -60,4 +60,6 @@ module _ (rows new : List TxRow) (es more : List EventPlace) (slots held : List 
 
   -- The event of the key is that of its place.
   pub look_here : look new more held key ≡ event_at held (place_of r0 more)
-  look_here = move.after key.seq ∙ ap (λ b. event_at held (cond b (place_of (rank slot key.seq) more) None)) ((Decides-ltb key.seq (2 ^ 31)).1 move.number) ∙ ap (λ r. event_at held (place_of r more)) (sym move.rank_is)
+  look_here = move.after key.seq
+      ∙ ap (λ b. event_at held (cond b (place_of (rank slot key.seq) more) None)) ((Decides-ltb key.seq (2 ^ 31)).1 move.number)
+      ∙ ap (λ r. event_at held (place_of r more)) (sym move.rank_is)

@@ -32,7 +32,9 @@ marked_nil (Some m) = refl
 -- The places of entries with one in front.
 marked_on : (o : Option Mark) (e : Entry ℕ) (es : List (Entry ℕ)) → marked_places o (e ∷ es) ≡ cond (passes o e.1.marks) (place_in e ∷ marked_places o es) (marked_places o es)
 marked_on None e es = refl
-marked_on (Some m) e es = elim (has_mark m e.1.marks) as (λ b. map place_in (cond b (e ∷ marked m es) (marked m es)) ≡ cond b (place_in e ∷ map place_in (marked m es)) (map place_in (marked m es))) [ true ↦ refl | false ↦ refl ]
+marked_on (Some m) e es =
+    elim (has_mark m e.1.marks) as (λ b. map place_in (cond b (e ∷ marked m es) (marked m es))
+    ≡ cond b (place_in e ∷ map place_in (marked m es)) (map place_in (marked m es))) [ true ↦ refl | false ↦ refl ]
 
 -- The places of two lists.
 marked_both : (o : Option Mark) (xs ys : List (Entry ℕ)) → marked_places o (xs ++ ys) ≡ marked_places o xs ++ marked_places o ys
@@ -42,12 +44,24 @@ marked_both (Some m) xs ys = ap (map place_in) (filter-append (λ e. has_mark m 
 -- Entries above a number have places above it.
 marked_above : (o : Option Mark) (n : ℕ) (es : List (Entry ℕ)) → AreAbove n es → AreAbove n (marked_places o es)
 marked_above o n [] h = subst (AreAbove n) (sym (marked_nil o)) tt
-marked_above o n (e ∷ es) h = subst (AreAbove n) (sym (marked_on o e es)) (elim (passes o e.1.marks) as (λ b. AreAbove n (cond b (place_in e ∷ marked_places o es) (marked_places o es))) [ true ↦ (h.0, marked_above o n es h.1) | false ↦ marked_above o n es h.1 ])
+marked_above o n (e ∷ es) h =
+    subst (AreAbove n) (sym (marked_on o e es))
+    (elim (passes o e.1.marks) as (λ b. AreAbove n (cond b (place_in e ∷ marked_places o es) (marked_places o es))) [
+      | true ↦
+          (h.0, marked_above o n es h.1)
+      | false ↦ marked_above o n es h.1
+    ])
 
 -- The places with a mark rise.
 pub marked_rising : (o : Option Mark) (es : List (Entry ℕ)) → AreRising es → AreRising (marked_places o es)
 marked_rising o [] h = subst AreRising (sym (marked_nil o)) tt
-marked_rising o (e ∷ es) h = subst AreRising (sym (marked_on o e es)) (elim (passes o e.1.marks) as (λ b. AreRising (cond b (place_in e ∷ marked_places o es) (marked_places o es))) [ true ↦ (marked_above o e.0 es h.0, marked_rising o es h.1) | false ↦ marked_rising o es h.1 ])
+marked_rising o (e ∷ es) h =
+    subst AreRising (sym (marked_on o e es))
+    (elim (passes o e.1.marks) as (λ b. AreRising (cond b (place_in e ∷ marked_places o es) (marked_places o es))) [
+      | true ↦
+          (marked_above o e.0 es h.0, marked_rising o es h.1)
+      | false ↦ marked_rising o es h.1
+    ])
 
 -- None has the rank.
 slot_none : (r n : ℕ) (xs : List EventPlace) → AreAbove n xs → r ≤ n → filed_at r xs ≡ None
@@ -62,7 +76,8 @@ marked_below o r (e ∷ es) h =
     elim (nat_lt e.0 r) as (λ b. nat_lt e.0 r ≡ b → marked_places o (cond b (e ∷ below r es) []) ≡ below r (marked_places o (e ∷ es))) [
       | true ↦ λ y.
           marked_on o e (below r es)
-          ∙ elim (passes o e.1.marks) as (λ p. cond p (place_in e ∷ marked_places o (below r es)) (marked_places o (below r es)) ≡ below r (cond p (place_in e ∷ marked_places o es) (marked_places o es))) [
+          ∙ elim (passes o e.1.marks) as (λ p. cond p (place_in e ∷ marked_places o (below r es)) (marked_places o (below r es))
+          ≡ below r (cond p (place_in e ∷ marked_places o es) (marked_places o es))) [
             | true ↦ ap (λ (l : List EventPlace). place_in e ∷ l) rest ∙ sym (ap (λ b. cond b (place_in e ∷ below r (marked_places o es)) []) y)
             | false ↦ rest
           ]
@@ -150,12 +165,15 @@ filed_some r es h some = a_filed (filed_at r (from r es)) (ap is_some (filed_pla
   a_filed (Some f) is = (f, refl)
 
 -- Places with that of an entry put in.
-pub marked_put : (o : Option Mark) (r : ℕ) (f : Filed ℕ) (es : List (Entry ℕ)) → AreRising es → place_of r (marked_places None es) ≡ None → marked_places o (below r es ++ (r, f) ∷ from r es) ≡ put_if (passes o f.marks) r f.value (marked_places o es)
+pub marked_put : (o : Option Mark) (r : ℕ) (f : Filed ℕ) (es : List (Entry ℕ)) → AreRising es
+    → place_of r (marked_places None es) ≡ None
+    → marked_places o (below r es ++ (r, f) ∷ from r es) ≡ put_if (passes o f.marks) r f.value (marked_places o es)
 marked_put o r f es h none =
     let absent : filed_at r (from r (marked_places o es)) ≡ None = found_at r (marked_places o es) (marked_rising o es h) ∙ marked_absent o r es none in
     marked_both o (below r es) ((r, f) ∷ from r es) ∙ (λ i. marked_below o r es h i ++ marked_on o (r, f) (from r es) i)
     ∙ ap (λ l. below r (marked_places o es) ++ cond (passes o f.marks) ((r, f.value) ∷ l) l) (marked_from o r es h)
-    ∙ elim (passes o f.marks) as (λ b. below r (marked_places o es) ++ cond b ((r, f.value) ∷ from r (marked_places o es)) (from r (marked_places o es)) ≡ put_if b r f.value (marked_places o es)) [ true ↦ put_is r f.value (marked_places o es) absent | false ↦ cut_whole r (marked_places o es) ]
+    ∙ elim (passes o f.marks) as (λ b. below r (marked_places o es) ++ cond b ((r, f.value) ∷ from r (marked_places o es)) (from r (marked_places o es))
+    ≡ put_if b r f.value (marked_places o es)) [ true ↦ put_is r f.value (marked_places o es) absent | false ↦ cut_whole r (marked_places o es) ]
 
 -- An entry that is found is the first of what is left.
 from_parts : (r : ℕ) (f : Filed ℕ) (l : List (Entry ℕ)) → filed_at r l ≡ Some f → (rest : List (Entry ℕ)) × (l ≡ (r, f) ∷ rest)
@@ -200,7 +218,8 @@ module _ (o : Option Mark) (r : ℕ) (f : Filed ℕ) (es : List (Entry ℕ)) (h 
   -- Places without that of the entry.
   gone : below r L ++ marked_places o rest ≡ out r L
   gone = elim (passes o f.marks) as (λ b. from r L ≡ cond b ((r, f.value) ∷ marked_places o rest) (marked_places o rest) → below r L ++ marked_places o rest ≡ out r L) [
-    | true ↦ λ e. ap (λ l. below r L ++ drop 1 l) (sym e) ∙ out_is r L (marked_rising o es h) (ap (λ l. is_some (filed_at r l)) e ∙ ap (λ b. is_some (cond b (Some f.value) None)) ((Decides-eqb r r).1 refl))
+    | true ↦ λ e. ap (λ l. below r L ++ drop 1 l) (sym e)
+        ∙ out_is r L (marked_rising o es h) (ap (λ l. is_some (filed_at r l)) e ∙ ap (λ b. is_some (cond b (Some f.value) None)) ((Decides-eqb r r).1 refl))
     | false ↦ λ e. let none : place_of r L ≡ None = sym (found_at r L (marked_rising o es h)) ∙ ap (filed_at r) e ∙ slot_none r r (marked_places o rest) rest_above (omega arith) in
         ap (λ l. below r L ++ l) (sym e) ∙ cut_whole r L ∙ sym (out_absent r L none)
   ] left_is
@@ -221,7 +240,9 @@ module _ (o : Option Mark) (r : ℕ) (f : Filed ℕ) (es : List (Entry ℕ)) (h 
 
     -- Places among which it stays.
     pub marked_stays : passes o f.marks ≡ true → passes o marks ≡ true → marked_places o (below r es ++ mark_at marks 0 (from r es)) ≡ L
-    marked_stays was is = marked_set ∙ ap (λ b. below r L ++ cond b ((r, f.value) ∷ marked_places o rest) (marked_places o rest)) (is ∙ sym was) ∙ ap (λ l. below r L ++ l) (sym left_is) ∙ cut_whole r L
+    marked_stays was is = marked_set
+        ∙ ap (λ b. below r L ++ cond b ((r, f.value) ∷ marked_places o rest) (marked_places o rest)) (is ∙ sym was)
+        ∙ ap (λ l. below r L ++ l) (sym left_is) ∙ cut_whole r L
 
     -- Places that it enters where it was none of them.
     pub marked_enter : place_of r L ≡ None → marked_places o (below r es ++ mark_at marks 0 (from r es)) ≡ put_if (passes o marks) r f.value L
@@ -244,15 +265,19 @@ module _ (old new : keyed.Index ℕ) (key : ℕ) (up : AreRising old.entries) (r
   marked_is : (o : Option Mark) (xs : List EventPlace) → marked_places o new.entries ≡ xs → marked_index o new ≡ index xs old.capacity
   marked_is o xs is = λ i. index (is i) (room i)
 
-  more : (slot : ℕ) (carries : ByDirection Bool) (names_evse : Bool) → ((m : Mark) → marked_index (Some m) new ≡ index (put_if (has_mark m (live_marks carries names_evse)) key slot (marked_places (Some m) old.entries)) old.capacity) → IsLiveMore key slot carries names_evse (placed old) (placed new)
+  more : (slot : ℕ) (carries : ByDirection Bool) (names_evse : Bool)
+      → ((m : Mark) → marked_index (Some m) new ≡ index (put_if (has_mark m (live_marks carries names_evse)) key slot (marked_places (Some m) old.entries)) old.capacity)
+      → IsLiveMore key slot carries names_evse (placed old) (placed new)
   more slot carries names_evse each = record {
     live = each Live;
-    carriers = each_way (λ d. carriers_of (placed new) d ≡ index (put_if (in_direction d carries) key slot (carriers_of (placed old) d).entries) (carriers_of (placed old) d).capacity) (each Imports) (each Exports);
+    carriers = each_way (λ d. carriers_of (placed new) d ≡ index (put_if (in_direction d carries) key slot (carriers_of (placed old) d).entries) (carriers_of (placed old) d).capacity)
+        (each Imports) (each Exports);
     naming = each Names;
   }
 
   -- A live event is put in.
-  module _ (slot : ℕ) (carries : ByDirection Bool) (names_evse : Bool) (none : place_of key (marked_places None old.entries) ≡ None) (is : new.entries ≡ below key old.entries ++ (key, record { value = slot; marks = live_marks carries names_evse }) ∷ from key old.entries) where
+  module _ (slot : ℕ) (carries : ByDirection Bool) (names_evse : Bool) (none : place_of key (marked_places None old.entries) ≡ None)
+      (is : new.entries ≡ below key old.entries ++ (key, record { value = slot; marks = live_marks carries names_evse }) ∷ from key old.entries) where
     put_in : (o : Option Mark) → marked_index o new ≡ index (put_if (passes o (live_marks carries names_evse)) key slot (marked_places o old.entries)) old.capacity
     put_in o = marked_is o _ (ap (marked_places o) is ∙ marked_put o key (record { value = slot; marks = live_marks carries names_evse }) old.entries up none)
 
@@ -274,15 +299,21 @@ module _ (old new : keyed.Index ℕ) (key : ℕ) (up : AreRising old.entries) (r
     lives_less none =
         let each : (m : Mark) → marked_index (Some m) new ≡ index (out key (marked_places (Some m) old.entries)) old.capacity =
         λ m. marked_is (Some m) _ (ap (marked_places (Some m)) is ∙ marked_void (Some m) key f.0 old.entries up f.1.0 marks (ap (has_mark m) none ∙ unmarked m)) in
-        record { live = each Live; carriers = each_way (λ d. carriers_of (placed new) d ≡ index (out key (carriers_of (placed old) d).entries) (carriers_of (placed old) d).capacity) (each Imports) (each Exports); naming = each Names } where
+        record {
+          live = each Live;
+          carriers = each_way (λ d. carriers_of (placed new) d ≡ index (out key (carriers_of (placed old) d).entries) (carriers_of (placed old) d).capacity) (each Imports) (each Exports);
+          naming = each Names;
+        } where
           unmarked : (m : Mark) → has_mark m (record { live = false; imports = false; exports = false; names = false }) ≡ false
           unmarked Live = refl
           unmarked Imports = refl
           unmarked Exports = refl
           unmarked Names = refl
 
-    pub lives_again : (carries : ByDirection Bool) (names_evse : Bool) → marks ≡ live_marks carries names_evse → IsNotLive key (placed old) → IsLiveMore key slot carries names_evse (placed old) (placed new)
-    lives_again carries names_evse marks_are none = more slot carries names_evse (λ m. marked_is (Some m) _ (ap (marked_places (Some m)) is ∙ marked_enter (Some m) key f.0 old.entries up f.1.0 marks (absent m)
+    pub lives_again : (carries : ByDirection Bool) (names_evse : Bool) → marks ≡ live_marks carries names_evse
+        → IsNotLive key (placed old) → IsLiveMore key slot carries names_evse (placed old) (placed new)
+    lives_again carries names_evse marks_are none =
+        more slot carries names_evse (λ m. marked_is (Some m) _ (ap (marked_places (Some m)) is ∙ marked_enter (Some m) key f.0 old.entries up f.1.0 marks (absent m)
         ∙ ap (λ s. put_if (has_mark m marks) key s (marked_places (Some m) old.entries)) f.1.1 ∙ ap (λ b. put_if (has_mark m b) key slot (marked_places (Some m) old.entries)) marks_are)) where
           absent : (m : Mark) → place_of key (marked_places (Some m) old.entries) ≡ None
           absent Live = none.live
@@ -299,4 +330,8 @@ module _ (old new : keyed.Index ℕ) (key : ℕ) (up : AreRising old.entries) (r
     lives_stay none =
         let each : (m : Mark) → place_of key (marked_places (Some m) old.entries) ≡ None → marked_index (Some m) new ≡ marked_index (Some m) old =
         λ m absent. marked_is (Some m) _ (ap (marked_places (Some m)) is ∙ marked_out (Some m) key f old.entries up there ∙ out_absent key (marked_places (Some m) old.entries) absent) in
-        record { live = each Live none.live; carriers = each_way (λ d. carriers_of (placed new) d ≡ carriers_of (placed old) d) (each Imports (none.carriers Import)) (each Exports (none.carriers Export)); naming = each Names none.naming }
+        record {
+          live = each Live none.live;
+          carriers = each_way (λ d. carriers_of (placed new) d ≡ carriers_of (placed old) d) (each Imports (none.carriers Import)) (each Exports (none.carriers Export));
+          naming = each Names none.naming;
+        }

@@ -45,7 +45,8 @@ some_place : (slots : List (Option Held)) (o : Option ℕ) (s : Stored) → even
 some_place slots None s h = cc
 some_place slots (Some n) s h = refl
 
-module _ {limits : Bounds} {table : Table} {store : Slots} {stored live : Index} {carriers : Direction → Index} {naming : Index} (chains : IsChains limits table store stored live carriers naming) (key : KeyName) where
+module _ {limits : Bounds} {table : Table} {store : Slots} {stored live : Index} {carriers : Direction → Index} {naming : Index}
+    (chains : IsChains limits table store stored live carriers naming) (key : KeyName) where
   -- A key that is found has a place.
   pub is_placed : (s : Stored) → finite.get (events_of table store stored) key ≡ Some s → is_some (place_at table.rows stored.entries key) ≡ true
   is_placed s is = some_place store.slots (place_at table.rows stored.entries key) s (sym (get_place chains key) ∙ is)
@@ -109,7 +110,8 @@ module _ {limits : Bounds} {table : Table} {store : Slots} {stored live : Index}
     pub location_is : (h : Held) → value_at store.slots location.slot ≡ Some h → h.1 ≡ location_event
     location_is h is = let e : h ≡ (location.key, location_event) = same_held (value_at store.slots location.slot) h (location.key, location_event) is location_here in ap (λ (x : Held). x.1) e
 
-    module _ (new : List TxRow) (after : TableRow) (rows : new ≡ with_row key.tx after table.rows) (same : after.slot ≡ location.row.slot) (rising : AreRising new) (apart : AreApart new) (voided : Bool) where
+    module _ (new : List TxRow) (after : TableRow) (rows : new ≡ with_row key.tx after table.rows)
+        (same : after.slot ≡ location.row.slot) (rising : AreRising new) (apart : AreApart new) (voided : Bool) where
       abbrev now : Stored
       now = record { event = location_event.event; voided = voided }
 
@@ -120,31 +122,46 @@ module _ {limits : Bounds} {table : Table} {store : Slots} {stored live : Index}
       named_now = named_after table.rows table.rows new key.tx location.row after (inl (at.row, refl)) rows same
 
       -- An index that takes the place.
-      location_in : (test : Stored → Bool) (sub is' : List EventPlace) (b : Bool) → is' ≡ put_if b location.key location.slot sub → b ≡ test now → test location_event ≡ false → IsSub test stored.entries store.slots sub → IsSub test stored.entries held is'
+      location_in : (test : Stored → Bool) (sub is' : List EventPlace) (b : Bool) → is' ≡ put_if b location.key location.slot sub
+          → b ≡ test now → test location_event ≡ false → IsSub test stored.entries store.slots sub → IsSub test stored.entries held is'
       location_in test sub is' b is b_is never was = subst (IsSub test stored.entries held) (sym is)
-          (mark_in limits table.rows new stored.entries live.entries (λ d. (carriers d).entries) naming.entries store.slots key location.row after location.key location.slot table.capacity store.readings store.capacity chains.keyed chains.indexed chains.figured chains.counted named_now at.number at.key_is rising apart
+          (mark_in limits table.rows new stored.entries live.entries (λ d. (carriers d).entries) naming.entries store.slots key location.row
+          after location.key location.slot table.capacity store.readings store.capacity chains.keyed chains.indexed chains.figured
+          chains.counted named_now at.number at.key_is rising apart
           location_event now location_here location_within at.slot test sub b b_is never was)
 
       -- An index that gives the place up.
       location_out : (test : Stored → Bool) (sub is' : List EventPlace) → is' ≡ out location.key sub → test now ≡ false → IsSub test stored.entries store.slots sub → IsSub test stored.entries held is'
       location_out test sub is' is never was = subst (IsSub test stored.entries held) (sym is)
-          (mark_out limits table.rows new stored.entries live.entries (λ d. (carriers d).entries) naming.entries store.slots key location.row after location.key location.slot table.capacity store.readings store.capacity chains.keyed chains.indexed chains.figured chains.counted named_now at.number at.key_is rising apart
+          (mark_out limits table.rows new stored.entries live.entries (λ d. (carriers d).entries) naming.entries store.slots key
+          location.row after location.key location.slot table.capacity store.readings store.capacity chains.keyed chains.indexed
+          chains.figured chains.counted named_now at.number at.key_is rising apart
           location_event now location_here location_within at.slot test sub never was)
 
       -- The indexes of an event that is live again.
-      pub in_indexes : (l : List EventPlace) (c : Direction → List EventPlace) (n : List EventPlace) (carries : Direction → Bool) (names_evse : Bool) → voided ≡ false → location_event.voided ≡ true → l ≡ put_if true location.key location.slot live.entries → ((d : Direction) → c d ≡ put_if (carries d) location.key location.slot (carriers d).entries) → n ≡ put_if names_evse location.key location.slot naming.entries
+      pub in_indexes : (l : List EventPlace) (c : Direction → List EventPlace) (n : List EventPlace) (carries : Direction → Bool) (names_evse : Bool)
+          → voided ≡ false → location_event.voided ≡ true → l ≡ put_if true location.key location.slot live.entries
+          → ((d : Direction) → c d ≡ put_if (carries d) location.key location.slot (carriers d).entries)
+          → n ≡ put_if names_evse location.key location.slot naming.entries
           → ((d : Direction) → carries d ≡ is_some (first_reading (toward d location_event.event.readings))) → names_evse ≡ is_some location_event.event.evse → AreIndexed stored.entries held l c n
       in_indexes l c n carries names_evse no_more was l_is c_is n_is carries_is names_is = record {
         lives = location_in is_live live.entries l true l_is (sym (ap not no_more)) (ap not was) chains.indexed.lives;
-        carry = λ d. location_in (is_carrier d) (carriers d).entries (c d) (carries d) (c_is d) (carries_is d ∙ sym (ap (λ v. not v && is_some (first_reading (toward d location_event.event.readings))) no_more)) (ap (λ v. not v && is_some (first_reading (toward d location_event.event.readings))) was) (chains.indexed.carry d);
-        names = location_in is_naming naming.entries n names_evse n_is (names_is ∙ sym (ap (λ v. not v && is_some location_event.event.evse) no_more)) (ap (λ v. not v && is_some location_event.event.evse) was) chains.indexed.names;
+        carry = λ d. location_in (is_carrier d) (carriers d).entries (c d) (carries d) (c_is d)
+            (carries_is d ∙ sym (ap (λ v. not v && is_some (first_reading (toward d location_event.event.readings))) no_more))
+            (ap (λ v. not v && is_some (first_reading (toward d location_event.event.readings))) was) (chains.indexed.carry d);
+        names = location_in is_naming naming.entries n names_evse n_is
+            (names_is ∙ sym (ap (λ v. not v && is_some location_event.event.evse) no_more))
+            (ap (λ v. not v && is_some location_event.event.evse) was) chains.indexed.names;
       }
 
       -- The indexes of an event that was voided.
-      pub out_indexes : (l : List EventPlace) (c : Direction → List EventPlace) (n : List EventPlace) → voided ≡ true → l ≡ out location.key live.entries → ((d : Direction) → c d ≡ out location.key (carriers d).entries) → n ≡ out location.key naming.entries → AreIndexed stored.entries held l c n
+      pub out_indexes : (l : List EventPlace) (c : Direction → List EventPlace) (n : List EventPlace) → voided ≡ true
+          → l ≡ out location.key live.entries → ((d : Direction) → c d ≡ out location.key (carriers d).entries)
+          → n ≡ out location.key naming.entries → AreIndexed stored.entries held l c n
       out_indexes l c n now_void l_is c_is n_is = record {
         lives = location_out is_live live.entries l l_is (ap not now_void) chains.indexed.lives;
-        carry = λ d. location_out (is_carrier d) (carriers d).entries (c d) (c_is d) (ap (λ v. not v && is_some (first_reading (toward d location_event.event.readings))) now_void) (chains.indexed.carry d);
+        carry = λ d. location_out (is_carrier d) (carriers d).entries (c d) (c_is d)
+            (ap (λ v. not v && is_some (first_reading (toward d location_event.event.readings))) now_void) (chains.indexed.carry d);
         names = location_out is_naming naming.entries n n_is (ap (λ v. not v && is_some location_event.event.evse) now_void) chains.indexed.names;
       }
 
@@ -178,21 +195,29 @@ module _ {limits : Bounds} {table : Table} {store : Slots} {stored live : Index}
       -- Chains are kept.
       pub marked_chains : IsChains limits t s stored l c n
       marked_chains = let r = chains.roomy in
-          seal limits t s stored l c n t.rows table.capacity (set store.slots location.slot (Some (location.key, st))) store.readings store.capacity stored.entries l.entries (λ d. (c d).entries) n.entries limits.events
-          refl did.transactions slots_are did.readings did.room refl refl (λ d. refl) refl r.for_stored (did.live_cap ∙ r.for_live) (λ d. did.carriers_cap d ∙ r.for_carriers d) (did.naming_cap ∙ r.for_naming)
-          (mark_chains limits table.rows t.rows stored.entries live.entries (λ d. (carriers d).entries) naming.entries store.slots key location.row after location.key location.slot table.capacity store.readings store.capacity chains.keyed chains.indexed chains.figured chains.counted named at.number at.key_is did.rising did.apart
-          location_event st location_here location_within at.slot l.entries (λ d. (c d).entries) n.entries did.indexes refl did.lives did.ends (record { for_stored = refl; for_live = refl; for_carriers = λ d. refl; for_naming = refl }))
+          seal limits t s stored l c n t.rows table.capacity (set store.slots location.slot (Some (location.key, st))) store.readings
+          store.capacity stored.entries l.entries (λ d. (c d).entries) n.entries limits.events
+          refl did.transactions slots_are did.readings did.room refl refl (λ d. refl) refl r.for_stored (did.live_cap ∙ r.for_live)
+          (λ d. did.carriers_cap d ∙ r.for_carriers d) (did.naming_cap ∙ r.for_naming)
+          (mark_chains limits table.rows t.rows stored.entries live.entries (λ d. (carriers d).entries) naming.entries store.slots key
+          location.row after location.key location.slot table.capacity store.readings store.capacity chains.keyed chains.indexed
+          chains.figured chains.counted named at.number at.key_is did.rising did.apart
+          location_event st location_here location_within at.slot l.entries (λ d. (c d).entries) n.entries did.indexes refl did.lives
+          did.ends (record { for_stored = refl; for_live = refl; for_carriers = λ d. refl; for_naming = refl }))
 
       -- The event was marked.
       pub marked_events : events_of t s stored ≡ marked (events_of table store stored) key voided
       marked_events =
           (λ i. finite.from_sorted {R = key_cmp} (flat t.rows stored.entries (slots_are i)))
           ∙ map_put all (flat t.rows stored.entries (set store.slots location.slot (Some (location.key, st)))) key st (all_rising chains)
-          (mark_all limits table.rows t.rows stored.entries live.entries (λ d. (carriers d).entries) naming.entries store.slots key location.row after location.key location.slot table.capacity store.readings store.capacity chains.keyed chains.indexed chains.figured chains.counted named at.number at.key_is did.rising did.apart
+          (mark_all limits table.rows t.rows stored.entries live.entries (λ d. (carriers d).entries) naming.entries store.slots key
+          location.row after location.key location.slot table.capacity store.readings store.capacity chains.keyed chains.indexed
+          chains.figured chains.counted named at.number at.key_is did.rising did.apart
           location_event st location_here location_within at.slot)
           ∙ sym (ap (marked_at (events_of table store stored) key voided) location_get)
 
-module _ {limits : Bounds} {table : Table} {store : Slots} {stored live : Index} {carriers : Direction → Index} {naming : Index} (chains : IsChains limits table store stored live carriers naming) (key : KeyName) (s0 : ℕ) where
+module _ {limits : Bounds} {table : Table} {store : Slots} {stored live : Index} {carriers : Direction → Index} {naming : Index}
+    (chains : IsChains limits table store stored live carriers naming) (key : KeyName) (s0 : ℕ) where
   -- The slot of a key's place holds an event.
   pub held_place : place_at table.rows stored.entries key ≡ Some s0 → is_some (value_at store.slots s0) ≡ true
   held_place is = found (row_of key.tx table.rows) is where

@@ -29,7 +29,10 @@ pub all_found : (P : EventPlace → Type 0) (ps : List EventPlace) → AreRanks 
 all_found P [] h each = tt
 all_found P (p ∷ ps) h each = (
   each p (ap (λ b. cond b (Some p.1) (place_of p.0 ps)) ((rank_test p.0 p.0).1 refl)),
-  all_found P ps (second _ _ h) (λ q is. each q (ap (λ b. cond b (Some p.1) (place_of q.0 ps)) (not_so _ (rank_test q.0 p.0) (λ k. never (place_of q.0 ps) q.1 is (ap (λ r. place_of r ps) k ∙ below_none p.0 ps (first _ _ h)))) ∙ is)),
+  all_found P ps (second _ _ h)
+      (λ q is. each q (ap (λ b. cond b (Some p.1) (place_of q.0 ps))
+      (not_so _ (rank_test q.0 p.0) (λ k. never (place_of q.0 ps) q.1 is (ap (λ r. place_of r ps) k ∙ below_none p.0 ps (first _ _ h))))
+      ∙ is)),
 )
 
 -- What holds of all holds of those that are left.
@@ -50,7 +53,8 @@ pub all_chosen : (test : Stored → Bool) (es sub : List EventPlace) (slots : Li
 all_chosen test es sub slots is = all_found (λ p. test (stored_at slots p.1) ≡ true) sub is.rising (λ p at. chosen_test test slots (place_of p.0 es) p.1 (sym (is.each p.0) ∙ at))
 
 -- Each place is that of an event.
-pub all_held : (test : Stored → Bool) (rows : List TxRow) (es sub : List EventPlace) (slots : List (Option Held)) → IsKeyed rows es slots → IsSub test es slots sub → AllPlaces (λ p. IsHeld slots p.1) sub
+pub all_held : (test : Stored → Bool) (rows : List TxRow) (es sub : List EventPlace) (slots : List (Option Held))
+    → IsKeyed rows es slots → IsSub test es slots sub → AllPlaces (λ p. IsHeld slots p.1) sub
 all_held test rows es sub slots keyed is = all_found (λ p. IsHeld slots p.1) sub is.rising (λ p at.
     ap is_some (keyed.homes p.0 p.1 (chosen_place test slots (place_of p.0 es) p.1 (sym (is.each p.0) ∙ at))).held_is)
 

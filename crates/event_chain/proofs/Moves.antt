@@ -125,7 +125,9 @@ module _ (rows : List TxRow) (es : List EventPlace) (slots : List (Option Held))
     after_named more held seq = ap (look_in more held seq) named.there ∙ ap (λ t. event_at held (number_at t seq more)) named.same
 
   -- A new event is such a move.
-  pub put_move : (new : List TxRow) (key : KeyName) (row after : TableRow) (r0 s0 : ℕ) (x : Held) → IsNamed rows new key.tx row after → key.seq < 2 ^ 31 → r0 ≡ rank row.slot key.seq → value_at slots s0 ≡ None → IsMove rows new es (put nat_cmp r0 s0 es) slots (set slots s0 (Some x)) key row.slot r0 s0
+  pub put_move : (new : List TxRow) (key : KeyName) (row after : TableRow) (r0 s0 : ℕ) (x : Held)
+      → IsNamed rows new key.tx row after → key.seq < 2 ^ 31 → r0 ≡ rank row.slot key.seq → value_at slots s0 ≡ None
+      → IsMove rows new es (put nat_cmp r0 s0 es) slots (set slots s0 (Some x)) key row.slot r0 s0
   put_move new key row after r0 s0 x named number is free = record {
     rank_is = is;
     number = number;
@@ -139,7 +141,9 @@ module _ (rows : List TxRow) (es : List EventPlace) (slots : List (Option Held))
   }
 
   -- So is an event marked.
-  pub mark_move : (new : List TxRow) (key : KeyName) (row after : TableRow) (r0 s0 : ℕ) (st : Stored) (x : Held) → IsNamed rows new key.tx row after → key.seq < 2 ^ 31 → r0 ≡ rank row.slot key.seq → value_at slots s0 ≡ Some (r0, st) → IsMove rows new es es slots (set slots s0 (Some x)) key row.slot r0 s0
+  pub mark_move : (new : List TxRow) (key : KeyName) (row after : TableRow) (r0 s0 : ℕ) (st : Stored) (x : Held)
+      → IsNamed rows new key.tx row after → key.seq < 2 ^ 31 → r0 ≡ rank row.slot key.seq → value_at slots s0 ≡ Some (r0, st)
+      → IsMove rows new es es slots (set slots s0 (Some x)) key row.slot r0 s0
   mark_move new key row after r0 s0 st x named number is here = record {
     rank_is = is;
     number = number;
@@ -153,16 +157,25 @@ module _ (rows : List TxRow) (es : List EventPlace) (slots : List (Option Held))
   }
 
   -- The row of a transaction that was there has the slot still.
-  kept_row : (new : List TxRow) (tx : List ℕ) (row after : TableRow) → IsNamed rows new tx row after → (q : List ℕ) (other : TableRow) → row_of q rows ≡ Some other → (now : TableRow) × ((row_of q new ≡ Some now) × (now.slot ≡ other.slot))
+  kept_row : (new : List TxRow) (tx : List ℕ) (row after : TableRow) → IsNamed rows new tx row after
+      → (q : List ℕ) (other : TableRow) → row_of q rows ≡ Some other
+      → (now : TableRow) × ((row_of q new ≡ Some now) × (now.slot ≡ other.slot))
   kept_row new tx row after named q other is =
       elim (eq_by_cmp id_cmp q tx) as (λ b. eq_by_cmp id_cmp q tx ≡ b → (now : TableRow) × ((row_of q new ≡ Some now) × (now.slot ≡ other.slot))) [
-        | true ↦ λ e. let same = (id_test q tx).0 e in let was : row_of tx rows ≡ Some other = sym (ap (λ k. row_of k rows) same) ∙ is in
-            (after, (ap (λ k. row_of k new) same ∙ named.there, named.same ∙ elim named.known [ inl old ↦ same_slot (row_of tx rows) row other old was | inr fresh ↦ sym (no_slot (row_of tx rows) other row was fresh.absent) ]))
+        | true ↦ λ e. let same = (id_test q tx).0 e in let was : row_of tx rows ≡ Some other = sym (ap (λ k. row_of k rows) same) ∙ is in (
+          after,
+          (
+            ap (λ k. row_of k new) same ∙ named.there,
+            named.same ∙ elim named.known [ inl old ↦ same_slot (row_of tx rows) row other old was | inr fresh ↦ sym (no_slot (row_of tx rows) other row was fresh.absent) ],
+          ),
+        )
         | false ↦ λ e. (other, (named.others q (denied _ (id_test q tx) e) ∙ is, refl))
       ] refl
 
   -- A place that stays has its home still.
-  pub moved_home : (new : List TxRow) (s0 : ℕ) (x : Option Held) (r s : ℕ) → ((q : List ℕ) (other : TableRow) → row_of q rows ≡ Some other → r / 2 ^ 31 ≡ other.slot → (now : TableRow) × ((row_of q new ≡ Some now) × (now.slot ≡ other.slot))) → place_of r es ≡ Some s → (s ≡ s0 → ⊥) → IsHome new (set slots s0 x) r s
+  pub moved_home : (new : List TxRow) (s0 : ℕ) (x : Option Held) (r s : ℕ)
+      → ((q : List ℕ) (other : TableRow) → row_of q rows ≡ Some other → r / 2 ^ 31 ≡ other.slot → (now : TableRow) × ((row_of q new ≡ Some now) × (now.slot ≡ other.slot)))
+      → place_of r es ≡ Some s → (s ≡ s0 → ⊥) → IsHome new (set slots s0 x) r s
   moved_home new s0 x r s kept is other =
       let home = keyed.homes r s is in let now = kept home.tx home.row home.row_is home.slot_is in record {
         tx = home.tx;
@@ -174,7 +187,9 @@ module _ (rows : List TxRow) (es : List EventPlace) (slots : List (Option Held))
       }
 
   -- The places of a transaction after a place was put in under its rank.
-  pub put_keyed : (new : List TxRow) (tx : List ℕ) (row after : TableRow) (r0 s0 : ℕ) (st : Stored) → IsNamed rows new tx row after → r0 / 2 ^ 31 ≡ row.slot → value_at slots s0 ≡ None → s0 < length slots → AreRising new → AreApart new → AreRanks (put nat_cmp r0 s0 es)
+  pub put_keyed : (new : List TxRow) (tx : List ℕ) (row after : TableRow) (r0 s0 : ℕ) (st : Stored) → IsNamed rows new tx row after
+      → r0 / 2 ^ 31 ≡ row.slot → value_at slots s0 ≡ None → s0 < length slots → AreRising new → AreApart new
+      → AreRanks (put nat_cmp r0 s0 es)
       → IsKeyed new (put nat_cmp r0 s0 es) (set slots s0 (Some (r0, st)))
   put_keyed new tx row after r0 s0 st named home free lt rising apart ranks = record {
     rising = rising;
@@ -189,18 +204,26 @@ module _ (rows : List TxRow) (es : List EventPlace) (slots : List (Option Held))
         stored = st;
         held_is = ap (value_at (set slots s0 (Some (r0, st)))) e ∙ get_or-set_same slots s0 (Some (r0, st)) None lt ∙ ap (λ k. Some (k, st)) (sym same);
       }
-      | inr other ↦ moved_home new s0 (Some (r0, st)) r s (λ q of at _. kept_row new tx row after named q of at) (sym (put_other r r0 s0 es other) ∙ is) (λ e. other (own_none r r0 s0 free (sym (put_other r r0 s0 es other) ∙ is ∙ ap Some e)))
+      | inr other ↦ moved_home new s0 (Some (r0, st)) r s (λ q of at _. kept_row new tx row after named q of at)
+          (sym (put_other r r0 s0 es other) ∙ is) (λ e. other (own_none r r0 s0 free (sym (put_other r r0 s0 es other) ∙ is ∙ ap Some e)))
     ];
     filled = λ q of is. elim (eq_by_cmp id_cmp q tx) as (λ b. eq_by_cmp id_cmp q tx ≡ b → HasPlace (put nat_cmp r0 s0 es) of.slot) [
       | true ↦ λ e. let at : Some of ≡ Some after = sym is ∙ ap (λ k. row_of k new) ((id_test q tx).0 e) ∙ named.there in let f : of ≡ after = cc in
           record { rank = r0; place = s0; found = put_here r0 s0 es; slot_is = home ∙ sym named.same ∙ sym (ap (λ (z : TableRow). z.slot) f) }
       | false ↦ λ e. let apart_ids = denied _ (id_test q tx) e in let was = sym (named.others q apart_ids) ∙ is in let old = keyed.filled q of was in
-          record { rank = old.rank; place = old.place; found = put_other old.rank r0 s0 es (λ k. apart_ids (apart_named new tx row after named q of was (sym old.slot_is ∙ ap (λ z. z / 2 ^ 31) k ∙ home))) ∙ old.found; slot_is = old.slot_is }
+          record {
+            rank = old.rank;
+            place = old.place;
+            found = put_other old.rank r0 s0 es (λ k. apart_ids (apart_named new tx row after named q of was (sym old.slot_is ∙ ap (λ z. z / 2 ^ 31) k ∙ home))) ∙ old.found;
+            slot_is = old.slot_is;
+          }
     ] refl;
   }
 
   -- The places after an event was marked.
-  pub mark_keyed : (new : List TxRow) (tx : List ℕ) (row after : TableRow) (r0 s0 : ℕ) (was st : Stored) → IsNamed rows new tx row after → r0 / 2 ^ 31 ≡ row.slot → place_of r0 es ≡ Some s0 → value_at slots s0 ≡ Some (r0, was) → s0 < length slots → AreRising new → AreApart new → IsKeyed new es (set slots s0 (Some (r0, st)))
+  pub mark_keyed : (new : List TxRow) (tx : List ℕ) (row after : TableRow) (r0 s0 : ℕ) (was st : Stored)
+      → IsNamed rows new tx row after → r0 / 2 ^ 31 ≡ row.slot → place_of r0 es ≡ Some s0 → value_at slots s0 ≡ Some (r0, was)
+      → s0 < length slots → AreRising new → AreApart new → IsKeyed new es (set slots s0 (Some (r0, st)))
   mark_keyed new tx row after r0 s0 was st named home at here lt rising apart = record {
     rising = rising;
     apart = apart;
@@ -224,14 +247,17 @@ module _ (rows : List TxRow) (es : List EventPlace) (slots : List (Option Held))
   }
 
   -- A transaction that went is found no more.
-  pub after_left : (new : List TxRow) (left : List EventPlace) (held : List (Option Held)) (tx : List ℕ) (row : TableRow) → IsLeft rows new left tx row → (seq : ℕ) → look_in left held seq (row_of tx new) ≡ event_at held (number_at row.slot seq left)
+  pub after_left : (new : List TxRow) (left : List EventPlace) (held : List (Option Held)) (tx : List ℕ) (row : TableRow)
+      → IsLeft rows new left tx row → (seq : ℕ) → look_in left held seq (row_of tx new) ≡ event_at held (number_at row.slot seq left)
   after_left new left held tx row is seq = elim is.end [
     | inl kept ↦ ap (look_in left held seq) kept.0
     | inr gone ↦ ap (look_in left held seq) gone.0 ∙ sym (ap (event_at held) (bare_number left row.slot seq gone.1))
   ]
 
   -- An event taken out is such a move.
-  pub out_move : (new : List TxRow) (key : KeyName) (row : TableRow) (r0 s0 : ℕ) (st : Stored) → IsLeft rows new (out r0 es) key.tx row → key.seq < 2 ^ 31 → r0 ≡ rank row.slot key.seq → value_at slots s0 ≡ Some (r0, st) → IsMove rows new es (out r0 es) slots (set slots s0 None) key row.slot r0 s0
+  pub out_move : (new : List TxRow) (key : KeyName) (row : TableRow) (r0 s0 : ℕ) (st : Stored)
+      → IsLeft rows new (out r0 es) key.tx row → key.seq < 2 ^ 31 → r0 ≡ rank row.slot key.seq → value_at slots s0 ≡ Some (r0, st)
+      → IsMove rows new es (out r0 es) slots (set slots s0 None) key row.slot r0 s0
   out_move new key row r0 s0 st left number is here = record {
     rank_is = is;
     number = number;
@@ -245,7 +271,9 @@ module _ (rows : List TxRow) (es : List EventPlace) (slots : List (Option Held))
   }
 
   -- The places after an event was taken out.
-  pub out_keyed : (new : List TxRow) (tx : List ℕ) (row : TableRow) (r0 s0 : ℕ) (st : Stored) → IsLeft rows new (out r0 es) tx row → r0 / 2 ^ 31 ≡ row.slot → value_at slots s0 ≡ Some (r0, st) → AreRising new → AreApart new → AreRanks (out r0 es) → IsKeyed new (out r0 es) (set slots s0 None)
+  pub out_keyed : (new : List TxRow) (tx : List ℕ) (row : TableRow) (r0 s0 : ℕ) (st : Stored) → IsLeft rows new (out r0 es) tx row
+      → r0 / 2 ^ 31 ≡ row.slot → value_at slots s0 ≡ Some (r0, st) → AreRising new → AreApart new → AreRanks (out r0 es)
+      → IsKeyed new (out r0 es) (set slots s0 None)
   out_keyed new tx row r0 s0 st left home here rising apart ranks = record {
     rising = rising;
     apart = apart;
@@ -267,6 +295,11 @@ module _ (rows : List TxRow) (es : List EventPlace) (slots : List (Option Held))
         | inr gone ↦ absurd (no_row (row_of tx new) of there gone.0)
       ]
       | false ↦ λ e. let apart_ids = denied _ (id_test q tx) e in let was = sym (left.others q apart_ids) ∙ is in let old = keyed.filled q of was in
-          record { rank = old.rank; place = old.place; found = out_other old.rank r0 es (λ k. apart_ids (keyed.apart q tx of row was left.was (sym old.slot_is ∙ ap (λ z. z / 2 ^ 31) k ∙ home))) ∙ old.found; slot_is = old.slot_is }
+          record {
+            rank = old.rank;
+            place = old.place;
+            found = out_other old.rank r0 es (λ k. apart_ids (keyed.apart q tx of row was left.was (sym old.slot_is ∙ ap (λ z. z / 2 ^ 31) k ∙ home))) ∙ old.found;
+            slot_is = old.slot_is;
+          }
     ] refl;
   }

@@ -29,7 +29,8 @@ row_out q tx rows =
     ∙ turned (eq_by_cmp id_cmp tx q) (row_of q rows) None ∙ ap (λ b. cond b None (row_of q rows)) ((eq_by_cmp_equiv nat_list_cmp_total).symm tx q)
 
 -- A transaction that was taken out, as no place of it is left.
-pub left_out : (rows new : List TxRow) (left : List EventPlace) (tx : List ℕ) (row : TableRow) → new ≡ without_row tx rows → row_of tx rows ≡ Some row → IsBare left row.slot → IsLeft rows new left tx row
+pub left_out : (rows new : List TxRow) (left : List EventPlace) (tx : List ℕ) (row : TableRow) → new ≡ without_row tx rows
+    → row_of tx rows ≡ Some row → IsBare left row.slot → IsLeft rows new left tx row
 left_out rows new left tx row is was bare = subst (λ rs. IsLeft rows rs left tx row) (sym is) (record {
   was = was;
   others = λ q other. row_out q tx rows ∙ ap (λ b. cond b None (row_of q rows)) (not_so _ (id_test q tx) other);

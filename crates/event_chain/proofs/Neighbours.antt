@@ -66,27 +66,34 @@ module _ (d : Direction) where
   last_back (x ∷ xs) ys some = last_rest x (xs ++ ys) (omega (arith, length-append xs ys)) ∙ last_back xs ys some
 
   -- The first reading of events that have one each.
-  first_flat : (tx : List ℕ) (slots : List (Option Held)) (ps : List EventPlace) → AllPlaces (HasReading slots) ps → first_reading (flat_map readings_of (map (entry_of tx slots) ps)) ≡ first_at slots d (slice_get ps 0)
+  first_flat : (tx : List ℕ) (slots : List (Option Held)) (ps : List EventPlace) → AllPlaces (HasReading slots) ps
+      → first_reading (flat_map readings_of (map (entry_of tx slots) ps)) ≡ first_at slots d (slice_get ps 0)
   first_flat tx slots [] h = refl
   first_flat tx slots (p ∷ ps) h = first_front (toward d (stored_at slots p.1).event.readings) (flat_map readings_of (map (entry_of tx slots) ps)) h.0
 
   -- The last one.
-  last_flat : (tx : List ℕ) (slots : List (Option Held)) (ps : List EventPlace) → AllPlaces (HasReading slots) ps → last_reading (flat_map readings_of (map (entry_of tx slots) ps)) ≡ last_at slots d (last_of ps)
+  last_flat : (tx : List ℕ) (slots : List (Option Held)) (ps : List EventPlace) → AllPlaces (HasReading slots) ps
+      → last_reading (flat_map readings_of (map (entry_of tx slots) ps)) ≡ last_at slots d (last_of ps)
   last_flat tx slots [] h = refl
   last_flat tx slots (p ∷ []) h = ap last_reading (append-nil (toward d (stored_at slots p.1).event.readings))
   last_flat tx slots (p ∷ q ∷ ps) h =
       let more = flat_map readings_of (map (entry_of tx slots) ps) in let own = toward d (stored_at slots q.1).event.readings in
-      last_back (toward d (stored_at slots p.1).event.readings) (own ++ more) (omega (arith, length-append own more, h.1.0)) ∙ last_flat tx slots (q ∷ ps) h.1 ∙ ap (last_at slots d) (sym (last_cons p q ps))
+      last_back (toward d (stored_at slots p.1).event.readings) (own ++ more) (omega (arith, length-append own more, h.1.0))
+      ∙ last_flat tx slots (q ∷ ps) h.1 ∙ ap (last_at slots d) (sym (last_cons p q ps))
 
   -- One event more, which has no reading or carries.
-  one_carrying : (f : Entry → Bool) (e : Entry) (mine voided : Bool) (rs : List MeterReading) → toward d e.1.event.readings ≡ rs → (lives carries : List Entry) → flat_map readings_of (filter f lives) ≡ flat_map readings_of (filter f carries)
-      → flat_map readings_of (filter f (cond (mine && not voided) (e ∷ lives) lives)) ≡ flat_map readings_of (filter f (cond (mine && (not voided && is_some (first_reading rs))) (e ∷ carries) carries))
+  one_carrying : (f : Entry → Bool) (e : Entry) (mine voided : Bool) (rs : List MeterReading) → toward d e.1.event.readings ≡ rs
+      → (lives carries : List Entry) → flat_map readings_of (filter f lives) ≡ flat_map readings_of (filter f carries)
+      → flat_map readings_of (filter f (cond (mine && not voided) (e ∷ lives) lives))
+      ≡ flat_map readings_of (filter f (cond (mine && (not voided && is_some (first_reading rs))) (e ∷ carries) carries))
   one_carrying f e false voided rs is lives carries rest = rest
   one_carrying f e true true rs is lives carries rest = rest
   one_carrying f e true false [] is lives carries rest =
-      elim (f e) as (λ b. flat_map readings_of (cond b (e ∷ filter f lives) (filter f lives)) ≡ flat_map readings_of (filter f carries)) [ true ↦ ap (λ (xs : List MeterReading). xs ++ flat_map readings_of (filter f lives)) is ∙ rest | false ↦ rest ]
+      elim (f e) as (λ b. flat_map readings_of (cond b (e ∷ filter f lives) (filter f lives))
+      ≡ flat_map readings_of (filter f carries)) [ true ↦ ap (λ (xs : List MeterReading). xs ++ flat_map readings_of (filter f lives)) is ∙ rest | false ↦ rest ]
   one_carrying f e true false (r ∷ rs) is lives carries rest =
-      elim (f e) as (λ b. flat_map readings_of (cond b (e ∷ filter f lives) (filter f lives)) ≡ flat_map readings_of (cond b (e ∷ filter f carries) (filter f carries))) [ true ↦ ap (λ (xs : List MeterReading). readings_of e ++ xs) rest | false ↦ rest ]
+      elim (f e) as (λ b. flat_map readings_of (cond b (e ∷ filter f lives) (filter f lives))
+      ≡ flat_map readings_of (cond b (e ∷ filter f carries) (filter f carries))) [ true ↦ ap (λ (xs : List MeterReading). readings_of e ++ xs) rest | false ↦ rest ]
 
   -- The readings of live events are those of the events that have any.
   carrying : (f : Entry → Bool) (tx : List ℕ) (es : List Entry) → flat_map readings_of (filter f (passing_of is_live tx es)) ≡ flat_map readings_of (filter f (passing_of (is_carrier d) tx es))
@@ -144,10 +151,12 @@ module _ (d : Direction) where
       behind_stored = stored_first slots (places_behind r carriers) (at_back (λ p. IsHeld slots p.1) (all_held (is_carrier d) rows es carriers slots keyed sub))
 
       -- Events cut by their numbers, by the places cut at the key's rank.
-      cut : (f g : ℕ → Bool) → ((x : ℕ) → x / 2 ^ 31 ≡ row.slot → f (x % 2 ^ 31) ≡ g x) → left f (passing_of is_live key.tx all) ≡ flat_map readings_of (map (entry_of key.tx slots) (filter (λ e. g e.0) (segment (r / 2 ^ 31) carriers)))
+      cut : (f g : ℕ → Bool) → ((x : ℕ) → x / 2 ^ 31 ≡ row.slot → f (x % 2 ^ 31) ≡ g x)
+          → left f (passing_of is_live key.tx all) ≡ flat_map readings_of (map (entry_of key.tx slots) (filter (λ e. g e.0) (segment (r / 2 ^ 31) carriers)))
       cut f g same =
           carrying (λ e. f e.0.seq) key.tx all ∙ ap (left f) (segment_passing rows es slots keyed.rising keyed.ranks (is_carrier d) carriers sub key.tx row row_is)
-          ∙ ap (flat_map readings_of) (map_cut (entry_of key.tx slots) (λ e. f e.0.seq) g row.slot carriers (λ e at. same e.0 at)) ∙ ap (λ t. flat_map readings_of (map (entry_of key.tx slots) (filter (λ (e : EventPlace). g e.0) (segment t carriers)))) (sym home)
+          ∙ ap (flat_map readings_of) (map_cut (entry_of key.tx slots) (λ e. f e.0.seq) g row.slot carriers (λ e at. same e.0 at))
+          ∙ ap (λ t. flat_map readings_of (map (entry_of key.tx slots) (filter (λ (e : EventPlace). g e.0) (segment t carriers)))) (sym home)
 
       -- The last reading in front of the key.
       pub before_is : last_reading (own_readings d key.tx (before_key key all)) ≡ last_at slots d (last_of (places_before r carriers))

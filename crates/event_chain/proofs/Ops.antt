@@ -73,8 +73,12 @@ count_take xs i x there lt = omega (arith, sum_by-set one xs i None None lt, ap 
 no_row : (o : Option TableRow) (a : TableRow) → o ≡ Some a → o ≡ None → ⊥
 no_row o a x y = cc
 
-module _ (limits : Bounds) (rows new : List TxRow) (es live : List EventPlace) (carriers : Direction → List EventPlace) (naming : List EventPlace) (slots : List (Option Held)) (key : KeyName) (row after : TableRow) (r0 s0 transactions readings room : ℕ)
-    (keyed : IsKeyed rows es slots) (indexed : AreIndexed es slots live carriers naming) (figured : AreFigured rows (flat rows es slots)) (counted : IsCounted limits transactions slots readings room es (flat rows es slots))
+module _ (limits : Bounds) (rows new : List TxRow) (es live : List EventPlace) (carriers : Direction → List EventPlace)
+    (naming : List EventPlace) (slots : List (Option Held)) (key : KeyName) (row after : TableRow)
+    (r0 s0 transactions readings room : ℕ)
+    (keyed : IsKeyed rows es slots) (indexed : AreIndexed es slots live carriers naming)
+    (figured : AreFigured rows (flat rows es slots))
+    (counted : IsCounted limits transactions slots readings room es (flat rows es slots))
     (named : IsNamed rows new key.tx row after) (number : key.seq < 2 ^ 31) (rank_is : r0 ≡ rank row.slot key.seq) (rising : AreRising new) (apart : AreApart new) where
   -- All events before.
   abbrev all : List Entry
@@ -122,11 +126,20 @@ module _ (limits : Bounds) (rows new : List TxRow) (es live : List EventPlace) (
         (put_if_here b r0 s0 sub (was.each r0 ∙ ap (chosen test slots) none) ∙ ap (λ c. cond c (Some s0) None) (is ∙ sym (ap test put_stored)) ∙ sym (ap (chosen test held) (put_here r0 s0 es)))
 
     -- Chains with an event put in.
-    pub put_chains : (carries : Direction → Bool) (names_evse : Bool) → ((d : Direction) → carries d ≡ is_carrier d st) → names_evse ≡ is_naming st → after.live ≡ row.live + 1 → after.ends ≡ row.ends + cond (is_end event.kind) 1 0 → AreRoomy limits.events limits.events limits.events (λ _. limits.events) limits.events
-        → IsChains limits (record { rows = new; capacity = transactions }) (record { slots = held; readings = readings + length event.readings; capacity = room }) (index more limits.events) (index (put_if true r0 s0 live) limits.events) (λ d. index (put_if (carries d) r0 s0 (carriers d)) limits.events) (index (put_if names_evse r0 s0 naming) limits.events)
+    pub put_chains : (carries : Direction → Bool) (names_evse : Bool) → ((d : Direction) → carries d ≡ is_carrier d st)
+        → names_evse ≡ is_naming st → after.live ≡ row.live + 1 → after.ends ≡ row.ends + cond (is_end event.kind) 1 0
+        → AreRoomy limits.events limits.events limits.events (λ _. limits.events) limits.events
+        → IsChains limits (record { rows = new; capacity = transactions })
+        (record { slots = held; readings = readings + length event.readings; capacity = room }) (index more limits.events)
+        (index (put_if true r0 s0 live) limits.events) (λ d. index (put_if (carries d) r0 s0 (carriers d)) limits.events)
+        (index (put_if names_evse r0 s0 naming) limits.events)
     put_chains carries names_evse carries_is names_is live_is ends_is roomy = record {
       keyed = put_keyed rows es slots keyed new key.tx row after r0 s0 st named home free within rising apart put_ranks;
-      indexed = record { lives = put_sub is_live live true refl indexed.lives; carry = λ d. put_sub (is_carrier d) (carriers d) (carries d) (carries_is d) (indexed.carry d); names = put_sub is_naming naming names_evse names_is indexed.names };
+      indexed = record {
+        lives = put_sub is_live live true refl indexed.lives;
+        carry = λ d. put_sub (is_carrier d) (carriers d) (carries d) (carries_is d) (indexed.carry d);
+        names = put_sub is_naming naming names_evse names_is indexed.names;
+      };
       figured = subst (AreFigured new) (sym put_flat) (figured_put rows new es slots key st row after all_rising figured named
           (omega (arith, ap (at_key (live_one key.tx) key) put_absent, live_mine key st, live_is)) (omega (arith, ap (at_key (end_one key.tx) key) put_absent, end_mine key st, ends_is)));
       counted = record {
@@ -139,7 +152,13 @@ module _ (limits : Bounds) (rows new : List TxRow) (es live : List EventPlace) (
           ap (λ (o : Option ℕ). cond (is_some o) (length es) (length es + 1)) none,
           counted.all_are,
         );
-        held_are = omega (arith, count_put slots s0 (r0, st) free within, length-put nat_cmp nat_cmp_total r0 s0 es keyed.ranks, ap (λ (o : Option ℕ). cond (is_some o) (length es) (length es + 1)) none, counted.held_are);
+        held_are = omega (
+          arith,
+          count_put slots s0 (r0, st) free within,
+          length-put nat_cmp nat_cmp_total r0 s0 es keyed.ranks,
+          ap (λ (o : Option ℕ). cond (is_some o) (length es) (length es + 1)) none,
+          counted.held_are,
+        );
         readings_are = omega (arith, counted.readings_are, sum_put size key st all all_rising, ap (at_key size key) put_absent, ap (sum_by size) put_flat);
         transactions_are = counted.transactions_are;
         slots_are = length-set slots s0 (Some (r0, st)) ∙ counted.slots_are;
@@ -194,18 +213,37 @@ module _ (limits : Bounds) (rows new : List TxRow) (es live : List EventPlace) (
         (out_here r0 sub ∙ sym (mark_chosen test ∙ ap (λ c. cond c (Some s0) None) not_new))
 
     -- Chains with an event marked.
-    pub mark_chains : (l : List EventPlace) (c : Direction → List EventPlace) (n : List EventPlace) → AreIndexed es marked_slots l c n → st.event ≡ old.event → after.live + cond (not old.voided) 1 0 ≡ row.live + cond (not st.voided) 1 0
-        → after.ends + cond (not old.voided && is_end old.event.kind) 1 0 ≡ row.ends + cond (not st.voided && is_end st.event.kind) 1 0 → AreRoomy limits.events limits.events limits.events (λ _. limits.events) limits.events
-        → IsChains limits (record { rows = new; capacity = transactions }) (record { slots = marked_slots; readings = readings; capacity = room }) (index es limits.events) (index l limits.events) (λ d. index (c d) limits.events) (index n limits.events)
+    pub mark_chains : (l : List EventPlace) (c : Direction → List EventPlace) (n : List EventPlace) → AreIndexed es marked_slots l c n
+        → st.event ≡ old.event → after.live + cond (not old.voided) 1 0 ≡ row.live + cond (not st.voided) 1 0
+        → after.ends + cond (not old.voided && is_end old.event.kind) 1 0 ≡ row.ends + cond (not st.voided && is_end st.event.kind) 1 0
+        → AreRoomy limits.events limits.events limits.events (λ _. limits.events) limits.events
+        → IsChains limits (record { rows = new; capacity = transactions })
+        (record { slots = marked_slots; readings = readings; capacity = room }) (index es limits.events) (index l limits.events)
+        (λ d. index (c d) limits.events) (index n limits.events)
     mark_chains l c n indexes same live_is ends_is roomy = record {
       keyed = mark_keyed rows es slots keyed new key.tx row after r0 s0 old st named home at here within rising apart;
       indexed = indexes;
       figured = subst (AreFigured new) (sym mark_all) (figured_put rows new es slots key st row after all_rising figured named
-          (omega (arith, ap (at_key (live_one key.tx) key) mark_found, live_mine key st, live_mine key old, live_is)) (omega (arith, ap (at_key (end_one key.tx) key) mark_found, end_mine key st, end_mine key old, ends_is)));
+          (omega (arith, ap (at_key (live_one key.tx) key) mark_found, live_mine key st, live_mine key old, live_is))
+          (omega (arith, ap (at_key (end_one key.tx) key) mark_found, end_mine key st, end_mine key old, ends_is)));
       counted = record {
-        all_are = omega (arith, ap length mark_all, length-put key_cmp key_total key st all all_rising, ap (λ (o : Option Stored). cond (is_some o) (length all) (length all + 1)) mark_found, counted.all_are);
+        all_are = omega (
+          arith,
+          ap length mark_all,
+          length-put key_cmp key_total key st all all_rising,
+          ap (λ (o : Option Stored). cond (is_some o) (length all) (length all + 1)) mark_found,
+          counted.all_are,
+        );
         held_are = count_write slots s0 (r0, old) (r0, st) here within ∙ counted.held_are;
-        readings_are = omega (arith, counted.readings_are, sum_put size key st all all_rising, ap (at_key size key) mark_found, ap (sum_by size) mark_all, ap (λ (e : EventContent). length e.readings) same);
+        readings_are =
+            omega (
+              arith,
+              counted.readings_are,
+              sum_put size key st all all_rising,
+              ap (at_key size key) mark_found,
+              ap (sum_by size) mark_all,
+              ap (λ (e : EventContent). length e.readings) same,
+            );
         transactions_are = counted.transactions_are;
         slots_are = length-set slots s0 (Some (r0, st)) ∙ counted.slots_are;
         room_is = counted.room_is;
@@ -214,8 +252,12 @@ module _ (limits : Bounds) (rows new : List TxRow) (es live : List EventPlace) (
       roomy = roomy;
     }
 
-module _ (limits : Bounds) (rows new : List TxRow) (es live : List EventPlace) (carriers : Direction → List EventPlace) (naming : List EventPlace) (slots : List (Option Held)) (key : KeyName) (row : TableRow) (r0 s0 transactions readings left room : ℕ) (st : Stored)
-    (keyed : IsKeyed rows es slots) (indexed : AreIndexed es slots live carriers naming) (figured : AreFigured rows (flat rows es slots)) (counted : IsCounted limits transactions slots readings room es (flat rows es slots))
+module _ (limits : Bounds) (rows new : List TxRow) (es live : List EventPlace) (carriers : Direction → List EventPlace)
+    (naming : List EventPlace) (slots : List (Option Held)) (key : KeyName) (row : TableRow)
+    (r0 s0 transactions readings left room : ℕ) (st : Stored)
+    (keyed : IsKeyed rows es slots) (indexed : AreIndexed es slots live carriers naming)
+    (figured : AreFigured rows (flat rows es slots))
+    (counted : IsCounted limits transactions slots readings room es (flat rows es slots))
     (gone : IsLeft rows new (out r0 es) key.tx row) (number : key.seq < 2 ^ 31) (rank_is : r0 ≡ rank row.slot key.seq) (rising : AreRising new) (apart : AreApart new)
     (here : value_at slots s0 ≡ Some (r0, st)) (within : s0 < length slots) (at : place_of r0 es ≡ Some s0) (voided : st.voided ≡ true) where
   -- All events before.
@@ -260,7 +302,8 @@ module _ (limits : Bounds) (rows new : List TxRow) (es live : List EventPlace) (
 
   -- Chains with a voided event taken out.
   pub out_chains : left + length st.event.readings ≡ readings → AreRoomy limits.events limits.events limits.events (λ _. limits.events) limits.events
-      → IsChains limits (record { rows = new; capacity = transactions }) (record { slots = bare; readings = left; capacity = room }) (index (out r0 es) limits.events) (index live limits.events) (λ d. index (carriers d) limits.events) (index naming limits.events)
+      → IsChains limits (record { rows = new; capacity = transactions }) (record { slots = bare; readings = left; capacity = room })
+      (index (out r0 es) limits.events) (index live limits.events) (λ d. index (carriers d) limits.events) (index naming limits.events)
   out_chains fewer roomy =
       let n = length_without nat_cmp nat_cmp_total r0 es keyed.ranks in let one = ap (λ (o : Option ℕ). cond {A = ℕ} (is_some o) 1 0) at in
       record {
@@ -272,7 +315,15 @@ module _ (limits : Bounds) (rows new : List TxRow) (es live : List EventPlace) (
         };
         figured = subst (AreFigured new) (sym out_all) (figured_out rows new before key st before_rising figured out_found voided (λ q of is. left_back q of is));
         counted = record {
-          all_are = omega (arith, ap length out_all, length_without key_cmp key_total key before before_rising, ap (λ (o : Option Stored). cond {A = ℕ} (is_some o) 1 0) out_found, n, one, counted.all_are);
+          all_are = omega (
+            arith,
+            ap length out_all,
+            length_without key_cmp key_total key before before_rising,
+            ap (λ (o : Option Stored). cond {A = ℕ} (is_some o) 1 0) out_found,
+            n,
+            one,
+            counted.all_are,
+          );
           held_are = omega (arith, count_take slots s0 (r0, st) here within, n, one, counted.held_are);
           readings_are = omega (arith, counted.readings_are, sum_without size key before before_rising, ap (at_key size key) out_found, ap (sum_by size) out_all, fewer);
           transactions_are = counted.transactions_are;

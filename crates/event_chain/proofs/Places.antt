@@ -32,7 +32,8 @@ ranks_of (e ∷ es) h = both _ _ (above_below e.0 es h.0) (ranks_of es h.1)
 
 -- A greater number comes after.
 nat_greater : (a b : ℕ) → b < a → nat_cmp a b ≡ Greater
-nat_greater a b lt = ap (λ c. cond c Less (cond (a == b) Equal Greater)) (not_so _ (Decides-ltb a b) (λ h. absurd (omega arith))) ∙ ap (λ c. cond c Equal Greater) (not_so _ (Decides-eqb a b) (λ h. absurd (omega arith)))
+nat_greater a b lt = ap (λ c. cond c Less (cond (a == b) Equal Greater)) (not_so _ (Decides-ltb a b) (λ h. absurd (omega arith)))
+    ∙ ap (λ c. cond c Equal Greater) (not_so _ (Decides-eqb a b) (λ h. absurd (omega arith)))
 
 -- A rank below all of a list is not found in it.
 none_below : (r : ℕ) (es : List EventPlace) → AreAbove r es → place_of r es ≡ None
@@ -44,10 +45,12 @@ pub found_at : (key : ℕ) (es : List EventPlace) → AreRising es → filed_at 
 found_at key [] h = refl
 found_at key (e ∷ es) h =
     elim (cases_lt e.0 key) [
-      | inl lt ↦ ap (λ b. filed_at key (cond b (from key es) (e ∷ es))) ((Decides-ltb e.0 key).1 lt) ∙ found_at key es h.1 ∙ sym (ap (λ o. cond (is_eq o) (Some e.1) (place_of key es)) (nat_greater key e.0 lt))
+      | inl lt ↦ ap (λ b. filed_at key (cond b (from key es) (e ∷ es))) ((Decides-ltb e.0 key).1 lt) ∙ found_at key es h.1
+          ∙ sym (ap (λ o. cond (is_eq o) (Some e.1) (place_of key es)) (nat_greater key e.0 lt))
       | inr le ↦ ap (λ b. filed_at key (cond b (from key es) (e ∷ es))) (not_so _ (Decides-ltb e.0 key) (λ lt. absurd (omega arith))) ∙ elim (cases_eq e.0 key) [
         | inl is ↦ ap (λ b. cond b (Some e.1) None) ((Decides-eqb e.0 key).1 is) ∙ sym (ap (λ b. cond b (Some e.1) (place_of key es)) ((rank_test key e.0).1 (sym is)))
-        | inr other ↦ ap (λ b. cond b (Some e.1) None) (not_so _ (Decides-eqb e.0 key) other) ∙ sym (none_below key (e ∷ es) (let up : key < e.0 = omega (arith, other) in (up, above_less key e.0 es (omega arith) h.0)))
+        | inr other ↦ ap (λ b. cond b (Some e.1) None) (not_so _ (Decides-eqb e.0 key) other)
+            ∙ sym (none_below key (e ∷ es) (let up : key < e.0 = omega (arith, other) in (up, above_less key e.0 es (omega arith) h.0)))
       ]
     ]
 
@@ -74,7 +77,9 @@ put_is key slot (e ∷ es) absent =
 -- Greater ranks stay where one is left out.
 without_above : (key : ℕ) (es : List EventPlace) → AreAbove key es → filter (λ e. not (eq_by_cmp nat_cmp key e.0)) es ≡ es
 without_above key [] h = refl
-without_above key (e ∷ es) h = ap (λ o. cond (not (is_eq o)) (e ∷ filter (λ x. not (eq_by_cmp nat_cmp key x.0)) es) (filter (λ x. not (eq_by_cmp nat_cmp key x.0)) es)) (nat_less key e.0 h.0) ∙ ap (λ (rest : List EventPlace). e ∷ rest) (without_above key es h.1)
+without_above key (e ∷ es) h =
+    ap (λ o. cond (not (is_eq o)) (e ∷ filter (λ x. not (eq_by_cmp nat_cmp key x.0)) es) (filter (λ x. not (eq_by_cmp nat_cmp key x.0)) es)) (nat_less key e.0 h.0)
+    ∙ ap (λ (rest : List EventPlace). e ∷ rest) (without_above key es h.1)
 
 -- An index without a key that was there.
 pub out_is : (key : ℕ) (es : List EventPlace) → AreRising es → is_some (filed_at key (from key es)) ≡ true → below key es ++ drop 1 (from key es) ≡ filter (λ e. not (eq_by_cmp nat_cmp key e.0)) es
@@ -90,7 +95,8 @@ out_is key (e ∷ es) rising there =
       | inr le ↦
           let never = not_so _ (Decides-ltb e.0 key) (λ lt. absurd (omega arith)) in
           let some : is_some (cond (e.0 == key) (Some e.1) None) ≡ true = sym (ap (λ b. is_some (filed_at key (cond b (from key es) (e ∷ es)))) never) ∙ there in
-          let is : e.0 ≡ key = elim (e.0 == key) as (λ b. (e.0 == key) ≡ b → is_some (cond b (Some e.1) None) ≡ true → e.0 ≡ key) [ true ↦ λ y _. (Decides-eqb e.0 key).0 y | false ↦ λ _ f. cc ] refl some in
+          let is : e.0 ≡ key =
+          elim (e.0 == key) as (λ b. (e.0 == key) ≡ b → is_some (cond b (Some e.1) None) ≡ true → e.0 ≡ key) [ true ↦ λ y _. (Decides-eqb e.0 key).0 y | false ↦ λ _ f. cc ] refl some in
           ap (λ b. cond b (e ∷ below key es) [] ++ drop 1 (cond b (from key es) (e ∷ es))) never
           ∙ sym (without_above key es (subst (λ k. AreAbove k es) is rising.0))
           ∙ sym (ap (λ b. cond (not b) (e ∷ rest) rest) ((rank_test key e.0).1 (sym is)))
@@ -101,7 +107,8 @@ pub not_less : (a b : ℕ) → nat_lt a b ≡ false → b ≤ a
 not_less a b never = elim (cases_lt a b) [ inl lt ↦ let f : true ≡ false = sym ((Decides-ltb a b).1 lt) ∙ never in cc | inr le ↦ le ]
 
 -- The place of a key whose transaction is known.
-pub place_at_row : (rows : List TxRow) (es : List EventPlace) (key : KeyName) (row : TableRow) → row_of key.tx rows ≡ Some row → key.seq < 2 ^ 31 → place_at rows es key ≡ place_of (rank row.slot key.seq) es
+pub place_at_row : (rows : List TxRow) (es : List EventPlace) (key : KeyName) (row : TableRow) → row_of key.tx rows ≡ Some row
+    → key.seq < 2 ^ 31 → place_at rows es key ≡ place_of (rank row.slot key.seq) es
 place_at_row rows es key row is lt = ap (place_in es key.seq) is ∙ ap (λ b. cond b (place_of (rank row.slot key.seq) es) None) ((Decides-ltb key.seq (2 ^ 31)).1 lt)
 
 -- None above a greater slot's ranks is of the transaction.
@@ -114,13 +121,15 @@ seg_above t n (e ∷ es) h lt = let up = h.0 in
 pub first_seg : (t : ℕ) (es : List EventPlace) → AreRising es → at_home t (first_of (from (rank t 0) es)) ≡ slice_get (segment t es) 0
 first_seg t [] h = refl
 first_seg t (e ∷ es) h =
-    elim (nat_lt e.0 (rank t 0)) as (λ b. nat_lt e.0 (rank t 0) ≡ b → at_home t (first_of (cond b (from (rank t 0) es) (e ∷ es))) ≡ slice_get (cond (e.0 / 2 ^ 31 == t) (e ∷ segment t es) (segment t es)) 0) [
+    elim (nat_lt e.0 (rank t 0)) as (λ b. nat_lt e.0 (rank t 0) ≡ b
+    → at_home t (first_of (cond b (from (rank t 0) es) (e ∷ es))) ≡ slice_get (cond (e.0 / 2 ^ 31 == t) (e ∷ segment t es) (segment t es)) 0) [
       | true ↦ λ y. let lt : e.0 < rank t 0 = (Decides-ltb e.0 (rank t 0)).0 y in
           first_seg t es h.1 ∙ sym (ap (λ b. slice_get (cond b (e ∷ segment t es) (segment t es)) 0) (not_so _ (Decides-eqb (e.0 / 2 ^ 31) t) (λ is. absurd (omega arith))))
       | false ↦ λ never. let ge : rank t 0 ≤ e.0 = not_less e.0 (rank t 0) never in
           elim (e.0 / 2 ^ 31 == t) as (λ b. (e.0 / 2 ^ 31 == t) ≡ b → cond b (Some e) None ≡ slice_get (cond b (e ∷ segment t es) (segment t es)) 0) [
             | true ↦ λ _. refl
-            | false ↦ λ other. let no_more : e.0 / 2 ^ 31 ≡ t → ⊥ = denied _ (Decides-eqb (e.0 / 2 ^ 31) t) other in let up : t < e.0 / 2 ^ 31 = omega (arith, no_more) in sym (ap (λ xs. slice_get xs 0) (seg_above t e.0 es h.0 up))
+            | false ↦ λ other. let no_more : e.0 / 2 ^ 31 ≡ t → ⊥ = denied _ (Decides-eqb (e.0 / 2 ^ 31) t) other in
+                let up : t < e.0 / 2 ^ 31 = omega (arith, no_more) in sym (ap (λ xs. slice_get xs 0) (seg_above t e.0 es h.0 up))
           ] refl
     ] refl
 
@@ -158,7 +167,8 @@ below_seg : (t : ℕ) (es : List EventPlace) → AreRising es → segment t (bel
 below_seg t [] h = refl
 below_seg t (e ∷ es) h =
     elim (nat_lt e.0 (rank (t + 1) 0)) as (λ b. nat_lt e.0 (rank (t + 1) 0) ≡ b → segment t (cond b (e ∷ below (rank (t + 1) 0) es) []) ≡ segment t (e ∷ es)) [
-      | true ↦ λ _. elim (e.0 / 2 ^ 31 == t) as (λ b. cond b (e ∷ segment t (below (rank (t + 1) 0) es)) (segment t (below (rank (t + 1) 0) es)) ≡ cond b (e ∷ segment t es) (segment t es)) [ true ↦ ap (λ (xs : List EventPlace). e ∷ xs) (below_seg t es h.1) | false ↦ below_seg t es h.1 ]
+      | true ↦ λ _. elim (e.0 / 2 ^ 31 == t) as (λ b. cond b (e ∷ segment t (below (rank (t + 1) 0) es)) (segment t (below (rank (t + 1) 0) es))
+          ≡ cond b (e ∷ segment t es) (segment t es)) [ true ↦ ap (λ (xs : List EventPlace). e ∷ xs) (below_seg t es h.1) | false ↦ below_seg t es h.1 ]
       | false ↦ λ never. let ge : rank (t + 1) 0 ≤ e.0 = not_less e.0 (rank (t + 1) 0) never in let up : t < e.0 / 2 ^ 31 = omega arith in
           sym (ap (λ b. cond b (e ∷ segment t es) (segment t es)) (not_so _ (Decides-eqb (e.0 / 2 ^ 31) t) (λ is. absurd (omega arith))) ∙ seg_above t e.0 es h.0 up)
     ] refl

@@ -38,7 +38,8 @@ from_present r s (e ∷ es) h some = elim (cases_lt e.0 r) [
     | inl is ↦
         let slot : Some e.1 ≡ Some s = sym (ap (λ b. cond b (Some e.1) None) ((Decides-eqb e.0 r).1 is)) ∙ ap (filed_at r) (sym (from_end r e es le)) ∙ some in
         let same : e.1 ≡ s = cc in
-        from_end r e es le ∙ (λ i. (is i, same i) ∷ es) ∙ ap (λ (xs : List EventPlace). (r, s) ∷ xs) (sym (from_above r es (subst (λ k. AreAbove k es) is h.0)) ∙ sym (from_on (r + 1) e es (omega (arith, is))))
+        from_end r e es le ∙ (λ i. (is i, same i) ∷ es)
+        ∙ ap (λ (xs : List EventPlace). (r, s) ∷ xs) (sym (from_above r es (subst (λ k. AreAbove k es) is h.0)) ∙ sym (from_on (r + 1) e es (omega (arith, is))))
     | inr other ↦ let f : None ≡ Some s = sym (ap (λ b. cond b (Some e.1) None) (not_so _ (Decides-eqb e.0 r) other)) ∙ ap (filed_at r) (sym (from_end r e es le)) ∙ some in cc
   ]
 ]
@@ -112,7 +113,8 @@ module _ (r : ℕ) (es : List EventPlace) (h : AreRising es) where
     -- Other transactions keep theirs.
     pub seg_out_other : (t : ℕ) → (home ≡ t → ⊥) → segment t (out r es) ≡ segment t es
     seg_out_other t other =
-        ap (segment t) gone ∙ seg_both t (below r es) (from (r + 1) es) ∙ sym (ap (segment t) cut_present ∙ seg_both t (below r es) ((r, s) ∷ from (r + 1) es) ∙ ap (λ xs. segment t (below r es) ++ xs) (seg_other t r s (from (r + 1) es) other))
+        ap (segment t) gone ∙ seg_both t (below r es) (from (r + 1) es)
+        ∙ sym (ap (segment t) cut_present ∙ seg_both t (below r es) ((r, s) ∷ from (r + 1) es) ∙ ap (λ xs. segment t (below r es) ++ xs) (seg_other t r s (from (r + 1) es) other))
 
     -- Behind it are all of its transaction that come later.
     pub behind_present : segment home (from (r + 1) es) ≡ places_behind r es

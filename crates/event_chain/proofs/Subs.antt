@@ -16,7 +16,9 @@ abbrev pub OthersSame : ℕ → List EventPlace → List EventPlace → Type 0
 OthersSame r0 old new = (r : ℕ) → (r ≡ r0 → ⊥) → place_of r new ≡ place_of r old
 
 -- A sub-index after a move.
-pub sub_move : (test : Stored → Bool) (es more sub after : List EventPlace) (slots held : List (Option Held)) (r0 s0 : ℕ) → IsSub test es slots sub → OthersSame r0 es more → OthersSame r0 sub after → ((r : ℕ) → place_of r es ≡ Some s0 → r ≡ r0) → ((s : ℕ) → (s ≡ s0 → ⊥) → stored_at held s ≡ stored_at slots s)
+pub sub_move : (test : Stored → Bool) (es more sub after : List EventPlace) (slots held : List (Option Held)) (r0 s0 : ℕ)
+    → IsSub test es slots sub → OthersSame r0 es more → OthersSame r0 sub after → ((r : ℕ) → place_of r es ≡ Some s0 → r ≡ r0)
+    → ((s : ℕ) → (s ≡ s0 → ⊥) → stored_at held s ≡ stored_at slots s)
     → AreRanks after → place_of r0 after ≡ chosen test held (place_of r0 more) → IsSub test more held after
 sub_move test es more sub after slots held r0 s0 was moved same own stays ranks here = record {
   rising = ranks;

@@ -47,7 +47,8 @@ more_spare capacity slot rows (s ∷ ss) last = (
 )
 
 -- Slots to spare, among other rows where each is as fresh.
-pub spare_on : (capacity : ℕ) (rows new : List TxRow) (n : ℕ) (ss : List ℕ) → IsApart n ss → ((s : ℕ) → (n ≡ s → ⊥) → IsFresh s rows → IsFresh s new) → AreSpare capacity rows ss → AreSpare capacity new ss
+pub spare_on : (capacity : ℕ) (rows new : List TxRow) (n : ℕ) (ss : List ℕ) → IsApart n ss
+    → ((s : ℕ) → (n ≡ s → ⊥) → IsFresh s rows → IsFresh s new) → AreSpare capacity rows ss → AreSpare capacity new ss
 spare_on capacity rows new n [] none turn h = tt
 spare_on capacity rows new n (s ∷ ss) none turn h = (turn s none.0 h.0, (h.1.0, (h.1.1.0, spare_on capacity rows new n ss none.1 turn h.1.1.1)))
 
@@ -57,7 +58,9 @@ none_fresh capacity tx row rows [] there h = tt
 none_fresh capacity tx row rows (s ∷ ss) there h = (h.0 tx row there, none_fresh capacity tx row rows ss there h.1.1.1)
 
 -- A transaction put in with a slot that was to spare.
-pub IsTable-add : (rows : List TxRow) (spare ss : List ℕ) (capacity slot : ℕ) (tx : List ℕ) (r : TableRow) → spare ≡ ss ++ slot ∷ [] → IsTable rows spare capacity → row_of tx rows ≡ None → r.slot ≡ slot → IsTable (with_row tx r rows) ss capacity
+pub IsTable-add : (rows : List TxRow) (spare ss : List ℕ) (capacity slot : ℕ) (tx : List ℕ) (r : TableRow)
+    → spare ≡ ss ++ slot ∷ [] → IsTable rows spare capacity → row_of tx rows ≡ None → r.slot ≡ slot
+    → IsTable (with_row tx r rows) ss capacity
 IsTable-add rows spare ss capacity slot tx r is table absent same =
     let last = last_spare capacity slot rows ss (subst (AreSpare capacity rows) is table.spare_are) in
     let fresh : (q : List ℕ) (x : TableRow) → row_of q rows ≡ Some x → x.slot ≡ r.slot → ⊥ = λ q x there e. last.fresh q x there (e ∙ same) in
@@ -81,12 +84,14 @@ IsTable-add rows spare ss capacity slot tx r is table absent same =
         | inl a ↦ other (sym same ∙ sym (ap (λ (z : TableRow). z.slot) a.1) ∙ e)
         | inr a ↦ was q x a e
       ]) last.rest;
-      total = let n = length_put tx r rows table.rising ∙ ap (λ (o : Option TableRow). cond (is_some o) (length rows) (length rows + 1)) absent in omega (arith, n, table.total, ap length is, length-append ss (slot ∷ []));
+      total = let n = length_put tx r rows table.rising
+          ∙ ap (λ (o : Option TableRow). cond (is_some o) (length rows) (length rows + 1)) absent in omega (arith, n, table.total, ap length is, length-append ss (slot ∷ []));
       few = table.few;
     }
 
 -- What is kept of a transaction changed, except for its slot.
-pub IsTable-set : (rows : List TxRow) (ss : List ℕ) (capacity : ℕ) (tx : List ℕ) (old r : TableRow) → IsTable rows ss capacity → row_of tx rows ≡ Some old → r.slot ≡ old.slot → IsTable (with_row tx r rows) ss capacity
+pub IsTable-set : (rows : List TxRow) (ss : List ℕ) (capacity : ℕ) (tx : List ℕ) (old r : TableRow) → IsTable rows ss capacity
+    → row_of tx rows ≡ Some old → r.slot ≡ old.slot → IsTable (with_row tx r rows) ss capacity
 IsTable-set rows ss capacity tx old r table there same =
     let back : (q : List ℕ) (x : TableRow) → row_of q (with_row tx r rows) ≡ Some x → (y : TableRow) × ((row_of q rows ≡ Some y) × (x.slot ≡ y.slot)) = λ q x at. elim (put_cases q tx r x rows at) [
       | inl a ↦ (old, (ap (λ k. row_of k rows) a.0 ∙ there, ap (λ (z : TableRow). z.slot) a.1 ∙ same))
@@ -96,16 +101,20 @@ IsTable-set rows ss capacity tx old r table there same =
       rising = rising_put tx r rows table.rising;
       apart = λ q o x y at ay e. let a = back q x at in let b = back o y ay in table.apart q o a.0 b.0 a.1.0 b.1.0 (sym a.1.1 ∙ e ∙ b.1.1);
       below = λ q x at. let a = back q x at in subst (λ n. n < capacity) (sym a.1.1) (table.below q a.0 a.1.0);
-      spare_are = spare_on capacity rows (with_row tx r rows) old.slot ss (none_fresh capacity tx old rows ss there table.spare_are) (λ s other was q x at e. let a = back q x at in was q a.0 a.1.0 (sym a.1.1 ∙ e)) table.spare_are;
+      spare_are = spare_on capacity rows (with_row tx r rows) old.slot ss (none_fresh capacity tx old rows ss there table.spare_are)
+          (λ s other was q x at e. let a = back q x at in was q a.0 a.1.0 (sym a.1.1 ∙ e)) table.spare_are;
       total = let n = length_put tx r rows table.rising ∙ ap (λ (o : Option TableRow). cond (is_some o) (length rows) (length rows + 1)) there in omega (arith, n, table.total);
       few = table.few;
     }
 
 -- A transaction taken out, and its slot given back.
-pub IsTable-remove : (rows : List TxRow) (ss : List ℕ) (capacity : ℕ) (tx : List ℕ) (r : TableRow) → IsTable rows ss capacity → row_of tx rows ≡ Some r → IsTable (without_row tx rows) (ss ++ r.slot ∷ []) capacity
+pub IsTable-remove : (rows : List TxRow) (ss : List ℕ) (capacity : ℕ) (tx : List ℕ) (r : TableRow) → IsTable rows ss capacity
+    → row_of tx rows ≡ Some r → IsTable (without_row tx rows) (ss ++ r.slot ∷ []) capacity
 IsTable-remove rows ss capacity tx r table there =
     let new : List TxRow = without_row tx rows in
-    let gone : IsFresh r.slot new = λ q x at e. let o = out_cases q tx x rows at in let is = table.apart q tx x r o.1 there e in let f : false ≡ true = sym o.0 ∙ ap (λ k. eq_by_cmp id_cmp k tx) is ∙ same_id tx in cc in
+    let gone : IsFresh r.slot new = λ q x at e. let o = out_cases q tx x rows at in
+    let is = table.apart q tx x r o.1 there e in
+    let f : false ≡ true = sym o.0 ∙ ap (λ k. eq_by_cmp id_cmp k tx) is ∙ same_id tx in cc in
     record {
       rising = rising_out tx rows table.rising;
       apart = λ q o x y at ay e. table.apart q o x y (out_cases q tx x rows at).1 (out_cases o tx y rows ay).1 e;
@@ -116,7 +125,8 @@ IsTable-remove rows ss capacity tx r table there =
         none = none_fresh capacity tx r rows ss there table.spare_are;
         rest = spare_on capacity rows new r.slot ss (none_fresh capacity tx r rows ss there table.spare_are) (λ s other was q x at e. was q x (out_cases q tx x rows at).1 e) table.spare_are;
       });
-      total = let n = length_out tx rows table.rising in let one = ap (λ (o : Option TableRow). cond {A = ℕ} (is_some o) 1 0) there in omega (arith, n, one, table.total, length-append ss (r.slot ∷ []));
+      total = let n = length_out tx rows table.rising in
+          let one = ap (λ (o : Option TableRow). cond {A = ℕ} (is_some o) 1 0) there in omega (arith, n, one, table.total, length-append ss (r.slot ∷ []));
       few = table.few;
     }
 

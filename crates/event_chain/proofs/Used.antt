@@ -27,10 +27,12 @@ module _ (rows : List TxRow) (es live : List EventPlace) (slots : List (Option H
 
   -- The events of the live places have their ranks.
   pub live_under : are_under slots live ≡ true
-  live_under = all_under slots live (all_found (λ p. is_under p.0 (value_at slots p.1) ≡ true) live lives.rising (λ p at. let held = held_live p.0 p.1 at in ap (is_under p.0) held.1 ∙ (Decides-eqb p.0 p.0).1 refl))
+  live_under = all_under slots live
+      (all_found (λ p. is_under p.0 (value_at slots p.1) ≡ true) live lives.rising (λ p at. let held = held_live p.0 p.1 at in ap (is_under p.0) held.1 ∙ (Decides-eqb p.0 p.0).1 refl))
 
 -- No live place has the slot of a voided event.
-pub unused_voided : (es live : List EventPlace) (slots : List (Option Held)) → IsSub is_live es slots live → (s r0 : ℕ) (event : Stored) → value_at slots s ≡ Some (r0, event) → event.voided ≡ true → (r : ℕ) → place_of r live ≡ Some s → ⊥
+pub unused_voided : (es live : List EventPlace) (slots : List (Option Held)) → IsSub is_live es slots live
+    → (s r0 : ℕ) (event : Stored) → value_at slots s ≡ Some (r0, event) → event.voided ≡ true → (r : ℕ) → place_of r live ≡ Some s → ⊥
 unused_voided es live slots lives s r0 event here voided r at =
     let counts = chosen_test is_live slots (place_of r es) s (sym (lives.each r) ∙ at) in
     let never : true ≡ false = sym counts ∙ ap (λ o. is_live (stored_in o)) here ∙ ap not voided in cc

@@ -65,11 +65,14 @@ left_rising f (e ∷ es) h = elim (f e) as (λ b. entries.AreRising (cond b (e �
 -- All greater ranks are greater.
 above_all : (n : ℕ) (es : List EventPlace) → AreAbove n es → filter (λ e. nat_lt n e.0) es ≡ es
 above_all n [] h = refl
-above_all n (e ∷ es) h = ap (λ b. cond b (e ∷ filter (λ (x : EventPlace). nat_lt n x.0) es) (filter (λ x. nat_lt n x.0) es)) ((Decides-ltb n e.0).1 h.0) ∙ ap (λ (xs : List EventPlace). e ∷ xs) (above_all n es h.1)
+above_all n (e ∷ es) h = ap (λ b. cond b (e ∷ filter (λ (x : EventPlace). nat_lt n x.0) es) (filter (λ x. nat_lt n x.0) es)) ((Decides-ltb n e.0).1 h.0)
+    ∙ ap (λ (xs : List EventPlace). e ∷ xs) (above_all n es h.1)
 
 -- Those greater than the first are the others.
 behind_first : (e : EventPlace) (es : List EventPlace) → entries.AreRising (e ∷ es) → filter (λ x. nat_lt e.0 x.0) (e ∷ es) ≡ es
-behind_first e es h = ap (λ b. cond b (e ∷ filter (λ (x : EventPlace). nat_lt e.0 x.0) es) (filter (λ x. nat_lt e.0 x.0) es)) (not_so _ (Decides-ltb e.0 e.0) (λ lt. absurd (omega arith))) ∙ above_all e.0 es h.0
+behind_first e es h =
+    ap (λ b. cond b (e ∷ filter (λ (x : EventPlace). nat_lt e.0 x.0) es) (filter (λ x. nat_lt e.0 x.0) es)) (not_so _ (Decides-ltb e.0 e.0) (λ lt. absurd (omega arith)))
+    ∙ above_all e.0 es h.0
 
 -- Those greater than a greater rank are among the greater.
 greater_twice : (n m : ℕ) (es : List EventPlace) → n < m → filter (λ e. nat_lt m e.0) (filter (λ e. nat_lt n e.0) es) ≡ filter (λ e. nat_lt m e.0) es
@@ -89,7 +92,9 @@ all_below P n (e ∷ es) h = elim (nat_lt e.0 n) as (λ b. AllPlaces P (cond b (
 -- The test holds too of what it leaves.
 all_tested : (P : EventPlace → Type 0) (f : EventPlace → Bool) (es : List EventPlace) → AllPlaces P es → AllPlaces (λ p. (f p ≡ true) × P p) (filter f es)
 all_tested P f [] h = tt
-all_tested P f (e ∷ es) h = elim (f e) as (λ b. f e ≡ b → AllPlaces (λ p. (f p ≡ true) × P p) (cond b (e ∷ filter f es) (filter f es))) [ true ↦ λ y. ((y, h.0), all_tested P f es h.1) | false ↦ λ _. all_tested P f es h.1 ] refl
+all_tested P f (e ∷ es) h =
+    elim (f e) as (λ b. f e ≡ b
+    → AllPlaces (λ p. (f p ≡ true) × P p) (cond b (e ∷ filter f es) (filter f es))) [ true ↦ λ y. ((y, h.0), all_tested P f es h.1) | false ↦ λ _. all_tested P f es h.1 ] refl
 
 -- No place in front of a slot's has the slot.
 none_front : (s r : ℕ) (es : List EventPlace) → AllPlaces (λ p. p.1 ≡ s → p.0 ≡ r) es → AreBelow r es → AllPlaces (λ p. p.1 ≡ s → ⊥) es
@@ -118,7 +123,12 @@ rank_on s (e ∷ es) ranks some =
     elim (e.1 == s) as (λ b. (e.1 == s) ≡ b → 0 < length (cond b (number_in e ∷ map number_in (segment (e.0 / 2 ^ 31) es)) (numbers_on s es)) → HasRank (e ∷ es) s) [
       | true ↦ λ y _. record { rank = e.0; found = ap (λ b. cond b (Some e.1) (place_of e.0 es)) ((rank_test e.0 e.0).1 refl) ∙ ap Some ((Decides-eqb e.1 s).0 y) }
       | false ↦ λ _ rest. let has = rank_on s es (second _ _ ranks) rest in
-          record { rank = has.rank; found = ap (λ b. cond b (Some e.1) (place_of has.rank es)) (not_so _ (rank_test has.rank e.0) (λ k. never (place_of has.rank es) s has.found (ap (λ r. place_of r es) k ∙ below_none e.0 es (first _ _ ranks)))) ∙ has.found }
+          record {
+            rank = has.rank;
+            found = ap (λ b. cond b (Some e.1) (place_of has.rank es))
+                (not_so _ (rank_test has.rank e.0) (λ k. never (place_of has.rank es) s has.found (ap (λ r. place_of r es) k ∙ below_none e.0 es (first _ _ ranks))))
+                ∙ has.found;
+          }
     ] refl some
 
 -- The event of a place that is found has its rank.
@@ -204,7 +214,8 @@ module _ (es : List EventPlace) (rising : entries.AreRising es) where
       let more : r < e.0 = (Decides-ltb r e.0).0 here.0.0 in
       let up = subst entries.AreRising is (left_rising (λ p. nat_lt r p.0) (segment t es) (left_rising (λ p. p.0 / 2 ^ 31 == t) es rising)) in
       record {
-        rest = ap (λ k. filter (λ (x : EventPlace). nat_lt e.0 x.0) (segment k es)) home ∙ sym (greater_twice r e.0 (segment t es) more) ∙ ap (filter (λ (x : EventPlace). nat_lt e.0 x.0)) is ∙ behind_first e ps up;
+        rest = ap (λ k. filter (λ (x : EventPlace). nat_lt e.0 x.0) (segment k es)) home ∙ sym (greater_twice r e.0 (segment t es) more)
+            ∙ ap (filter (λ (x : EventPlace). nat_lt e.0 x.0)) is ∙ behind_first e ps up;
         found = here.0.1.1;
       }
 
@@ -263,7 +274,8 @@ module _ (es : List EventPlace) (slots : List (Option Held)) (rising : entries.A
 
     -- The number of the slot's event is the first.
     pub number_read : (h : Held) → value_at slots s ≡ Some h → h.0 % 2 ^ 31 ≡ slice_index (numbers_from es slots s) 0
-    number_read h here = let same : (at.rank, at.stored) ≡ h = held_same (value_at slots s) (at.rank, at.stored) h at.held_is here in ap (λ (x : Held). x.0 % 2 ^ 31) (sym same) ∙ sym (ap (λ ns. slice_index ns 0) at.numbers)
+    number_read h here = let same : (at.rank, at.stored)
+        ≡ h = held_same (value_at slots s) (at.rank, at.stored) h at.held_is here in ap (λ (x : Held). x.0 % 2 ^ 31) (sym same) ∙ sym (ap (λ ns. slice_index ns 0) at.numbers)
 
     next_from : (e : EventPlace) (ps : List EventPlace) → behind ≡ e ∷ ps → numbers_from es slots e.1 ≡ map number_in behind
     next_from e ps is = let next = behind_next es rising at.rank e ps is in from_first e ps at.all next.found next.rest ∙ ap (map number_in) (sym is)

@@ -15,7 +15,9 @@ pub record Chained : Type 0 where
 
 -- Limits are kept as the tuple of their parts.
 abbrev pub bounds_code : Coded Bounds
-bounds_code = code_by (ℕ × (ℕ × (ℕ × ℕ))) (coded× coded_ℕ (coded× coded_ℕ (coded× coded_ℕ coded_ℕ))) (λ b. (b.transactions, (b.events, (b.readings, b.changes)))) (λ p. record { transactions = p.0; events = p.1.0; readings = p.1.1.0; changes = p.1.1.1 }) (λ _. refl)
+bounds_code = code_by (ℕ × (ℕ × (ℕ × ℕ))) (coded× coded_ℕ (coded× coded_ℕ (coded× coded_ℕ coded_ℕ)))
+    (λ b. (b.transactions, (b.events, (b.readings, b.changes))))
+    (λ p. record { transactions = p.0; events = p.1.0; readings = p.1.1.0; changes = p.1.1.1 }) (λ _. refl)
 
 -- Chains are kept as the pair of their parts.
 abbrev pub chained_code : Coded Chained

@@ -53,7 +53,13 @@ marked_index o i = index (marked_places o i.entries) i.capacity
 
 -- The places of one index, all and by each mark.
 abbrev pub placed : keyed.Index ℕ → Placed
-placed i = record { stored = marked_index None i; live = marked_index (Some Live) i; imports = marked_index (Some Imports) i; exports = marked_index (Some Exports) i; naming = marked_index (Some Names) i }
+placed i = record {
+  stored = marked_index None i;
+  live = marked_index (Some Live) i;
+  imports = marked_index (Some Imports) i;
+  exports = marked_index (Some Exports) i;
+  naming = marked_index (Some Names) i;
+}
 
 -- The places of the live events that have a reading of this direction.
 abbrev pub carriers_of : Placed → Direction → Index

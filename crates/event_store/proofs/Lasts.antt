@@ -33,7 +33,8 @@ other_one d x r apart same e =
     true_not : true ≡ false → ⊥
     true_not h = cc
 
-toward_or : (d : Direction) (o p : Option MeterReading) (rs : List MeterReading) (r : MeterReading) → (o ≡ Some r → p ≡ Some r) → last_or o rs ≡ Some r → same_direction d r.direction ≡ true → last_or p (toward d rs) ≡ Some r
+toward_or : (d : Direction) (o p : Option MeterReading) (rs : List MeterReading) (r : MeterReading) → (o ≡ Some r → p ≡ Some r)
+    → last_or o rs ≡ Some r → same_direction d r.direction ≡ true → last_or p (toward d rs) ≡ Some r
 toward_or d o p [] r step last same = step last
 toward_or d o p (x ∷ rs) r step last same =
     (elim (same_direction d x.direction) as (λ b. same_direction d x.direction ≡ b → last_or p (cond b (x ∷ toward d rs) (toward d rs)) ≡ Some r) [

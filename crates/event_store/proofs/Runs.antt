@@ -12,7 +12,9 @@ abbrev pub LinkRow : Type 0
 LinkRow = List (Option ReadingLink)
 
 -- A chain stays where its links are kept.
-pub run_same : (old new : LinkRow) (owner first n : ℕ) → ((i : ℕ) → is_some (value_at old i) ≡ true → owner_of (value_at old i) ≡ owner → left_of (value_at old i) ≤ n → value_at new i ≡ value_at old i) → IsRun old owner first n → IsRun new owner first n × (chain new first n ≡ chain old first n)
+pub run_same : (old new : LinkRow) (owner first n : ℕ)
+    → ((i : ℕ) → is_some (value_at old i) ≡ true → owner_of (value_at old i) ≡ owner → left_of (value_at old i) ≤ n → value_at new i ≡ value_at old i)
+    → IsRun old owner first n → IsRun new owner first n × (chain new first n ≡ chain old first n)
 run_same old new owner first zero same run = (tt, refl)
 run_same old new owner first (suc n) same run =
     let here : value_at new first ≡ value_at old first = same first run.0.there run.0.owner_is (omega (arith, run.0.left_is)) in
@@ -26,11 +28,14 @@ pub run_kept : (old new : LinkRow) (owner first n : ℕ) → AreKept old new →
 run_kept old new owner first n kept run = run_same old new owner first n (λ i there _ _. kept i there) run
 
 -- Where the links of all but one event are kept, another's chain is.
-pub run_other : (old new : LinkRow) (owner other first n : ℕ) → AreOthersKept owner old new → (other ≡ owner → ⊥) → IsRun old other first n → IsRun new other first n × (chain new first n ≡ chain old first n)
+pub run_other : (old new : LinkRow) (owner other first n : ℕ) → AreOthersKept owner old new → (other ≡ owner → ⊥)
+    → IsRun old other first n → IsRun new other first n × (chain new first n ≡ chain old first n)
 run_other old new owner other first n kept apart run = run_same old new other first n (λ i there is _. kept i there (λ e. apart (sym is ∙ e))) run
 
 -- The last link stays where it is kept, and its chain.
-last_same : (old new : LinkRow) (owner first n last : ℕ) → (is_some (value_at old last) ≡ true → owner_of (value_at old last) ≡ owner → value_at new last ≡ value_at old last) → chain new first n ≡ chain old first n → IsLast old owner first n last → IsLast new owner first n last
+last_same : (old new : LinkRow) (owner first n last : ℕ)
+    → (is_some (value_at old last) ≡ true → owner_of (value_at old last) ≡ owner → value_at new last ≡ value_at old last)
+    → chain new first n ≡ chain old first n → IsLast old owner first n last → IsLast new owner first n last
 last_same old new owner first zero last same is ends = tt
 last_same old new owner first (suc n) last same is ends =
     let here : value_at new last ≡ value_at old last = same ends.0.there ends.0.owner_is in (
@@ -45,7 +50,8 @@ readings_kept old new owner first n last kept was =
     (record { run = r.0; ends = last_same old new owner first n last (λ there _. kept last there) r.1 was.ends }, r.1)
 
 -- Where the links of all but one event are kept, another's readings are.
-pub readings_other : (old new : LinkRow) (owner other first n last : ℕ) → AreOthersKept owner old new → (other ≡ owner → ⊥) → AreReadings old other first n last → AreReadings new other first n last × (chain new first n ≡ chain old first n)
+pub readings_other : (old new : LinkRow) (owner other first n last : ℕ) → AreOthersKept owner old new → (other ≡ owner → ⊥)
+    → AreReadings old other first n last → AreReadings new other first n last × (chain new first n ≡ chain old first n)
 readings_other old new owner other first n last kept apart was =
     let r = run_other old new owner other first n kept apart was.run in
     (record { run = r.0; ends = last_same old new other first n last (λ there is. kept last there (λ e. apart (sym is ∙ e))) r.1 was.ends }, r.1)
@@ -71,14 +77,17 @@ module _ {X : Type 0} where
 
 -- A link put into a free slot leaves all others.
 pub put_kept : (links : LinkRow) (id : ℕ) (link : ReadingLink) → value_at links id ≡ None → AreKept links (set links id (Some link))
-put_kept links id link free i there = get_or-set_other links id i (Some link) None (λ same. let e : None ≡ value_at links i = sym free ∙ ap (value_at links) (sym same) in let f : false ≡ true = ap is_some e ∙ there in cc)
+put_kept links id link free i there =
+    get_or-set_other links id i (Some link) None
+    (λ same. let e : None ≡ value_at links i = sym free ∙ ap (value_at links) (sym same) in let f : false ≡ true = ap is_some e ∙ there in cc)
 
 -- Kept twice is kept.
 pub kept_on : (old mid new : LinkRow) → AreKept old mid → AreKept mid new → AreKept old new
 kept_on old mid new a b i there = b i (ap is_some (a i there) ∙ there) ∙ a i there
 
 -- A link put in front of a chain.
-pub put_run : (links : LinkRow) (id first n owner : ℕ) (link : ReadingLink) → value_at links id ≡ None → id < length links → link.owner ≡ owner → link.left ≡ suc n → link.next ≡ first → IsRun links owner first n
+pub put_run : (links : LinkRow) (id first n owner : ℕ) (link : ReadingLink) → value_at links id ≡ None → id < length links
+    → link.owner ≡ owner → link.left ≡ suc n → link.next ≡ first → IsRun links owner first n
     → IsRun (set links id (Some link)) owner id (suc n) × (chain (set links id (Some link)) id (suc n) ≡ link.reading ∷ chain links first n)
 put_run links id first n owner link free lt is left next run =
     let new = set links id (Some link) in
@@ -92,7 +101,8 @@ put_run links id first n owner link free lt is left next run =
 pub give_run : (links : LinkRow) (owner first n : ℕ) → IsRun links owner first (suc n) → IsRun (set links first None) owner (next_of (value_at links first)) n
 give_run links owner first n run =
     (run_same links (set links first None) owner (next_of (value_at links first)) n
-    (λ i there is le. get_or-set_other links first i None None (λ same. let e : left_of (value_at links i) ≡ suc n = ap (λ k. left_of (value_at links k)) same ∙ run.0.left_is in absurd (omega arith))) run.1).0
+    (λ i there is le. get_or-set_other links first i None None
+    (λ same. let e : left_of (value_at links i) ≡ suc n = ap (λ k. left_of (value_at links k)) same ∙ run.0.left_is in absurd (omega arith))) run.1).0
 
 -- The others are kept.
 pub give_kept : (start links : LinkRow) (owner first n : ℕ) → IsRun links owner first (suc n) → AreOthersKept owner start links → AreOthersKept owner start (set links first None)
@@ -107,7 +117,9 @@ pub record IsGiven (start links new : LinkRow) (owner next n : ℕ) : Type 0 whe
   pub same : length new ≡ length links
 
 -- That is so.
-pub give_step : (start links new : LinkRow) (owner here left n id : ℕ) (link : ReadingLink) → left ≡ suc n → id ≡ here → value_at links id ≡ Some link → new ≡ set links id None → IsRun links owner here left → AreOthersKept owner start links → IsGiven start links new owner link.next n
+pub give_step : (start links new : LinkRow) (owner here left n id : ℕ) (link : ReadingLink) → left ≡ suc n → id ≡ here
+    → value_at links id ≡ Some link → new ≡ set links id None → IsRun links owner here left → AreOthersKept owner start links
+    → IsGiven start links new owner link.next n
 give_step start links new owner here left n id link up is value gone run kept =
     let whole : IsRun links owner here (suc n) = subst (IsRun links owner here) up run in
     let at : value_at links here ≡ Some link = ap (value_at links) (sym is) ∙ value in
@@ -135,7 +147,9 @@ pub record IsPut (start links new : LinkRow) (owner first n : ℕ) (rest all : L
   pub same : length new ≡ length links
 
 -- That is so.
-pub put_step : (start links new : LinkRow) (id first n more owner : ℕ) (link : ReadingLink) (rest all : List MeterReading) (m : ℕ) → more ≡ suc n → m + 1 ≡ length rest → value_at links id ≡ None → id < length links → new ≡ set links id (Some link) → link.owner ≡ owner → link.left ≡ more → link.next ≡ first → link.reading ≡ get_or rest m link.reading
+pub put_step : (start links new : LinkRow) (id first n more owner : ℕ) (link : ReadingLink) (rest all : List MeterReading) (m : ℕ)
+    → more ≡ suc n → m + 1 ≡ length rest → value_at links id ≡ None → id < length links → new ≡ set links id (Some link)
+    → link.owner ≡ owner → link.left ≡ more → link.next ≡ first → link.reading ≡ get_or rest m link.reading
     → IsRun links owner first n → rest ++ chain links first n ≡ all → AreKept start links → IsPut start links new owner id more (take m rest) all
 put_step start links new id first n more owner link rest all m up long free lt put is left next last run whole kept =
     let step = put_run links id first n owner link free lt is (left ∙ up) next run in
@@ -154,7 +168,9 @@ last_more x y ys =
     ap (slice_get (x ∷ y ∷ ys)) a ∙ sym (ap (slice_get (y ∷ ys)) b)
 
 -- A link put in front of a chain is its last one where there was none; else the last one stays.
-pub put_last : (links new : LinkRow) (id first n more owner last end : ℕ) (link : ReadingLink) → more ≡ suc n → value_at links id ≡ None → id < length links → new ≡ set links id (Some link) → link.owner ≡ owner → link.left ≡ more → link.next ≡ first
+pub put_last : (links new : LinkRow) (id first n more owner last end : ℕ) (link : ReadingLink) → more ≡ suc n
+    → value_at links id ≡ None → id < length links → new ≡ set links id (Some link) → link.owner ≡ owner → link.left ≡ more
+    → link.next ≡ first
     → (more ≡ 1 → end ≡ id) → (1 < more → end ≡ last) → IsRun links owner first n → IsLast links owner first n last → IsLast new owner id more end
 put_last links new id first n more owner last end link up free lt put is left next only others run ends =
     subst (λ row. IsLast row owner id more end) (sym put) (subst (λ k. IsLast (set links id (Some link)) owner id k end) (sym up) (told n up run ends)) where

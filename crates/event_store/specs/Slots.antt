@@ -26,7 +26,8 @@ held_code = coded× coded_ℕ stored_code
 
 -- A store is kept as the tuple of its parts.
 abbrev pub slots_code : Coded Slots
-slots_code = code_by (List (Option Held) × (ℕ × ℕ)) (coded× (coded_list (coded_option held_code)) (coded× coded_ℕ coded_ℕ)) (λ s. (s.slots, (s.readings, s.capacity))) (λ p. record { slots = p.0; readings = p.1.0; capacity = p.1.1 }) (λ _. refl)
+slots_code = code_by (List (Option Held) × (ℕ × ℕ)) (coded× (coded_list (coded_option held_code)) (coded× coded_ℕ coded_ℕ))
+    (λ s. (s.slots, (s.readings, s.capacity))) (λ p. record { slots = p.0; readings = p.1.0; capacity = p.1.1 }) (λ _. refl)
 
 -- What a slot holds, voided or not.
 abbrev pub voided_as : Bool → Option Held → Option Held

@@ -23,7 +23,9 @@ boards_are_those_of_cells s sites stations cells site line once shows less says 
     let period : period_named s name ≡ period_at sites site = (λ i. period_of (site_number name (shows.sites_are i)) (shows.periods_are i)) ∙ period_found name sites site found in
     let order : order_named s name ≡ order_at sites site = (λ i. order_of (site_number name (shows.sites_are i)) (shows.orders_are i)) ∙ order_found name sites site found in
     let shown = site_shown (order_at sites site) (period_at sites site) sites stations cells name site once.sites_once once.placed found in
-    let is = board_is name (order_at sites site) (order_at sites site) (period_at sites site) (period_at sites site) (closed_site sites stations cells site) (stations_of name (filled (planned_world sites stations) cells)) (boards_at (order_at sites site) (period_at sites site) stations cells site) shown refl refl refl refl refl refl refl refl in
+    let is = board_is name (order_at sites site) (order_at sites site) (period_at sites site) (period_at sites site)
+    (closed_site sites stations cells site) (stations_of name (filled (planned_world sites stations) cells))
+    (boards_at (order_at sites site) (period_at sites site) stations cells site) shown refl refl refl refl refl refl refl refl in
     ap (λ m. (step_by s m).1) says
     ∙ ap (λ b. cond b (board_text (shown_site name (order_named s name) (period_named s name) (stations_of name s.world))) (fault_line UnknownSite)) among
     ∙ (λ i. board_text (shown_site name (order i) (period i) (stations_of name (shows.world_is i))))

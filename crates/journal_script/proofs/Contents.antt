@@ -31,7 +31,9 @@ use Rattle.journal_script.proofs.Steps.{asked_in}
 names_alike : (names : List (List ℕ)) (j k : ℕ) → has_twice names ≡ false → j < length names → k < length names → bytes_eq (get_or names j []) (get_or names k []) ≡ eqb j k
 names_alike names j k once lj lk = ⊎_elim
     (λ (e : j ≡ k). (bytes_eq-Decides (get_or names j []) (get_or names k [])).1 (ap (λ n. get_or names n []) e) ∙ sym (eq-eqb j k e))
-    (λ (e : j ≢ k). at (bytes_eq (get_or names j []) (get_or names k [])) refl (λ is. e (one_place names j k once lj lk ((bytes_eq-Decides (get_or names j []) (get_or names k [])).0 is))) ∙ sym (ne_eqb j k e))
+    (λ (e : j ≢ k). at (bytes_eq (get_or names j []) (get_or names k [])) refl
+    (λ is. e (one_place names j k once lj lk ((bytes_eq-Decides (get_or names j []) (get_or names k [])).0 is)))
+    ∙ sym (ne_eqb j k e))
     (cases_eq j k)
   where
     at : (b : Bool) → bytes_eq (get_or names j []) (get_or names k []) ≡ b → (bytes_eq (get_or names j []) (get_or names k []) ≡ true → ⊥) → b ≡ false
@@ -39,7 +41,9 @@ names_alike names j k once lj lk = ⊎_elim
     at false is never = refl
 
 -- the commands on the station of a number are those of its own entries
-own_commands : (stations : List StationPlan) (k : ℕ) (name : List ℕ) (log : List Entry) → has_twice (map (λ s. s.name) stations) ≡ false → k < length stations → station_name stations k ≡ name → All (IsSpoken stations) log
+own_commands : (stations : List StationPlan) (k : ℕ) (name : List ℕ) (log : List Entry)
+    → has_twice (map (λ s. s.name) stations) ≡ false → k < length stations → station_name stations k ≡ name
+    → All (IsSpoken stations) log
     → commands_on name (asked_in stations log) ≡ commands_of (of_station k log)
 own_commands stations k name [] once less is all = refl
 own_commands stations k name (e ∷ log) once less is all =
@@ -71,7 +75,8 @@ module _ (sites : List SitePlan) (hs : List Happens) where
       let rest = left_of stations firsts cells (λ k. own (suc k)) (omega arith) (omega arith) (λ k t e. on (suc k) t e) (λ k t g d e x y. left (suc k) t g d e x y) in
       (λ i. record (new_station s.limits (site_name sites s.site) s.name) { content = here i } ∷ rest i)
 
-pub all_left : (sites : List SitePlan) (stations : List StationPlan) (firsts cells : List Cell) (log : List Entry) → has_twice (map (λ s. s.name) stations) ≡ false → All (IsSpoken stations) log → AreLeft stations firsts cells log
+pub all_left : (sites : List SitePlan) (stations : List StationPlan) (firsts cells : List Cell) (log : List Entry)
+    → has_twice (map (λ s. s.name) stations) ≡ false → All (IsSpoken stations) log → AreLeft stations firsts cells log
     → run (filled (planned_world sites stations) firsts) (asked_in stations log) ≡ filled (planned_world sites stations) cells
 all_left sites stations firsts cells log once all are =
     each_by_its_own (filled (planned_world sites stations) firsts) (asked_in stations log)

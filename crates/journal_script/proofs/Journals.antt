@@ -19,7 +19,8 @@ use Rattle.journal_script.proofs.Steps.{Has, asked_in, has_here, has_more, takes
 use Rattle.journal_script.proofs.Whole.{after_both, lines_apart}
 
 -- each station of a plan is found by its name
-has_all : (sites : List SitePlan) (stations : List StationPlan) (cells : List Cell) → length cells ≡ length stations → (k : ℕ) → k < length stations → Has (filled (planned_world sites stations) cells) (station_name stations k)
+has_all : (sites : List SitePlan) (stations : List StationPlan) (cells : List Cell) → length cells ≡ length stations → (k : ℕ)
+    → k < length stations → Has (filled (planned_world sites stations) cells) (station_name stations k)
 has_all sites [] cells same k less = absurd (omega arith)
 has_all sites (s ∷ stations) [] same k less = absurd (omega arith)
 has_all sites (s ∷ stations) (c ∷ cells) same zero less =

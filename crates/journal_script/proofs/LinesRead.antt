@@ -80,7 +80,8 @@ module _ (most : ℕ) (old now : Standing) (read : List ℕ) (runs : Runs most o
     no_listen =
         subst (All (λ line. line ≢ Some (codes "listen"))) (sym (lines_apart most read bytes runs.whole))
         (All-append (λ line. line ≢ Some (codes "listen")) (lines_of most read) (lines_of most bytes) runs.no_listen
-        (subst (All (λ line. line ≢ Some (codes "listen"))) (sym one_line) (All-cons (λ line. line ≢ Some (codes "listen")) (line_of Feed most held) [] (reads.other goes) (All-nil (λ line. line ≢ Some (codes "listen"))))));
+        (subst (All (λ line. line ≢ Some (codes "listen"))) (sym one_line)
+        (All-cons (λ line. line ≢ Some (codes "listen")) (line_of Feed most held) [] (reads.other goes) (All-nil (λ line. line ≢ Some (codes "listen"))))));
   }
 
 -- ---- loops

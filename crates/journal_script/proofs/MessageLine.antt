@@ -24,7 +24,8 @@ space_feedless : HasNoFeed (32 ∷ [])
 space_feedless = All-cons (λ b. b ≢ 10) 32 [] (λ e. cc e) (All-nil (λ b. b ≢ 10))
 
 -- the line is in a script as it is
-pub stands_in_script : (name text : List ℕ) → StandsAsItIs name text → HasNoFeed (message_text name text) × (strip_last 13 (message_text name text) ≡ message_text name text) × (length (message_text name text) ≤ longest_line)
+pub stands_in_script : (name text : List ℕ) → StandsAsItIs name text
+    → HasNoFeed (message_text name text) × (strip_last 13 (message_text name text) ≡ message_text name text) × (length (message_text name text) ≤ longest_line)
 stands_in_script name text stands =
     let feedless = λ (b : ℕ). b ≢ 10 in (
       All-append feedless (codes "msg ") (name ++ 32 ∷ text) (All-append feedless (codes "msg") (32 ∷ []) (word_feedless (codes "msg") refl) space_feedless)
@@ -41,7 +42,8 @@ pub line_stands : (name text line : List ℕ) → line ≡ message_text name tex
 line_stands name text line is stands = subst (λ l. HasNoFeed l × (strip_last 13 l ≡ l) × (length l ≤ longest_line)) (sym is) (stands_in_script name text stands)
 
 -- a line of a message that is one line speaks for what its text asks for
-pub line_speaks : (name text line bytes : List ℕ) (command : Command) → bytes ≡ line → line ≡ message_text name text → is_name name ≡ true → IsUtf8 text → HasNoFeed bytes → strip_last 13 bytes ≡ bytes → length bytes ≤ longest_line
+pub line_speaks : (name text line bytes : List ℕ) (command : Command) → bytes ≡ line → line ≡ message_text name text
+    → is_name name ≡ true → IsUtf8 text → HasNoFeed bytes → strip_last 13 bytes ≡ bytes → length bytes ≤ longest_line
     → AsksFor text command → Speaks name line command
 line_speaks name text line bytes command same is named utf8 feedless bare short asks =
     let says : line_meaning (Some bytes) ≡ sends name text = ap (λ l. line_meaning (Some l)) (same ∙ is) ∙ msg_says name text utf8 named in

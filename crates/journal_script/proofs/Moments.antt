@@ -9,7 +9,8 @@ use Rattle.transaction_event.specs.Message.{Event, called, meaning_of}
 use Rattle.transaction_event.specs.Request.{Request}
 use Rattle.journal_script.specs.Speaking.{EventsAskAtAnyMoment}
 
-call_any : (now later : ℕ) (id : List ℕ) (action : Action) (payload : Data) (told : List ℕ) (request : Request) → called now id action payload ≡ Event told request → called later id action payload ≡ Event told request
+call_any : (now later : ℕ) (id : List ℕ) (action : Action) (payload : Data) (told : List ℕ) (request : Request)
+    → called now id action payload ≡ Event told request → called later id action payload ≡ Event told request
 call_any now later id BootNotification payload told request e = cc e
 call_any now later id Heartbeat payload told request e = cc e
 call_any now later id StatusNotification payload told request e = cc e

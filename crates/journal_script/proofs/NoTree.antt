@@ -93,7 +93,8 @@ module _ (c : ℕ) (stray : IsStray c) where
   fits-after_exponent t =
       let u = drop 1 t in
       by_test ((head t == 101) || (head t == 69)) _ (Some t) _
-      (λ e h. either 101 69 t stray.no_small_e stray.no_capital_e (or_cases _ _ e) (skipped _ u (λ s. either 45 43 u stray.no_minus stray.no_plus (or_cases _ _ s)) (fits-after_digits (after_sign u) h))) (λ h. h)
+      (λ e h. either 101 69 t stray.no_small_e stray.no_capital_e (or_cases _ _ e)
+      (skipped _ u (λ s. either 45 43 u stray.no_minus stray.no_plus (or_cases _ _ s)) (fits-after_digits (after_sign u) h))) (λ h. h)
 
   fits-after_fraction : (t : List ℕ) → Then (after_fraction t) → fits c false t ≡ true
   fits-after_fraction t = by_test (head t == 46) _ (Some t) _ (λ e h. fits_one 46 t stray.no_dot e (fits-after_digits (drop 1 t) h)) (λ h. h)
@@ -204,7 +205,8 @@ closes_quote x xs q = ap (λ y. closes in_string (y ∷ xs)) (eqb-true x 34 q)
 closes_plain : (x : ℕ) (xs : List ℕ) → (x == 34) ≡ false → (x == 92) ≡ false → closes in_string (x ∷ xs) ≡ closes in_string xs
 unfolding closes
 closes_plain x xs q b =
-    (λ i. closes_byte in_string (cond (q i) quote (cond (b i) backslash (cond (is_operator x) operator (cond (is_space x) space other)))) (λ n. closes n xs)) ∙ passes (is_operator x) (is_space x) (λ n. closes n xs)
+    (λ i. closes_byte in_string (cond (q i) quote (cond (b i) backslash (cond (is_operator x) operator (cond (is_space x) space other)))) (λ n. closes n xs))
+    ∙ passes (is_operator x) (is_space x) (λ n. closes n xs)
 
 closes_backslash : (x : ℕ) (xs : List ℕ) → (x == 92) ≡ true → closes in_string (x ∷ xs) ≡ closes in_escape xs
 unfolding closes
@@ -326,17 +328,20 @@ module _ (c : ℕ) (stray : IsStray c) where
   unfolding closes
   string_goes_on m x xs k e h = ap (λ j. closes_byte m j (λ n. closes n xs)) e ∙ h
 
-  first_between : (k : Class) (x : ℕ) (front : List ℕ) → class x ≡ k → ((m : Mode) → Refused m (front ++ c ∷ [])) → has_bad (lex_byte between k x (front ++ c ∷ []) (λ n. lex n (front ++ c ∷ []))) ≡ true
+  first_between : (k : Class) (x : ℕ) (front : List ℕ) → class x ≡ k → ((m : Mode) → Refused m (front ++ c ∷ []))
+      → has_bad (lex_byte between k x (front ++ c ∷ []) (λ n. lex n (front ++ c ∷ []))) ≡ true
   first_between quote x front e ih = elim (ih in_string) [
     | inl h ↦ bad_behind (token (string_token (content plain (front ++ c ∷ [])))) (lex in_string (front ++ c ∷ [])) h
-    | inr h ↦ bad_here (string_token (content plain (front ++ c ∷ []))) (lex in_string (front ++ c ∷ [])) (no_content (closes in_string (front ++ c ∷ [])) (content plain (front ++ c ∷ [])) (content_closes plain (front ++ c ∷ [])) h)
+    | inr h ↦ bad_here (string_token (content plain (front ++ c ∷ []))) (lex in_string (front ++ c ∷ []))
+        (no_content (closes in_string (front ++ c ∷ [])) (content plain (front ++ c ∷ [])) (content_closes plain (front ++ c ∷ [])) h)
   ]
   first_between backslash x front e ih = refl
   first_between operator x front e ih = elim (ih between) [ inl h ↦ bad_behind (operator_lexeme x) (lex between (front ++ c ∷ [])) h | inr h ↦ absurd h ]
   first_between space x front e ih = elim (ih between) [ inl h ↦ h | inr h ↦ absurd h ]
   first_between other x front e ih = elim (ih in_word) [
     | inl h ↦ bad_behind (token (word (x ∷ (front ++ c ∷ [])))) (lex in_word (front ++ c ∷ [])) h
-    | inr h ↦ bad_here (word (x ∷ (front ++ c ∷ []))) (lex in_word (front ++ c ∷ [])) (bad_word c stray (x ∷ (front ++ c ∷ [])) (is_good (word (x ∷ (front ++ c ∷ [])))) refl (word_goes_on x front other e refl h))
+    | inr h ↦ bad_here (word (x ∷ (front ++ c ∷ []))) (lex in_word (front ++ c ∷ []))
+        (bad_word c stray (x ∷ (front ++ c ∷ [])) (is_good (word (x ∷ (front ++ c ∷ [])))) refl (word_goes_on x front other e refl h))
   ]
 
   first_in_word : (k : Class) (x : ℕ) (front : List ℕ) → class x ≡ k → ((m : Mode) → Refused m (front ++ c ∷ []))
@@ -393,7 +398,8 @@ bad_placed : (b : Bool) (t : Token) (k : Place → List Token) (next : Place) �
 bad_placed true t k next h = and_false (is_good t) (all_good (k next)) (h next)
 bad_placed false t k next h = refl
 
-bad_token : (p : Place) (t : Token) (b : Bool) (more : Bool) (k : Place → List Token) → (not (is_good t) || more) ≡ true → (more ≡ true → (n : Place) → all_good (k n) ≡ false) → all_good (place_token p t b k) ≡ false
+bad_token : (p : Place) (t : Token) (b : Bool) (more : Bool) (k : Place → List Token) → (not (is_good t) || more) ≡ true
+    → (more ≡ true → (n : Place) → all_good (k n) ≡ false) → all_good (place_token p t b k) ≡ false
 bad_token p Token.begin_object b more k h later = bad_placed (may_begin p) Token.begin_object k fresh (later h)
 bad_token p Token.end_object b more k h later = bad_placed (may_close p) Token.end_object k after_value (later h)
 bad_token p Token.begin_array b more k h later = bad_placed (may_begin p) Token.begin_array k fresh (later h)

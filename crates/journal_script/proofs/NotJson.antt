@@ -44,7 +44,9 @@ module _ (c : ℕ) (no_quote : (c == 34) ≡ false) (no_number : goes_on_number 
       let token = marked_token (take_while goes_on_number (x ∷ xs)) (drop (prefix_len goes_on_number (x ∷ xs)) (x ∷ xs)) (more in_number) in
       let copied = with_front (x ∷ []) (more outside) in
       ends_either (x == 34) (with_front (34 ∷ 36 ∷ []) (more in_string)) (cond (begins_number x) token copied) (ends_behind (34 ∷ 36 ∷ []) (more in_string) (h in_string))
-      (ends_either (begins_number x) token copied (ends_token (take_while goes_on_number (x ∷ xs)) (drop (prefix_len goes_on_number (x ∷ xs)) (x ∷ xs)) (more in_number) (h in_number)) (ends_behind (x ∷ []) (more outside) (h outside)))
+      (ends_either (begins_number x) token copied
+      (ends_token (take_while goes_on_number (x ∷ xs)) (drop (prefix_len goes_on_number (x ∷ xs)) (x ∷ xs)) (more in_number) (h in_number))
+      (ends_behind (x ∷ []) (more outside) (h outside)))
 
   ends_byte : (place : BytePlace) (x : ℕ) (xs : List ℕ) (more : BytePlace → Marks) → ((p : BytePlace) → EndsSo c (more p)) → EndsSo c (marked_byte place x xs more)
   ends_byte outside x xs more h = ends_outside x xs more h

@@ -53,7 +53,9 @@ marked_part : (front back : List ℕ) → is_marked (front ++ 32 ∷ back) ≡ t
 marked_part [] back h = inr h
 marked_part (b ∷ front) back h = one (b == 35) h (marked_part front back)
   where
-    one : (q : Bool) → (q || is_marked (front ++ 32 ∷ back)) ≡ true → (is_marked (front ++ 32 ∷ back) ≡ true → (is_marked front ≡ true) ⊎ (is_marked back ≡ true)) → ((q || is_marked front) ≡ true) ⊎ (is_marked back ≡ true)
+    one : (q : Bool) → (q || is_marked (front ++ 32 ∷ back)) ≡ true
+        → (is_marked (front ++ 32 ∷ back) ≡ true → (is_marked front ≡ true) ⊎ (is_marked back ≡ true))
+        → ((q || is_marked front) ≡ true) ⊎ (is_marked back ≡ true)
     one true h later = inl refl
     one false h later = later h
 
@@ -88,7 +90,8 @@ Ends c (word ∷ []) = last 32 word ≡ c
 Ends c (word ∷ next ∷ line) = Ends c (next ∷ line)
 
 -- what holds of words where it holds of what they are parted from
-parted_so : (P : List (List ℕ) → Type 0) (n : ℕ) (text : List ℕ) → P (text ∷ []) → ((ends : List ℕ × List ℕ) → parted text ≡ Some ends → P (ends.0 ∷ words (suc n) ends.1)) → P (words (suc (suc n)) text)
+parted_so : (P : List (List ℕ) → Type 0) (n : ℕ) (text : List ℕ) → P (text ∷ [])
+    → ((ends : List ℕ × List ℕ) → parted text ≡ Some ends → P (ends.0 ∷ words (suc n) ends.1)) → P (words (suc (suc n)) text)
 parted_so P n text whole cut = at (parted text) refl
   where
     at : (o : Option (List ℕ × List ℕ)) → parted text ≡ o → P (option_map_or (λ ends. ends.0 ∷ words (suc n) ends.1) o (text ∷ []))
@@ -98,7 +101,8 @@ parted_so P n text whole cut = at (parted text) refl
 marked_words : (n : ℕ) (text : List ℕ) → is_marked text ≡ true → AnyMarked (words n text)
 marked_words zero text h = inl h
 marked_words (suc zero) text h = inl h
-marked_words (suc (suc n)) text h = parted_so AnyMarked n text (inl h) (λ ends e. behind ends (marked_part ends.0 ends.1 (ap is_marked (sym (parted_is text ends e)) ∙ h)) (λ there. marked_words (suc n) ends.1 there))
+marked_words (suc (suc n)) text h =
+    parted_so AnyMarked n text (inl h) (λ ends e. behind ends (marked_part ends.0 ends.1 (ap is_marked (sym (parted_is text ends e)) ∙ h)) (λ there. marked_words (suc n) ends.1 there))
   where
     behind : (ends : List ℕ × List ℕ) → (is_marked ends.0 ≡ true) ⊎ (is_marked ends.1 ≡ true) → (is_marked ends.1 ≡ true → AnyMarked (words (suc n) ends.1)) → AnyMarked (ends.0 ∷ words (suc n) ends.1)
     behind ends (inl there) more = inl there
@@ -122,7 +126,8 @@ second_false : (a b : Bool) → b ≡ false → (a && b) ≡ false
 second_false true b e = e
 second_false false b e = refl
 
-no_name_byte : (b : ℕ) (t : List ℕ) (q : Bool) → (b == 35) ≡ q → (q || is_marked t) ≡ true → (is_marked t ≡ true → list_all is_name_character t ≡ false) → (is_name_character b && list_all is_name_character t) ≡ false
+no_name_byte : (b : ℕ) (t : List ℕ) (q : Bool) → (b == 35) ≡ q → (q || is_marked t) ≡ true
+    → (is_marked t ≡ true → list_all is_name_character t ≡ false) → (is_name_character b && list_all is_name_character t) ≡ false
 no_name_byte b t true e h more = ap (λ c. is_name_character c && list_all is_name_character t) (eqb-true b 35 e)
 no_name_byte b t false e h more = second_false (is_name_character b) (list_all is_name_character t) (more h)
 
@@ -193,7 +198,9 @@ idle_station [] there = tt
 idle_station (a ∷ []) there = tt
 idle_station (a ∷ b ∷ d ∷ line) there = tt
 
-module _ (c : ℕ) (no_space : (32 == c) ≡ false) (no_digit : is_ascii_digit c ≡ false) (no_e : (101 == c) ≡ false) (no_t : (116 == c) ≡ false) (no_r : (114 == c) ≡ false) (no_g : (103 == c) ≡ false) (no_n : (110 == c) ≡ false) (no_text : (front : List ℕ) → (fault : JsonFault) × (marked_reading (front ++ c ∷ []) ≡ Err fault)) where
+module _ (c : ℕ) (no_space : (32 == c) ≡ false) (no_digit : is_ascii_digit c ≡ false) (no_e : (101 == c) ≡ false)
+    (no_t : (116 == c) ≡ false) (no_r : (114 == c) ≡ false) (no_g : (103 == c) ≡ false) (no_n : (110 == c) ≡ false)
+    (no_text : (front : List ℕ) → (fault : JsonFault) × (marked_reading (front ++ c ∷ []) ≡ Err fault)) where
   not_empty : {P : Type 0} → 32 ≡ c → P
   not_empty e = absurd (true≢false (ap (λ x. 32 == x) e ∙ no_space))
 
@@ -203,7 +210,10 @@ module _ (c : ℕ) (no_space : (32 == c) ≡ false) (no_digit : is_ascii_digit c
     where
       none : (b : Bool) → list_all is_ascii_digit (x ∷ xs) ≡ b → is_number (x ∷ xs) ≡ false
       none true e = let both = and_parts (is_ascii_digit x) (list_all is_ascii_digit xs) e in absurd (true≢false (sym (all_last is_ascii_digit x xs both.0 both.1) ∙ ap is_ascii_digit h ∙ no_digit))
-      none false e = second_false (ltb 0 (length (x ∷ xs))) (list_all is_ascii_digit (x ∷ xs) && (not (slice_index (x ∷ xs) 0 == 48) || (length (x ∷ xs) == 1))) (ap (λ b. b && (not (slice_index (x ∷ xs) 0 == 48) || (length (x ∷ xs) == 1))) e)
+      none false e =
+          second_false (ltb 0 (length (x ∷ xs)))
+          (list_all is_ascii_digit (x ∷ xs) && (not (slice_index (x ∷ xs) 0 == 48) || (length (x ∷ xs) == 1)))
+          (ap (λ b. b && (not (slice_index (x ∷ xs) 0 == 48) || (length (x ∷ xs) == 1))) e)
 
   -- a text is no word of another last letter
   other : (text : List ℕ) → last 32 text ≡ c → (word : List ℕ) → (last 32 word == c) ≡ false → (b : Bool) → bytes_eq text word ≡ b → b ≡ false
@@ -346,7 +356,8 @@ stays_step s (fails _) idle = (refl, record { sites = refl; periods = refl; orde
 stays_step s (sets_limits transactions events readings changes) idle =
     let set = record s { limits = record { transactions = transactions; events = events; readings = readings; changes = changes } } in
     stays_if s s.opened (s, fault_line DeclaredLate) (limited_to s transactions events readings changes) (refl, record { sites = refl; periods = refl; orders = refl })
-    (stays_if s (are_limits transactions events readings changes) (set, []) (s, fault_line PlanLimit) (refl, record { sites = refl; periods = refl; orders = refl }) (refl, record { sites = refl; periods = refl; orders = refl }))
+    (stays_if s (are_limits transactions events readings changes) (set, []) (s, fault_line PlanLimit)
+    (refl, record { sites = refl; periods = refl; orders = refl }) (refl, record { sites = refl; periods = refl; orders = refl }))
 stays_step s (declares _ _) idle = absurd idle
 stays_step s (sets_period _ _) idle = absurd idle
 stays_step s (sets_order _ _) idle = absurd idle
@@ -364,6 +375,8 @@ stays_step s (marks _) idle = (refl, record { sites = refl; periods = refl; orde
 -- a line with a `#`, which ends with it or with the run's comment, changes nothing that is shown
 pub spoiled : (s : Script) (most : ℕ) (front back : List ℕ) → (last 35 back ≡ 35) ⊎ (last 35 back ≡ 115) → Stays s (line_step s (ended most (front ++ 35 ∷ back))).0
 spoiled s most front back (inl hash) =
-    stays_step s (line_meaning (ended most (front ++ 35 ∷ back))) (idle_line 35 refl refl refl refl refl refl refl hash_not_read most (front ++ 35 ∷ back) refl (last_behind 32 front 35 back ∙ hash) (marked_behind front back))
+    stays_step s (line_meaning (ended most (front ++ 35 ∷ back)))
+    (idle_line 35 refl refl refl refl refl refl refl hash_not_read most (front ++ 35 ∷ back) refl (last_behind 32 front 35 back ∙ hash) (marked_behind front back))
 spoiled s most front back (inr letter) =
-    stays_step s (line_meaning (ended most (front ++ 35 ∷ back))) (idle_line 115 refl refl refl refl refl refl refl s_not_read most (front ++ 35 ∷ back) refl (last_behind 32 front 35 back ∙ letter) (marked_behind front back))
+    stays_step s (line_meaning (ended most (front ++ 35 ∷ back)))
+    (idle_line 115 refl refl refl refl refl refl refl s_not_read most (front ++ 35 ∷ back) refl (last_behind 32 front 35 back ∙ letter) (marked_behind front back))

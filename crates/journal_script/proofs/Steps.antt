@@ -77,7 +77,8 @@ takes_commanded : (o : Option Station) (s : Script) (asked command : Command) (s
 takes_commanded o s asked command station found is =
     subst (λ p. Takes s (commanded_to p s asked).0 station.name command) (sym found) (ap (λ c. world_after s.world (station.name, c)) is, record { sites = refl; periods = refl; orders = refl })
 
-takes_step : (s : Script) (meaning : LineMeaning) (name : List ℕ) (command : Command) (station : Station) → Says meaning name command → station_named name s.world ≡ Some station → Takes s (step_by s meaning).0 station.name command
+takes_step : (s : Script) (meaning : LineMeaning) (name : List ℕ) (command : Command) (station : Station)
+    → Says meaning name command → station_named name s.world ≡ Some station → Takes s (step_by s meaning).0 station.name command
 takes_step s nothing name command station says found = absurd says
 takes_step s (fails _) name command station says found = absurd says
 takes_step s (sets_limits _ _ _ _) name command station says found = absurd says

@@ -15,12 +15,18 @@ use Rattle.journal_script.specs.Restoring.{IsRestored, IsUnmarked, ReadsToListen
 -- ---- ledgers
 
 -- what a script leaves once its ledgers are opened
-pub left_by : (s : Script) (d : Drafted) (cells : List Cell) (r : Restored) (told : LeftOut) → running d cells ≡ opened_script s → r.draft ≡ d → r.cells.items ≡ cells → r.has_lost ≡ told.has_lost → IsLeft (standing s told) r told.is_marked
+pub left_by : (s : Script) (d : Drafted) (cells : List Cell) (r : Restored) (told : LeftOut) → running d cells ≡ opened_script s
+    → r.draft ≡ d → r.cells.items ≡ cells → r.has_lost ≡ told.has_lost → IsLeft (standing s told) r told.is_marked
 left_by s d cells r told is draft same lost = record {
   shows =
       subst (λ (e : Drafted). Shows s e.sites e.stations r.cells.items) (sym draft)
       (subst (λ l. Shows s d.sites d.stations l) (sym same)
-      (record { sites_are = sym (ap (λ (x : Script). x.sites) is); periods_are = sym (ap (λ (x : Script). x.periods) is); orders_are = sym (ap (λ (x : Script). x.orders) is); world_is = sym (ap (λ (x : Script). x.world) is) }));
+      (record {
+        sites_are = sym (ap (λ (x : Script). x.sites) is);
+        periods_are = sym (ap (λ (x : Script). x.periods) is);
+        orders_are = sym (ap (λ (x : Script). x.orders) is);
+        world_is = sym (ap (λ (x : Script). x.world) is);
+      }));
   loses = lost;
   ends = refl;
 }
@@ -83,7 +89,8 @@ module _ (r0 r1 : Option (List ℕ)) (r : Restored) (marked : Bool) (all : Leave
       )
 
 -- what is left of a script that was read up to `listen`
-pub leaves : (most : ℕ) (first last : Standing) (r0 r1 : Option (List ℕ)) (r : Restored) (marked : Bool) → most ≡ longest_line → first ≡ begun → ReadsTo most first last r0 r1 → IsLeft last r marked → Leaves r0 r1 r marked
+pub leaves : (most : ℕ) (first last : Standing) (r0 r1 : Option (List ℕ)) (r : Restored) (marked : Bool) → most ≡ longest_line
+    → first ≡ begun → ReadsTo most first last r0 r1 → IsLeft last r marked → Leaves r0 r1 r marked
 leaves most first last r0 r1 r marked is begins reads left = record {
   standing = last;
   reads = subst (λ s. ReadsTo longest_line s last r0 r1) begins (subst (λ n. ReadsTo n first last r0 r1) is reads);

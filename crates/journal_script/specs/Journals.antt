@@ -54,7 +54,8 @@ pub record Shows (s : Script) (sites : List SitePlan) (stations : List StationPl
 pub record AreLeft (stations : List StationPlan) (firsts cells : List Cell) (log : List Entry) : Type 0 where
   pub count_first : length firsts ≡ length stations
   pub count : length cells ≡ length stations
-  pub left : (k : ℕ) (s : StationPlan) (f c : Cell) → slice_get stations k ≡ Some s → slice_get firsts k ≡ Some f → slice_get cells k ≡ Some c → left_by s.limits f.content (commands_of (of_station k log)) ≡ c.content
+  pub left : (k : ℕ) (s : StationPlan) (f c : Cell) → slice_get stations k ≡ Some s → slice_get firsts k ≡ Some f
+      → slice_get cells k ≡ Some c → left_by s.limits f.content (commands_of (of_station k log)) ≡ c.content
 
 -- If a script ends with a plan's stations in these contents and a journal's text is written behind
 -- it, the longer script ends with the contents to which the journal's entries lead, each station's

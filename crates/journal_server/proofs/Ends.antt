@@ -144,7 +144,8 @@ none_past (s ∷ stations) zero e = cc e
 none_past (s ∷ stations) (suc k) e = let past = none_past stations k e in omega (arith, past)
 
 -- the cells that a desk is opened over hold what they held
-pub are_first : (sites : List SitePlan) (stations : List StationPlan) (cells parts : List Cell) (first : ℕ → Content) → AreCellsOf sites stations cells → first ≡ contents_of cells → parts ≡ cells → AreFirst first parts
+pub are_first : (sites : List SitePlan) (stations : List StationPlan) (cells parts : List Cell) (first : ℕ → Content)
+    → AreCellsOf sites stations cells → first ≡ contents_of cells → parts ≡ cells → AreFirst first parts
 are_first sites stations cells parts first of_plan named same k c at = (own (slice_get stations k) refl, sym (ap (λ f. f k) named ∙ ap content_or_empty there))
   where
     there : slice_get cells k ≡ Some c
@@ -155,7 +156,8 @@ are_first sites stations cells parts first of_plan named same k c at = (own (sli
     own (Some s) e = (of_plan.each k s c e there).station
 
 -- the same, where the sites and stations are those of a plan
-pub script_of_plan : (front : List ℕ) (sites planned : List SitePlan) (stations plan : List StationPlan) (firsts : List Cell) (before : Option (List ℕ)) (left : Left) (tells : List StationPlan → List SitePlan → List Entry → Type 0)
+pub script_of_plan : (front : List ℕ) (sites planned : List SitePlan) (stations plan : List StationPlan) (firsts : List Cell)
+    (before : Option (List ℕ)) (left : Left) (tells : List StationPlan → List SitePlan → List Entry → Type 0)
     → planned ≡ sites → plan ≡ stations → plan_fault sites stations ≡ None → AreCellsOf sites stations firsts → Leaves front sites stations firsts
     → IsEnded (names_of plan) (contents_of firsts) before planned plan left (tells plan planned)
     → IsItsScript front sites stations firsts before left (tells stations sites)
@@ -165,12 +167,14 @@ script_of_plan front sites planned stations plan firsts before left tells s t no
     (subst (λ x. IsEnded (names_of x) (contents_of firsts) before planned x left (tells x planned)) t e))
 
 -- what was written behind a head was written behind what was before it
-written_behind : (broken : Bool) (before begun now : Option (List ℕ)) (buffer head : List ℕ) (log : List Entry) → Appends before begun head → IsWritten broken begun now buffer log → IsWritten broken (append_known before head) now buffer log
+written_behind : (broken : Bool) (before begun now : Option (List ℕ)) (buffer head : List ℕ) (log : List Entry)
+    → Appends before begun head → IsWritten broken begun now buffer log → IsWritten broken (append_known before head) now buffer log
 written_behind broken None begun now buffer head log begins w = record { front = w.front; begins = w.begins; notes = w.notes; lines = w.lines; whole = w.whole; handed_on = w.handed_on; appended = tt }
 written_behind broken (Some bytes) None now buffer head log begins w = absurd begins
 written_behind broken (Some bytes) (Some more) now buffer head log begins w = subst (λ b. IsWritten broken (Some b) now buffer log) begins w
 
-pub script_behind : (front : List ℕ) (sites : List SitePlan) (stations : List StationPlan) (firsts : List Cell) (before begun : Option (List ℕ)) (head : List ℕ) (left : Left) (tells : List Entry → Type 0)
+pub script_behind : (front : List ℕ) (sites : List SitePlan) (stations : List StationPlan) (firsts : List Cell)
+    (before begun : Option (List ℕ)) (head : List ℕ) (left : Left) (tells : List Entry → Type 0)
     → Appends before begun head → IsItsScript front sites stations firsts begun left tells → IsItsScript front sites stations firsts (append_known before head) left tells
 script_behind front sites stations firsts before begun head left tells begins s = record {
   log = s.log;
@@ -208,27 +212,51 @@ telling front sites stations firsts before left tells more on s = record {
 }
 
 -- what a console took behind a report
-pub reported : {E : Type 0} (ended : Result (Unit {0}) E) (sites : List SitePlan) (stations : List StationPlan) (firsts : List Cell) (connections : Option ℕ) (rest before middle now : Option (List ℕ)) → Grows before middle
+pub reported : {E : Type 0} (ended : Result (Unit {0}) E) (sites : List SitePlan) (stations : List StationPlan)
+    (firsts : List Cell) (connections : Option ℕ) (rest before middle now : Option (List ℕ))
+    → Grows before middle
     → (log : List Entry) → TellsNew ended stations (operator_input connections rest) middle now sites firsts log → TellsRestored ended connections before now rest sites stations firsts log
 reported (Ok _) sites stations firsts connections rest before middle now grows log t = (middle, grows, t)
 reported (Err _) sites stations firsts connections rest before middle now grows log t = t
 
 -- the answers at a desk, by the list of its lines
-pub ended_telling : {S E F : Type 0} (ended : Result (Unit {0}) E) (ran : Result S F) (handed : S → List (List Entry)) (sites : List SitePlan) (stations : List StationPlan) (firsts : List Cell) (places : List StationPlace) (first : ℕ → Content) (coming : Option (List Line)) (before now : Option (List ℕ)) (log : List Entry)
+pub ended_telling : {S E F : Type 0} (ended : Result (Unit {0}) E) (ran : Result S F) (handed : S → List (List Entry))
+    (sites : List SitePlan) (stations : List StationPlan) (firsts : List Cell) (places : List StationPlace) (first : ℕ → Content)
+    (coming : Option (List Line)) (before now : Option (List ℕ)) (log : List Entry)
     → AreNewPlaces sites stations places → first ≡ contents_of firsts → OnOk ended (IsOk ran) → IfOk ran (λ seen. All (λ m. IsPrefix m log) (handed seen))
-    → IfOk ran (λ seen. Tells (IsKeptAnswer first) (AreBoardsBehind first places) sites places coming before now (handed seen)) → OnOk ended (IsToldOf sites stations (contents_of firsts) log coming before now)
+    → IfOk ran (λ seen. Tells (IsKeptAnswer first) (AreBoardsBehind first places) sites places coming before now (handed seen))
+    → OnOk ended (IsToldOf sites stations (contents_of firsts) log coming before now)
 ended_telling (Ok _) (Ok s) handed sites stations firsts places first coming before now log placed same well begin tells =
-    record { places = places; placed = placed; seen = handed s; begin = begin; tells = subst (λ f. Tells (IsKeptAnswer f) (AreBoardsBehind f places) sites places coming before now (handed s)) same tells }
+    record {
+      places = places;
+      placed = placed;
+      seen = handed s;
+      begin = begin;
+      tells = subst (λ f. Tells (IsKeptAnswer f) (AreBoardsBehind f places) sites places coming before now (handed s)) same tells;
+    }
 ended_telling (Ok _) (Err _) handed sites stations firsts places first coming before now log placed same well begin tells = cc well
 ended_telling (Err _) ran handed sites stations firsts places first coming before now log placed same well begin tells = well
 
 -- a desk at its close, by what is named, with the further answers
-pub ended_as : (name name' : ℕ → List ℕ) (first first' : ℕ → Content) (before before' : Option (List ℕ)) (sites : List SitePlan) (stations : List StationPlan) (left : Left) (tells more : List Entry → Type 0)
-    → name ≡ name' → first ≡ first' → before ≡ before' → ((log : List Entry) → tells log → more log) → IsEnded name first before sites stations left tells → IsEnded name' first' before' sites stations left more
+pub ended_as : (name name' : ℕ → List ℕ) (first first' : ℕ → Content) (before before' : Option (List ℕ)) (sites : List SitePlan)
+    (stations : List StationPlan) (left : Left) (tells more : List Entry → Type 0)
+    → name ≡ name' → first ≡ first' → before ≡ before' → ((log : List Entry) → tells log → more log)
+    → IsEnded name first before sites stations left tells → IsEnded name' first' before' sites stations left more
 ended_as name name' first first' before before' sites stations left tells more n f b on e =
     subst (λ x. IsEnded name' first' x sites stations left more) b
     (subst (λ x. IsEnded name' x before sites stations left more) f (subst (λ x. IsEnded x first before sites stations left more) n
-    (record { cells = e.cells; seen = e.seen; written = e.written; texts = e.texts; browsed = e.browsed; told = on e.written.log e.told; given = e.given; count = e.count; limits = e.limits; is = e.is })))
+    (record {
+      cells = e.cells;
+      seen = e.seen;
+      written = e.written;
+      texts = e.texts;
+      browsed = e.browsed;
+      told = on e.written.log e.told;
+      given = e.given;
+      count = e.count;
+      limits = e.limits;
+      is = e.is;
+    })))
 
 -- what holds of each of two lists together holds of each of the first, and of the second
 pub all_front : {X : Type 0} (P : X → Type 0) (xs ys : List X) → All P (xs ++ ys) → All P xs
@@ -240,12 +268,15 @@ all_back P [] ys h = h
 all_back P (x ∷ xs) ys h = all_back P xs ys (All-tail P x (xs ++ ys) h)
 
 -- moments that begin a list, by what is handed out
-pub begin_those : {S F : Type 0} (r : Result S F) (handed : S → List (List Entry)) (all : List (List Entry)) (log : List Entry) → IfOk r (λ s. all ≡ handed s) → All (λ m. IsPrefix m log) all → IfOk r (λ s. All (λ m. IsPrefix m log) (handed s))
+pub begin_those : {S F : Type 0} (r : Result S F) (handed : S → List (List Entry)) (all : List (List Entry)) (log : List Entry)
+    → IfOk r (λ s. all ≡ handed s) → All (λ m. IsPrefix m log) all → IfOk r (λ s. All (λ m. IsPrefix m log) (handed s))
 begin_those (Ok s) handed all log same begin = subst (All (λ m. IsPrefix m log)) same begin
 begin_those (Err _) handed all log same begin = same
 
 -- a run by another name of its plan, without further answers
-pub run_of_plan : (sites sites' : List SitePlan) (stations stations' : List StationPlan) (before : Option (List ℕ)) (left : Left) (tells : List SitePlan → List Cell → List Entry → Type 0) → sites ≡ sites' → stations ≡ stations'
+pub run_of_plan : (sites sites' : List SitePlan) (stations stations' : List StationPlan) (before : Option (List ℕ)) (left : Left)
+    (tells : List SitePlan → List Cell → List Entry → Type 0)
+    → sites ≡ sites' → stations ≡ stations'
     → IsNewRun sites stations before left tells → IsNewRun sites' stations' before left (λ read firsts log. ⊤)
 run_of_plan sites sites' stations stations' before left tells same at r = record {
   head = r.head;

@@ -66,8 +66,11 @@ has_room site n few =
     λ i. stations i || (readings i || and_right (not (is_some found)) (nat_le most_sites (length (simulated_sites n))) (sites_few n) i)
 
 -- the site is named once
-pub sites_next : (site : List ℕ) (n : ℕ) → site ≡ codes "sim" → sites_with (position (λ (s : SitePlan). bytes_eq site s.name) (simulated_sites n)) site 0 default_periods Sequence (simulated_sites n) ≡ simulated_sites (suc n)
-sites_next site n is = subst (λ l. sites_with (position (λ (s : SitePlan). bytes_eq l s.name) (simulated_sites n)) l 0 default_periods Sequence (simulated_sites n) ≡ simulated_sites (suc n)) (sym is) (at n)
+pub sites_next : (site : List ℕ) (n : ℕ) → site ≡ codes "sim"
+    → sites_with (position (λ (s : SitePlan). bytes_eq site s.name) (simulated_sites n)) site 0 default_periods Sequence (simulated_sites n) ≡ simulated_sites (suc n)
+sites_next site n is =
+    subst (λ l. sites_with (position (λ (s : SitePlan). bytes_eq l s.name) (simulated_sites n)) l 0 default_periods Sequence (simulated_sites n) ≡ simulated_sites (suc n))
+    (sym is) (at n)
   where
     at : (n : ℕ) → sites_with (position (λ (s : SitePlan). bytes_eq (codes "sim") s.name) (simulated_sites n)) (codes "sim") 0 default_periods Sequence (simulated_sites n) ≡ simulated_sites (suc n)
     at zero = refl

@@ -66,7 +66,8 @@ pub record Declares (sites read : List SitePlan) (cells : List Cell) : Type 0 wh
 pub record AreLeftFrom (stations : List StationPlan) (firsts cells : List Cell) (log : List Entry) : Type 0 where
   pub count_first : length firsts ≡ length stations
   pub count : length cells ≡ length stations
-  pub left : (k : ℕ) (s : StationPlan) (f c : Cell) → slice_get stations k ≡ Some s → slice_get firsts k ≡ Some f → slice_get cells k ≡ Some c → IsLeftFrom s.limits f.content c.content (commands_of (of_station k log))
+  pub left : (k : ℕ) (s : StationPlan) (f c : Cell) → slice_get stations k ≡ Some s → slice_get firsts k ≡ Some f
+      → slice_get cells k ≡ Some c → IsLeftFrom s.limits f.content c.content (commands_of (of_station k log))
 
 -- Each line of the list was accepted at the content to which the earlier lines of its station lead.
 abbrev pub AreAccepted : List StationPlan → List Cell → List Entry → Type 0

@@ -12,7 +12,9 @@ use Rattle.site_desk.specs.declared.roster.StationPlace.{StationPlace}
 use Rattle.site_desk.specs.Operator.{AreNotedBoards}
 use Rattle.station_cell.specs.Cell.{IsInService}
 
-pub behind : (first : ℕ → Content) (places : List StationPlace) (site : ℕ) (boards : List (List ℕ × Board)) (moment : List Entry) → length places ≤ 64 → AreNotedBoards (λ c. IsLeftOwn first moment c) places site boards → AreBoardsBehind first places site boards moment
+pub behind : (first : ℕ → Content) (places : List StationPlace) (site : ℕ) (boards : List (List ℕ × Board)) (moment : List Entry)
+    → length places ≤ 64 → AreNotedBoards (λ c. IsLeftOwn first moment c) places site boards
+    → AreBoardsBehind first places site boards moment
 behind first places site boards moment few all k p there here =
     let b = all k p there here in
     let c = b.cell in
@@ -29,7 +31,9 @@ behind first places site boards moment few all k p there here =
       },
     )
 
-pub boards_behind : {X E : Type 0} (r : Result X E) (first : ℕ → Content) (places : List StationPlace) (site : ℕ) (boards : X → List (List ℕ × Board)) (moment : X → List Entry) (now : List StationPlace) → places ≡ now → length places ≤ 64
+pub boards_behind : {X E : Type 0} (r : Result X E) (first : ℕ → Content) (places : List StationPlace) (site : ℕ)
+    (boards : X → List (List ℕ × Board)) (moment : X → List Entry) (now : List StationPlace)
+    → places ≡ now → length places ≤ 64
     → IfOk r (λ x. AreNotedBoards (λ c. IsLeftOwn first (moment x) c) places site (boards x)) → IfOk r (λ x. AreBoardsBehind first now site (boards x) (moment x))
 boards_behind (Ok x) first places site boards moment now same few all = subst (λ ps. AreBoardsBehind first ps site (boards x) (moment x)) same (behind first places site (boards x) (moment x) few all)
 boards_behind (Err e) first places site boards moment now same few all = tt

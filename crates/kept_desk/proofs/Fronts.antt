@@ -53,7 +53,8 @@ own_of before e rest =
     ∙ ap (λ b. of_station e.station before ++ cond b (e ∷ of_station e.station rest) (of_station e.station rest)) (eq-eqb e.station e.station refl)
 
 -- each entry of a list that was accepted is accepted at the content that its station's entries before it leave
-pub entry_accepted : (limits : Bounds) (first c : Content) (log before : List Entry) (e : Entry) (rest : List Entry) → log ≡ before ++ e ∷ rest → IsLeftFrom limits first c (commands_of (of_station e.station log))
+pub entry_accepted : (limits : Bounds) (first c : Content) (log before : List Entry) (e : Entry) (rest : List Entry)
+    → log ≡ before ++ e ∷ rest → IsLeftFrom limits first c (commands_of (of_station e.station log))
     → IsAcceptedBehind limits first (of_station e.station before) e.command
 entry_accepted limits first c log before e rest is l =
     let own = of_station e.station before in

@@ -50,7 +50,8 @@ left_more limits first c commands command may accepted l =
     }
 
 -- the cell and its share after a command whose line was written
-pub kept_more : (first : ℕ → Content) (c c' : Cell) (p : Held) (share share' : OwnEntries) (note line : List ℕ) (command : Command) → IsAdmissible command → IsAccepted (answer c.limits c.content command)
+pub kept_more : (first : ℕ → Content) (c c' : Cell) (p : Held) (share share' : OwnEntries) (note line : List ℕ) (command : Command)
+    → IsAdmissible command → IsAccepted (answer c.limits c.content command)
     → c' ≡ cell_after c p command → share' ≡ record share { entries = share.entries ++ entry share.station note line command ∷ [] } → IsKeptCell first c share → IsKeptCell first c' share'
 kept_more first c c' p share share' note line command may accepted cells shares k =
     let now = cell_after c p command in

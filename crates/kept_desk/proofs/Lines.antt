@@ -34,7 +34,8 @@ no_line : BeginsLine []
 no_line = record { note = []; line = []; rest = line_text []; is_note = inl refl; no_feed = All-nil (λ b. b ≢ 10); is = refl }
 
 -- a write that failed
-pub cut : (broken : Bool) (before now next : Option (List ℕ)) (buffer left : List ℕ) (log : List Entry) (note line : List ℕ) → IsNote note → HasNoFeed line → broken ≡ false → IsWritten broken before now buffer log
+pub cut : (broken : Bool) (before now next : Option (List ℕ)) (buffer left : List ℕ) (log : List Entry) (note line : List ℕ)
+    → IsNote note → HasNoFeed line → broken ≡ false → IsWritten broken before now buffer log
     → (written : List ℕ) × Appends (append_known now buffer) (append_known next left) written × ((rest : List ℕ) × (note ++ line_text line ≡ written ++ rest)) → IsWritten true before next left log
 cut broken before now next buffer left log note line may plain is w f = record {
   front = f.0;
@@ -50,8 +51,10 @@ cut broken before now next buffer left log note line may plain is w f = record {
     on e = true≢false e
 
 -- a line that was written
-pub added : (broken : Bool) (before now next : Option (List ℕ)) (buffer left : List ℕ) (log : List Entry) (station : ℕ) (note line : List ℕ) (command : Command) → IsNote note → HasNoFeed line → broken ≡ false → IsWritten broken before now buffer log
-    → (written : List ℕ) × Appends (append_known now buffer) (append_known next left) written × (written ≡ note ++ line_text line) → left ≡ [] → IsWritten false before next left (log ++ entry station note line command ∷ [])
+pub added : (broken : Bool) (before now next : Option (List ℕ)) (buffer left : List ℕ) (log : List Entry) (station : ℕ) (note line : List ℕ) (command : Command)
+    → IsNote note → HasNoFeed line → broken ≡ false → IsWritten broken before now buffer log
+    → (written : List ℕ) × Appends (append_known now buffer) (append_known next left) written × (written ≡ note ++ line_text line)
+    → left ≡ [] → IsWritten false before next left (log ++ entry station note line command ∷ [])
 added broken before now next buffer left log station note line command may plain is w f empty =
     let all = log ++ entry station note line command ∷ [] in
     let text : text_of log ++ f.0 ≡ text_of all ++ [] = ap (λ t. text_of log ++ t) f.2 ∙ sym (text_push log (entry station note line command)) ∙ sym (append-nil (text_of all)) in

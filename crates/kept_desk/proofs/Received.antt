@@ -23,9 +23,12 @@ pub noted : (r : Result (List Entry) Broken) (share : OwnEntries) (e : Entry) (l
 noted (Ok x) share e log now own is added = record { log = log.entries; own = own; received = is ∙ ap (λ (j : Ledger). j.entries) added }
 noted (Err broken) share e log now own is added = tt
 
-module _ (at : StationPlace) (first : ℕ → Content) (number : ℕ) (c : Cell) (share : OwnEntries) (note line : List ℕ) (command : Command) (stands : StandsAt number at c) (kept : IsKeptCell first c share) where
+module _ (at : StationPlace) (first : ℕ → Content) (number : ℕ) (c : Cell) (share : OwnEntries) (note line : List ℕ)
+    (command : Command) (stands : StandsAt number at c) (kept : IsKeptCell first c share) where
   -- an accepted command, at the content to which the entries before it lead
-  given : (n : ℕ) (told : Option Known) (receipt : List Entry) (now : Option (List Entry)) → IsNoted share (entry share.station note line command) receipt → TellsOf at c.content command (Accepted n) told → now ≡ Some receipt
+  given : (n : ℕ) (told : Option Known) (receipt : List Entry) (now : Option (List Entry))
+      → IsNoted share (entry share.station note line command) receipt → TellsOf at c.content command (Accepted n) told
+      → now ≡ Some receipt
       → IsGiven at (first number) n (entry number note line command) told now
   given n told receipt now noted_as taken is =
       let station : share.station ≡ number = kept.station ∙ stands.station in
@@ -39,7 +42,8 @@ module _ (at : StationPlace) (first : ℕ → Content) (number : ℕ) (c : Cell)
       }
 
   -- what comes with any answer
-  pub received : (a : Answer) (told : Option Known) (receipt : List Entry) (now : Option (List Entry)) → IsNoted share (entry share.station note line command) receipt → TellsOf at c.content command a told → now ≡ given_with a receipt
+  pub received : (a : Answer) (told : Option Known) (receipt : List Entry) (now : Option (List Entry))
+      → IsNoted share (entry share.station note line command) receipt → TellsOf at c.content command a told → now ≡ given_with a receipt
       → IsReceived at (first number) a (entry number note line command) told now
   received (Accepted n) told receipt now noted_as tells is = given n told receipt now noted_as tells is
   received Repeat told receipt now noted_as tells is = is

@@ -23,7 +23,8 @@ pub record IsUnused (table seat : TableId) (me : Seated) : Type 0 where
 -- What a journal keeps beside its table: its lines speak for their commands on the stations of
 -- these names; the number of shares; whether a write failed; and what its writer took, with the
 -- part that the buffer holds back.
-pub record IsJournal (named : TableId) (name : ℕ → List ℕ) (before : Option (List ℕ)) (shares : ℕ) (broken : Bool) (now : Option (List ℕ)) (buffer : List ℕ) (table seat : TableId) (me : Seated) : Type 0 where
+pub record IsJournal (named : TableId) (name : ℕ → List ℕ) (before : Option (List ℕ)) (shares : ℕ) (broken : Bool)
+    (now : Option (List ℕ)) (buffer : List ℕ) (table seat : TableId) (me : Seated) : Type 0 where
   pub is_named : table ≡ named
   pub sits : Sits table seat
   pub me_is : me ≡ (keeping me.0.log shares, [])

@@ -79,7 +79,8 @@ pub record IsAcceptedBehind (limits : Bounds) (first : Content) (entries : List 
 -- What is known of a desk with a journal after its close: there is one list of entries. The writer
 -- took its text. Its lines speak for their commands. Just each station's own entries lead to that
 -- station's content. It begins with the entries of each of these moments.
-pub record IsWrittenDown (name : ℕ → List ℕ) (first : ℕ → Content) (before : Option (List ℕ)) (broken : Bool) (now : Option (List ℕ)) (buffer : List ℕ) (cells : List Cell) (moments : List (List Entry)) : Type 0 where
+pub record IsWrittenDown (name : ℕ → List ℕ) (first : ℕ → Content) (before : Option (List ℕ)) (broken : Bool)
+    (now : Option (List ℕ)) (buffer : List ℕ) (cells : List Cell) (moments : List (List Entry)) : Type 0 where
   pub log : List Entry
   pub written : IsWritten broken before now buffer log
   pub spoken : AreSpoken name log

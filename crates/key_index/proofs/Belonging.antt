@@ -74,7 +74,8 @@ module _ {V : Type 0} where
   first_below (e ∷ leaf) leaves lt rising = (above_parts e.0 leaf (all_of leaves) rising.0).1
 
   -- A leaf that begins at the key or before it is one of those counted.
-  pub begun_more : (key : ℕ) (leaves : List (List (Entry V))) (at : ℕ) → AreFilled leaves → AreRising (all_of leaves) → at < length leaves → first_key (get_or leaves at []) ≤ key → at < begun key leaves
+  pub begun_more : (key : ℕ) (leaves : List (List (Entry V))) (at : ℕ) → AreFilled leaves → AreRising (all_of leaves)
+      → at < length leaves → first_key (get_or leaves at []) ≤ key → at < begun key leaves
   begun_more key [] at filled rising lt le = absurd (omega arith)
   begun_more key (leaf ∷ leaves) zero filled rising lt le = rw (begun_on key leaf leaves le) (omega arith)
   begun_more key (leaf ∷ leaves) (suc at) filled rising lt le =
@@ -100,7 +101,8 @@ module _ {V : Type 0} where
   begun_back key [] filled rising = tt
   begun_back key (leaf ∷ leaves) filled rising = elim (cases_lt key (first_key leaf)) [
     | inl end ↦ rw (begun_end key leaf leaves end)
-        (above_both key leaf (all_of leaves) (leaf_above key leaf (rising_parts leaf (all_of leaves) rising).0 end) (above_less key (first_key leaf) (all_of leaves) (omega arith) (first_below leaf leaves filled.0 rising)))
+        (above_both key leaf (all_of leaves) (leaf_above key leaf (rising_parts leaf (all_of leaves) rising).0 end)
+        (above_less key (first_key leaf) (all_of leaves) (omega arith) (first_below leaf leaves filled.0 rising)))
     | inr le ↦ rw (begun_on key leaf leaves le) (begun_back key leaves filled.1 (rising_parts leaf (all_of leaves) rising).1)
   ]
 
@@ -120,7 +122,8 @@ module _ {V : Type 0} where
   front_counted key (leaf ∷ leaves) (suc b) filled rising le = elim (cases_lt key (first_key leaf)) [
     | inl end ↦ let none = begun_end key leaf leaves end in absurd (omega (arith, none))
     | inr on ↦ let count = begun_on key leaf leaves on in
-        below_both key leaf (all_of (take b leaves)) (front_leaf key leaf leaves filled.1 rising (omega (arith, count))) (front_counted key leaves b filled.1 (rising_parts leaf (all_of leaves) rising).1 (omega (arith, count)))
+        below_both key leaf (all_of (take b leaves)) (front_leaf key leaf leaves filled.1 rising (omega (arith, count)))
+        (front_counted key leaves b filled.1 (rising_parts leaf (all_of leaves) rising).1 (omega (arith, count)))
   ]
 
   -- What is above the key behind some leaves is so behind one more.
@@ -146,7 +149,8 @@ module _ {V : Type 0} where
   first_is (x ∷ leaf) e is = cc
 
   -- The first entry of leaves is that of the first leaf.
-  pub first_behind : (leaves : List (List (Entry V))) (i : ℕ) (e : Entry V) (rest : List (Entry V)) → i < length leaves → slice_get (get_or leaves i []) 0 ≡ Some e → slice_get (all_of (drop i leaves)) 0 ≡ Some e
+  pub first_behind : (leaves : List (List (Entry V))) (i : ℕ) (e : Entry V) (rest : List (Entry V)) → i < length leaves
+      → slice_get (get_or leaves i []) 0 ≡ Some e → slice_get (all_of (drop i leaves)) 0 ≡ Some e
   first_behind [] i e rest lt is = absurd (omega arith)
   first_behind ([] ∷ leaves) zero e rest lt is = cc
   first_behind ((x ∷ leaf) ∷ leaves) zero e rest lt is = is

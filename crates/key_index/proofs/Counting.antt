@@ -28,7 +28,9 @@ module _ {V : Type 0} where
   -- No more are marked than there are.
   pub count_within : (m : Mark) (es : List (Entry V)) → length (marked m es) ≤ length es
   count_within m [] = omega arith
-  count_within m (e ∷ es) = elim (has_mark m e.1.marks) as (λ b. length (cond b (e ∷ marked m es) (marked m es)) ≤ suc (length es)) [ true ↦ omega (arith, count_within m es) | false ↦ omega (arith, count_within m es) ]
+  count_within m (e ∷ es) =
+      elim (has_mark m e.1.marks) as (λ b. length (cond b (e ∷ marked m es) (marked m es))
+      ≤ suc (length es)) [ true ↦ omega (arith, count_within m es) | false ↦ omega (arith, count_within m es) ]
 
   -- An entry put in.
   pub count_put : (m : Mark) (es : List (Entry V)) (i : ℕ) (e : Entry V) → length (marked m (insert es i e)) ≡ length (marked m es) + weigh (has_mark m e.1.marks)
@@ -41,7 +43,8 @@ module _ {V : Type 0} where
   count_out m (x ∷ es) (suc i) e lt is = omega (arith, count_on m x (remove es i), count_on m x es, count_out m es i e (omega arith) is)
 
   -- One marked anew.
-  pub count_set : (m : Mark) (marks : Marks) (es : List (Entry V)) (i : ℕ) (e : Entry V) → i < length es → e ≡ get_or es i e → length (marked m (mark_at marks i es)) + weigh (has_mark m e.1.marks) ≡ length (marked m es) + weigh (has_mark m marks)
+  pub count_set : (m : Mark) (marks : Marks) (es : List (Entry V)) (i : ℕ) (e : Entry V) → i < length es → e ≡ get_or es i e
+      → length (marked m (mark_at marks i es)) + weigh (has_mark m e.1.marks) ≡ length (marked m es) + weigh (has_mark m marks)
   count_set m marks [] i e lt is = absurd (omega arith)
   count_set m marks (x ∷ es) zero e lt is = omega (arith, count_on m x es, count_on m (with_marks marks x) es, ap (λ (y : Entry V). weigh (has_mark m y.1.marks)) is)
   count_set m marks (x ∷ es) (suc i) e lt is = omega (arith, count_on m x (mark_at marks i es), count_on m x es, count_set m marks es i e (omega arith) is)

@@ -9,13 +9,15 @@ use Rattle.key_index.proofs.Belonging.{read_leaf, all_at, rising_front, leaf_abo
 
 module _ {V : Type 0} where
   -- A leaf written over another.
-  pub all_set : (leaves : List (List (Entry V))) (at : ℕ) (leaf : List (Entry V)) → at < length leaves → all_of (set leaves at leaf) ≡ all_of (take at leaves) ++ (leaf ++ all_of (drop (suc at) leaves))
+  pub all_set : (leaves : List (List (Entry V))) (at : ℕ) (leaf : List (Entry V)) → at < length leaves
+      → all_of (set leaves at leaf) ≡ all_of (take at leaves) ++ (leaf ++ all_of (drop (suc at) leaves))
   all_set [] at leaf lt = absurd (omega arith)
   all_set (l ∷ leaves) zero leaf lt = refl
   all_set (l ∷ leaves) (suc at) leaf lt = ap (λ rest. l ++ rest) (all_set leaves at leaf (omega arith)) ∙ sym (append_assoc l (all_of (take at leaves)) (leaf ++ all_of (drop (suc at) leaves)))
 
   -- Filled leaves round a filled one.
-  pub filled_set : (leaves : List (List (Entry V))) (at : ℕ) (leaf : List (Entry V)) → at < length leaves → AreFilled (take at leaves) → AreFilled (drop (suc at) leaves) → 0 < length leaf → AreFilled (set leaves at leaf)
+  pub filled_set : (leaves : List (List (Entry V))) (at : ℕ) (leaf : List (Entry V)) → at < length leaves
+      → AreFilled (take at leaves) → AreFilled (drop (suc at) leaves) → 0 < length leaf → AreFilled (set leaves at leaf)
   filled_set [] at leaf lt front back some = absurd (omega arith)
   filled_set (l ∷ leaves) zero leaf lt front back some = (some, back)
   filled_set (l ∷ leaves) (suc at) leaf lt front back some = (front.0, filled_set leaves at leaf (omega arith) front.1 back some)
@@ -34,7 +36,8 @@ module _ {V : Type 0} where
   joined_same (l ∷ m ∷ leaves) (suc at) lt = ap (λ rest. l ++ rest) (joined_same (m ∷ leaves) at (omega arith))
 
   -- They stay filled.
-  pub joined_filled : (leaves : List (List (Entry V))) (at : ℕ) → suc at < length leaves → AreFilled leaves → AreFilled (set (remove leaves (suc at)) at (get_or leaves at [] ++ get_or leaves (suc at) []))
+  pub joined_filled : (leaves : List (List (Entry V))) (at : ℕ) → suc at < length leaves → AreFilled leaves
+      → AreFilled (set (remove leaves (suc at)) at (get_or leaves at [] ++ get_or leaves (suc at) []))
   joined_filled [] at lt filled = absurd (omega arith)
   joined_filled (l ∷ []) at lt filled = absurd (omega arith)
   joined_filled (l ∷ m ∷ leaves) zero lt filled = (omega (arith, length-append l m, filled.0), filled.1.1)
@@ -47,7 +50,8 @@ module _ {V : Type 0} where
       subst P (sym up) (joined_same leaves at (omega (arith, up, lt)))
 
   -- They stay filled, given so too.
-  pub joined_filled_at : (leaves : List (List (Entry V))) (at i : ℕ) → i ≡ suc at → i < length leaves → AreFilled leaves → AreFilled (set (remove leaves i) at (get_or leaves at [] ++ get_or leaves i []))
+  pub joined_filled_at : (leaves : List (List (Entry V))) (at i : ℕ) → i ≡ suc at → i < length leaves → AreFilled leaves
+      → AreFilled (set (remove leaves i) at (get_or leaves at [] ++ get_or leaves i []))
   joined_filled_at leaves at i up lt filled =
       let P : ℕ → Type 0 = λ n. AreFilled (set (remove leaves n) at (get_or leaves at [] ++ get_or leaves n [])) in
       subst P (sym up) (joined_filled leaves at (omega (arith, up, lt)) filled)
@@ -90,7 +94,8 @@ module _ {V : Type 0} where
   left_out_filled leaves at front back = filled_both (take at leaves) (drop (suc at) leaves) front back
 
   -- Filled round a leaf and in it.
-  pub filled_whole : (leaves : List (List (Entry V))) (at : ℕ) → at < length leaves → AreFilled (take at leaves) → AreFilled (drop (suc at) leaves) → 0 < length (get_or leaves at []) → AreFilled leaves
+  pub filled_whole : (leaves : List (List (Entry V))) (at : ℕ) → at < length leaves → AreFilled (take at leaves)
+      → AreFilled (drop (suc at) leaves) → 0 < length (get_or leaves at []) → AreFilled leaves
   filled_whole [] at lt front back some = absurd (omega arith)
   filled_whole (l ∷ leaves) zero lt front back some = (some, back)
   filled_whole (l ∷ leaves) (suc at) lt front back some = (front.0, filled_whole leaves at (omega arith) front.1 back some)
@@ -152,7 +157,9 @@ module _ {V : Type 0} where
 
     -- The leaf rises.
     rising_whole : AreRising whole
-    rising_whole = (rising_parts whole (all_of (drop (suc at) old)) (rising_parts (all_of (take at old)) (whole ++ all_of (drop (suc at) old)) (subst AreRising (all_at old at belongs.within) rising)).1).0
+    rising_whole =
+        (rising_parts whole (all_of (drop (suc at) old))
+        (rising_parts (all_of (take at old)) (whole ++ all_of (drop (suc at) old)) (subst AreRising (all_at old at belongs.within) rising)).1).0
 
     -- So do its halves.
     rising_halves : AreRising (lower ++ upper)
@@ -177,7 +184,8 @@ module _ {V : Type 0} where
       belongs = record {
         within = omega (arith, long, belongs.within);
         front = subst (λ ls. AreBelow key (all_of ls)) (sym parts.front) belongs.front;
-        back = subst (λ ls. AreAbove key (all_of ls)) (sym parts.behind) (above_both key upper (all_of (drop (suc at) old)) (leaf_above key upper (rising_parts lower upper rising_halves).1 lt) belongs.back);
+        back = subst (λ ls. AreAbove key (all_of ls)) (sym parts.behind)
+            (above_both key upper (all_of (drop (suc at) old)) (leaf_above key upper (rising_parts lower upper rising_halves).1 lt) belongs.back);
       };
       room = subst (λ l. length l < 128) (sym parts.first) (omega (arith, half));
       front = subst AreFilled (sym parts.front) round.0;

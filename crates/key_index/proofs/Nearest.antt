@@ -68,24 +68,30 @@ module _ {V : Type 0} where
   all_less (l ∷ ls) (suc i) lt = all_less ls i (omega arith)
 
   -- A leaf in front that has none is passed over.
-  pub leaf_passed : (m : Mark) (ls : List (List (Entry V))) (i j : ℕ) (leaf : List (Entry V)) → i < length ls → j ≡ i + 1 → leaf ≡ get_or ls i leaf → length (marked m leaf) ≡ 0 → marked m (all_of (take i ls)) ≡ marked m (all_of (take j ls))
+  pub leaf_passed : (m : Mark) (ls : List (List (Entry V))) (i j : ℕ) (leaf : List (Entry V)) → i < length ls → j ≡ i + 1
+      → leaf ≡ get_or ls i leaf → length (marked m leaf) ≡ 0 → marked m (all_of (take i ls)) ≡ marked m (all_of (take j ls))
   leaf_passed m ls i j leaf lt up read none =
       let here = read_leaf ls i leaf lt read in let next : j ≡ suc i = omega (arith, up) in
       sym (ap (λ n. marked m (all_of (take n ls))) next ∙ ap (marked m) (all_more ls i lt) ∙ marked_both m (all_of (take i ls)) (get_or ls i [])
-      ∙ ap (λ l. marked m (all_of (take i ls)) ++ marked m l) (sym here) ∙ ap (λ l. marked m (all_of (take i ls)) ++ l) (none_is (marked m leaf) (omega (arith, none))) ∙ append-nil (marked m (all_of (take i ls))))
+      ∙ ap (λ l. marked m (all_of (take i ls)) ++ marked m l) (sym here)
+      ∙ ap (λ l. marked m (all_of (take i ls)) ++ l) (none_is (marked m leaf) (omega (arith, none)))
+      ∙ append-nil (marked m (all_of (take i ls))))
 
   -- One that has some has the last.
-  pub leaf_found : (m : Mark) (ls : List (List (Entry V))) (i j : ℕ) (leaf : List (Entry V)) → i < length ls → j ≡ i + 1 → leaf ≡ get_or ls i leaf → 0 < length (marked m leaf) → last_of (marked m leaf) ≡ last_of (marked m (all_of (take j ls)))
+  pub leaf_found : (m : Mark) (ls : List (List (Entry V))) (i j : ℕ) (leaf : List (Entry V)) → i < length ls → j ≡ i + 1
+      → leaf ≡ get_or ls i leaf → 0 < length (marked m leaf) → last_of (marked m leaf) ≡ last_of (marked m (all_of (take j ls)))
   leaf_found m ls i j leaf lt up read some =
       let here = read_leaf ls i leaf lt read in let next : j ≡ suc i = omega (arith, up) in
       sym (ap (λ n. last_of (marked m (all_of (take n ls)))) next ∙ ap (λ l. last_of (marked m l)) (all_more ls i lt) ∙ ap last_of (marked_both m (all_of (take i ls)) (get_or ls i []))
       ∙ ap (λ l. last_of (marked m (all_of (take i ls)) ++ marked m l)) (sym here) ∙ last_both (marked m (all_of (take i ls))) (marked m leaf) some)
 
   -- One that has some has the first.
-  pub back_found : (m : Mark) (ls : List (List (Entry V))) (i : ℕ) (leaf : List (Entry V)) → i < length ls → leaf ≡ get_or ls i leaf → 0 < length (marked m leaf) → first_of (marked m leaf) ≡ first_of (marked m (all_of (drop i ls)))
+  pub back_found : (m : Mark) (ls : List (List (Entry V))) (i : ℕ) (leaf : List (Entry V)) → i < length ls → leaf ≡ get_or ls i leaf
+      → 0 < length (marked m leaf) → first_of (marked m leaf) ≡ first_of (marked m (all_of (drop i ls)))
   back_found m ls i leaf lt read some =
       let here = read_leaf ls i leaf lt read in
-      sym (ap (λ l. first_of (marked m l)) (all_less ls i lt) ∙ ap first_of (marked_both m (get_or ls i []) (all_of (drop (suc i) ls))) ∙ ap (λ l. first_of (marked m l ++ marked m (all_of (drop (suc i) ls)))) (sym here)
+      sym (ap (λ l. first_of (marked m l)) (all_less ls i lt) ∙ ap first_of (marked_both m (get_or ls i []) (all_of (drop (suc i) ls)))
+      ∙ ap (λ l. first_of (marked m l ++ marked m (all_of (drop (suc i) ls)))) (sym here)
       ∙ first_of_some (marked m leaf) (marked m (all_of (drop (suc i) ls))) some) where
         first_of_some : (xs ys : List (Entry V)) → 0 < length xs → first_of (xs ++ ys) ≡ first_of xs
         first_of_some [] ys some = absurd (omega arith)

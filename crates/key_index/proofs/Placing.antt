@@ -19,7 +19,9 @@ module _ {V : Type 0} where
   parted : (at i : ℕ) (ls : List (List (Entry V))) → at < length ls → in_front at i ls ++ on_from at i ls ≡ all_of ls
   parted at i ls lt =
       let front = all_of (take at ls) in let leaf = get_or ls at [] in let back = all_of (drop (suc at) ls) in
-      append_assoc front (take i leaf) (drop i leaf ++ back) ∙ ap (λ l. front ++ l) (sym (append_assoc (take i leaf) (drop i leaf) back) ∙ ap (λ l. l ++ back) (take-append-drop i leaf)) ∙ sym (all_at ls at lt)
+      append_assoc front (take i leaf) (drop i leaf ++ back)
+      ∙ ap (λ l. front ++ l) (sym (append_assoc (take i leaf) (drop i leaf) back) ∙ ap (λ l. l ++ back) (take-append-drop i leaf))
+      ∙ sym (all_at ls at lt)
 
   -- A rising list whose last entry is below a key is below it.
   all_below : (key : ℕ) (xs : List (Entry V)) → AreRising xs → ((e : Entry V) → last_of xs ≡ Some e → e.0 < key) → AreBelow key xs
@@ -40,14 +42,18 @@ module _ {V : Type 0} where
       (parts.0 ∙ ap (λ l. xs ++ l) ends.0 ∙ append-nil xs, parts.1 ∙ ends.1)
 
   -- A place that fits is the key's.
-  pub place_fits : (key : ℕ) (ls : List (List (Entry V))) (place : KeyPlace) → AreRising (all_of ls) → place.leaf < length ls → place.entry ≤ length (get_or ls place.leaf []) → IsCutAt key (in_front place.leaf place.entry ls) (on_from place.leaf place.entry ls) → IsPlace key ls place
+  pub place_fits : (key : ℕ) (ls : List (List (Entry V))) (place : KeyPlace) → AreRising (all_of ls) → place.leaf < length ls
+      → place.entry ≤ length (get_or ls place.leaf [])
+      → IsCutAt key (in_front place.leaf place.entry ls) (on_from place.leaf place.entry ls) → IsPlace key ls place
   place_fits key ls place rising leaf entry cut =
       let front = in_front place.leaf place.entry ls in let back = on_from place.leaf place.entry ls in let all = parted place.leaf place.entry ls leaf in
       let is = cut_here key front back (subst AreRising (sym all) rising) cut in
       record { leaf = leaf; entry = entry; front = sym is.0 ∙ ap (below key) all; back = sym is.1 ∙ ap (from key) all }
 
   -- The place that is found is.
-  pub place_found : (key : ℕ) (ls : List (List (Entry V))) (place : KeyPlace) → Belongs key ls place.leaf → place.entry ≡ length (below key (get_or ls place.leaf [])) → place.entry ≤ length (get_or ls place.leaf []) → IsPlace key ls place
+  pub place_found : (key : ℕ) (ls : List (List (Entry V))) (place : KeyPlace) → Belongs key ls place.leaf
+      → place.entry ≡ length (below key (get_or ls place.leaf [])) → place.entry ≤ length (get_or ls place.leaf [])
+      → IsPlace key ls place
   place_found key ls place b is within =
       let at = place.leaf in let leaf = get_or ls at [] in let front = all_of (take at ls) in let back = all_of (drop (suc at) ls) in
       record {
@@ -58,7 +64,8 @@ module _ {V : Type 0} where
       }
 
   -- An entry put in at its key's place.
-  pub put_place : (key : ℕ) (e : Entry V) (ls : List (List (Entry V))) (place : KeyPlace) → IsPlace key ls place → all_of (set ls place.leaf (insert (get_or ls place.leaf []) place.entry e)) ≡ below key (all_of ls) ++ e ∷ from key (all_of ls)
+  pub put_place : (key : ℕ) (e : Entry V) (ls : List (List (Entry V))) (place : KeyPlace) → IsPlace key ls place
+      → all_of (set ls place.leaf (insert (get_or ls place.leaf []) place.entry e)) ≡ below key (all_of ls) ++ e ∷ from key (all_of ls)
   put_place key e ls place is =
       let at = place.leaf in let i = place.entry in let leaf = get_or ls at [] in let front = all_of (take at ls) in let back = all_of (drop (suc at) ls) in
       all_set ls at (insert leaf i e) is.leaf ∙ ap (λ l. front ++ l) (append_assoc (take i leaf) (e ∷ drop i leaf) back) ∙ sym (append_assoc front (take i leaf) (e ∷ drop i leaf ++ back))
@@ -82,7 +89,8 @@ module _ {V : Type 0} where
   mark_all marks key ls at b some =
       let front = all_of (take at ls) in let leaf = get_or ls at [] in let back = all_of (drop (suc at) ls) in let n = length (below key leaf) in let rest = mark_at marks 0 (from key leaf) in
       let cut : mark_at marks n leaf ≡ below key leaf ++ rest = mark_parts marks n leaf ∙ (λ j. take_below key leaf j ++ mark_at marks 0 (drop_below key leaf j)) in
-      all_set ls at (mark_at marks n leaf) b.within ∙ ap (λ l. front ++ (l ++ back)) cut ∙ ap (λ l. front ++ l) (append_assoc (below key leaf) rest back) ∙ sym (append_assoc front (below key leaf) (rest ++ back))
+      all_set ls at (mark_at marks n leaf) b.within ∙ ap (λ l. front ++ (l ++ back)) cut
+      ∙ ap (λ l. front ++ l) (append_assoc (below key leaf) rest back) ∙ sym (append_assoc front (below key leaf) (rest ++ back))
       ∙ ap (λ l. (front ++ below key leaf) ++ l) (sym (first_set marks (from key leaf) back some)) ∙ (λ j. sym (below_at key ls at b) j ++ mark_at marks 0 (sym (from_at key ls at b) j))
 
   -- Entries above a number stay so with one marked.

@@ -76,7 +76,8 @@ few_transactions limit n true few h = few
 few_transactions limit n false few h = let below : n < limit = leb-false limit n h in omega arith
 
 module _ (limits : Bounds) (c : Content) (kept : AreKept limits (entries c)) where
-  AreKept-deliver : (key : KeyName) (event : EventContent) → IsAdmissible (Deliver key event) → IsAccepted (step limits c (Deliver key event)).1 → AreKept limits (entries_after (entries c) (Deliver key event))
+  AreKept-deliver : (key : KeyName) (event : EventContent) → IsAdmissible (Deliver key event)
+      → IsAccepted (step limits c (Deliver key event)).1 → AreKept limits (entries_after (entries c) (Deliver key event))
   AreKept-deliver key event may a =
       let r = room limits c (key, event) a in
       let g = grown c (key, event) r.new in

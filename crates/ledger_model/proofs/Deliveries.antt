@@ -66,7 +66,8 @@ module _ (limits : Bounds) (c : Content) (d : Sent) where
   told r =
       let is : answer limits c (Deliver d.0 d.1) ≡ Accepted (c.changes + 1) =
       ap (answer_to_deliver limits c d.0 d.1) r.new
-      ∙ (λ i. cond (r.transactions i) (Refused TooManyTransactions) (cond (r.events i) (Refused EventsFull) (cond (r.readings i) (Refused ReadingsFull) (cond (r.changes i) (Refused ChangesExhausted) (Accepted (c.changes + 1)))))) in
+      ∙ (λ i. cond (r.transactions i) (Refused TooManyTransactions)
+      (cond (r.events i) (Refused EventsFull) (cond (r.readings i) (Refused ReadingsFull) (cond (r.changes i) (Refused ChangesExhausted) (Accepted (c.changes + 1)))))) in
       ap (λ a. (content_after c (Deliver d.0 d.1) a, a)) is
 
   pub accepted_with : Room limits c d → (commands : List Command) → AreAccepted limits (delivered c d) commands → AreAccepted limits c (Deliver d.0 d.1 ∷ commands)
@@ -134,7 +135,8 @@ grown c d new =
       events = ap length is ∙ length_between p.front p.back e ∙ ap (λ es. length es + 1) was;
       readings = ap readings_stored is ∙ sum_between readings_of_one p.front p.back e ∙ ap (λ es. readings_stored es + length d.1.readings) was;
       has = λ tx. ap (has_transaction tx) is ∙ any_between (λ (e : Entry). bytes_eq tx e.0.tx) p.front p.back e ∙ ap (λ es. bytes_eq tx d.0.tx || has_transaction tx es) was;
-      transactions = ap (λ es. length (transactions_of es)) is ∙ transactions_added p.front p.back e ∙ ap (λ es. cond (has_transaction d.0.tx es) (length (transactions_of es)) (length (transactions_of es) + 1)) was;
+      transactions = ap (λ es. length (transactions_of es)) is ∙ transactions_added p.front p.back e
+          ∙ ap (λ es. cond (has_transaction d.0.tx es) (length (transactions_of es)) (length (transactions_of es) + 1)) was;
     }
 
 record Exchanged (limits : Bounds) (c : Content) (x y : Sent) : Type 0 where
@@ -147,7 +149,9 @@ cond_none true s o h = absurd (some_not_none s h)
 cond_none false s o h = (refl, h)
 
 -- the rule of transactions, the other way round: y has the transaction of x, or another
-transactions_exchanged : (limit n : ℕ) (same hx hy : Bool) → (same ≡ true → hx ≡ hy) → (not hx && nat_le limit n) ≡ false → (not (same || hy) && nat_le limit (cond hx n (n + 1))) ≡ false → ((not hy && nat_le limit n) ≡ false) × ((not (same || hx) && nat_le limit (cond hy n (n + 1))) ≡ false)
+transactions_exchanged : (limit n : ℕ) (same hx hy : Bool) → (same ≡ true → hx ≡ hy) → (not hx && nat_le limit n) ≡ false
+    → (not (same || hy) && nat_le limit (cond hx n (n + 1))) ≡ false
+    → ((not hy && nat_le limit n) ≡ false) × ((not (same || hx) && nat_le limit (cond hy n (n + 1))) ≡ false)
 transactions_exchanged limit n same true true alike p q = (refl, q)
 transactions_exchanged limit n true true false alike p q = absurd (true≢false (alike refl))
 transactions_exchanged limit n false true false alike p q = (q, refl)
@@ -185,7 +189,8 @@ exchanged limits c x y rx ry =
             ∙ ap (λ b. cond b (Some (fresh y)) (finite.get c.events x.0)) ((eq_by_cmp_equiv key_total).symm x.0 y.0 ∙ n.0)
             ∙ rx.new;
         transactions = (λ i. not (gy.has x.0.tx i) && nat_le limits.transactions (gy.transactions i))
-            ∙ ap (λ b. not (b || has_transaction x.0.tx es) && nat_le limits.transactions (cond (has_transaction y.0.tx es) (length (transactions_of es)) (length (transactions_of es) + 1))) (nat_list_eq_equiv.symm x.0.tx y.0.tx)
+            ∙ ap (λ b. not (b || has_transaction x.0.tx es) && nat_le limits.transactions (cond (has_transaction y.0.tx es) (length (transactions_of es)) (length (transactions_of es) + 1)))
+            (nat_list_eq_equiv.symm x.0.tx y.0.tx)
             ∙ t.1;
         events = ap (nat_le limits.events) (gy.events ∙ sym gx.events) ∙ ry.events;
         readings = ap (λ n. nat_lt limits.readings (n + length x.1.readings)) gy.readings ∙ r.1;
@@ -234,5 +239,6 @@ module _ (limits : Bounds) where
 pub orders_accepted : (limits : Bounds) (c : Content) (one other : List Sent) → IsPermutation one other → AreAccepted limits c (deliveries one) → AreAccepted limits c (deliveries other)
 orders_accepted limits c one other p h = (each_order limits one other p c h).0
 
-pub orders_content : (limits : Bounds) (c : Content) (one other : List Sent) → IsPermutation one other → AreAccepted limits c (deliveries one) → left_by limits c (deliveries other) ≡ left_by limits c (deliveries one)
+pub orders_content : (limits : Bounds) (c : Content) (one other : List Sent) → IsPermutation one other
+    → AreAccepted limits c (deliveries one) → left_by limits c (deliveries other) ≡ left_by limits c (deliveries one)
 orders_content limits c one other p h = (each_order limits one other p c h).1

@@ -44,13 +44,19 @@ shown_parts : (order : Order) (d : Direction) (period : Periods) (es : List Entr
 shown_parts order Import period es n there = among_front own (sides order Import period es) (sides order Export period es) n there
 shown_parts order Export period es n there = among_back own (sides order Import period es) (sides order Export period es) n there
 
-pub by_quarter : (order : Order) (d : Direction) (period : Periods) (es : List Entry) → energy_by order d es ≡ sum_of_energies (map (λ quarter. energy_in_by order d period quarter es) (quarters_by order period es))
+pub by_quarter : (order : Order) (d : Direction) (period : Periods) (es : List Entry)
+    → energy_by order d es ≡ sum_of_energies (map (λ quarter. energy_in_by order d period quarter es) (quarters_by order period es))
 by_quarter order d period es = same_energy _ _
-    (sym (sum_of-up (λ quarter. energy_in_by order d period quarter es) (quarters_by order period es) ∙ sum_by_among (λ (t : Part). t.1.up) own (sides order d period es) (parts_of_both order period es) (shown_parts order d period es) ∙ parts_up period (all_pairs_by order d es)))
-    (sym (sum_of-down (λ quarter. energy_in_by order d period quarter es) (quarters_by order period es) ∙ sum_by_among (λ (t : Part). t.1.down) own (sides order d period es) (parts_of_both order period es) (shown_parts order d period es) ∙ parts_down period (all_pairs_by order d es)))
+    (sym (sum_of-up (λ quarter. energy_in_by order d period quarter es) (quarters_by order period es)
+    ∙ sum_by_among (λ (t : Part). t.1.up) own (sides order d period es) (parts_of_both order period es) (shown_parts order d period es)
+    ∙ parts_up period (all_pairs_by order d es)))
+    (sym (sum_of-down (λ quarter. energy_in_by order d period quarter es) (quarters_by order period es)
+    ∙ sum_by_among (λ (t : Part). t.1.down) own (sides order d period es) (parts_of_both order period es) (shown_parts order d period es)
+    ∙ parts_down period (all_pairs_by order d es)))
 
 -- a sum over the pairs of each EVSE's transactions
-evse_sum : (order : Order) (d : Direction) (f : Pair → ℕ) (es : List Entry) → sum_by (λ evse. sum_by f (flat_map (λ tx. pairs_by order d tx es) (transactions_at evse es))) (evses es) ≡ sum_by f (all_pairs_by order d es)
+evse_sum : (order : Order) (d : Direction) (f : Pair → ℕ) (es : List Entry)
+    → sum_by (λ evse. sum_by f (flat_map (λ tx. pairs_by order d tx es) (transactions_at evse es))) (evses es) ≡ sum_by f (all_pairs_by order d es)
 evse_sum order d f es =
     sum_by-same _ _ (λ evse. sum_by-flat_map f (λ tx. pairs_by order d tx es) (transactions_at evse es)) (evses es)
     ∙ sum_by_rising (λ tx. sum_by f (pairs_by order d tx es)) (λ tx. evse_of tx es) (transactions_of (live es))
@@ -90,7 +96,8 @@ module _ (measure : ByDirection Energy → ℕ) (none : measure no_flows ≡ 0) 
       step false e rest = omega arith
 
   -- a period that is not shown has no energy, and one that is shown has its own
-  station_part : (order : Order) (d : Direction) (f : Part → ℕ) (period : Periods) (es : List Entry) → ((q : ℕ) → measure (flows_in_by order period q es) ≡ sum_by f (filter (λ t. eqb t.0 q) (sides order d period es)))
+  station_part : (order : Order) (d : Direction) (f : Part → ℕ) (period : Periods) (es : List Entry)
+      → ((q : ℕ) → measure (flows_in_by order period q es) ≡ sum_by f (filter (λ t. eqb t.0 q) (sides order d period es)))
       → (q : ℕ) → sum_by (λ line. cond (eqb line.0 q) (measure line.1) 0) (board_by order period es).quarters ≡ measure (flows_in_by order period q es)
   station_part order d f period es part q =
       sum_by-map (λ (line : Flowed). cond (eqb line.0 q) (measure line.1) 0) (λ k. (k, flows_in_by order period k es)) (quarters_by order period es)
@@ -100,7 +107,8 @@ module _ (measure : ByDirection Energy → ℕ) (none : measure no_flows ≡ 0) 
       ∙ sym (part q)
 
   -- over the lines of stations it is the sum over the stations
-  site_part : (order : Order) (d : Direction) (f : Part → ℕ) (period : Periods) (quarter : ℕ) (stations : List (List Entry)) → ((es : List Entry) (q : ℕ) → measure (flows_in_by order period q es) ≡ sum_by f (filter (λ t. eqb t.0 q) (sides order d period es)))
+  site_part : (order : Order) (d : Direction) (f : Part → ℕ) (period : Periods) (quarter : ℕ) (stations : List (List Entry))
+      → ((es : List Entry) (q : ℕ) → measure (flows_in_by order period q es) ≡ sum_by f (filter (λ t. eqb t.0 q) (sides order d period es)))
       → measure (flows_under quarter (flat_map (λ es. (board_by order period es).quarters) stations)) ≡ sum_by (λ es. measure (flows_in_by order period quarter es)) stations
   site_part order d f period quarter stations part =
       under-part quarter (flat_map (λ es. (board_by order period es).quarters) stations)

@@ -50,4 +50,5 @@ pub same_event-Decides : (a b : EventContent) → Decides (same_event a b) (a �
 same_event-Decides a b =
     Decides-like _ (λ parts i. record { kind = parts.0.0.0 i; moment = parts.0.0.1 i; evse = parts.0.1 i; readings = parts.1 i })
     (λ e. (((ap (λ (h : EventContent). h.kind) e, ap (λ (h : EventContent). h.moment) e), ap (λ (h : EventContent). h.evse) e), ap (λ (h : EventContent). h.readings) e))
-    (Decides-and _ _ (Decides-and _ _ (Decides-and _ _ (same_kind-Decides a.kind b.kind) (Decides-eqb a.moment b.moment)) (same_evse-Decides a.evse b.evse)) (same_readings-Decides a.readings b.readings))
+    (Decides-and _ _ (Decides-and _ _ (Decides-and _ _ (same_kind-Decides a.kind b.kind) (Decides-eqb a.moment b.moment)) (same_evse-Decides a.evse b.evse))
+    (same_readings-Decides a.readings b.readings))

@@ -11,7 +11,8 @@ use Rattle.ledger_model.specs.Laws.{answers, left_by}
 use Rattle.ledger_model.proofs.ListedRuns.{told_all, listed_left, told_from_empty, entries_from_empty}
 
 -- the energy after a list of commands
-pub energy_after : (limits : Bounds) (commands : List Command) (e : Energy) → energy Import (listed_left limits ([], 0) commands).0 ≡ e → energy Import (entries (left_by limits empty_content commands)) ≡ e
+pub energy_after : (limits : Bounds) (commands : List Command) (e : Energy)
+    → energy Import (listed_left limits ([], 0) commands).0 ≡ e → energy Import (entries (left_by limits empty_content commands)) ≡ e
 energy_after limits commands e h = ap (energy Import) (entries_from_empty limits commands) ∙ h
 
 -- the answers to a list of commands

@@ -76,7 +76,9 @@ module _ (f : Entry → ℕ) where
 
   apart_sum : (t : List ℕ) (e : Entry) (es : List Entry) → (not (bytes_eq e.0.tx t)) ≡ true → sum_by f (of_one t (e ∷ es)) ≡ sum_by f (of_one t es)
   apart_sum t e es apart = elim (bytes_eq t e.0.tx) as (λ b. bytes_eq t e.0.tx ≡ b → sum_by f (cond b (e ∷ of_one t es) (of_one t es)) ≡ sum_by f (of_one t es)) [
-    | true ↦ λ h. let same : t ≡ e.0.tx = (bytes_eq-Decides t e.0.tx).0 h in let is : bytes_eq e.0.tx t ≡ true = (bytes_eq-Decides e.0.tx t).1 (sym same) in let no : not true ≡ true = ap not (sym is) ∙ apart in cc
+    | true ↦ λ h. let same : t ≡ e.0.tx = (bytes_eq-Decides t e.0.tx).0 h in
+        let is : bytes_eq e.0.tx t ≡ true = (bytes_eq-Decides e.0.tx t).1 (sym same) in
+        let no : not true ≡ true = ap not (sym is) ∙ apart in cc
     | false ↦ λ h. refl
   ] refl
 
@@ -98,7 +100,8 @@ module _ (f : Entry → ℕ) where
       sum_by-passed q g h (λ t passed. apart_sum t e es (and_left (not (bytes_eq x t)) (p t) passed)) (distinct (ids es)) ∙ sum_by_some q es in
       let split = split_sum x p es in
       let all : sum_by g (cond (p x) (x ∷ filter q (distinct (ids es))) (filter q (distinct (ids es)))) ≡ sum_by f (of_some p (e ∷ es)) =
-      elim (p x) as (λ b. cond b (h x) 0 + sum_by f (of_some q es) ≡ sum_by f (of_some p es) → sum_by g (cond b (x ∷ filter q (distinct (ids es))) (filter q (distinct (ids es)))) ≡ sum_by f (cond b (e ∷ of_some p es) (of_some p es))) [
+      elim (p x) as (λ b. cond b (h x) 0 + sum_by f (of_some q es) ≡ sum_by f (of_some p es)
+      → sum_by g (cond b (x ∷ filter q (distinct (ids es))) (filter q (distinct (ids es)))) ≡ sum_by f (cond b (e ∷ of_some p es) (of_some p es))) [
         | true ↦ λ s. omega (arith, sum_by-cons g x (filter q (distinct (ids es))), sum_by-cons f e (of_some p es), here, rest)
         | false ↦ λ s. omega (arith, rest)
       ] split in
@@ -184,7 +187,13 @@ few_toward d rs = omega (arith, length-filter (λ r. same_direction d r.directio
 few_readings : (d : Direction) (es : List Entry) → length (flat_map (λ e. toward d e.1.event.readings) es) ≤ readings_stored es
 few_readings d [] = omega arith
 few_readings d (e ∷ es) =
-    omega (arith, length-append (toward d e.1.event.readings) (flat_map (λ f. toward d f.1.event.readings) es), few_toward d e.1.event.readings, few_readings d es, sum_by-cons (λ f. length f.1.event.readings) e es)
+    omega (
+      arith,
+      length-append (toward d e.1.event.readings) (flat_map (λ f. toward d f.1.event.readings) es),
+      few_toward d e.1.event.readings,
+      few_readings d es,
+      sum_by-cons (λ f. length f.1.event.readings) e es,
+    )
 
 readings-filter : (p : Entry → Bool) (es : List Entry) → readings_stored (filter p es) ≤ readings_stored es
 readings-filter p [] = omega arith
@@ -204,15 +213,30 @@ sum_by-times m g (t ∷ ts) =
     spread m a b = omega arith
 
 -- what each transaction has at most, all have at most
-energy_bound : (order : Order) (d : Direction) (f : MeterReading × MeterReading → ℕ) (es : List Entry) → ((rs : List MeterReading) → AreLow rs → sum_by f (followed rs) ≤ greatest_reading * length rs) → AreEntries es → sum_by f (all_pairs_by order d es) ≤ greatest_reading * readings_stored es
+energy_bound : (order : Order) (d : Direction) (f : MeterReading × MeterReading → ℕ) (es : List Entry)
+    → ((rs : List MeterReading) → AreLow rs → sum_by f (followed rs) ≤ greatest_reading * length rs) → AreEntries es
+    → sum_by f (all_pairs_by order d es) ≤ greatest_reading * readings_stored es
 energy_bound order d f es each range =
     let ts = transactions_of (live es) in
     let size : Entry → ℕ = λ e. length e.1.event.readings in
     let live_range : AreEntries (live es) = AreEntries-filter (λ e. not e.1.voided) es range in
     let one : (t : List ℕ) → sum_by f (pairs_by order d t es) ≤ greatest_reading * sum_by size (of_one t (live es)) =
-    λ t. omega (arith, each (readings_by order d t es) (low-in_order order (readings_of d t es) (low-entries d (live_of t es) (AreEntries-filter (λ e. bytes_eq t e.0.tx) (live es) live_range))), length-in_order order (readings_of d t es), few_readings d (live_of t es)) in
-    let bound : sum_by (λ t. sum_by f (pairs_by order d t es)) ts ≤ sum_by (λ t. greatest_reading * sum_by size (of_one t (live es))) ts = sum_by-le-sum_by (λ t. sum_by f (pairs_by order d t es)) (λ t. greatest_reading * sum_by size (of_one t (live es))) ts one in
-    omega (arith, sum_by-flat_map f (λ t. pairs_by order d t es) ts, bound, sum_by-times greatest_reading (λ t. sum_by size (of_one t (live es))) ts, sum_by_transactions size (live es), readings-filter (λ e. not e.1.voided) es)
+    λ t. omega (
+      arith,
+      each (readings_by order d t es) (low-in_order order (readings_of d t es) (low-entries d (live_of t es) (AreEntries-filter (λ e. bytes_eq t e.0.tx) (live es) live_range))),
+      length-in_order order (readings_of d t es),
+      few_readings d (live_of t es),
+    ) in
+    let bound : sum_by (λ t. sum_by f (pairs_by order d t es)) ts ≤ sum_by (λ t. greatest_reading * sum_by size (of_one t (live es))) ts =
+    sum_by-le-sum_by (λ t. sum_by f (pairs_by order d t es)) (λ t. greatest_reading * sum_by size (of_one t (live es))) ts one in
+    omega (
+      arith,
+      sum_by-flat_map f (λ t. pairs_by order d t es) ts,
+      bound,
+      sum_by-times greatest_reading (λ t. sum_by size (of_one t (live es))) ts,
+      sum_by_transactions size (live es),
+      readings-filter (λ e. not e.1.voided) es,
+    )
 
 -- numbers below the end of sequence numbers
 abbrev AreBelow : List ℕ → Type 0

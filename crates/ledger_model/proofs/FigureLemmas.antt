@@ -9,7 +9,9 @@ use Rattle.ledger_model.specs.Board.{Board, plus_figures, sum_of_figures, site_b
 use Rattle.ledger_model.specs.BoardLaws.{AreSums}
 
 -- a figure of the sum is the sum of that figure
-pub figure_of_sum : (figure : Figures → ℕ) → figure no_figures ≡ 0 → ((a b : Figures) → figure (plus_figures a b) ≡ figure a + figure b) → (fs : List Figures) → figure (sum_of_figures fs) ≡ sum_by figure fs
+pub figure_of_sum : (figure : Figures → ℕ) → figure no_figures ≡ 0
+    → ((a b : Figures) → figure (plus_figures a b) ≡ figure a + figure b) → (fs : List Figures)
+    → figure (sum_of_figures fs) ≡ sum_by figure fs
 figure_of_sum figure none both [] = none
 figure_of_sum figure none both (f ∷ fs) = both f (sum_of_figures fs) ∙ ap (λ n. figure f + n) (figure_of_sum figure none both fs) ∙ sym (sum_by-cons figure f fs)
 
@@ -41,4 +43,14 @@ same_figures a b each =
     let down = each (λ f. f.down) refl (λ c d. refl) in
     let export_up = each (λ f. f.export_up) refl (λ c d. refl) in
     let export_down = each (λ f. f.export_down) refl (λ c d. refl) in
-    λ i. record { events = events i; voided = voided i; transactions = transactions i; complete = complete i; missing = missing i; up = up i; down = down i; export_up = export_up i; export_down = export_down i }
+    λ i. record {
+      events = events i;
+      voided = voided i;
+      transactions = transactions i;
+      complete = complete i;
+      missing = missing i;
+      up = up i;
+      down = down i;
+      export_up = export_up i;
+      export_down = export_down i;
+    }

@@ -29,7 +29,8 @@ IsFoldedId-from_parts text some few visible =
     let some' : nat_lt 0 (length (folded text)) ≡ true = lt-ltb 0 (length (folded text)) (omega arith) in
     let few' : nat_le (length (folded text)) most_id_characters ≡ true = le-leb (length (folded text)) most_id_characters (omega arith) in
     record {
-      valid = and_from (nat_lt 0 (length (folded text)) && nat_le (length (folded text)) most_id_characters) (list_all is_visible (folded text)) (and_from _ _ some' few') (visible-folded text visible);
+      valid = and_from (nat_lt 0 (length (folded text)) && nat_le (length (folded text)) most_id_characters)
+          (list_all is_visible (folded text)) (and_from _ _ some' few') (visible-folded text visible);
       lower = folded-folded text;
     }
 

@@ -98,8 +98,10 @@ module _ {X : Type 0} (when : X → ℕ) where
       (λ (lt : when y < when x).
       ap (filter p) (put-behind x y ys lt)
       ∙ ap (λ zs. cond (p y) (y ∷ zs) zs) (put-passed p x ys (tail_rises y ys up))
-      ∙ (elim (p x) as (λ a. cond (p y) (y ∷ cond a (put_in_time when x (filter p ys)) (filter p ys)) (cond a (put_in_time when x (filter p ys)) (filter p ys)) ≡ cond a (put_in_time when x (cond (p y) (y ∷ filter p ys) (filter p ys))) (cond (p y) (y ∷ filter p ys) (filter p ys))) [
-        | true ↦ (elim (p y) as (λ b. cond b (y ∷ put_in_time when x (filter p ys)) (put_in_time when x (filter p ys)) ≡ put_in_time when x (cond b (y ∷ filter p ys) (filter p ys))) [ true ↦ sym (put-behind x y (filter p ys) lt) | false ↦ refl ])
+      ∙ (elim (p x) as (λ a. cond (p y) (y ∷ cond a (put_in_time when x (filter p ys)) (filter p ys)) (cond a (put_in_time when x (filter p ys)) (filter p ys))
+      ≡ cond a (put_in_time when x (cond (p y) (y ∷ filter p ys) (filter p ys))) (cond (p y) (y ∷ filter p ys) (filter p ys))) [
+        | true ↦ (elim (p y) as (λ b. cond b (y ∷ put_in_time when x (filter p ys)) (put_in_time when x (filter p ys))
+            ≡ put_in_time when x (cond b (y ∷ filter p ys) (filter p ys))) [ true ↦ sym (put-behind x y (filter p ys) lt) | false ↦ refl ])
         | false ↦ refl
       ]))
       (λ (ge : when x ≤ when y).
@@ -126,7 +128,9 @@ module _ {X : Type 0} (when : X → ℕ) where
   all_one n (x ∷ xs) = ⊎_elim
       (λ (e : when x ≡ n). subst (λ b. AreFrom n (cond b (x ∷ of_moment n xs) (of_moment n xs)) × AreUpTo n (cond b (x ∷ of_moment n xs) (of_moment n xs))) (sym (eq-eqb (when x) n e))
       ((omega (arith, e), (all_one n xs).0), (omega (arith, e), (all_one n xs).1)))
-      (λ (apart : when x ≡ n → ⊥). subst (λ b. AreFrom n (cond b (x ∷ of_moment n xs) (of_moment n xs)) × AreUpTo n (cond b (x ∷ of_moment n xs) (of_moment n xs))) (sym (ne_eqb (when x) n apart)) (all_one n xs))
+      (λ (apart : when x ≡ n → ⊥). subst
+      (λ b. AreFrom n (cond b (x ∷ of_moment n xs) (of_moment n xs)) × AreUpTo n (cond b (x ∷ of_moment n xs) (of_moment n xs)))
+      (sym (ne_eqb (when x) n apart)) (all_one n xs))
       (cases_eq (when x) n)
 
   one_moment_rises : (n : ℕ) (xs : List X) → AreFrom n xs → AreUpTo n xs → AreInTime when xs
@@ -254,7 +258,8 @@ module _ {X Y : Type 0} (when : Y → ℕ) (h : X → Y) where
   put-map : (x : X) (ys : List X) → put_in_time when (h x) (map h ys) ≡ map h (put_in_time (λ x. when (h x)) x ys)
   put-map x [] = refl
   put-map x (y ∷ ys) =
-      (elim (nat_lt (when (h y)) (when (h x))) as (λ b. cond b (h y ∷ put_in_time when (h x) (map h ys)) (h x ∷ h y ∷ map h ys) ≡ map h (cond b (y ∷ put_in_time (λ x. when (h x)) x ys) (x ∷ y ∷ ys))) [
+      (elim (nat_lt (when (h y)) (when (h x))) as (λ b. cond b (h y ∷ put_in_time when (h x) (map h ys)) (h x ∷ h y ∷ map h ys)
+      ≡ map h (cond b (y ∷ put_in_time (λ x. when (h x)) x ys) (x ∷ y ∷ ys))) [
         | true ↦ ap (λ zs. h y ∷ zs) (put-map x ys)
         | false ↦ refl
       ])

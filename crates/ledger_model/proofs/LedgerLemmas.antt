@@ -90,11 +90,13 @@ inserted_same m key s h = finite.same_map key_total exact_keys _ _ (λ q.
     finite.get-insert key_total m key s q ∙ at_tied m key q s (eq_by_cmp key_cmp q key) h refl)
 
 -- the content after an accepted void
-pub after_void : (limits : Bounds) (c : Content) (key : KeyName) (f : FoundLive limits c (finite.get c.events key)) → (step limits c (Void key)).0 ≡ record { events = finite.insert c.events key (record { event = f.stored.event; voided = true }); changes = c.changes + 1 }
+pub after_void : (limits : Bounds) (c : Content) (key : KeyName) (f : FoundLive limits c (finite.get c.events key))
+    → (step limits c (Void key)).0 ≡ record { events = finite.insert c.events key (record { event = f.stored.event; voided = true }); changes = c.changes + 1 }
 after_void limits c key f = ap (content_after c (Void key)) f.told ∙ ap (λ o. record { events = marked_at c.events key true o; changes = c.changes + 1 }) f.found
 
 -- the content after an accepted restoration
-pub after_restore : (limits : Bounds) (c : Content) (key : KeyName) (f : FoundVoided limits c (finite.get c.events key)) → (step limits c (Restore key)).0 ≡ record { events = finite.insert c.events key (record { event = f.stored.event; voided = false }); changes = c.changes + 1 }
+pub after_restore : (limits : Bounds) (c : Content) (key : KeyName) (f : FoundVoided limits c (finite.get c.events key))
+    → (step limits c (Restore key)).0 ≡ record { events = finite.insert c.events key (record { event = f.stored.event; voided = false }); changes = c.changes + 1 }
 after_restore limits c key f = ap (content_after c (Restore key)) f.told ∙ ap (λ o. record { events = marked_at c.events key false o; changes = c.changes + 1 }) f.found
 
 module _ (limits : Bounds) (c : Content) (key : KeyName) where

@@ -87,7 +87,8 @@ of_live rs period voided l = record {
 abbrev readings_in : Order → List Entry → Readings
 readings_in order l d tx = in_order order (λ r. r.moment) (flat_map (λ e. toward d e.1.event.readings) (of_one tx l))
 
-pub live_alone : (order : Order) (period : Periods) (es fs : List Entry) → live es ≡ live fs → board_by order period es ≡ record (board_by order period fs) { figures = record (figures_by order fs) { voided = (figures_by order es).voided } }
+pub live_alone : (order : Order) (period : Periods) (es fs : List Entry) → live es ≡ live fs
+    → board_by order period es ≡ record (board_by order period fs) { figures = record (figures_by order fs) { voided = (figures_by order es).voided } }
 live_alone order period es fs e = ap (λ l. of_live (readings_in order l) period (count_by (λ x. x.1.voided) es) l) e
 
 -- Where the two orders give the same readings, they give the same board.

@@ -85,7 +85,8 @@ pairs_with d es more front e back one =
     ∙ followed_cut (own_readings d t front) (toward d e.1.event.readings) (own_readings d t back)
 
 -- The pairs of another transaction.
-pub pairs_else : (d : Direction) (es more front : List Entry) (e : Entry) (back : List Entry) (u : List ℕ) → IsOneMore es more front e back → bytes_eq u e.0.tx ≡ false → pairs_of d u more ≡ pairs_of d u es
+pub pairs_else : (d : Direction) (es more front : List Entry) (e : Entry) (back : List Entry) (u : List ℕ)
+    → IsOneMore es more front e back → bytes_eq u e.0.tx ≡ false → pairs_of d u more ≡ pairs_of d u es
 pairs_else d es more front e back u one apart = ap (λ l. followed (readings_among d l)) (live_else es more front e back u one apart)
 
 -- A sum over the pairs of the transaction.
@@ -117,7 +118,10 @@ pub station_sums : (d : Direction) (f : Pair → ℕ) (es more front : List Entr
     → sum_by f (pairs d more) + sum_by f (pairs_less d front e back) ≡ sum_by f (pairs d es) + sum_by f (pairs_more d front e back)
 station_sums d f es more front e back one =
     let g = λ (u : List ℕ). sum_by f (pairs_of d u es) in let h = λ (u : List ℕ). sum_by f (pairs_of d u more) in
-    let all = by_transaction_sums g h es more front e back one (λ u apart. ap (sum_by f) (pairs_else d es more front e back u one apart)) (λ none. ap (λ l. sum_by f (followed (readings_among d l))) none) (λ none. ap (λ l. sum_by f (followed (readings_among d l))) none) in
+    let all = by_transaction_sums g h es more front e back one
+    (λ u apart. ap (sum_by f) (pairs_else d es more front e back u one apart))
+    (λ none. ap (λ l. sum_by f (followed (readings_among d l))) none)
+    (λ none. ap (λ l. sum_by f (followed (readings_among d l))) none) in
     let own = transaction_sums d f es more front e back one in
     let less = sum_by-flat_map f (λ u. pairs_of d u es) (transactions_of (live es)) in let many = sum_by-flat_map f (λ u. pairs_of d u more) (transactions_of (live more)) in
     omega (arith, all, own, less, many)
@@ -132,7 +136,8 @@ pub pairs_less_kept : (d : Direction) (f : Pair → ℕ) (es more front : List E
 pairs_less_kept d f es more front e back one =
     let t = e.0.tx in let p = followed (own_readings d t front) in let q = followed (own_readings d t back) in let a = pairs_less d front e back in
     let ts = others t (transactions_of (live es)) in let g = λ (u : List ℕ). sum_by f (pairs_of d u es) in
-    let whole = sum_by-flat_map f (λ u. pairs_of d u es) (transactions_of (live es)) ∙ sum_by_one g t (ids (live es)) (λ absent. ap (λ l. sum_by f (followed (readings_among d l))) (none_own t (live es) absent)) in
+    let whole = sum_by-flat_map f (λ u. pairs_of d u es) (transactions_of (live es))
+    ∙ sum_by_one g t (ids (live es)) (λ absent. ap (λ l. sum_by f (followed (readings_among d l))) (none_own t (live es) absent)) in
     let own = ap (sum_by f) (pairs_without d es more front e back one) ∙ sum_of_three f p a q in
     let rest = sum_by-flat_map f (λ u. pairs_of d u es) ts in
     let kept = sum_of_three f (flat_map (λ u. pairs_of d u es) ts) p q in
@@ -167,7 +172,8 @@ if_less : (f : Pair → ℕ) (rs : List MeterReading) (all less rest : List Pair
 if_less f [] all less rest h = refl
 if_less f (r ∷ rs) all less rest h = h
 
-if_more : (f : Pair → ℕ) (rs : List MeterReading) (before after : Option MeterReading) (all many rest : List Pair) → sum_by f all ≡ sum_by f (across before after ++ rest) → sum_by f many ≡ sum_by f (pairs_between before rs after ++ rest)
+if_more : (f : Pair → ℕ) (rs : List MeterReading) (before after : Option MeterReading) (all many rest : List Pair)
+    → sum_by f all ≡ sum_by f (across before after ++ rest) → sum_by f many ≡ sum_by f (pairs_between before rs after ++ rest)
     → sum_by f many ≡ sum_by f (if_read rs (pairs_between before rs after) ++ read_or rs rest all)
 if_more f [] before after all many rest less h = h ∙ sym less
 if_more f (r ∷ rs) before after all many rest less h = h
@@ -181,14 +187,16 @@ less_kept d f es more front e back one = if_less f (toward d e.1.event.readings)
 pub more_kept : (d : Direction) (f : Pair → ℕ) (es more front : List Entry) (e : Entry) (back : List Entry) → IsOneMore es more front e back
     → sum_by f (pairs d more) ≡ sum_by f (came_by d front e back ++ kept_by d es front e back)
 more_kept d f es more front e back one =
-    if_more f (toward d e.1.event.readings) (reading_before d front e) (reading_behind d e back) (pairs d es) (pairs d more) (pairs_kept d es front e back) (pairs_less_kept d f es more front e back one) (pairs_more_kept d f es more front e back one)
+    if_more f (toward d e.1.event.readings) (reading_before d front e) (reading_behind d e back) (pairs d es) (pairs d more)
+    (pairs_kept d es front e back) (pairs_less_kept d f es more front e back one) (pairs_more_kept d f es more front e back one)
 
 few_read : (rs : List MeterReading) (before after : Option MeterReading) → length (if_read rs (across before after)) + length (if_read rs (pairs_between before rs after)) ≤ most_for (length rs)
 few_read [] before after = omega arith
 few_read (r ∷ rs) before after = omega (arith, few_across before after, few_between before (r ∷ rs) after)
 
 -- With r readings, r above 0, no more than r + 2 pairs come and go; with none, none.
-pub few_moved : (d : Direction) (front : List Entry) (e : Entry) (back : List Entry) → length (gone_by d front e back) + length (came_by d front e back) ≤ most_for (length (toward d e.1.event.readings))
+pub few_moved : (d : Direction) (front : List Entry) (e : Entry) (back : List Entry)
+    → length (gone_by d front e back) + length (came_by d front e back) ≤ most_for (length (toward d e.1.event.readings))
 few_moved d front e back = few_read (toward d e.1.event.readings) (reading_before d front e) (reading_behind d e back)
 
 -- The EVSE of another transaction.

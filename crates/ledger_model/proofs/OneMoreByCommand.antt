@@ -42,14 +42,19 @@ all_behind key (e ∷ es) h =
     let gt : key_cmp e.0 key ≡ Greater = turned key e.0 Less lt in
     elim e.1.voided as (λ b. (in_front key (cond (not b) (e ∷ live es) (live es)) ≡ []) × (behind key (cond (not b) (e ∷ live es) (live es)) ≡ cond (not b) (e ∷ live es) (live es))) [
       | true ↦ rest
-      | false ↦ (ap (λ o. cond (is_lt o) (e ∷ in_front key (live es)) (in_front key (live es))) gt ∙ rest.0, ap (λ o. cond (is_lt o) (e ∷ behind key (live es)) (behind key (live es))) lt ∙ ap (λ l. e ∷ l) rest.1)
+      | false ↦ (
+        ap (λ o. cond (is_lt o) (e ∷ in_front key (live es)) (in_front key (live es))) gt ∙ rest.0,
+        ap (λ o. cond (is_lt o) (e ∷ behind key (live es)) (behind key (live es))) lt ∙ ap (λ l. e ∷ l) rest.1,
+      )
     ]
 
 -- A first event that the key is behind stays in front.
-first_in_front : (key : KeyName) (e : Entry) (es : List Entry) → key_cmp key e.0 ≡ Greater → (in_front key (live (e ∷ es)) ≡ if_live e ++ in_front key (live es)) × (behind key (live (e ∷ es)) ≡ behind key (live es))
+first_in_front : (key : KeyName) (e : Entry) (es : List Entry) → key_cmp key e.0 ≡ Greater
+    → (in_front key (live (e ∷ es)) ≡ if_live e ++ in_front key (live es)) × (behind key (live (e ∷ es)) ≡ behind key (live es))
 first_in_front key e es gt =
     let lt : key_cmp e.0 key ≡ Less = turned key e.0 Greater gt in
-    elim e.1.voided as (λ b. (in_front key (cond (not b) (e ∷ live es) (live es)) ≡ cond (not b) (e ∷ []) [] ++ in_front key (live es)) × (behind key (cond (not b) (e ∷ live es) (live es)) ≡ behind key (live es))) [
+    elim e.1.voided as (λ b. (in_front key (cond (not b) (e ∷ live es) (live es)) ≡ cond (not b) (e ∷ []) [] ++ in_front key (live es))
+    × (behind key (cond (not b) (e ∷ live es) (live es)) ≡ behind key (live es))) [
       | true ↦ (refl, refl)
       | false ↦ (ap (λ o. cond (is_lt o) (e ∷ in_front key (live es)) (in_front key (live es))) lt, ap (λ o. cond (is_lt o) (e ∷ behind key (live es)) (behind key (live es))) gt)
     ]
@@ -72,7 +77,8 @@ append_apart e xs ys zs = sym (append_assoc (if_live e) xs (ys ++ zs))
 live_cut : (key : KeyName) (es : List Entry) → IsRising es → live es ≡ in_front key (live es) ++ (live_at key (find key_cmp key es) ++ behind key (live es))
 live_cut key [] rising = refl
 live_cut key (e ∷ es) rising =
-    (elim (key_cmp key e.0) as (λ (o : Ordering). key_cmp key e.0 ≡ o → live (e ∷ es) ≡ in_front key (live (e ∷ es)) ++ (live_at key (cond (is_eq o) (Some e.1) (find key_cmp key es)) ++ behind key (live (e ∷ es)))) [
+    (elim (key_cmp key e.0) as (λ (o : Ordering). key_cmp key e.0 ≡ o
+    → live (e ∷ es) ≡ in_front key (live (e ∷ es)) ++ (live_at key (cond (is_eq o) (Some e.1) (find key_cmp key es)) ++ behind key (live (e ∷ es)))) [
       | Less ↦ λ lt.
           let below = below_less key e.0 es lt (first _ _ rising) in
           let all = all_behind key (e ∷ es) (both _ _ (subst (λ o. T (is_lt o)) (sym lt) tt) below) in
@@ -90,7 +96,8 @@ live_cut key (e ∷ es) rising =
 live_put : (key : KeyName) (v : Stored) (es : List Entry) → IsRising es → live (put key_cmp key v es) ≡ in_front key (live es) ++ (if_live (key, v) ++ behind key (live es))
 live_put key v [] rising = live_cons (key, v) []
 live_put key v (e ∷ es) rising =
-    (elim (key_cmp key e.0) as (λ (o : Ordering). key_cmp key e.0 ≡ o → live (by_order o ((key, v) ∷ e ∷ es) ((e.0, v) ∷ es) (e ∷ put key_cmp key v es)) ≡ in_front key (live (e ∷ es)) ++ (if_live (key, v) ++ behind key (live (e ∷ es)))) [
+    (elim (key_cmp key e.0) as (λ (o : Ordering). key_cmp key e.0 ≡ o
+    → live (by_order o ((key, v) ∷ e ∷ es) ((e.0, v) ∷ es) (e ∷ put key_cmp key v es)) ≡ in_front key (live (e ∷ es)) ++ (if_live (key, v) ++ behind key (live (e ∷ es)))) [
       | Less ↦ λ lt.
           let below = below_less key e.0 es lt (first _ _ rising) in
           let all = all_behind key (e ∷ es) (both _ _ (subst (λ o. T (is_lt o)) (sym lt) tt) below) in
@@ -113,7 +120,8 @@ delivered_more es key event rising absent = record {
 }
 
 -- An event marked anew under its key.
-marked_is : (es : List Entry) (key : KeyName) (voided : Bool) (s : Stored) → find key_cmp key es ≡ Some s → entries_marked_at es key voided (find key_cmp key es) ≡ put key_cmp key (record { event = s.event; voided = voided }) es
+marked_is : (es : List Entry) (key : KeyName) (voided : Bool) (s : Stored) → find key_cmp key es ≡ Some s
+    → entries_marked_at es key voided (find key_cmp key es) ≡ put key_cmp key (record { event = s.event; voided = voided }) es
 marked_is es key voided s there = ap (entries_marked_at es key voided) there
 
 -- A stored event, by whether it is voided.
@@ -127,7 +135,8 @@ live_at_live key s voided = ap (λ b. cond (not b) ((key, s) ∷ []) []) voided
 pub restored_more : (es : List Entry) (key : KeyName) (s : Stored) → IsRising es → find key_cmp key es ≡ Some s → s.voided ≡ true
     → IsOneMore es (entries_after es (Restore key)) (before_key key es) (key, record { event = s.event; voided = false }) (behind_key key es)
 restored_more es key s rising there voided = record {
-  less_live = live_cut key es rising ∙ ap (λ o. in_front key (live es) ++ (live_at key o ++ behind key (live es))) there ∙ ap (λ l. in_front key (live es) ++ (l ++ behind key (live es))) (live_at_voided key s voided);
+  less_live = live_cut key es rising ∙ ap (λ o. in_front key (live es) ++ (live_at key o ++ behind key (live es))) there
+      ∙ ap (λ l. in_front key (live es) ++ (l ++ behind key (live es))) (live_at_voided key s voided);
   more_live = ap live (marked_is es key false s there) ∙ live_put key (record { event = s.event; voided = false }) es rising;
 }
 
@@ -136,7 +145,8 @@ pub voided_less : (es : List Entry) (key : KeyName) (s : Stored) → IsRising es
     → IsOneMore (entries_after es (Void key)) es (before_key key es) (key, s) (behind_key key es)
 voided_less es key s rising there live_now = record {
   less_live = ap live (marked_is es key true s there) ∙ live_put key (record { event = s.event; voided = true }) es rising;
-  more_live = live_cut key es rising ∙ ap (λ o. in_front key (live es) ++ (live_at key o ++ behind key (live es))) there ∙ ap (λ l. in_front key (live es) ++ (l ++ behind key (live es))) (live_at_live key s live_now);
+  more_live = live_cut key es rising ∙ ap (λ o. in_front key (live es) ++ (live_at key o ++ behind key (live es))) there
+      ∙ ap (λ l. in_front key (live es) ++ (l ++ behind key (live es))) (live_at_live key s live_now);
 }
 
 -- Events of greater keys stay when one is taken out.
@@ -148,7 +158,8 @@ kept_below key (e ∷ es) h = ap (λ o. cond (not (is_eq o)) (e ∷ entries_with
 pub erased_same : (es : List Entry) (key : KeyName) (s : Stored) → IsRising es → find key_cmp key es ≡ Some s → s.voided ≡ true → live (entries_after es (Erase key)) ≡ live es
 erased_same [] key s rising there voided = refl
 erased_same (e ∷ es) key s rising there voided =
-    (elim (key_cmp key e.0) as (λ (o : Ordering). key_cmp key e.0 ≡ o → cond (is_eq o) (Some e.1) (find key_cmp key es) ≡ Some s → live (cond (not (is_eq o)) (e ∷ entries_without key es) (entries_without key es)) ≡ live (e ∷ es)) [
+    (elim (key_cmp key e.0) as (λ (o : Ordering). key_cmp key e.0 ≡ o → cond (is_eq o) (Some e.1) (find key_cmp key es) ≡ Some s
+    → live (cond (not (is_eq o)) (e ∷ entries_without key es) (entries_without key es)) ≡ live (e ∷ es)) [
       | Less ↦ λ lt some. live_cons e (entries_without key es) ∙ ap (λ l. if_live e ++ live l) (kept_below key es (below_less key e.0 es lt (first _ _ rising))) ∙ sym (live_cons e es)
       | Equal ↦ λ eq some.
           let same : e.1 ≡ s = cc in

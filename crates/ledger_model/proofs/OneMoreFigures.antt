@@ -48,17 +48,21 @@ complete_by l = cond (starts_and_ends (map (λ e. e.1.event.kind) l) && (missing
 
 -- How many are complete changes only by the event's transaction.
 pub complete_more : (es more front : List Entry) (e : Entry) (back : List Entry) → IsOneMore es more front e back
-    → count_by (λ tx. is_complete tx more) (transactions_of (live more)) + cond (is_complete e.0.tx es) 1 0 ≡ count_by (λ tx. is_complete tx es) (transactions_of (live es)) + cond (is_complete e.0.tx more) 1 0
+    → count_by (λ tx. is_complete tx more) (transactions_of (live more)) + cond (is_complete e.0.tx es) 1 0
+    ≡ count_by (λ tx. is_complete tx es) (transactions_of (live es)) + cond (is_complete e.0.tx more) 1 0
 complete_more es more front e back one =
     by_transaction_sums (λ u. cond (is_complete u es) 1 0) (λ u. cond (is_complete u more) 1 0) es more front e back one
     (λ u apart. ap complete_by (live_else es more front e back u one apart)) (λ none. ap complete_by none) (λ none. ap complete_by none)
 
 -- So does how many numbers are missing.
 pub missing_more : (es more front : List Entry) (e : Entry) (back : List Entry) → IsOneMore es more front e back
-    → sum_by (λ tx. missing (numbers_of tx more)) (transactions_of (live more)) + missing (numbers_of e.0.tx es) ≡ sum_by (λ tx. missing (numbers_of tx es)) (transactions_of (live es)) + missing (numbers_of e.0.tx more)
+    → sum_by (λ tx. missing (numbers_of tx more)) (transactions_of (live more)) + missing (numbers_of e.0.tx es)
+    ≡ sum_by (λ tx. missing (numbers_of tx es)) (transactions_of (live es)) + missing (numbers_of e.0.tx more)
 missing_more es more front e back one =
     by_transaction_sums (λ u. missing (numbers_of u es)) (λ u. missing (numbers_of u more)) es more front e back one
-    (λ u apart. ap (λ l. missing (map (λ (x : Entry). x.0.seq) l)) (live_else es more front e back u one apart)) (λ none. ap (λ l. missing (map (λ (x : Entry). x.0.seq) l)) none) (λ none. ap (λ l. missing (map (λ (x : Entry). x.0.seq) l)) none)
+    (λ u apart. ap (λ l. missing (map (λ (x : Entry). x.0.seq) l)) (live_else es more front e back u one apart))
+    (λ none. ap (λ l. missing (map (λ (x : Entry). x.0.seq) l)) none)
+    (λ none. ap (λ l. missing (map (λ (x : Entry). x.0.seq) l)) none)
 
 -- Energies with the same sums are the same.
 same_energy : (a b : Energy) → a.up ≡ b.up → a.down ≡ b.down → a ≡ b
@@ -68,17 +72,23 @@ same_energy a b up down = λ i. record { up = up i; down = down i }
 pub energy_more : (d : Direction) (es more front : List Entry) (e : Entry) (back : List Entry) → IsOneMore es more front e back
     → plus (energy d more) (energy_over (gone_by d front e back)) ≡ plus (energy d es) (energy_over (came_by d front e back))
 energy_more d es more front e back one =
-    same_energy (plus (energy d more) (energy_over (gone_by d front e back))) (plus (energy d es) (energy_over (came_by d front e back))) (station_moved d (λ p. (difference p).up) es more front e back one) (station_moved d (λ p. (difference p).down) es more front e back one)
+    same_energy (plus (energy d more) (energy_over (gone_by d front e back)))
+    (plus (energy d es) (energy_over (came_by d front e back))) (station_moved d (λ p. (difference p).up) es more front e back one)
+    (station_moved d (λ p. (difference p).down) es more front e back one)
 
 -- The energy of the event's transaction.
 pub energy_of_more : (d : Direction) (es more front : List Entry) (e : Entry) (back : List Entry) → IsOneMore es more front e back
     → plus (energy_of d e.0.tx more) (energy_over (gone_by d front e back)) ≡ plus (energy_of d e.0.tx es) (energy_over (came_by d front e back))
 energy_of_more d es more front e back one =
-    same_energy (plus (energy_of d e.0.tx more) (energy_over (gone_by d front e back))) (plus (energy_of d e.0.tx es) (energy_over (came_by d front e back))) (transaction_moved d (λ p. (difference p).up) es more front e back one) (transaction_moved d (λ p. (difference p).down) es more front e back one)
+    same_energy (plus (energy_of d e.0.tx more) (energy_over (gone_by d front e back)))
+    (plus (energy_of d e.0.tx es) (energy_over (came_by d front e back)))
+    (transaction_moved d (λ p. (difference p).up) es more front e back one)
+    (transaction_moved d (λ p. (difference p).down) es more front e back one)
 
 -- A sum over the parts of differences.
 part_sums : (d : Direction) (f : Part → ℕ) (period : Periods) (es more front : List Entry) (e : Entry) (back : List Entry) → IsOneMore es more front e back
-    → sum_by f (parts_over period (pairs d more)) + sum_by f (parts_over period (gone_by d front e back)) ≡ sum_by f (parts_over period (pairs d es)) + sum_by f (parts_over period (came_by d front e back))
+    → sum_by f (parts_over period (pairs d more)) + sum_by f (parts_over period (gone_by d front e back))
+    ≡ sum_by f (parts_over period (pairs d es)) + sum_by f (parts_over period (came_by d front e back))
 part_sums d f period es more front e back one =
     let all = station_moved d (λ p. sum_by f (parts_of period p)) es more front e back one in
     let over = sum_by-flat_map f (parts_of period) in
@@ -86,7 +96,8 @@ part_sums d f period es more front e back one =
 
 -- A sum over those of a period.
 quarter_sums : (d : Direction) (f : Part → ℕ) (period : Periods) (q : ℕ) (es more front : List Entry) (e : Entry) (back : List Entry) → IsOneMore es more front e back
-    → sum_by f (filter (λ t. t.0 == q) (parts_over period (pairs d more))) + sum_by f (filter (λ t. t.0 == q) (parts_over period (gone_by d front e back))) ≡ sum_by f (filter (λ t. t.0 == q) (parts_over period (pairs d es))) + sum_by f (filter (λ t. t.0 == q) (parts_over period (came_by d front e back)))
+    → sum_by f (filter (λ t. t.0 == q) (parts_over period (pairs d more))) + sum_by f (filter (λ t. t.0 == q) (parts_over period (gone_by d front e back)))
+    ≡ sum_by f (filter (λ t. t.0 == q) (parts_over period (pairs d es))) + sum_by f (filter (λ t. t.0 == q) (parts_over period (came_by d front e back)))
 quarter_sums d f period q es more front e back one =
     let test = λ (t : Part). t.0 == q in
     let all = part_sums d (λ t. taken (test t) (f t)) period es more front e back one in
@@ -115,12 +126,17 @@ if_down false flow = refl
 
 -- The energy of an EVSE: the transaction's is taken from where it was and brought to where it is.
 pub energy_at_more : (order : Order) (d : Direction) (evse : ℕ) (es more front : List Entry) (e : Entry) (back : List Entry) → IsOneMore es more front e back
-    → plus (energy_at_by order d evse more) (flow_if (evse_of e.0.tx es == evse) (energy_of_by order d e.0.tx es)) ≡ plus (energy_at_by order d evse es) (flow_if (evse_of e.0.tx more == evse) (energy_of_by order d e.0.tx more))
+    → plus (energy_at_by order d evse more) (flow_if (evse_of e.0.tx es == evse) (energy_of_by order d e.0.tx es))
+    ≡ plus (energy_at_by order d evse es) (flow_if (evse_of e.0.tx more == evse) (energy_of_by order d e.0.tx more))
 energy_at_more order d evse es more front e back one =
     let was = evse_of e.0.tx es == evse in let is = evse_of e.0.tx more == evse in
     same_energy (plus (energy_at_by order d evse more) (flow_if was (energy_of_by order d e.0.tx es))) (plus (energy_at_by order d evse es) (flow_if is (energy_of_by order d e.0.tx more)))
-    (ap (λ n. (energy_at_by order d evse more).up + n) (if_up was (energy_of_by order d e.0.tx es)) ∙ evse_sums order d (λ p. (difference p).up) evse es more front e back one ∙ ap (λ n. (energy_at_by order d evse es).up + n) (sym (if_up is (energy_of_by order d e.0.tx more))))
-    (ap (λ n. (energy_at_by order d evse more).down + n) (if_down was (energy_of_by order d e.0.tx es)) ∙ evse_sums order d (λ p. (difference p).down) evse es more front e back one ∙ ap (λ n. (energy_at_by order d evse es).down + n) (sym (if_down is (energy_of_by order d e.0.tx more))))
+    (ap (λ n. (energy_at_by order d evse more).up + n) (if_up was (energy_of_by order d e.0.tx es))
+    ∙ evse_sums order d (λ p. (difference p).up) evse es more front e back one
+    ∙ ap (λ n. (energy_at_by order d evse es).up + n) (sym (if_up is (energy_of_by order d e.0.tx more))))
+    (ap (λ n. (energy_at_by order d evse more).down + n) (if_down was (energy_of_by order d e.0.tx es))
+    ∙ evse_sums order d (λ p. (difference p).down) evse es more front e back one
+    ∙ ap (λ n. (energy_at_by order d evse es).down + n) (sym (if_down is (energy_of_by order d e.0.tx more))))
 
 -- As many events are stored after a mark.
 marked_length : (es : List Entry) (key : KeyName) (voided : Bool) (s : Stored) → IsRising es → find key_cmp key es ≡ Some s → length (entries_marked_at es key voided (find key_cmp key es)) ≡ length es
@@ -132,33 +148,38 @@ marked_length es key voided s rising there =
 erased_length : (es : List Entry) (key : KeyName) (s : Stored) → IsRising es → find key_cmp key es ≡ Some s → length (entries_without key es) + 1 ≡ length es
 erased_length [] key s rising there = cc
 erased_length (e ∷ es) key s rising there =
-    (elim (key_cmp key e.0) as (λ (o : Ordering). key_cmp key e.0 ≡ o → cond (is_eq o) (Some e.1) (find key_cmp key es) ≡ Some s → length (cond (not (is_eq o)) (e ∷ entries_without key es) (entries_without key es)) + 1 ≡ length (e ∷ es)) [
+    (elim (key_cmp key e.0) as (λ (o : Ordering). key_cmp key e.0 ≡ o → cond (is_eq o) (Some e.1) (find key_cmp key es) ≡ Some s
+    → length (cond (not (is_eq o)) (e ∷ entries_without key es) (entries_without key es)) + 1 ≡ length (e ∷ es)) [
       | Less ↦ λ lt some. let none = find_below key es (below_less key e.0 es lt (first _ _ rising)) in cc
       | Equal ↦ λ eq some. let kept = ap length (kept_below key es (subst (λ k. T (below_all key_cmp k es)) (sym (exact_keys key e.0 eq)) (first _ _ rising))) in omega (arith, kept)
       | Greater ↦ λ gt some. omega (arith, erased_length es key s (second _ _ rising) some)
     ]) refl there
 
 -- A delivery of a new key leaves as many events voided.
-pub voided_delivered : (es : List Entry) (key : KeyName) (event : EventContent) → IsRising es → find key_cmp key es ≡ None → count_by (λ e. e.1.voided) (entries_after es (Deliver key event)) ≡ count_by (λ e. e.1.voided) es
+pub voided_delivered : (es : List Entry) (key : KeyName) (event : EventContent) → IsRising es → find key_cmp key es ≡ None
+    → count_by (λ e. e.1.voided) (entries_after es (Deliver key event)) ≡ count_by (λ e. e.1.voided) es
 voided_delivered es key event rising absent =
     let long = length-put key_cmp key_total key (record { event = event; voided = false }) es rising ∙ ap (λ (o : Option Stored). cond (is_some o) (length es) (length es + 1)) absent in
     let one = events_more es (entries_after es (Deliver key event)) _ _ _ (delivered_more es key event rising absent) in
     omega (arith, long, one, live_and_voided es, live_and_voided (entries_after es (Deliver key event)))
 
 -- A restoration leaves one event less voided.
-pub voided_restored : (es : List Entry) (key : KeyName) (s : Stored) → IsRising es → find key_cmp key es ≡ Some s → s.voided ≡ true → count_by (λ e. e.1.voided) (entries_after es (Restore key)) + 1 ≡ count_by (λ e. e.1.voided) es
+pub voided_restored : (es : List Entry) (key : KeyName) (s : Stored) → IsRising es → find key_cmp key es ≡ Some s
+    → s.voided ≡ true → count_by (λ e. e.1.voided) (entries_after es (Restore key)) + 1 ≡ count_by (λ e. e.1.voided) es
 voided_restored es key s rising there voided =
     let one = events_more es (entries_after es (Restore key)) _ _ _ (restored_more es key s rising there voided) in
     omega (arith, marked_length es key false s rising there, one, live_and_voided es, live_and_voided (entries_after es (Restore key)))
 
 -- A void leaves one event more voided.
-pub voided_voided : (es : List Entry) (key : KeyName) (s : Stored) → IsRising es → find key_cmp key es ≡ Some s → s.voided ≡ false → count_by (λ e. e.1.voided) (entries_after es (Void key)) ≡ count_by (λ e. e.1.voided) es + 1
+pub voided_voided : (es : List Entry) (key : KeyName) (s : Stored) → IsRising es → find key_cmp key es ≡ Some s → s.voided ≡ false
+    → count_by (λ e. e.1.voided) (entries_after es (Void key)) ≡ count_by (λ e. e.1.voided) es + 1
 voided_voided es key s rising there live_now =
     let one = events_more (entries_after es (Void key)) es _ _ _ (voided_less es key s rising there live_now) in
     omega (arith, marked_length es key true s rising there, one, live_and_voided es, live_and_voided (entries_after es (Void key)))
 
 -- An erasure leaves one event less voided.
-pub voided_erased : (es : List Entry) (key : KeyName) (s : Stored) → IsRising es → find key_cmp key es ≡ Some s → s.voided ≡ true → count_by (λ e. e.1.voided) (entries_after es (Erase key)) + 1 ≡ count_by (λ e. e.1.voided) es
+pub voided_erased : (es : List Entry) (key : KeyName) (s : Stored) → IsRising es → find key_cmp key es ≡ Some s → s.voided ≡ true
+    → count_by (λ e. e.1.voided) (entries_after es (Erase key)) + 1 ≡ count_by (λ e. e.1.voided) es
 voided_erased es key s rising there voided =
     let same = ap length (erased_same es key s rising there voided) in
     omega (arith, erased_length es key s rising there, same, live_and_voided es, live_and_voided (entries_after es (Erase key)))

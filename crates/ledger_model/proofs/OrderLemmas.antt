@@ -55,7 +55,8 @@ numbers_off n (r ∷ rs) = ap (λ ss. r ∷ ss) (numbers_off n rs)
 pub numbered_readings : (order : Order) (d : Direction) (tx : List ℕ) (es : List Entry) → map (λ n. n.1) (numbered_by order d tx es) ≡ readings_by order d tx es
 numbered_readings order d tx es =
     sym (order-map order (λ r. r.moment) (λ (n : Numbered). n.1) (flat_map (numbered d) (live_of tx es)))
-    ∙ ap (in_order order (λ r. r.moment)) (map-flat (λ (n : Numbered). n.1) (numbered d) (live_of tx es) ∙ ap (λ h. flat_map h (live_of tx es)) (fun_ext (λ (e : Entry). numbers_off e.0.seq (toward d e.1.event.readings))))
+    ∙ ap (in_order order (λ r. r.moment))
+    (map-flat (λ (n : Numbered). n.1) (numbered d) (live_of tx es) ∙ ap (λ h. flat_map h (live_of tx es)) (fun_ext (λ (e : Entry). numbers_off e.0.seq (toward d e.1.event.readings))))
 
 zip-map : {X Y : Type 0} (g : X → Y) (xs ys : List X) → zip (map g xs) (map g ys) ≡ map (λ p. (g p.0, g p.1)) (zip xs ys)
 zip-map g [] ys = refl
@@ -90,17 +91,25 @@ foreign-append seq (x ∷ xs) ys a b = (a.0, foreign-append seq xs ys a.1 b)
 all_below : (d : Direction) (seq : ℕ) (es : List Entry) → AreForeign (is_own seq) (flat_map (numbered d) (filter (λ e. nat_lt e.0.seq seq) es))
 all_below d seq [] = tt
 all_below d seq (e ∷ es) = ⊎_elim
-    (λ (lt : e.0.seq < seq). subst (λ b. AreForeign (is_own seq) (flat_map (numbered d) (cond b (e ∷ filter (λ e. nat_lt e.0.seq seq) es) (filter (λ e. nat_lt e.0.seq seq) es)))) (sym (lt-ltb e.0.seq seq lt))
+    (λ (lt : e.0.seq < seq). subst
+    (λ b. AreForeign (is_own seq) (flat_map (numbered d) (cond b (e ∷ filter (λ e. nat_lt e.0.seq seq) es) (filter (λ e. nat_lt e.0.seq seq) es))))
+    (sym (lt-ltb e.0.seq seq lt))
     (foreign-append seq (numbered d e) _ (foreign_below seq e.0.seq (toward d e.1.event.readings) lt) (all_below d seq es)))
-    (λ (ge : seq ≤ e.0.seq). subst (λ b. AreForeign (is_own seq) (flat_map (numbered d) (cond b (e ∷ filter (λ e. nat_lt e.0.seq seq) es) (filter (λ e. nat_lt e.0.seq seq) es)))) (sym (le-ltb e.0.seq seq ge)) (all_below d seq es))
+    (λ (ge : seq ≤ e.0.seq). subst
+    (λ b. AreForeign (is_own seq) (flat_map (numbered d) (cond b (e ∷ filter (λ e. nat_lt e.0.seq seq) es) (filter (λ e. nat_lt e.0.seq seq) es))))
+    (sym (le-ltb e.0.seq seq ge)) (all_below d seq es))
     (cases_lt e.0.seq seq)
 
 all_above : (d : Direction) (seq : ℕ) (es : List Entry) → AreForeign (is_own seq) (flat_map (numbered d) (filter (λ e. nat_lt seq e.0.seq) es))
 all_above d seq [] = tt
 all_above d seq (e ∷ es) = ⊎_elim
-    (λ (lt : seq < e.0.seq). subst (λ b. AreForeign (is_own seq) (flat_map (numbered d) (cond b (e ∷ filter (λ e. nat_lt seq e.0.seq) es) (filter (λ e. nat_lt seq e.0.seq) es)))) (sym (lt-ltb seq e.0.seq lt))
+    (λ (lt : seq < e.0.seq). subst
+    (λ b. AreForeign (is_own seq) (flat_map (numbered d) (cond b (e ∷ filter (λ e. nat_lt seq e.0.seq) es) (filter (λ e. nat_lt seq e.0.seq) es))))
+    (sym (lt-ltb seq e.0.seq lt))
     (foreign-append seq (numbered d e) _ (foreign_above seq e.0.seq (toward d e.1.event.readings) lt) (all_above d seq es)))
-    (λ (ge : e.0.seq ≤ seq). subst (λ b. AreForeign (is_own seq) (flat_map (numbered d) (cond b (e ∷ filter (λ e. nat_lt seq e.0.seq) es) (filter (λ e. nat_lt seq e.0.seq) es)))) (sym (le-ltb seq e.0.seq ge)) (all_above d seq es))
+    (λ (ge : e.0.seq ≤ seq). subst
+    (λ b. AreForeign (is_own seq) (flat_map (numbered d) (cond b (e ∷ filter (λ e. nat_lt seq e.0.seq) es) (filter (λ e. nat_lt seq e.0.seq) es))))
+    (sym (le-ltb seq e.0.seq ge)) (all_above d seq es))
     (cases_lt seq e.0.seq)
 
 module _ (d : Direction) (es more : List Entry) (e : Entry) (one : IsOneMore es more (before_key e.0 es) e (behind_key e.0 es)) where
@@ -131,7 +140,9 @@ module _ (d : Direction) (es more : List Entry) (e : Entry) (one : IsOneMore es 
       ap (filter foreign) with_it
       ∙ filter-append foreign (flat_map (numbered d) here) (numbered d e ++ flat_map (numbered d) there)
       ∙ ap (λ l. filter foreign (flat_map (numbered d) here) ++ l) (filter-append foreign (numbered d e) (flat_map (numbered d) there))
-      ∙ (λ i. (foreign_passed (is_own e.0.seq) (flat_map (numbered d) here) before_foreign).1 i ++ ((own_passed (is_own e.0.seq) (numbered d e) (all_own e.0.seq (toward d e.1.event.readings))).1 i ++ (foreign_passed (is_own e.0.seq) (flat_map (numbered d) there) behind_foreign).1 i))
+      ∙ (λ i. (foreign_passed (is_own e.0.seq) (flat_map (numbered d) here) before_foreign).1 i
+      ++ ((own_passed (is_own e.0.seq) (numbered d e) (all_own e.0.seq (toward d e.1.event.readings))).1 i
+      ++ (foreign_passed (is_own e.0.seq) (flat_map (numbered d) there) behind_foreign).1 i))
       ∙ sym without_it
 
   its_own : filter (is_own e.0.seq) (flat_map (numbered d) (live_of e.0.tx more)) ≡ numbered d e
@@ -139,7 +150,9 @@ module _ (d : Direction) (es more : List Entry) (e : Entry) (one : IsOneMore es 
       ap (filter (is_own e.0.seq)) with_it
       ∙ filter-append (is_own e.0.seq) (flat_map (numbered d) here) (numbered d e ++ flat_map (numbered d) there)
       ∙ ap (λ l. filter (is_own e.0.seq) (flat_map (numbered d) here) ++ l) (filter-append (is_own e.0.seq) (numbered d e) (flat_map (numbered d) there))
-      ∙ (λ i. (foreign_passed (is_own e.0.seq) (flat_map (numbered d) here) before_foreign).0 i ++ ((own_passed (is_own e.0.seq) (numbered d e) (all_own e.0.seq (toward d e.1.event.readings))).0 i ++ (foreign_passed (is_own e.0.seq) (flat_map (numbered d) there) behind_foreign).0 i))
+      ∙ (λ i. (foreign_passed (is_own e.0.seq) (flat_map (numbered d) here) before_foreign).0 i
+      ++ ((own_passed (is_own e.0.seq) (numbered d e) (all_own e.0.seq (toward d e.1.event.readings))).0 i
+      ++ (foreign_passed (is_own e.0.seq) (flat_map (numbered d) there) behind_foreign).0 i))
       ∙ append-none (numbered d e)
     where
       append-none : (xs : List Numbered) → xs ++ [] ≡ xs
@@ -147,7 +160,9 @@ module _ (d : Direction) (es more : List Entry) (e : Entry) (one : IsOneMore es 
       append-none (x ∷ xs) = ap (λ ys. x ∷ ys) (append-none xs)
 
   pub runs_by_sequence : runs_of Sequence d e.0 more ≤ 1
-  runs_by_sequence = subst (λ l. runs (is_own e.0.seq) l ≤ 1) (sym with_it) (one_run (is_own e.0.seq) (flat_map (numbered d) here) (numbered d e) (flat_map (numbered d) there) before_foreign (all_own e.0.seq (toward d e.1.event.readings)) behind_foreign)
+  runs_by_sequence =
+      subst (λ l. runs (is_own e.0.seq) l ≤ 1) (sym with_it)
+      (one_run (is_own e.0.seq) (flat_map (numbered d) here) (numbered d e) (flat_map (numbered d) there) before_foreign (all_own e.0.seq (toward d e.1.event.readings)) behind_foreign)
 
   module _ (order : Order) where
     pub less_numbered : filter foreign (numbered_by order d e.0.tx more) ≡ numbered_by order d e.0.tx es
@@ -175,7 +190,13 @@ module _ (d : Direction) (es more : List Entry) (e : Entry) (one : IsOneMore es 
     pub few_come_and_go : length (pairs_across order d e.0 more) + length (pairs_with order d e.0 more) ≤ length (toward d e.1.event.readings) + 2 * runs_of order d e.0 more
     few_come_and_go =
         let few = few_by_runs (is_own e.0.seq) (numbered_by order d e.0.tx more) in
-        omega (arith, few, own_numbered, bare-length (across_runs (is_own e.0.seq) (numbered_by order d e.0.tx more)), bare-length (filter (λ p. is_own e.0.seq p.0 || is_own e.0.seq p.1) (in_pairs (numbered_by order d e.0.tx more))))
+        omega (
+          arith,
+          few,
+          own_numbered,
+          bare-length (across_runs (is_own e.0.seq) (numbered_by order d e.0.tx more)),
+          bare-length (filter (λ p. is_own e.0.seq p.0 || is_own e.0.seq p.1) (in_pairs (numbered_by order d e.0.tx more))),
+        )
       where
         bare-length : (ps : List (Numbered × Numbered)) → length (map bare ps) ≡ length ps
         bare-length [] = refl
@@ -186,13 +207,16 @@ module _ (d : Direction) (es more : List Entry) (e : Entry) (one : IsOneMore es 
       transaction_moves =
           let all = runs_sums (is_own e.0.seq) (λ p. f (bare p)) (numbered_by order d e.0.tx more) in
           let with_them = ap (sum_by f) (sym (numbered_pairs order d e.0.tx more)) ∙ sum_by-map f bare (in_pairs (numbered_by order d e.0.tx more)) in
-          let without = ap (sum_by f) (sym (numbered_pairs order d e.0.tx es)) ∙ sum_by-map f bare (in_pairs (numbered_by order d e.0.tx es)) ∙ ap (λ ns. sum_by (λ p. f (bare p)) (in_pairs ns)) (sym less_numbered) in
+          let without = ap (sum_by f) (sym (numbered_pairs order d e.0.tx es))
+          ∙ sum_by-map f bare (in_pairs (numbered_by order d e.0.tx es))
+          ∙ ap (λ ns. sum_by (λ p. f (bare p)) (in_pairs ns)) (sym less_numbered) in
           let gone = sum_by-map f bare (across_runs (is_own e.0.seq) (numbered_by order d e.0.tx more)) in
           let came = sum_by-map f bare (filter (λ p. is_own e.0.seq p.0 || is_own e.0.seq p.1) (in_pairs (numbered_by order d e.0.tx more))) in
           omega (arith, all, with_them, without, gone, came)
 
 -- The readings of another transaction stay.
-pub others_stay : (order : Order) (d : Direction) (es more front : List Entry) (e : Entry) (back : List Entry) (tx : List ℕ) → IsOneMore es more front e back → bytes_eq tx e.0.tx ≡ false → pairs_by order d tx more ≡ pairs_by order d tx es
+pub others_stay : (order : Order) (d : Direction) (es more front : List Entry) (e : Entry) (back : List Entry) (tx : List ℕ)
+    → IsOneMore es more front e back → bytes_eq tx e.0.tx ≡ false → pairs_by order d tx more ≡ pairs_by order d tx es
 others_stay order d es more front e back tx one apart =
     ap (λ l. followed (in_order order (λ r. r.moment) (flat_map (λ (x : Entry). toward d x.1.event.readings) l))) (live_else es more front e back tx one apart)
 
@@ -204,7 +228,8 @@ pub station_moves : (d : Direction) (es more : List Entry) (e : Entry) (one : Is
     → sum_by f (all_pairs_by order d more) + sum_by f (pairs_across order d e.0 more) ≡ sum_by f (all_pairs_by order d es) + sum_by f (pairs_with order d e.0 more)
 station_moves d es more e one order f =
     let g = λ (u : List ℕ). sum_by f (pairs_by order d u es) in let h = λ (u : List ℕ). sum_by f (pairs_by order d u more) in
-    let all = by_transaction_sums g h es more (before_key e.0 es) e (behind_key e.0 es) one (λ u apart. ap (sum_by f) (others_stay order d es more (before_key e.0 es) e (behind_key e.0 es) u one apart))
+    let all = by_transaction_sums g h es more (before_key e.0 es) e (behind_key e.0 es) one
+    (λ u apart. ap (sum_by f) (others_stay order d es more (before_key e.0 es) e (behind_key e.0 es) u one apart))
     (λ none. no_pairs order f (readings_of d e.0.tx es) (ap (flat_map (λ (x : Entry). toward d x.1.event.readings)) none))
     (λ none. no_pairs order f (readings_of d e.0.tx more) (ap (flat_map (λ (x : Entry). toward d x.1.event.readings)) none)) in
     let own = transaction_moves d es more e one order f in
@@ -218,9 +243,14 @@ pub evse_sums : (order : Order) (d : Direction) (f : Pair → ℕ) (evse : ℕ) 
 evse_sums order d f evse es more front e back one =
     let g = λ (u : List ℕ). taken (eqb (evse_of u es) evse) (sum_by f (pairs_by order d u es)) in let h = λ (u : List ℕ). taken (eqb (evse_of u more) evse) (sum_by f (pairs_by order d u more)) in
     let all = by_transaction_sums g h es more front e back one
-    (λ u apart. ap (λ n. taken (eqb n evse) (sum_by f (pairs_by order d u more))) (evse_else es more front e back u one apart) ∙ ap (λ ps. taken (eqb (evse_of u es) evse) (sum_by f ps)) (others_stay order d es more front e back u one apart))
-    (λ none. ap (taken (eqb (evse_of e.0.tx es) evse)) (no_pairs order f (readings_of d e.0.tx es) (ap (flat_map (λ (x : Entry). toward d x.1.event.readings)) none)) ∙ nothing_taken (eqb (evse_of e.0.tx es) evse))
-    (λ none. ap (taken (eqb (evse_of e.0.tx more) evse)) (no_pairs order f (readings_of d e.0.tx more) (ap (flat_map (λ (x : Entry). toward d x.1.event.readings)) none)) ∙ nothing_taken (eqb (evse_of e.0.tx more) evse)) in
-    let less = sum_by-flat_map f (λ u. pairs_by order d u es) (transactions_at evse es) ∙ passed_sum (λ u. sum_by f (pairs_by order d u es)) (λ u. eqb (evse_of u es) evse) (transactions_of (live es)) in
-    let many = sum_by-flat_map f (λ u. pairs_by order d u more) (transactions_at evse more) ∙ passed_sum (λ u. sum_by f (pairs_by order d u more)) (λ u. eqb (evse_of u more) evse) (transactions_of (live more)) in
+    (λ u apart. ap (λ n. taken (eqb n evse) (sum_by f (pairs_by order d u more))) (evse_else es more front e back u one apart)
+    ∙ ap (λ ps. taken (eqb (evse_of u es) evse) (sum_by f ps)) (others_stay order d es more front e back u one apart))
+    (λ none. ap (taken (eqb (evse_of e.0.tx es) evse)) (no_pairs order f (readings_of d e.0.tx es) (ap (flat_map (λ (x : Entry). toward d x.1.event.readings)) none))
+    ∙ nothing_taken (eqb (evse_of e.0.tx es) evse))
+    (λ none. ap (taken (eqb (evse_of e.0.tx more) evse)) (no_pairs order f (readings_of d e.0.tx more) (ap (flat_map (λ (x : Entry). toward d x.1.event.readings)) none))
+    ∙ nothing_taken (eqb (evse_of e.0.tx more) evse)) in
+    let less = sum_by-flat_map f (λ u. pairs_by order d u es) (transactions_at evse es)
+    ∙ passed_sum (λ u. sum_by f (pairs_by order d u es)) (λ u. eqb (evse_of u es) evse) (transactions_of (live es)) in
+    let many = sum_by-flat_map f (λ u. pairs_by order d u more) (transactions_at evse more)
+    ∙ passed_sum (λ u. sum_by f (pairs_by order d u more)) (λ u. eqb (evse_of u more) evse) (transactions_of (live more)) in
     omega (arith, all, less, many)

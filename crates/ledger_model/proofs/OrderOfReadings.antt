@@ -126,7 +126,9 @@ module _ (d : Direction) (tx : List ℕ) where
   one_more n [] s = refl
   one_more n (e ∷ es) s =
       let rest = one_more n es (second _ _ s) in
-      elim (key_cmp (named n) e.0) as (λ o. key_cmp (named n) e.0 ≡ o → here_below (suc n) e ++ flat_map (here_below (suc n)) es ≡ (here_below n e ++ flat_map (here_below n) es) ++ readings_at d (cond (is_eq o) (Some e.1) (find key_cmp (named n) es))) [
+      elim (key_cmp (named n) e.0) as (λ o. key_cmp (named n) e.0 ≡ o
+      → here_below (suc n) e ++ flat_map (here_below (suc n)) es
+      ≡ (here_below n e ++ flat_map (here_below n) es) ++ readings_at d (cond (is_eq o) (Some e.1) (find key_cmp (named n) es))) [
         | Less ↦ λ o.
             let b : T (below_all key_cmp (named n) es) = below_rest (named n) e es (λ x h. key_total.trans (named n) e.0 x o h) (first _ _ s) in
             (λ i. none_after n (suc n) e (next n) o i ++ none_after_all n (suc n) es (next n) b i)
@@ -151,11 +153,14 @@ module _ (d : Direction) (tx : List ℕ) where
       ∙ sym (one_more n es s)
 
   -- one live entry more of `readings_of`
-  live_more : (b : Bool) (e : Entry) (es : List Entry) → cond b (toward d e.1.event.readings) [] ++ readings_of d tx es ≡ flat_map (λ (e : Entry). toward d e.1.event.readings) (cond b (e ∷ live_of tx es) (live_of tx es))
+  live_more : (b : Bool) (e : Entry) (es : List Entry)
+      → cond b (toward d e.1.event.readings) [] ++ readings_of d tx es ≡ flat_map (λ (e : Entry). toward d e.1.event.readings) (cond b (e ∷ live_of tx es) (live_of tx es))
   live_more true e es = refl
   live_more false e es = refl
 
-  entry_more : (v : Bool) (e : Entry) (es : List Entry) → cond v [] (cond (bytes_eq tx e.0.tx) (toward d e.1.event.readings) []) ++ readings_of d tx es ≡ flat_map (λ (e : Entry). toward d e.1.event.readings) (filter (λ (e : Entry). bytes_eq tx e.0.tx) (cond (not v) (e ∷ live es) (live es)))
+  entry_more : (v : Bool) (e : Entry) (es : List Entry)
+      → cond v [] (cond (bytes_eq tx e.0.tx) (toward d e.1.event.readings) []) ++ readings_of d tx es
+      ≡ flat_map (λ (e : Entry). toward d e.1.event.readings) (filter (λ (e : Entry). bytes_eq tx e.0.tx) (cond (not v) (e ∷ live es) (live es)))
   entry_more true e es = refl
   entry_more false e es = live_more (bytes_eq tx e.0.tx) e es
 

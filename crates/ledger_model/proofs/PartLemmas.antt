@@ -74,7 +74,9 @@ module _ (c : Change) where
     others_end : (quarter more : ℕ) → gone ((quarter + suc more) * length) ≤ long → gone ((quarter + 1 + more) * length) ≤ long
     others_end quarter more within = subst (λ k. gone (k * length) ≤ long) (omega arith) within
 
-    cons_adds : (quarter level then : ℕ) (ts : List Part) → AddUp ts then c.later → (level ≤ then) × (then ≤ c.later) ⊎ (then ≤ level) × (c.later ≤ then) → AddUp ((quarter, difference_of level then) ∷ ts) level c.later
+    cons_adds : (quarter level then : ℕ) (ts : List Part) → AddUp ts then c.later
+        → (level ≤ then) × (then ≤ c.later) ⊎ (then ≤ level) × (c.later ≤ then)
+        → AddUp ((quarter, difference_of level then) ∷ ts) level c.later
     cons_adds quarter level then ts rest way =
         let up = sum_by-cons (λ (t : Part). t.1.up) (quarter, difference_of level then) ts in
         let down = sum_by-cons (λ (t : Part). t.1.down) (quarter, difference_of level then) ts in
@@ -83,19 +85,34 @@ module _ (c : Change) where
           down = ⊎_elim (λ w. omega (arith, down, rest.down, w.0, w.1)) (λ w. omega (arith, down, rest.down, w.0, w.1)) way;
         }
 
-    rising_add : c.earlier ≤ c.later → (quarter level more : ℕ) → level ≤ c.later → level ≤ at_end quarter → gone ((quarter + more) * length) ≤ long → AddUp (shares_from length c quarter level more) level c.later
+    rising_add : c.earlier ≤ c.later → (quarter level more : ℕ) → level ≤ c.later → level ≤ at_end quarter
+        → gone ((quarter + more) * length) ≤ long → AddUp (shares_from length c quarter level more) level c.later
     rising_add rises quarter level zero within next ends = one_adds quarter level c.later
     rising_add rises quarter level (suc more) within next ends =
         let up : at_end quarter ≤ c.later = omega (arith, level_up ((quarter + 1) * length) rises, share_within (c.later - c.earlier) ((quarter + 1) * length) (first_ends quarter more ends), rises) in
-        let then : at_end quarter ≤ at_end (quarter + 1) = omega (arith, level_up ((quarter + 1) * length) rises, level_up ((quarter + 1 + 1) * length) rises, share_rises (c.later - c.earlier) ((quarter + 1) * length) ((quarter + 1 + 1) * length) (ends_later quarter)) in
+        let then : at_end quarter ≤ at_end (quarter + 1) =
+        omega (
+          arith,
+          level_up ((quarter + 1) * length) rises,
+          level_up ((quarter + 1 + 1) * length) rises,
+          share_rises (c.later - c.earlier) ((quarter + 1) * length) ((quarter + 1 + 1) * length) (ends_later quarter),
+        ) in
         cons_adds quarter level (at_end quarter) (shares_from length c (quarter + 1) (at_end quarter) more)
         (rising_add rises (quarter + 1) (at_end quarter) more up then (others_end quarter more ends)) (inl (next, up))
 
-    falling_add : c.later ≤ c.earlier → (quarter level more : ℕ) → c.later ≤ level → at_end quarter ≤ level → gone ((quarter + more) * length) ≤ long → AddUp (shares_from length c quarter level more) level c.later
+    falling_add : c.later ≤ c.earlier → (quarter level more : ℕ) → c.later ≤ level → at_end quarter ≤ level
+        → gone ((quarter + more) * length) ≤ long → AddUp (shares_from length c quarter level more) level c.later
     falling_add falls quarter level zero within next ends = one_adds quarter level c.later
     falling_add falls quarter level (suc more) within next ends =
-        let down : c.later ≤ at_end quarter = omega (arith, level_down ((quarter + 1) * length) falls, share_within (c.earlier - c.later) ((quarter + 1) * length) (first_ends quarter more ends), falls) in
-        let then : at_end (quarter + 1) ≤ at_end quarter = omega (arith, level_down ((quarter + 1) * length) falls, level_down ((quarter + 1 + 1) * length) falls, share_rises (c.earlier - c.later) ((quarter + 1) * length) ((quarter + 1 + 1) * length) (ends_later quarter)) in
+        let down : c.later ≤ at_end quarter =
+        omega (arith, level_down ((quarter + 1) * length) falls, share_within (c.earlier - c.later) ((quarter + 1) * length) (first_ends quarter more ends), falls) in
+        let then : at_end (quarter + 1) ≤ at_end quarter =
+        omega (
+          arith,
+          level_down ((quarter + 1) * length) falls,
+          level_down ((quarter + 1 + 1) * length) falls,
+          share_rises (c.earlier - c.later) ((quarter + 1) * length) ((quarter + 1 + 1) * length) (ends_later quarter),
+        ) in
         cons_adds quarter level (at_end quarter) (shares_from length c (quarter + 1) (at_end quarter) more)
         (falling_add falls (quarter + 1) (at_end quarter) more down then (others_end quarter more ends)) (inr (next, down))
 

@@ -81,7 +81,8 @@ module _ (figure : Figures → ℕ) (none : figure no_figures ≡ 0) (both : (a 
       → figure (totals_after (ps ++ (row, f) ∷ [])) + figure (row_after row ps) ≡ figure (totals_after ps) + figure f
       → figure (totals_after (p ∷ ps ++ (row, f) ∷ [])) + figure (row_after row (p ∷ ps)) ≡ figure (totals_after (p ∷ ps)) + figure f
   totals-push_same row f p ps e h rest =
-      let after : figure (totals_after (p ∷ ps ++ (row, f) ∷ [])) ≡ figure (totals_after (ps ++ (row, f) ∷ [])) = ap figure (totals-later p (ps ++ (row, f) ∷ []) (subst (λ r. has_post r (ps ++ (row, f) ∷ []) ≡ true) (sym e) (has-push_same row f ps))) in
+      let after : figure (totals_after (p ∷ ps ++ (row, f) ∷ [])) ≡ figure (totals_after (ps ++ (row, f) ∷ [])) =
+      ap figure (totals-later p (ps ++ (row, f) ∷ []) (subst (λ r. has_post r (ps ++ (row, f) ∷ []) ≡ true) (sym e) (has-push_same row f ps))) in
       let before : figure (totals_after (p ∷ ps)) ≡ figure p.1 + figure (totals_after ps) = figure-here p ps (subst (λ r. has_post r ps ≡ false) (sym e) h) in
       let old : figure (row_after row (p ∷ ps)) ≡ figure p.1 = ap figure (row-here row p ps h e) in
       let nothing : figure (row_after row ps) ≡ 0 = ap figure (row-none row ps h) ∙ none in

@@ -61,7 +61,8 @@ left_by-append limits c [] ys = refl
 left_by-append limits c (x ∷ xs) ys = left_by-append limits (step limits c x).0 xs ys
 
 -- the last command of a reached content was accepted
-last_accepted : (limits : Bounds) (n : ℕ) (before c : Content) (command : Command) → ◌≡◌ {A = Content × Answer} (step limits before command) (c, Accepted (suc n)) → IsAccepted (step limits before command).1
+last_accepted : (limits : Bounds) (n : ℕ) (before c : Content) (command : Command)
+    → ◌≡◌ {A = Content × Answer} (step limits before command) (c, Accepted (suc n)) → IsAccepted (step limits before command).1
 last_accepted limits n before c command h = subst (λ (p : Content × Answer). IsAccepted p.1) (sym h) tt
 
 -- a reached content is left by a run
@@ -81,7 +82,8 @@ run_of limits (suc n) c h =
     )
 
 -- what a run leaves of a reached content is reached
-reached_further : (limits : Bounds) (n : ℕ) (c : Content) (commands : List Command) → Reached limits n c → All IsAdmissible commands → AreAccepted limits c commands → Reached limits (n + length commands) (left_by limits c commands)
+reached_further : (limits : Bounds) (n : ℕ) (c : Content) (commands : List Command) → Reached limits n c
+    → All IsAdmissible commands → AreAccepted limits c commands → Reached limits (n + length commands) (left_by limits c commands)
 reached_further limits n c [] h may a = let same : n ≡ n + 0 = omega arith in subst (λ m. Reached limits m c) same h
 reached_further limits n c (command ∷ commands) h may a =
     let k = is_counted limits c command a.0 in

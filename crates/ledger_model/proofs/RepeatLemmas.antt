@@ -48,7 +48,8 @@ record IsFirst (P : MeterReading → Type 0) (m : ℕ) (rs : List MeterReading) 
   so : P s
 
 here : (m : ℕ) (r : MeterReading) (rs : List MeterReading) → r.moment ≡ m → of_moment taken_when m (r ∷ rs) ≡ [] → ⊥
-here m r rs e none = let cons : of_moment taken_when m (r ∷ rs) ≡ r ∷ of_moment taken_when m rs = ap (λ b. cond b (r ∷ of_moment taken_when m rs) (of_moment taken_when m rs)) (eq-eqb r.moment m e) in differ (sym none ∙ cons)
+here m r rs e none = let cons : of_moment taken_when m (r ∷ rs)
+    ≡ r ∷ of_moment taken_when m rs = ap (λ b. cond b (r ∷ of_moment taken_when m rs) (of_moment taken_when m rs)) (eq-eqb r.moment m e) in differ (sym none ∙ cons)
   where
     differ : [] ≡ r ∷ of_moment taken_when m rs → ⊥
     differ e = cc
@@ -57,7 +58,8 @@ elsewhere : (m : ℕ) (r : MeterReading) (rs : List MeterReading) → (r.moment 
 elsewhere m r rs apart = ap (λ b. cond b (r ∷ of_moment taken_when m rs) (of_moment taken_when m rs)) (ne_eqb r.moment m apart)
 
 module _ (P : MeterReading → Type 0) (m : ℕ) where
-  last_of : (r : MeterReading) (rs : List MeterReading) → AreInTime taken_when (r ∷ rs) → AreUpTo taken_when m (r ∷ rs) → (of_moment taken_when m (r ∷ rs) ≡ [] → ⊥) → AllByRecursion P (r ∷ rs) → IsLast P m (r ∷ rs)
+  last_of : (r : MeterReading) (rs : List MeterReading) → AreInTime taken_when (r ∷ rs) → AreUpTo taken_when m (r ∷ rs)
+      → (of_moment taken_when m (r ∷ rs) ≡ [] → ⊥) → AllByRecursion P (r ∷ rs) → IsLast P m (r ∷ rs)
   last_of r [] up upto some all = ⊎_elim
       (λ (e : r.moment ≡ m). record { s = r; is = refl; moment = e; so = all.0 })
       (λ (apart : r.moment ≡ m → ⊥). absurd (some (elsewhere m r [] apart)))
@@ -128,10 +130,13 @@ module _ (g : ℕ → ℕ → ℕ → ℕ → ℕ) (none : (v m : ℕ) → g v v
       let back : g s.mwh t.mwh s.moment t.moment ≡ g s.mwh r.mwh s.moment r.moment = (λ i. g s.mwh (level i) s.moment (moment i)) in let same = sym back in
       omega (arith, whole, zero, same, one_pair (r, t), one_pair (s, t))
 
-  put_in_sums : (r : MeterReading) (front back : List MeterReading) → sum_by measure (pairs_between (last_reading front) (r ∷ []) (first_reading back)) ≡ sum_by measure (across (last_reading front) (first_reading back)) → sum_by measure (followed (front ++ r ∷ back)) ≡ sum_by measure (followed (front ++ back))
+  put_in_sums : (r : MeterReading) (front back : List MeterReading)
+      → sum_by measure (pairs_between (last_reading front) (r ∷ []) (first_reading back)) ≡ sum_by measure (across (last_reading front) (first_reading back))
+      → sum_by measure (followed (front ++ r ∷ back)) ≡ sum_by measure (followed (front ++ back))
   put_in_sums r front back same = let all = followed_sums measure front (r ∷ []) back in omega (arith, all, same)
 
-  repeat_sums : (r : MeterReading) (less more : List MeterReading) → AreInTime taken_when less → IsPutIn taken_when r less more → IsRepeat r less → sum_by measure (followed more) ≡ sum_by measure (followed less)
+  repeat_sums : (r : MeterReading) (less more : List MeterReading) → AreInTime taken_when less → IsPutIn taken_when r less more
+      → IsRepeat r less → sum_by measure (followed more) ≡ sum_by measure (followed less)
   repeat_sums r less more up put repeat =
       let P : MeterReading → Type 0 = λ s. s.moment ≡ r.moment → s.mwh ≡ r.mwh in
       let rises : AreInTime taken_when (put.front ++ put.back) = subst (AreInTime taken_when) put.less_is up in
@@ -153,7 +158,8 @@ module _ (g : ℕ → ℕ → ℕ → ℕ → ℕ) (none : (v m : ℕ) → g v v
       (none_or_some (of_moment taken_when r.moment put.front)))
       ∙ ap (λ rs. sum_by measure (followed rs)) (sym put.less_is)
     where
-      last_in : (P : MeterReading → Type 0) (m : ℕ) (rs : List MeterReading) → AreInTime taken_when rs → AreUpTo taken_when m rs → (of_moment taken_when m rs ≡ [] → ⊥) → AllByRecursion P rs → IsLast P m rs
+      last_in : (P : MeterReading → Type 0) (m : ℕ) (rs : List MeterReading) → AreInTime taken_when rs → AreUpTo taken_when m rs
+          → (of_moment taken_when m rs ≡ [] → ⊥) → AllByRecursion P rs → IsLast P m rs
       last_in P m [] up upto some all = absurd (some refl)
       last_in P m (r ∷ rs) up upto some all = last_of P m r rs up upto some all
 
@@ -189,11 +195,23 @@ module _ (es more : List Entry) (key : KeyName) (r : MeterReading) (one : IsOneR
   evses_in tx es = filter_map (λ (e : Entry). e.1.event.evse) (filter (λ (e : Entry). bytes_eq tx e.0.tx) es)
 
   evse_stays : (tx : List ℕ) (front : List Entry) → evses_in tx (front ++ is_now ∷ one.back) ≡ evses_in tx (front ++ was ∷ one.back)
-  evse_stays tx [] = (elim (bytes_eq tx key.tx) as (λ b. filter_map (λ (e : Entry). e.1.event.evse) (cond b (is_now ∷ filter (λ (e : Entry). bytes_eq tx e.0.tx) one.back) (filter (λ (e : Entry). bytes_eq tx e.0.tx) one.back)) ≡ filter_map (λ (e : Entry). e.1.event.evse) (cond b (was ∷ filter (λ (e : Entry). bytes_eq tx e.0.tx) one.back) (filter (λ (e : Entry). bytes_eq tx e.0.tx) one.back))) [ true ↦ refl | false ↦ refl ])
-  evse_stays tx (x ∷ front) = (elim (bytes_eq tx x.0.tx) as (λ b. filter_map (λ (e : Entry). e.1.event.evse) (cond b (x ∷ filter (λ (e : Entry). bytes_eq tx e.0.tx) (front ++ is_now ∷ one.back)) (filter (λ (e : Entry). bytes_eq tx e.0.tx) (front ++ is_now ∷ one.back))) ≡ filter_map (λ (e : Entry). e.1.event.evse) (cond b (x ∷ filter (λ (e : Entry). bytes_eq tx e.0.tx) (front ++ was ∷ one.back)) (filter (λ (e : Entry). bytes_eq tx e.0.tx) (front ++ was ∷ one.back)))) [
-    | true ↦ ap (cons_option x.1.event.evse) (evse_stays tx front)
-    | false ↦ evse_stays tx front
-  ])
+  evse_stays tx [] =
+      (elim (bytes_eq tx key.tx) as (λ b. filter_map (λ (e : Entry). e.1.event.evse)
+      (cond b (is_now ∷ filter (λ (e : Entry). bytes_eq tx e.0.tx) one.back) (filter (λ (e : Entry). bytes_eq tx e.0.tx) one.back))
+      ≡ filter_map (λ (e : Entry). e.1.event.evse)
+      (cond b (was ∷ filter (λ (e : Entry). bytes_eq tx e.0.tx) one.back) (filter (λ (e : Entry). bytes_eq tx e.0.tx) one.back))) [
+        | true
+            ↦ refl
+        | false ↦ refl
+      ])
+  evse_stays tx (x ∷ front) =
+      (elim (bytes_eq tx x.0.tx) as (λ b. filter_map (λ (e : Entry). e.1.event.evse)
+      (cond b (x ∷ filter (λ (e : Entry). bytes_eq tx e.0.tx) (front ++ is_now ∷ one.back)) (filter (λ (e : Entry). bytes_eq tx e.0.tx) (front ++ is_now ∷ one.back)))
+      ≡ filter_map (λ (e : Entry). e.1.event.evse)
+      (cond b (x ∷ filter (λ (e : Entry). bytes_eq tx e.0.tx) (front ++ was ∷ one.back)) (filter (λ (e : Entry). bytes_eq tx e.0.tx) (front ++ was ∷ one.back)))) [
+        | true ↦ ap (cons_option x.1.event.evse) (evse_stays tx front)
+        | false ↦ evse_stays tx front
+      ])
 
   pub evses_stay : (tx : List ℕ) → evse_of tx more ≡ evse_of tx es
   evses_stay tx = ap (λ l. first_or_zero (evses_in tx l)) one.more_live ∙ ap first_or_zero (evse_stays tx one.front) ∙ ap (λ l. first_or_zero (evses_in tx l)) (sym one.less_live)
@@ -211,7 +229,9 @@ module _ (es more : List Entry) (key : KeyName) (r : MeterReading) (one : IsOneR
   abbrev told : Direction → List Entry → List MeterReading
   told d es = flat_map (λ (e : Entry). toward d e.1.event.readings) es
 
-  cut_at : (d : Direction) (tx : List ℕ) (x : Entry) → told d (own tx (one.front ++ x ∷ one.back)) ≡ told d (own tx one.front) ++ cond (bytes_eq tx x.0.tx) (toward d x.1.event.readings ++ told d (own tx one.back)) (told d (own tx one.back))
+  cut_at : (d : Direction) (tx : List ℕ) (x : Entry)
+      → told d (own tx (one.front ++ x ∷ one.back))
+      ≡ told d (own tx one.front) ++ cond (bytes_eq tx x.0.tx) (toward d x.1.event.readings ++ told d (own tx one.back)) (told d (own tx one.back))
   cut_at d tx x =
       ap (told d) (filter-append (λ (e : Entry). bytes_eq tx e.0.tx) one.front (x ∷ one.back))
       ∙ flat_map-append (λ (e : Entry). toward d e.1.event.readings) (own tx one.front) (own tx (x ∷ one.back))
@@ -221,12 +241,14 @@ module _ (es more : List Entry) (key : KeyName) (r : MeterReading) (one : IsOneR
       pushed true = refl
       pushed false = refl
 
-  less_cut : (d : Direction) (tx : List ℕ) (b : Bool) → bytes_eq tx key.tx ≡ b → readings_of d tx es ≡ told d (own tx one.front) ++ cond b (toward d (one.first ++ one.last) ++ told d (own tx one.back)) (told d (own tx one.back))
+  less_cut : (d : Direction) (tx : List ℕ) (b : Bool) → bytes_eq tx key.tx ≡ b
+      → readings_of d tx es ≡ told d (own tx one.front) ++ cond b (toward d (one.first ++ one.last) ++ told d (own tx one.back)) (told d (own tx one.back))
   less_cut d tx b is =
       ap (λ l. told d (own tx l)) one.less_live ∙ cut_at d tx was
       ∙ (λ i. told d (own tx one.front) ++ cond (is i) (toward d (one.readings i) ++ told d (own tx one.back)) (told d (own tx one.back)))
 
-  more_cut : (d : Direction) (tx : List ℕ) (b : Bool) → bytes_eq tx key.tx ≡ b → readings_of d tx more ≡ told d (own tx one.front) ++ cond b (toward d (one.first ++ r ∷ one.last) ++ told d (own tx one.back)) (told d (own tx one.back))
+  more_cut : (d : Direction) (tx : List ℕ) (b : Bool) → bytes_eq tx key.tx ≡ b
+      → readings_of d tx more ≡ told d (own tx one.front) ++ cond b (toward d (one.first ++ r ∷ one.last) ++ told d (own tx one.back)) (told d (own tx one.back))
   more_cut d tx b is =
       ap (λ l. told d (own tx l)) one.more_live ∙ cut_at d tx is_now
       ∙ (λ i. told d (own tx one.front) ++ cond (is i) (toward d (one.first ++ r ∷ one.last) ++ told d (own tx one.back)) (told d (own tx one.back)))
@@ -237,7 +259,9 @@ module _ (es more : List Entry) (key : KeyName) (r : MeterReading) (one : IsOneR
   other_way : (d : Direction) (tx : List ℕ) → bytes_eq tx key.tx ≡ true → same_direction d r.direction ≡ false → readings_of d tx more ≡ readings_of d tx es
   other_way d tx is apart =
       more_cut d tx true is
-      ∙ ap (λ rs. told d (own tx one.front) ++ (rs ++ told d (own tx one.back))) (toward_more d one.first one.last r ∙ ap (λ b. toward d one.first ++ cond b (r ∷ toward d one.last) (toward d one.last)) apart ∙ sym (filter-append (λ (s : MeterReading). same_direction d s.direction) one.first one.last))
+      ∙ ap (λ rs. told d (own tx one.front) ++ (rs ++ told d (own tx one.back)))
+      (toward_more d one.first one.last r ∙ ap (λ b. toward d one.first ++ cond b (r ∷ toward d one.last) (toward d one.last)) apart
+      ∙ sym (filter-append (λ (s : MeterReading). same_direction d s.direction) one.first one.last))
       ∙ sym (less_cut d tx true is)
 
   stands_there : (d : Direction) (tx : List ℕ) → bytes_eq tx key.tx ≡ true → same_direction d r.direction ≡ true → HasOneMore d tx
@@ -246,20 +270,27 @@ module _ (es more : List Entry) (key : KeyName) (r : MeterReading) (one : IsOneR
       record {
         before = a ++ p;
         behind = q ++ b;
-        less_is = less_cut d tx true is ∙ ap (λ rs. a ++ (rs ++ b)) (filter-append (λ (s : MeterReading). same_direction d s.direction) one.first one.last) ∙ ap (λ rs. a ++ rs) (append_assoc p q b) ∙ sym (append_assoc a p (q ++ b));
-        more_is = more_cut d tx true is ∙ ap (λ rs. a ++ (rs ++ b)) (toward_more d one.first one.last r ∙ ap (λ b. p ++ cond b (r ∷ q) q) same) ∙ ap (λ rs. a ++ rs) (append_assoc p (r ∷ q) b) ∙ sym (append_assoc a p (r ∷ (q ++ b)));
+        less_is = less_cut d tx true is
+            ∙ ap (λ rs. a ++ (rs ++ b)) (filter-append (λ (s : MeterReading). same_direction d s.direction) one.first one.last)
+            ∙ ap (λ rs. a ++ rs) (append_assoc p q b) ∙ sym (append_assoc a p (q ++ b));
+        more_is = more_cut d tx true is
+            ∙ ap (λ rs. a ++ (rs ++ b)) (toward_more d one.first one.last r ∙ ap (λ b. p ++ cond b (r ∷ q) q) same)
+            ∙ ap (λ rs. a ++ rs) (append_assoc p (r ∷ q) b) ∙ sym (append_assoc a p (r ∷ (q ++ b)));
       }
 
   module _ (repeat : IsRepeat r (readings_by Moment r.direction key.tx es)) where
     -- Each sum over a transaction's pairs stays.
-    pub sums_stay : (g : ℕ → ℕ → ℕ → ℕ → ℕ) (none : (v m : ℕ) → g v v m m ≡ 0) (d : Direction) (tx : List ℕ) → sum_by (measure g none) (pairs_by Moment d tx more) ≡ sum_by (measure g none) (pairs_by Moment d tx es)
+    pub sums_stay : (g : ℕ → ℕ → ℕ → ℕ → ℕ) (none : (v m : ℕ) → g v v m m ≡ 0) (d : Direction) (tx : List ℕ)
+        → sum_by (measure g none) (pairs_by Moment d tx more) ≡ sum_by (measure g none) (pairs_by Moment d tx es)
     sums_stay g none d tx = ⊎_elim
         (λ (is : bytes_eq tx key.tx ≡ true). ⊎_elim
         (λ (way : d ≡ r.direction).
         let m : HasOneMore d tx = stands_there d tx is (ap (λ e. same_direction e r.direction) way ∙ same_itself r.direction) in
-        let told_again : IsRepeat r (readings_by Moment d tx es) = subst (λ t. IsRepeat r (readings_by Moment d t es)) (sym (one_text tx key.tx is)) (subst (λ e. IsRepeat r (readings_by Moment e key.tx es)) (sym way) repeat) in
+        let told_again : IsRepeat r (readings_by Moment d tx es) =
+        subst (λ t. IsRepeat r (readings_by Moment d t es)) (sym (one_text tx key.tx is)) (subst (λ e. IsRepeat r (readings_by Moment e key.tx es)) (sym way) repeat) in
         let put : IsPutIn taken_when r (in_time taken_when (readings_of d tx es)) (in_time taken_when (readings_of d tx more)) =
-        subst (λ rs. IsPutIn taken_when r (in_time taken_when rs) (in_time taken_when (readings_of d tx more))) (sym m.less_is) (subst (λ rs. IsPutIn taken_when r (in_time taken_when (m.before ++ m.behind)) (in_time taken_when rs)) (sym m.more_is) (one_put_in taken_when r m.before m.behind)) in
+        subst (λ rs. IsPutIn taken_when r (in_time taken_when rs) (in_time taken_when (readings_of d tx more))) (sym m.less_is)
+        (subst (λ rs. IsPutIn taken_when r (in_time taken_when (m.before ++ m.behind)) (in_time taken_when rs)) (sym m.more_is) (one_put_in taken_when r m.before m.behind)) in
         repeat_sums g none r (in_time taken_when (readings_of d tx es)) (in_time taken_when (readings_of d tx more)) (in_time-rises taken_when (readings_of d tx es)) put told_again)
         (λ (apart : same_direction d r.direction ≡ false). ap (λ rs. sum_by (measure g none) (followed (in_time taken_when rs))) (other_way d tx is apart))
         (same_or_apart d r.direction))
@@ -267,7 +298,8 @@ module _ (es more : List Entry) (key : KeyName) (r : MeterReading) (one : IsOneR
         (cases_Bool (bytes_eq tx key.tx))
 
     -- And each over those of several transactions.
-    all_stay : (g : ℕ → ℕ → ℕ → ℕ → ℕ) (none : (v m : ℕ) → g v v m m ≡ 0) (d : Direction) (txs : List (List ℕ)) → sum_by (measure g none) (flat_map (λ tx. pairs_by Moment d tx more) txs) ≡ sum_by (measure g none) (flat_map (λ tx. pairs_by Moment d tx es) txs)
+    all_stay : (g : ℕ → ℕ → ℕ → ℕ → ℕ) (none : (v m : ℕ) → g v v m m ≡ 0) (d : Direction) (txs : List (List ℕ))
+        → sum_by (measure g none) (flat_map (λ tx. pairs_by Moment d tx more) txs) ≡ sum_by (measure g none) (flat_map (λ tx. pairs_by Moment d tx es) txs)
     all_stay g none d txs =
         sum_by-flat_map (measure g none) (λ tx. pairs_by Moment d tx more) txs
         ∙ sum_by-same _ _ (sums_stay g none d) txs
@@ -294,7 +326,8 @@ module _ (es more : List Entry) (key : KeyName) (r : MeterReading) (one : IsOneR
     part_sum f period q a b m n = sum_by (λ t. taken (eqb t.0 q) (f t)) (parts_by period.rule period.length (record { since = m; until = n; earlier = a; later = b }))
 
     in_quarter : (f : Part → ℕ) (period : Periods) (q : ℕ) → ((v m : ℕ) → part_sum f period q v v m m ≡ 0) → (d : Direction) (txs : List (List ℕ))
-        → sum_by f (filter (λ t. eqb t.0 q) (parts_over period (flat_map (λ tx. pairs_by Moment d tx more) txs))) ≡ sum_by f (filter (λ t. eqb t.0 q) (parts_over period (flat_map (λ tx. pairs_by Moment d tx es) txs)))
+        → sum_by f (filter (λ t. eqb t.0 q) (parts_over period (flat_map (λ tx. pairs_by Moment d tx more) txs)))
+        ≡ sum_by f (filter (λ t. eqb t.0 q) (parts_over period (flat_map (λ tx. pairs_by Moment d tx es) txs)))
     in_quarter f period q none d txs = passed (flat_map (λ tx. pairs_by Moment d tx more) txs) ∙ all_stay (part_sum f period q) none d txs ∙ sym (passed (flat_map (λ tx. pairs_by Moment d tx es) txs))
       where
         passed : (ps : List Pair) → sum_by f (filter (λ t. eqb t.0 q) (parts_over period ps)) ≡ sum_by (measure (part_sum f period q) none) ps
@@ -309,7 +342,8 @@ module _ (es more : List Entry) (key : KeyName) (r : MeterReading) (one : IsOneR
     no_part f same period q v m = by_rule period.rule
       where
         undivided : (rule : Settle) → sum_by (λ (t : Part). taken (eqb t.0 q) (f t)) (whole rule period.length (record { since = m; until = m; earlier = v; later = v })) ≡ 0
-        undivided rule = sum_by-cons (λ (t : Part). taken (eqb t.0 q) (f t)) (settled_by rule period.length m, difference_of v v) [] ∙ none_taken (eqb (settled_by rule period.length m) q) (f (settled_by rule period.length m, difference_of v v)) (same (settled_by rule period.length m) v)
+        undivided rule = sum_by-cons (λ (t : Part). taken (eqb t.0 q) (f t)) (settled_by rule period.length m, difference_of v v) []
+            ∙ none_taken (eqb (settled_by rule period.length m) q) (f (settled_by rule period.length m, difference_of v v)) (same (settled_by rule period.length m) v)
 
         not_shared : (b : Bool) → nat_lt m m ≡ b → b ≡ false
         not_shared true is = absurd (let lt : m < m = ltb-true m m is in omega (arith, lt))
@@ -319,10 +353,14 @@ module _ (es more : List Entry) (key : KeyName) (r : MeterReading) (one : IsOneR
         by_rule Later = undivided Later
         by_rule Closing = undivided Closing
         by_rule Even =
-            ap (λ b. sum_by (λ (t : Part). taken (eqb t.0 q) (f t)) (cond (b && nat_le (m - m) longest_share) (shares period.length (record { since = m; until = m; earlier = v; later = v })) (whole Even period.length (record { since = m; until = m; earlier = v; later = v })))) (not_shared (nat_lt m m) refl)
+            ap (λ b. sum_by (λ (t : Part). taken (eqb t.0 q) (f t))
+            (cond (b && nat_le (m - m) longest_share) (shares period.length (record { since = m; until = m; earlier = v; later = v }))
+            (whole Even period.length (record { since = m; until = m; earlier = v; later = v }))))
+            (not_shared (nat_lt m m) refl)
             ∙ undivided Even
 
     pub quarter_stays : (d : Direction) (period : Periods) (q : ℕ) → energy_in_by Moment d period q more ≡ energy_in_by Moment d period q es
     quarter_stays d period q =
         (λ i. energy_within period q (flat_map (λ tx. pairs_by Moment d tx more) (transactions_stay i)))
-        ∙ same_energy _ _ (in_quarter (λ t. t.1.up) period q (no_part (λ t. t.1.up) (λ q v. nothing v v) period q) d (transactions_of (live es))) (in_quarter (λ t. t.1.down) period q (no_part (λ t. t.1.down) (λ q v. nothing v v) period q) d (transactions_of (live es)))
+        ∙ same_energy _ _ (in_quarter (λ t. t.1.up) period q (no_part (λ t. t.1.up) (λ q v. nothing v v) period q) d (transactions_of (live es)))
+        (in_quarter (λ t. t.1.down) period q (no_part (λ t. t.1.down) (λ q v. nothing v v) period q) d (transactions_of (live es)))

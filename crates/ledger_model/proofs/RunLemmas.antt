@@ -61,15 +61,18 @@ module _ {X : Type 0} (own : X → Bool) where
   across_own : (front : Option X) (since : Bool) (x : X) (xs : List X) → own x ≡ true → across_behind front since own (x ∷ xs) ≡ across_behind front true own xs
   across_own front since x xs is = ap (λ b. cond b (across_behind front true own xs) (cond since (joined front x) [] ++ across_behind (Some x) false own xs)) is
 
-  across_foreign : (front : Option X) (since : Bool) (x : X) (xs : List X) → own x ≡ false → across_behind front since own (x ∷ xs) ≡ cond since (joined front x) [] ++ across_behind (Some x) false own xs
+  across_foreign : (front : Option X) (since : Bool) (x : X) (xs : List X) → own x ≡ false
+      → across_behind front since own (x ∷ xs) ≡ cond since (joined front x) [] ++ across_behind (Some x) false own xs
   across_foreign front since x xs is = ap (λ b. cond b (across_behind front true own xs) (cond since (joined front x) [] ++ across_behind (Some x) false own xs)) is
 
   module _ (f : X × X → ℕ) where
     cut : (front : Option X) (x : X) (xs : List X) → sum_by f (pairs_behind front (x ∷ xs)) ≡ sum_by f (joined front x) + sum_by f (pairs_behind (Some x) xs)
     cut front x xs = sum_by-append f (joined front x) (pairs_behind (Some x) xs)
 
-    cut_either : (front : Option X) (x : X) (xs : List X) → sum_by f (filter either (pairs_behind front (x ∷ xs))) ≡ sum_by f (filter either (joined front x)) + sum_by f (filter either (pairs_behind (Some x) xs))
-    cut_either front x xs = ap (sum_by f) (filter-append either (joined front x) (pairs_behind (Some x) xs)) ∙ sum_by-append f (filter either (joined front x)) (filter either (pairs_behind (Some x) xs))
+    cut_either : (front : Option X) (x : X) (xs : List X)
+        → sum_by f (filter either (pairs_behind front (x ∷ xs))) ≡ sum_by f (filter either (joined front x)) + sum_by f (filter either (pairs_behind (Some x) xs))
+    cut_either front x xs = ap (sum_by f) (filter-append either (joined front x) (pairs_behind (Some x) xs))
+        ∙ sum_by-append f (filter either (joined front x)) (filter either (pairs_behind (Some x) xs))
 
     mutual
       outside : (front : Option X) → IsForeign front → (xs : List X)
@@ -131,7 +134,8 @@ module _ {X : Type 0} (own : X → Bool) where
   pub runs_foreign : (front : Bool) (x : X) (xs : List X) → own x ≡ false → runs_behind front own (x ∷ xs) ≡ runs_behind false own xs
   runs_foreign front x xs is = let here : runs_behind front own (x ∷ xs) ≡ 0 + runs_behind false own xs = (λ i. cond (is i && not front) 1 0 + runs_behind (is i) own xs) in omega (arith, here)
 
-  cut_length : (front : Option X) (x : X) (xs : List X) → length (filter either (pairs_behind front (x ∷ xs))) ≡ length (filter either (joined front x)) + length (filter either (pairs_behind (Some x) xs))
+  cut_length : (front : Option X) (x : X) (xs : List X)
+      → length (filter either (pairs_behind front (x ∷ xs))) ≡ length (filter either (joined front x)) + length (filter either (pairs_behind (Some x) xs))
   cut_length front x xs = ap length (filter-append either (joined front x) (pairs_behind (Some x) xs)) ∙ length-append (filter either (joined front x)) (filter either (pairs_behind (Some x) xs))
 
   mutual
@@ -204,4 +208,5 @@ module _ {X : Type 0} (own : X → Bool) where
   pub one_run : (front xs back : List X) → AreForeign front → AreOwn xs → AreForeign back → runs own (front ++ (xs ++ back)) ≤ 1
   one_run [] [] back before mine behind = let none = no_runs false back behind in omega (arith, none)
   one_run [] (x ∷ xs) back before mine behind = let one = runs_own false x (xs ++ back) mine.0 in let on = run_goes_on xs back mine.1 behind in omega (arith, one, on)
-  one_run (y ∷ front) xs back before mine behind = let skip = runs_foreign false y (front ++ (xs ++ back)) before.0 in let rest = one_run front xs back before.1 mine behind in omega (arith, skip, rest)
+  one_run (y ∷ front) xs back before mine behind = let skip = runs_foreign false y (front ++ (xs ++ back)) before.0 in
+      let rest = one_run front xs back before.1 mine behind in omega (arith, skip, rest)

@@ -27,10 +27,12 @@ followed_between [] = refl
 followed_between (r ∷ rs) = zip_between r rs
 
 -- Readings in a row, cut behind the first part.
-between_front : (before : Option MeterReading) (xs ys : List MeterReading) (after : Option MeterReading) → pairs_between before (xs ++ ys) after ≡ pairs_between before xs None ++ pairs_between (last_after before xs) ys after
+between_front : (before : Option MeterReading) (xs ys : List MeterReading) (after : Option MeterReading)
+    → pairs_between before (xs ++ ys) after ≡ pairs_between before xs None ++ pairs_between (last_after before xs) ys after
 between_front before [] ys after = ap (λ ps. ps ++ pairs_between before ys after) (sym (across_none before))
 between_front before (x ∷ xs) ys after =
-    ap (λ ps. across before (Some x) ++ ps) (between_front (Some x) xs ys after) ∙ sym (append_assoc (across before (Some x)) (pairs_between (Some x) xs None) (pairs_between (last_after (Some x) xs) ys after))
+    ap (λ ps. across before (Some x) ++ ps) (between_front (Some x) xs ys after)
+    ∙ sym (append_assoc (across before (Some x)) (pairs_between (Some x) xs None) (pairs_between (last_after (Some x) xs) ys after))
 
 -- A reading or none, with those behind.
 between_first : (before : Option MeterReading) (ys : List MeterReading) → pairs_between before ys None ≡ across before (first_reading ys) ++ pairs_between None ys None
@@ -65,7 +67,9 @@ followed_cut front mid back =
 
 -- Sums over the pairs of readings, when some are put in between: what the pair across added goes, and what the pairs
 -- between add comes.
-pub followed_sums : (f : Pair → ℕ) (front mid back : List MeterReading) → sum_by f (followed (front ++ (mid ++ back))) + sum_by f (across (last_reading front) (first_reading back)) ≡ sum_by f (followed (front ++ back)) + sum_by f (pairs_between (last_reading front) mid (first_reading back))
+pub followed_sums : (f : Pair → ℕ) (front mid back : List MeterReading)
+    → sum_by f (followed (front ++ (mid ++ back))) + sum_by f (across (last_reading front) (first_reading back))
+    ≡ sum_by f (followed (front ++ back)) + sum_by f (pairs_between (last_reading front) mid (first_reading back))
 followed_sums f front mid back =
     let a = across (last_reading front) (first_reading back) in let m = pairs_between (last_reading front) mid (first_reading back) in
     let with_mid = ap (sum_by f) (followed_cut front mid back) ∙ sum_by-append f (followed front) (m ++ followed back) ∙ ap (λ n. sum_by f (followed front) + n) (sum_by-append f m (followed back)) in

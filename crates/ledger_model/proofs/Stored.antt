@@ -25,10 +25,12 @@ some_is : (a b : Stored) → Some a ≡ Some b → length a.event.readings ≡ l
 some_is a b h = let e : a ≡ b = cc in ap (λ (s : Stored). length s.event.readings) e
 
 -- an event in the place of one with as many readings brings none
-pub readings_put_old : (key : KeyName) (v s : Stored) (es : List Entry) → IsRising es → find key_cmp key es ≡ Some s → length v.event.readings ≡ length s.event.readings → readings_stored (put key_cmp key v es) ≡ readings_stored es
+pub readings_put_old : (key : KeyName) (v s : Stored) (es : List Entry) → IsRising es → find key_cmp key es ≡ Some s
+    → length v.event.readings ≡ length s.event.readings → readings_stored (put key_cmp key v es) ≡ readings_stored es
 readings_put_old key v s [] rising h same = cc
 readings_put_old key v s (e ∷ es) rising h same =
-    elim (key_cmp key e.0) as (λ (o : Ordering). key_cmp key e.0 ≡ o → cond (is_eq o) (Some e.1) (find key_cmp key es) ≡ Some s → readings_stored (by_order o ((key, v) ∷ e ∷ es) ((e.0, v) ∷ es) (e ∷ put key_cmp key v es)) ≡ readings_stored (e ∷ es)) [
+    elim (key_cmp key e.0) as (λ (o : Ordering). key_cmp key e.0 ≡ o → cond (is_eq o) (Some e.1) (find key_cmp key es) ≡ Some s
+    → readings_stored (by_order o ((key, v) ∷ e ∷ es) ((e.0, v) ∷ es) (e ∷ put key_cmp key v es)) ≡ readings_stored (e ∷ es)) [
       | Less ↦ λ smaller some. let none = find_below key es (below_less key e.0 es smaller (first _ _ rising)) in cc
       | Equal ↦ λ _ some. omega (arith, cons e es, cons (e.0, v) es, some_is e.1 s some)
       | Greater ↦ λ _ some. omega (arith, cons e es, cons e (put key_cmp key v es), readings_put_old key v s es (second _ _ rising) some same)
@@ -54,8 +56,10 @@ readings_without key (e ∷ es) =
 more_texts : (p : List ℕ → Bool) (x : List ℕ) (xs : List (List ℕ)) → how_many p xs ≤ how_many p (x ∷ xs)
 more_texts p x xs =
     let split = split_by x p xs in
-    elim (p x) as (λ b. how_many p xs ≡ cond (b && list_any (bytes_eq x) xs) 1 0 + how_many (λ y. not (bytes_eq x y) && p y) xs → how_many p xs ≤ cond b 1 0 + how_many (λ y. not (bytes_eq x y) && p y) xs) [
-      | true ↦ λ e. elim (list_any (bytes_eq x) xs) as (λ b. how_many p xs ≡ cond b 1 0 + how_many (λ y. not (bytes_eq x y) && p y) xs → how_many p xs ≤ 1 + how_many (λ y. not (bytes_eq x y) && p y) xs) [ true ↦ λ f. omega arith | false ↦ λ f. omega arith ] e
+    elim (p x) as (λ b. how_many p xs ≡ cond (b && list_any (bytes_eq x) xs) 1 0 + how_many (λ y. not (bytes_eq x y) && p y) xs
+    → how_many p xs ≤ cond b 1 0 + how_many (λ y. not (bytes_eq x y) && p y) xs) [
+      | true ↦ λ e. elim (list_any (bytes_eq x) xs) as (λ b. how_many p xs ≡ cond b 1 0 + how_many (λ y. not (bytes_eq x y) && p y) xs
+          → how_many p xs ≤ 1 + how_many (λ y. not (bytes_eq x y) && p y) xs) [ true ↦ λ f. omega arith | false ↦ λ f. omega arith ] e
       | false ↦ λ e. omega arith
     ] split
 
@@ -78,7 +82,8 @@ transactions-filter q es = omega (arith, counted (ids (filter q es)), counted (i
 pub ids_put_old : (key : KeyName) (v s : Stored) (es : List Entry) → IsRising es → find key_cmp key es ≡ Some s → ids (put key_cmp key v es) ≡ ids es
 ids_put_old key v s [] rising h = cc
 ids_put_old key v s (e ∷ es) rising h =
-    elim (key_cmp key e.0) as (λ (o : Ordering). key_cmp key e.0 ≡ o → cond (is_eq o) (Some e.1) (find key_cmp key es) ≡ Some s → ids (by_order o ((key, v) ∷ e ∷ es) ((e.0, v) ∷ es) (e ∷ put key_cmp key v es)) ≡ ids (e ∷ es)) [
+    elim (key_cmp key e.0) as (λ (o : Ordering). key_cmp key e.0 ≡ o → cond (is_eq o) (Some e.1) (find key_cmp key es) ≡ Some s
+    → ids (by_order o ((key, v) ∷ e ∷ es) ((e.0, v) ∷ es) (e ∷ put key_cmp key v es)) ≡ ids (e ∷ es)) [
       | Less ↦ λ smaller some. let none = find_below key es (below_less key e.0 es smaller (first _ _ rising)) in cc
       | Equal ↦ λ _ some. refl
       | Greater ↦ λ _ some. ap (λ (ts : List (List ℕ)). e.0.tx ∷ ts) (ids_put_old key v s es (second _ _ rising) some)

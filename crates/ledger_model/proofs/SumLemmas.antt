@@ -167,7 +167,8 @@ once_each key ks [] h = tt
 once_each key ks (x ∷ xs) h = (h (key x) (inl refl), once_each key ks xs (λ n there. h n (inr there)))
 
 -- the same over the rising keys of a list that has each of theirs
-pub sum_by_among : {X : Type 0} (f key : X → ℕ) (xs ys : List X) → ((n : ℕ) → IsIn n (map key xs) → IsIn n (map key ys)) → sum_by (λ k. sum_by f (filter (λ x. eqb (key x) k) xs)) (rising (map key ys)) ≡ sum_by f xs
+pub sum_by_among : {X : Type 0} (f key : X → ℕ) (xs ys : List X) → ((n : ℕ) → IsIn n (map key xs) → IsIn n (map key ys))
+    → sum_by (λ k. sum_by f (filter (λ x. eqb (key x) k) xs)) (rising (map key ys)) ≡ sum_by f xs
 sum_by_among f key xs ys among = sum_by_keys f key (rising (map key ys)) xs (once_each key (rising (map key ys)) xs (λ n there. times-rising n (map key ys) (among n there)))
 
 pub sum_by_rising : {X : Type 0} (f key : X → ℕ) (xs : List X) → sum_by (λ k. sum_by f (filter (λ x. eqb (key x) k) xs)) (rising (map key xs)) ≡ sum_by f xs
@@ -214,7 +215,10 @@ key_or_none f key k (x ∷ xs) = ⊎_elim {C = IsIn k (map key (x ∷ xs)) ⊎ (
     (λ (e : k ≡ key x). inl (inl e))
     (λ (apart : k ≡ key x → ⊥). ⊎_elim {C = IsIn k (map key (x ∷ xs)) ⊎ (sum_by f (filter (λ y. eqb (key y) k) (x ∷ xs)) ≡ 0)}
     (λ (there : IsIn k (map key xs)). inl (inr there))
-    (λ (none : sum_by f (filter (λ y. eqb (key y) k) xs) ≡ 0). inr (sum_by-filter_cons f (λ y. eqb (key y) k) x xs ∙ ap (λ b. cond b (f x) 0 + sum_by f (filter (λ y. eqb (key y) k) xs)) (ne_eqb (key x) k (λ e. apart (sym e))) ∙ ap (λ n. 0 + n) none))
+    (λ (none : sum_by f (filter (λ y. eqb (key y) k) xs) ≡ 0). inr
+    (sum_by-filter_cons f (λ y. eqb (key y) k) x xs
+    ∙ ap (λ b. cond b (f x) 0 + sum_by f (filter (λ y. eqb (key y) k) xs)) (ne_eqb (key x) k (λ e. apart (sym e)))
+    ∙ ap (λ n. 0 + n) none))
     (key_or_none f key k xs))
     (cases_eq k (key x))
 

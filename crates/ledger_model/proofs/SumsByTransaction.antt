@@ -27,7 +27,10 @@ sum_parts g t (y ∷ ys) =
     let whole = sum_by-cons g y ys in let at = sum_by-cons (λ y. cond (bytes_eq t y) (g t) 0) y ys in
     at_or_else (bytes_eq t y) refl rest whole at
   where
-    at_or_else : (b : Bool) → bytes_eq t y ≡ b → sum_by g ys ≡ sum_by (λ y. cond (bytes_eq t y) (g t) 0) ys + sum_by g (others t ys) → sum_by g (y ∷ ys) ≡ g y + sum_by g ys → sum_by (λ y. cond (bytes_eq t y) (g t) 0) (y ∷ ys) ≡ cond (bytes_eq t y) (g t) 0 + sum_by (λ y. cond (bytes_eq t y) (g t) 0) ys → sum_by g (y ∷ ys) ≡ sum_by (λ y. cond (bytes_eq t y) (g t) 0) (y ∷ ys) + sum_by g (others t (y ∷ ys))
+    at_or_else : (b : Bool) → bytes_eq t y ≡ b → sum_by g ys ≡ sum_by (λ y. cond (bytes_eq t y) (g t) 0) ys + sum_by g (others t ys)
+        → sum_by g (y ∷ ys) ≡ g y + sum_by g ys
+        → sum_by (λ y. cond (bytes_eq t y) (g t) 0) (y ∷ ys) ≡ cond (bytes_eq t y) (g t) 0 + sum_by (λ y. cond (bytes_eq t y) (g t) 0) ys
+        → sum_by g (y ∷ ys) ≡ sum_by (λ y. cond (bytes_eq t y) (g t) 0) (y ∷ ys) + sum_by g (others t (y ∷ ys))
     at_or_else true is rest whole at =
         let here : cond (bytes_eq t y) (g t) 0 ≡ g t = ap (λ b. cond b (g t) 0) is in let same : g t ≡ g y = ap g (one_text t y is) in
         let left : sum_by g (others t (y ∷ ys)) ≡ sum_by g (others t ys) = ap (λ b. sum_by g (cond (not b) (y ∷ others t ys) (others t ys))) is in
@@ -55,7 +58,8 @@ another_left_out c t x apart (y ∷ ys) =
     (elim (bytes_eq x y) as (λ b. bytes_eq x y ≡ b → sum_by (λ y. cond (bytes_eq t y) c 0) (cond (not b) (y ∷ others x ys) (others x ys)) ≡ sum_by (λ y. cond (bytes_eq t y) c 0) (y ∷ ys)) [
       | true ↦ λ e.
           let here : cond (bytes_eq t y) c 0 ≡ 0 = ap (λ b. cond b c 0) (subst (λ z. bytes_eq t z ≡ false) (one_text x y e) apart) in
-          rest ∙ sym (whole ∙ ap (λ n. n + sum_by (λ y. cond (bytes_eq t y) c 0) ys) here ∙ (let z : 0 + sum_by (λ y. cond (bytes_eq t y) c 0) ys ≡ sum_by (λ y. cond (bytes_eq t y) c 0) ys = omega arith in z))
+          rest ∙ sym (whole ∙ ap (λ n. n + sum_by (λ y. cond (bytes_eq t y) c 0) ys) here
+          ∙ (let z : 0 + sum_by (λ y. cond (bytes_eq t y) c 0) ys ≡ sum_by (λ y. cond (bytes_eq t y) c 0) ys = omega arith in z))
       | false ↦ λ e. sum_by-cons (λ y. cond (bytes_eq t y) c 0) y (others x ys) ∙ ap (λ n. cond (bytes_eq t y) c 0 + n) rest ∙ sym whole
     ]) refl
 
@@ -65,7 +69,8 @@ once c t [] = refl
 once c t (x ∷ xs) =
     let whole = sum_by-cons (λ y. cond (bytes_eq t y) c 0) x (others x (distinct xs)) in
     whole ∙ (elim (bytes_eq t x) as (λ b. bytes_eq t x ≡ b → cond b c 0 + sum_by (λ y. cond (bytes_eq t y) c 0) (others x (distinct xs)) ≡ cond (b || list_any (bytes_eq t) xs) c 0) [
-      | true ↦ λ e. let none : sum_by (λ y. cond (bytes_eq t y) c 0) (others x (distinct xs)) ≡ 0 = subst (λ z. sum_by (λ y. cond (bytes_eq t y) c 0) (others z (distinct xs)) ≡ 0) (one_text t x e) (none_among_others c t (distinct xs)) in omega (arith, none)
+      | true ↦ λ e. let none : sum_by (λ y. cond (bytes_eq t y) c 0) (others x (distinct xs)) ≡ 0 =
+          subst (λ z. sum_by (λ y. cond (bytes_eq t y) c 0) (others z (distinct xs)) ≡ 0) (one_text t x e) (none_among_others c t (distinct xs)) in omega (arith, none)
       | false ↦ λ e. let rest = another_left_out c t x e (distinct xs) ∙ once c t xs in omega (arith, rest)
     ]) refl
 
@@ -95,7 +100,8 @@ others_distinct : (t : List ℕ) (xs : List (List ℕ)) → others t (distinct x
 others_distinct t [] = refl
 others_distinct t (x ∷ xs) =
     let rest = others_distinct t xs in
-    (elim (bytes_eq t x) as (λ b. bytes_eq t x ≡ b → cond (not b) (x ∷ others t (others x (distinct xs))) (others t (others x (distinct xs))) ≡ distinct (cond (not b) (x ∷ others t xs) (others t xs))) [
+    (elim (bytes_eq t x) as (λ b. bytes_eq t x ≡ b
+    → cond (not b) (x ∷ others t (others x (distinct xs))) (others t (others x (distinct xs))) ≡ distinct (cond (not b) (x ∷ others t xs) (others t xs))) [
       | true ↦ λ e. ap (λ z. others t (others z (distinct xs))) (sym (one_text t x e)) ∙ others_again t (distinct xs) ∙ rest
       | false ↦ λ e. ap (λ ys. x ∷ ys) (others_turned t x (distinct xs) ∙ ap (others x) rest)
     ]) refl
@@ -124,11 +130,14 @@ pub sum_by_one : (g : List ℕ → ℕ) (t : List ℕ) (xs : List (List ℕ)) �
 sum_by_one g t xs none = sum_with_one g t xs ∙ ap (λ n. n + sum_by g (others t (distinct xs))) (counts_nothing (g t) (list_any (bytes_eq t) xs) none)
 
 -- The other texts count the same, where they and what they count are.
-pub others_count : (g h : List ℕ → ℕ) (t : List ℕ) (xs ys : List (List ℕ)) → others t xs ≡ others t ys → ((u : List ℕ) → bytes_eq t u ≡ false → h u ≡ g u) → sum_by h (others t (distinct ys)) ≡ sum_by g (others t (distinct xs))
+pub others_count : (g h : List ℕ → ℕ) (t : List ℕ) (xs ys : List (List ℕ)) → others t xs ≡ others t ys
+    → ((u : List ℕ) → bytes_eq t u ≡ false → h u ≡ g u) → sum_by h (others t (distinct ys)) ≡ sum_by g (others t (distinct xs))
 others_count g h t xs ys same agree = others_agree g h t agree (distinct ys) ∙ ap (sum_by g) (others_distinct t ys ∙ ap distinct (sym same) ∙ sym (others_distinct t xs))
 
 -- Two sums over distinct texts, where the texts and the measures differ only in one text, differ by what that counts.
-pub sums_differ_by_one : (g h : List ℕ → ℕ) (t : List ℕ) (xs ys : List (List ℕ)) → others t xs ≡ others t ys → ((u : List ℕ) → bytes_eq t u ≡ false → h u ≡ g u) → (list_any (bytes_eq t) xs ≡ false → g t ≡ 0) → (list_any (bytes_eq t) ys ≡ false → h t ≡ 0)
+pub sums_differ_by_one : (g h : List ℕ → ℕ) (t : List ℕ) (xs ys : List (List ℕ)) → others t xs ≡ others t ys
+    → ((u : List ℕ) → bytes_eq t u ≡ false → h u ≡ g u) → (list_any (bytes_eq t) xs ≡ false → g t ≡ 0)
+    → (list_any (bytes_eq t) ys ≡ false → h t ≡ 0)
     → sum_by h (distinct ys) + g t ≡ sum_by g (distinct xs) + h t
 sums_differ_by_one g h t xs ys same agree none_x none_y = omega (arith, sum_by_one g t xs none_x, sum_by_one h t ys none_y, others_count g h t xs ys same agree)
 

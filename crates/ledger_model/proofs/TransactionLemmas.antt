@@ -22,7 +22,8 @@ use Rattle.ledger_model.proofs.Rising.{first, second, live_rising}
 others_stay : (x tx : List ℕ) → bytes_eq tx x ≡ false → (ys : List (List ℕ)) → list_any (bytes_eq tx) (filter (λ y. not (bytes_eq x y)) ys) ≡ list_any (bytes_eq tx) ys
 others_stay x tx apart [] = refl
 others_stay x tx apart (y ∷ ys) =
-    (elim (bytes_eq x y) as (λ b. bytes_eq x y ≡ b → list_any (bytes_eq tx) (cond (not b) (y ∷ filter (λ z. not (bytes_eq x z)) ys) (filter (λ z. not (bytes_eq x z)) ys)) ≡ (bytes_eq tx y || list_any (bytes_eq tx) ys)) [
+    (elim (bytes_eq x y) as (λ b. bytes_eq x y ≡ b
+    → list_any (bytes_eq tx) (cond (not b) (y ∷ filter (λ z. not (bytes_eq x z)) ys) (filter (λ z. not (bytes_eq x z)) ys)) ≡ (bytes_eq tx y || list_any (bytes_eq tx) ys)) [
       | true ↦ λ e.
           let same : x ≡ y = (bytes_eq-Decides x y).0 e in
           others_stay x tx apart ys ∙ sym (ap (λ b. b || list_any (bytes_eq tx) ys) (subst (λ t. bytes_eq tx t ≡ false) same apart))
@@ -77,7 +78,8 @@ all_distinct P (x ∷ xs) h = (h.0, all_filter P (λ y. not (bytes_eq x y)) (dis
 all_less : (x : List ℕ) (ys : List (List ℕ)) → AllByRecursion (NotAfter x) ys → AllByRecursion (λ y. slice_cmp nat_cmp x y ≡ Less) (filter (λ y. not (bytes_eq x y)) ys)
 all_less x [] h = tt
 all_less x (y ∷ ys) h =
-    (elim (bytes_eq x y) as (λ b. bytes_eq x y ≡ b → AllByRecursion (λ z. slice_cmp nat_cmp x z ≡ Less) (cond (not b) (y ∷ filter (λ z. not (bytes_eq x z)) ys) (filter (λ z. not (bytes_eq x z)) ys))) [
+    (elim (bytes_eq x y) as (λ b. bytes_eq x y ≡ b
+    → AllByRecursion (λ z. slice_cmp nat_cmp x z ≡ Less) (cond (not b) (y ∷ filter (λ z. not (bytes_eq x z)) ys) (filter (λ z. not (bytes_eq x z)) ys))) [
       | true ↦ λ e. all_less x ys h.1
       | false ↦ λ e. (⊎_elim (λ (less : slice_cmp nat_cmp x y ≡ Less). less) (λ (same : x ≡ y). absurd (true≢false (sym ((bytes_eq-Decides x y).1 same) ∙ e))) h.0, all_less x ys h.1)
     ]) refl

@@ -98,7 +98,8 @@ named t [] = refl
 named t (e ∷ es) = ap (λ b. bytes_eq t e.0.tx || b) (named t es)
 
 -- an entry more is a transaction more where its transaction is new
-pub transactions_added : (es fs : List Entry) (e : Entry) → length (transactions_of (es ++ e ∷ fs)) ≡ cond (has_transaction e.0.tx (es ++ fs)) (length (transactions_of (es ++ fs))) (length (transactions_of (es ++ fs)) + 1)
+pub transactions_added : (es fs : List Entry) (e : Entry)
+    → length (transactions_of (es ++ e ∷ fs)) ≡ cond (has_transaction e.0.tx (es ++ fs)) (length (transactions_of (es ++ fs))) (length (transactions_of (es ++ fs)) + 1)
 transactions_added es fs e =
     let xs = map (λ (e : Entry). e.0.tx) es in
     let ys = map (λ (e : Entry). e.0.tx) fs in

@@ -23,7 +23,9 @@ operator_input (Some connections) input = Some []
 
 -- The lines of the server's ports were appended, and then the answers to the operator's lines that
 -- come, up to the line `close`; `handed` is what was seen of the desk's journal with these answers.
-pub record Tells {M : Type 0} (gives : ℕ → StationPlace → Command → Answer → Option Known → Option M → Type 0) (shows : ℕ → List (List ℕ × Board) → M → Type 0) (sites : List SitePlan) (places : List StationPlace) (coming : Option (List Line)) (before now : Option (List ℕ)) (handed : List M) : Type 0 where
+pub record Tells {M : Type 0} (gives : ℕ → StationPlace → Command → Answer → Option Known → Option M → Type 0)
+    (shows : ℕ → List (List ℕ × Board) → M → Type 0) (sites : List SitePlan) (places : List StationPlace)
+    (coming : Option (List Line)) (before now : Option (List ℕ)) (handed : List M) : Type 0 where
   pub port : ℕ
   pub browsers : Option ℕ
   pub answered : Option (List ℕ)

@@ -105,7 +105,8 @@ is_all-nil (c ∷ cs) h = absurd (omega (arith, eqb-true (length (c ∷ cs)) 0 h
 
 pub IsNumber-from_test : (token : List ℕ) → is_number token ≡ true → IsNumber token
 IsNumber-from_test token = by_whole (after_whole (after_sign token)) refl where
-  by_exponent : (whole fraction : List ℕ) (o : Option (List ℕ)) → after_whole (after_sign token) ≡ Some whole → after_fraction whole ≡ Some fraction → after_exponent fraction ≡ o → is_all o ≡ true → IsNumber token
+  by_exponent : (whole fraction : List ℕ) (o : Option (List ℕ)) → after_whole (after_sign token) ≡ Some whole
+      → after_fraction whole ≡ Some fraction → after_exponent fraction ≡ o → is_all o ≡ true → IsNumber token
   by_exponent whole fraction None w f e h = cc
   by_exponent whole fraction (Some rest) w f e h =
       let s = after_sign-front token in

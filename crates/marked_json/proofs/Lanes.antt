@@ -37,7 +37,8 @@ near_in_lanes p xs n k room short some is =
     let counted : k ≡ prefix_len (λ x. not (p x)) v = is ∙ trailing_mask_l p 64 v (omega arith) some in
     omega (arith, some_passes p v some)
 
-pub first_in_lanes : (p : ℕ → Bool) (xs : List ℕ) (n k : ℕ) → n ≤ length xs → n ≤ 64 → 0 < mask_l (map p (chunk 0 n xs)) → k ≡ count_trailing_zeros 64 (mask_l (map p (chunk 0 n xs))) → IsFirstByte p xs (Some k)
+pub first_in_lanes : (p : ℕ → Bool) (xs : List ℕ) (n k : ℕ) → n ≤ length xs → n ≤ 64 → 0 < mask_l (map p (chunk 0 n xs))
+    → k ≡ count_trailing_zeros 64 (mask_l (map p (chunk 0 n xs))) → IsFirstByte p xs (Some k)
 first_in_lanes p xs n k room short some is =
     let v = chunk 0 n xs in
     let here : 0 + n ≤ length xs = omega arith in

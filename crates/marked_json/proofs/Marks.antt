@@ -55,7 +55,8 @@ pub marked-number : (cs : List ℕ) → marked in_number cs ≡ marked outside (
 unfolding marked
 marked-number [] = refl
 marked-number (c ∷ cs) = by_test (goes_on_number c) (marked-number cs) where
-  by_test : (b : Bool) → marked in_number cs ≡ marked outside (drop (prefix_len goes_on_number cs) cs) → cond b (marked in_number cs) (marked_outside c cs (λ next. marked next cs)) ≡ marked outside (drop (cond b (1 + prefix_len goes_on_number cs) 0) (c ∷ cs))
+  by_test : (b : Bool) → marked in_number cs ≡ marked outside (drop (prefix_len goes_on_number cs) cs)
+      → cond b (marked in_number cs) (marked_outside c cs (λ next. marked next cs)) ≡ marked outside (drop (cond b (1 + prefix_len goes_on_number cs) 0) (c ∷ cs))
   by_test true more = more ∙ sym (ap (marked outside) (one_more-drop (prefix_len goes_on_number cs) c cs))
   by_test false more = refl
 
@@ -82,21 +83,25 @@ past_first true n c cs h = sym (one_more-drop n c cs)
 past_first false n c cs h = cc
 
 -- a number is marked as a whole
-pub marked-at_number : (rest : List ℕ) → 0 < length rest → begins_number (get_or rest 0 0) ≡ true → marked outside rest ≡ marked_token (take_while goes_on_number rest) (drop (prefix_len goes_on_number rest) rest) (marked outside (drop (prefix_len goes_on_number rest) rest))
+pub marked-at_number : (rest : List ℕ) → 0 < length rest → begins_number (get_or rest 0 0) ≡ true
+    → marked outside rest ≡ marked_token (take_while goes_on_number rest) (drop (prefix_len goes_on_number rest) rest) (marked outside (drop (prefix_len goes_on_number rest) rest))
 unfolding marked
 marked-at_number [] some first = absurd (omega arith)
 marked-at_number (c ∷ cs) some first =
     let no_quote : eqb c 34 ≡ false = grind (arith, nat_tests) in
     let goes : goes_on_number c ≡ true = grind (arith, nat_tests) in
     let token = marked_token (take_while goes_on_number (c ∷ cs)) (drop (prefix_len goes_on_number (c ∷ cs)) (c ∷ cs)) in
-    let more : marked in_number cs ≡ marked outside (drop (prefix_len goes_on_number (c ∷ cs)) (c ∷ cs)) = marked-number cs ∙ ap (marked outside) (past_first (goes_on_number c) (prefix_len goes_on_number cs) c cs goes) in
+    let more : marked in_number cs ≡ marked outside (drop (prefix_len goes_on_number (c ∷ cs)) (c ∷ cs)) =
+    marked-number cs ∙ ap (marked outside) (past_first (goes_on_number c) (prefix_len goes_on_number cs) c cs goes) in
     number_branch (eqb c 34) (begins_number c) (with_front (34 ∷ 36 ∷ []) (marked in_string cs)) (token (marked in_number cs)) (with_front (c ∷ []) (marked outside cs)) no_quote first
     ∙ ap token more
 
 -- the steps, on what was written and what is left
 
 -- a byte that means itself needs no mark
-pub completed-plain : (old new rest : List ℕ) (at : ℕ) → at < length rest → eqb (get_or rest at 0) 34 ≡ false → begins_number (get_or rest at 0) ≡ false → new ≡ old ++ get_or rest at 0 ∷ [] → completed new (drop (at + 1) rest) ≡ completed old (drop at rest)
+pub completed-plain : (old new rest : List ℕ) (at : ℕ) → at < length rest → eqb (get_or rest at 0) 34 ≡ false
+    → begins_number (get_or rest at 0) ≡ false → new ≡ old ++ get_or rest at 0 ∷ []
+    → completed new (drop (at + 1) rest) ≡ completed old (drop at rest)
 completed-plain old new rest at within no_quote no_number added =
     let c = get_or rest at 0 in
     let left = drop (at + 1) rest in
@@ -105,11 +110,14 @@ completed-plain old new rest at within no_quote no_number added =
     ∙ ap (with_front old) (sym (marked-plain c left no_quote no_number) ∙ sym (at_drop_more (marked outside) rest at 0 within))
 
 -- `$` behind an opening quote, and the string needs no more marks
-pub completed-string : (old new rest inside : List ℕ) (at n : ℕ) → at < length rest → get_or rest at 0 ≡ 34 → inside ≡ drop (at + 1) rest → n ≡ string_len false inside → new ≡ (old ++ 34 ∷ 36 ∷ []) ++ take n inside → completed new (drop ((at + 1) + n) rest) ≡ completed old (drop at rest)
+pub completed-string : (old new rest inside : List ℕ) (at n : ℕ) → at < length rest → get_or rest at 0 ≡ 34
+    → inside ≡ drop (at + 1) rest → n ≡ string_len false inside → new ≡ (old ++ 34 ∷ 36 ∷ []) ++ take n inside
+    → completed new (drop ((at + 1) + n) rest) ≡ completed old (drop at rest)
 completed-string old new rest inside at n within quote left len added =
     let count = string_len false inside in
     let front = old ++ 34 ∷ 36 ∷ [] in
-    let first : marked outside (drop at rest) ≡ marked outside (34 ∷ inside) = at_drop_more (marked outside) rest at 0 within ∙ ap (λ c. marked outside (c ∷ drop (at + 1) rest)) quote ∙ ap (λ cs. marked outside (34 ∷ cs)) (sym left) in
+    let first : marked outside (drop at rest) ≡ marked outside (34 ∷ inside) =
+    at_drop_more (marked outside) rest at 0 within ∙ ap (λ c. marked outside (c ∷ drop (at + 1) rest)) quote ∙ ap (λ cs. marked outside (34 ∷ cs)) (sym left) in
     let end : drop ((at + 1) + n) rest ≡ drop n inside = sym (ap (drop n) left ∙ drop-drop n (at + 1) rest) in
     ap (completed new) end
     ∙ ap (λ xs. completed xs (drop n inside)) added
@@ -120,12 +128,16 @@ completed-string old new rest inside at n within quote left len added =
     ∙ ap (with_front old) (sym (marked-at_quote inside) ∙ sym first)
 
 -- what a token at the front of the rest does
-pub completed-token : (old rest token left : List ℕ) (n : ℕ) → 0 < length rest → begins_number (get_or rest 0 0) ≡ true → n ≡ prefix_len goes_on_number rest → token ≡ take n rest → left ≡ drop n rest → completed old rest ≡ with_front old (marked_token token left (marked outside left))
+pub completed-token : (old rest token left : List ℕ) (n : ℕ) → 0 < length rest → begins_number (get_or rest 0 0) ≡ true
+    → n ≡ prefix_len goes_on_number rest → token ≡ take n rest → left ≡ drop n rest
+    → completed old rest ≡ with_front old (marked_token token left (marked outside left))
 completed-token old rest token left n some begins len front back =
     rw (front, back, len) (ap (with_front old) (marked-at_number rest some begins))
 
 -- the same for a token at a place of the text
-pub completed-token_at : (old text token left : List ℕ) (at n : ℕ) → at < length text → begins_number (get_or text at 0) ≡ true → n ≡ prefix_len goes_on_number (drop at text) → token ≡ take n (drop at text) → left ≡ drop n (drop at text) → completed old (drop at text) ≡ with_front old (marked_token token left (marked outside left))
+pub completed-token_at : (old text token left : List ℕ) (at n : ℕ) → at < length text → begins_number (get_or text at 0) ≡ true
+    → n ≡ prefix_len goes_on_number (drop at text) → token ≡ take n (drop at text) → left ≡ drop n (drop at text)
+    → completed old (drop at text) ≡ with_front old (marked_token token left (marked outside left))
 completed-token_at old text token left at n some begins len front back =
     let first : begins_number (get_or (drop at text) 0 0) ≡ true = ap begins_number (get_or-drop at text 0 0 ∙ ap (λ i. get_or text i 0) (let e : at + 0 ≡ at = omega arith in e)) ∙ begins in
     completed-token old (drop at text) token left n (omega (arith, length-drop at text)) first len front back
@@ -142,7 +154,8 @@ token_is_some text at n some begins is =
 -- no number is behind a token
 pub token_is_whole : (text : List ℕ) (at n : ℕ) → n ≡ prefix_len goes_on_number (drop at text) → at + n < length text → begins_number (get_or text (at + n) 0) ≡ true → ⊥
 token_is_whole text at n is more begins =
-    let stops : goes_on_number (get_or (drop at text) (prefix_len goes_on_number (drop at text)) 0) ≡ false = prefix_len_stops goes_on_number (drop at text) 0 (omega (arith, is, length-drop at text)) in
+    let stops : goes_on_number (get_or (drop at text) (prefix_len goes_on_number (drop at text)) 0) ≡ false =
+    prefix_len_stops goes_on_number (drop at text) 0 (omega (arith, is, length-drop at text)) in
     let there : goes_on_number (get_or text (at + n) 0) ≡ false = ap goes_on_number (sym (get_or-drop at text n 0)) ∙ ap (λ i. goes_on_number (get_or (drop at text) i 0)) is ∙ stops in
     let goes : goes_on_number (get_or text (at + n) 0) ≡ true = grind (begins, arith, nat_tests) in
     cc
@@ -167,7 +180,8 @@ good_branch true true bad key other h e = cc
 good_branch true false bad key other h e = refl
 good_branch false k bad key other h e = cc
 
-pub marked_token-good : (old new token left : List ℕ) (more : Marks) → is_number token ≡ true → is_before_colon left ≡ false → new ≡ ((old ++ 34 ∷ 35 ∷ []) ++ token) ++ 34 ∷ [] → with_front new more ≡ with_front old (marked_token token left more)
+pub marked_token-good : (old new token left : List ℕ) (more : Marks) → is_number token ≡ true → is_before_colon left ≡ false
+    → new ≡ ((old ++ 34 ∷ 35 ∷ []) ++ token) ++ 34 ∷ [] → with_front new more ≡ with_front old (marked_token token left more)
 marked_token-good old new token left more good no_key added =
     let same : new ≡ old ++ 34 ∷ 35 ∷ (token ++ 34 ∷ []) = added ∙ simp append_assoc in
     rw same
@@ -184,7 +198,8 @@ string_len-skip (c ∷ cs) (suc k) within none =
     let no_quote : eqb c 34 ≡ false = grind (arith, nat_tests) in
     let no_backslash : eqb c 92 ≡ false = grind (arith, nat_tests) in
     let more = string_len-skip cs k (omega arith) (λ j low. none (suc j) (omega arith)) in
-    let step : cond (eqb c 34) 1 (suc (string_len (eqb c 92) cs)) ≡ suc (string_len false cs) = ap (λ q. cond q 1 (suc (string_len (eqb c 92) cs))) no_quote ∙ ap (λ s. suc (string_len s cs)) no_backslash in
+    let step : cond (eqb c 34) 1 (suc (string_len (eqb c 92) cs)) ≡ suc (string_len false cs) =
+    ap (λ q. cond q 1 (suc (string_len (eqb c 92) cs))) no_quote ∙ ap (λ s. suc (string_len s cs)) no_backslash in
     step ∙ omega (arith, more)
 
 pub string_len-nil : (cs : List ℕ) → length cs ≡ 0 → string_len false cs ≡ 0
@@ -204,7 +219,8 @@ string_len-backslash cs k within backslash =
     let second : string_len true (drop (k + 1) cs) ≡ suc (string_len false (drop ((k + 1) + 1) cs)) = at_drop_more (string_len true) cs (k + 1) 0 within in
     let place : (k + 1) + 1 ≡ k + 2 = omega arith in
     let past : string_len false (drop ((k + 1) + 1) cs) ≡ string_len false (drop (k + 2) cs) = ap (λ i. string_len false (drop i cs)) place in
-    let first : string_len false (drop k cs) ≡ suc (string_len true (drop (k + 1) cs)) = at_drop_more (string_len false) cs k 0 (omega arith) ∙ ap (λ c. cond (eqb c 34) 1 (suc (string_len (eqb c 92) (drop (k + 1) cs)))) backslash in
+    let first : string_len false (drop k cs) ≡ suc (string_len true (drop (k + 1) cs)) =
+    at_drop_more (string_len false) cs k 0 (omega arith) ∙ ap (λ c. cond (eqb c 34) 1 (suc (string_len (eqb c 92) (drop (k + 1) cs)))) backslash in
     first ∙ omega (arith, second, past)
 
 -- a backslash with nothing behind it ends a string
@@ -212,7 +228,8 @@ pub string_len-last_backslash : (cs : List ℕ) (k : ℕ) → k + 1 ≡ length c
 unfolding string_len
 string_len-last_backslash cs k last backslash =
     let second : string_len true (drop (k + 1) cs) ≡ 0 = at_drop_all (string_len true) cs (k + 1) (omega arith) in
-    let first : string_len false (drop k cs) ≡ suc (string_len true (drop (k + 1) cs)) = at_drop_more (string_len false) cs k 0 (omega arith) ∙ ap (λ c. cond (eqb c 34) 1 (suc (string_len (eqb c 92) (drop (k + 1) cs)))) backslash in
+    let first : string_len false (drop k cs) ≡ suc (string_len true (drop (k + 1) cs)) =
+    at_drop_more (string_len false) cs k 0 (omega arith) ∙ ap (λ c. cond (eqb c 34) 1 (suc (string_len (eqb c 92) (drop (k + 1) cs)))) backslash in
     first ∙ omega (arith, second)
 
 -- at the end nothing is left to mark
@@ -267,7 +284,9 @@ string_len-first_quote cs k first quote =
 window : (bs : List ℕ) (at : ℕ) → take (length bs - at) (drop at bs) ≡ drop at bs
 window bs at = take_all (length bs - at) (drop at bs) (omega (arith, length-drop at bs))
 
-pub string_len-none_ahead : (bs : List ℕ) (at : ℕ) → at ≤ length bs → Nowhere (Passes (is_byte2 34 92) (take (length bs - at) (drop at bs))) 0 (length (take (length bs - at) (drop at bs))) → at + string_len false (drop at bs) ≡ length bs
+pub string_len-none_ahead : (bs : List ℕ) (at : ℕ) → at ≤ length bs
+    → Nowhere (Passes (is_byte2 34 92) (take (length bs - at) (drop at bs))) 0 (length (take (length bs - at) (drop at bs)))
+    → at + string_len false (drop at bs) ≡ length bs
 string_len-none_ahead bs at within nowhere =
     let none = string_len-none (drop at bs) (subst (λ cs. Nowhere (Passes (is_byte2 34 92) cs) 0 (length cs)) (window bs at) nowhere) in
     omega (arith, none, length-drop at bs)
@@ -277,7 +296,9 @@ pub record FoundAhead (bs : List ℕ) (at k : ℕ) : Type 0 where
   pub len : at + string_len false (drop at bs) ≡ (at + k) + string_len false (drop (at + k) bs)
   pub byte : (eqb (get_or bs (at + k) 0) 34 || eqb (get_or bs (at + k) 0) 92) ≡ true
 
-pub found_ahead : (bs : List ℕ) (at k : ℕ) → at ≤ length bs → NoneBefore (Passes (is_byte2 34 92) (take (length bs - at) (drop at bs))) 0 (length (take (length bs - at) (drop at bs))) k → Passes (is_byte2 34 92) (take (length bs - at) (drop at bs)) k → FoundAhead bs at k
+pub found_ahead : (bs : List ℕ) (at k : ℕ) → at ≤ length bs
+    → NoneBefore (Passes (is_byte2 34 92) (take (length bs - at) (drop at bs))) 0 (length (take (length bs - at) (drop at bs))) k
+    → Passes (is_byte2 34 92) (take (length bs - at) (drop at bs)) k → FoundAhead bs at k
 found_ahead bs at k within first passes =
     let first : NoneBefore (Passes (is_byte2 34 92) (drop at bs)) 0 (length (drop at bs)) k = subst (λ cs. NoneBefore (Passes (is_byte2 34 92) cs) 0 (length cs) k) (window bs at) first in
     let high = first.high in
@@ -297,7 +318,8 @@ found_quote bs at k found quote =
     let len = found.len in
     omega (arith, quoted, len)
 
-pub found_backslash : (bs : List ℕ) (at k : ℕ) → FoundAhead bs at k → (get_or bs (at + k) 0 ≡ 34 → ⊥) → min (at + k + 2) (length bs) + string_len false (drop (min (at + k + 2) (length bs)) bs) ≡ at + string_len false (drop at bs)
+pub found_backslash : (bs : List ℕ) (at k : ℕ) → FoundAhead bs at k → (get_or bs (at + k) 0 ≡ 34 → ⊥)
+    → min (at + k + 2) (length bs) + string_len false (drop (min (at + k + 2) (length bs)) bs) ≡ at + string_len false (drop at bs)
 found_backslash bs at k found no_quote = by_end (cases_lt (at + k + 1) (length bs)) where
   byte : (eqb (get_or bs (at + k) 0) 34 || eqb (get_or bs (at + k) 0) 92) ≡ true
   byte = found.byte

@@ -25,13 +25,15 @@ use Rattle.marked_json.proofs.Marks.{with_front-with_front, with_front-nil, plac
 
 content_step : (c : ℕ) (cs rest : List ℕ) (q s : Bool) → not q && is_content_after s cs ≡ true
     → (is_content_after s cs ≡ true → marked (place_of s) (cs ++ 34 ∷ rest) ≡ with_front (cs ++ 34 ∷ []) (marked outside rest))
-    → with_front (c ∷ []) (cond q (marked outside (cs ++ 34 ∷ rest)) (cond s (marked after_backslash (cs ++ 34 ∷ rest)) (marked in_string (cs ++ 34 ∷ rest)))) ≡ with_front (c ∷ (cs ++ 34 ∷ [])) (marked outside rest)
+    → with_front (c ∷ []) (cond q (marked outside (cs ++ 34 ∷ rest)) (cond s (marked after_backslash (cs ++ 34 ∷ rest)) (marked in_string (cs ++ 34 ∷ rest))))
+    ≡ with_front (c ∷ (cs ++ 34 ∷ [])) (marked outside rest)
 content_step c cs rest true s h more = cc
 content_step c cs rest false true h more = ap (with_front (c ∷ [])) (more h) ∙ with_front-with_front (c ∷ []) (cs ++ 34 ∷ []) (marked outside rest)
 content_step c cs rest false false h more = ap (with_front (c ∷ [])) (more h) ∙ with_front-with_front (c ∷ []) (cs ++ 34 ∷ []) (marked outside rest)
 
 -- the content of a string is copied
-pub marked-content : (escaped : Bool) (content rest : List ℕ) → is_content_after escaped content ≡ true → marked (place_of escaped) (content ++ 34 ∷ rest) ≡ with_front (content ++ 34 ∷ []) (marked outside rest)
+pub marked-content : (escaped : Bool) (content rest : List ℕ) → is_content_after escaped content ≡ true
+    → marked (place_of escaped) (content ++ 34 ∷ rest) ≡ with_front (content ++ 34 ∷ []) (marked outside rest)
 unfolding marked
 marked-content true [] rest h = cc
 marked-content false [] rest h = refl

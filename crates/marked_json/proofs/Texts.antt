@@ -63,11 +63,13 @@ behind_step n marked_behind rest seen more within few u h = by_end (cases_lt see
       at_drop_more (marked outside) rest seen 0 some ∙ ap (λ x. marked outside (x ∷ left)) is ∙ marked-at_quote left ∙ ap (with_front (34 ∷ 36 ∷ [])) (marked-string false left) in
       let behind = ok_behind (34 ∷ 36 ∷ []) (with_front (take k left) (marked outside (drop k left))) more (sym first ∙ h) in
       let string = ok_behind (take k left) (marked outside (drop k left)) behind.0 behind.1 in
-      let later : IsUtf8 (take k left ++ string.0) = marked_behind left k string.0 (string_len-within false left) (omega (arith, length-drop (seen + 1) rest)) (IsUtf8-drop rest (seen + 1) u cut) string.1 in
+      let later : IsUtf8 (take k left ++ string.0) =
+      marked_behind left k string.0 (string_len-within false left) (omega (arith, length-drop (seen + 1) rest)) (IsUtf8-drop rest (seen + 1) u cut) string.1 in
       let inside : IsUtf8 (36 ∷ behind.0) = IsUtf8-append (36 ∷ []) behind.0 (ascii_alone 36 (omega arith)) (subst IsUtf8 (sym string.2) later) in
       let all : IsUtf8 (take (seen + 1) rest ++ 36 ∷ behind.0) = IsUtf8-append (take (seen + 1) rest) (36 ∷ behind.0) (IsUtf8-take rest (seen + 1) u cut) inside in
       let front : take (seen + 1) rest ≡ take seen rest ++ 34 ∷ [] = take_more rest seen 0 some ∙ ap (λ x. take seen rest ++ x ∷ []) is in
-      let same : take (seen + 1) rest ++ 36 ∷ behind.0 ≡ take seen rest ++ more = ap (λ xs. xs ++ 36 ∷ behind.0) front ∙ append_assoc (take seen rest) (34 ∷ []) (36 ∷ behind.0) ∙ ap (λ xs. take seen rest ++ xs) (sym behind.2) in
+      let same : take (seen + 1) rest ++ 36 ∷ behind.0 ≡ take seen rest ++ more =
+      ap (λ xs. xs ++ 36 ∷ behind.0) front ∙ append_assoc (take seen rest) (34 ∷ []) (36 ∷ behind.0) ∙ ap (λ xs. take seen rest ++ xs) (sym behind.2) in
       subst IsUtf8 same all
 
   by_number : seen < length rest → begins_number c ≡ true → IsUtf8 (take seen rest ++ more)
@@ -85,7 +87,8 @@ behind_step n marked_behind rest seen more within few u h = by_end (cases_lt see
       let later : IsUtf8 behind.0 = marked_behind (drop k numeral) 0 behind.0 (omega arith) (omega (arith, length-drop k numeral, length-drop seen rest)) (IsUtf8-drop numeral k text end) behind.1 in
       let quoted : IsUtf8 (take k numeral ++ 34 ∷ []) = IsUtf8-append (take k numeral) (34 ∷ []) (IsUtf8-take numeral k text end) (ascii_alone 34 (omega arith)) in
       let marks : IsUtf8 (34 ∷ 35 ∷ []) = IsUtf8-append (34 ∷ []) (35 ∷ []) (ascii_alone 34 (omega arith)) (ascii_alone 35 (omega arith)) in
-      let tail : IsUtf8 ((34 ∷ 35 ∷ []) ++ ((take k numeral ++ 34 ∷ []) ++ behind.0)) = IsUtf8-append (34 ∷ 35 ∷ []) ((take k numeral ++ 34 ∷ []) ++ behind.0) marks (IsUtf8-append (take k numeral ++ 34 ∷ []) behind.0 quoted later) in
+      let tail : IsUtf8 ((34 ∷ 35 ∷ []) ++ ((take k numeral ++ 34 ∷ []) ++ behind.0)) =
+      IsUtf8-append (34 ∷ 35 ∷ []) ((take k numeral ++ 34 ∷ []) ++ behind.0) marks (IsUtf8-append (take k numeral ++ 34 ∷ []) behind.0 quoted later) in
       IsUtf8-append (take seen rest) more (IsUtf8-take rest seen u cut) (subst IsUtf8 (sym behind.2) tail)
 
   by_plain : seen < length rest → eqb c 34 ≡ false → begins_number c ≡ false → IsUtf8 (take seen rest ++ more)
@@ -93,7 +96,8 @@ behind_step n marked_behind rest seen more within few u h = by_end (cases_lt see
       let first : marked outside (drop seen rest) ≡ with_front (c ∷ []) (marked outside left) = at_drop_more (marked outside) rest seen 0 some ∙ marked-plain c left no_quote no_number in
       let behind = ok_behind (c ∷ []) (marked outside left) more (sym first ∙ h) in
       let later : IsUtf8 (take (seen + 1) rest ++ behind.0) = marked_behind rest (seen + 1) behind.0 (omega arith) (omega arith) u behind.1 in
-      let same : take (seen + 1) rest ++ behind.0 ≡ take seen rest ++ more = ap (λ xs. xs ++ behind.0) (take_more rest seen 0 some) ∙ append_assoc (take seen rest) (c ∷ []) behind.0 ∙ ap (λ xs. take seen rest ++ xs) (sym behind.2) in
+      let same : take (seen + 1) rest ++ behind.0 ≡ take seen rest ++ more =
+      ap (λ xs. xs ++ behind.0) (take_more rest seen 0 some) ∙ append_assoc (take seen rest) (c ∷ []) behind.0 ∙ ap (λ xs. take seen rest ++ xs) (sym behind.2) in
       subst IsUtf8 same later
 
   by_tests : seen < length rest → (q b : Bool) → eqb c 34 ≡ q → begins_number c ≡ b → IsUtf8 (take seen rest ++ more)

@@ -29,7 +29,8 @@ chosen true member wanted entries = refl
 chosen false member wanted entries = refl
 
 -- what was offered need not come any more
-pub within-offered : (e : Entry) (entries : List Entry) (member : Node) → node member ≡ view e.1 → (wanted : Wanted) → within entries (offered (string_bytes e.0) member wanted) ≡ within (e ∷ entries) wanted
+pub within-offered : (e : Entry) (entries : List Entry) (member : Node) → node member ≡ view e.1 → (wanted : Wanted)
+    → within entries (offered (string_bytes e.0) member wanted) ≡ within (e ∷ entries) wanted
 within-offered e entries member is wanted =
     let key = string_bytes e.0 in
     let name = 36 ∷ name_of wanted in
@@ -38,7 +39,8 @@ within-offered e entries member is wanted =
     chosen (bytes_eq key name && is_none wanted.first) member wanted entries
     ∙ taken wanted.first (bytes_eq key name) member (get_member name (members_view entries)) (get_member name (members_view (e ∷ entries))) here later
 
-pub within-each_offered : (e : Entry) (entries : List Entry) (member : Node) → node member ≡ view e.1 → (ws : List Wanted) → map (within entries) (map (offered (string_bytes e.0) member) ws) ≡ map (within (e ∷ entries)) ws
+pub within-each_offered : (e : Entry) (entries : List Entry) (member : Node) → node member ≡ view e.1 → (ws : List Wanted)
+    → map (within entries) (map (offered (string_bytes e.0) member) ws) ≡ map (within (e ∷ entries)) ws
 within-each_offered e entries member is [] = refl
 within-each_offered e entries member is (w ∷ ws) = rw (within-offered e entries member is w, within-each_offered e entries member is ws) refl
 
@@ -56,7 +58,9 @@ pub fields_within : (tree : Data) (entries : List Entry) → as_object tree ≡ 
     → map (option_and_then unless_null) (map (within entries) ws) ≡ map (λ (w : Wanted). field_of (name_of w) tree) ws
 fields_within tree entries is [] none = refl
 fields_within tree entries is (w ∷ ws) none =
-    rw (is, All-head (λ w. first_of w ≡ None) w ws none) (ap (λ rest. option_and_then unless_null (get_member (36 ∷ name_of w) (members_view entries)) ∷ rest) (fields_within tree entries is ws (All-tail (λ w. first_of w ≡ None) w ws none)))
+    rw (is, All-head (λ w. first_of w ≡ None) w ws none)
+    (ap (λ rest. option_and_then unless_null (get_member (36 ∷ name_of w) (members_view entries)) ∷ rest)
+    (fields_within tree entries is ws (All-tail (λ w. first_of w ≡ None) w ws none)))
 
 -- what is no object has no fields
 pub fields_of_none : (tree : Data) → as_object tree ≡ None → (ws : List Wanted) → All (λ w. first_of w ≡ None) ws → map found ws ≡ map (λ (w : Wanted). field_of (name_of w) tree) ws

@@ -17,7 +17,12 @@ stays-found : (bytes : List ℕ) (old new : List MeterReading) → Extends old n
 stays-found bytes old new extends f found =
     let more = extends.0 in
     let grown = subst (λ rs. IsFound bytes rs f) (sym extends.1) in
-    grown (found.0, found.1, (found.2.0, omega (arith, found.2.1, length-append old more)), subst (λ own. Sends (take (f.to - f.from) (drop f.from bytes)) f.station (with_readings f own)) (sym (same-range old more f.first f.end found.2.0 found.2.1)) found.3)
+    grown (
+      found.0,
+      found.1,
+      (found.2.0, omega (arith, found.2.1, length-append old more)),
+      subst (λ own. Sends (take (f.to - f.from) (drop f.from bytes)) f.station (with_readings f own)) (sym (same-range old more f.first f.end found.2.0 found.2.1)) found.3,
+    )
 
 -- all events stay found
 pub all-stay-found : (bytes : List ℕ) (old new : List MeterReading) → Extends old new → (fs : List FoundEvent) → All (IsFound bytes old) fs → All (IsFound bytes new) fs

@@ -138,7 +138,9 @@ readable_more : (rules : List Rule) (r : Rule) → are_readable rules ≡ true �
 readable_more [] r e f = options_readable (r ∷ []) (and _ _ f refl)
 readable_more (x ∷ rules) r e f = and _ _ (both _ _ e).0 (at (is_positional x) (both _ _ e).1 (λ later. readable_more rules r later f))
   where
-    at : (p : Bool) → cond p (are_options rules) (are_readable rules) ≡ true → (are_readable rules ≡ true → are_readable (rules ++ r ∷ []) ≡ true) → cond p (are_options (rules ++ r ∷ [])) (are_readable (rules ++ r ∷ [])) ≡ true
+    at : (p : Bool) → cond p (are_options rules) (are_readable rules) ≡ true
+        → (are_readable rules ≡ true → are_readable (rules ++ r ∷ []) ≡ true)
+        → cond p (are_options (rules ++ r ∷ [])) (are_readable (rules ++ r ∷ [])) ≡ true
     at true later on = options_more rules (r ∷ []) later (and _ _ f refl)
     at false later on = on later
 
@@ -162,7 +164,8 @@ ready_below above s e =
     let plain = both _ _ leaf.1 in
     let fresh = both _ _ plain.1 in
     let low : Shape = with_leaf_noted (marked_built (inherited above s)) in
-    let is : built_leaf (inherited above s) ≡ with_filled_rules (with_version_flag (with_help_flag low)) = ap (λ b. cond b (inherited above s) (with_filled_rules (with_version_flag (with_help_flag low)))) (isnt _ fresh.0) in
+    let is : built_leaf (inherited above s) ≡ with_filled_rules (with_version_flag (with_help_flag low)) =
+    ap (λ b. cond b (inherited above s) (with_filled_rules (with_version_flag (with_help_flag low)))) (isnt _ fresh.0) in
     ap is_ready_leaf is ∙ and _ _ leaf.0 (ready low plain.0 fresh.1)
 
 all_ready : (above : Shape) (subs : List Shape) → list_all is_command subs ≡ true → list_all is_ready_leaf (map built_leaf (map (inherited above) subs)) ≡ true

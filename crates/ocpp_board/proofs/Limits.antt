@@ -5,7 +5,8 @@ use Rattle.ocpp_board.specs.LimitWords.{SayLimits, Says, StateLimits}
 
 -- Words that say limits say them in their order.
 in_order : (words : List (Bor (List ℕ))) (d : Bor (List ℕ)) (l : Bounds) → SayLimits (map (λ w. w.now) words) l
-    → Says (slice_index_or words 0 d).now l.transactions × (Says (slice_index_or words 1 d).now l.events × (Says (slice_index_or words 2 d).now l.readings × Says (slice_index_or words 3 d).now l.changes))
+    → Says (slice_index_or words 0 d).now l.transactions
+    × (Says (slice_index_or words 1 d).now l.events × (Says (slice_index_or words 2 d).now l.readings × Says (slice_index_or words 3 d).now l.changes))
 in_order [] d l s = absurd s
 in_order (a ∷ []) d l s = absurd s
 in_order (a ∷ b ∷ []) d l s = absurd s

@@ -46,7 +46,9 @@ on_through (Ok _) served P well h = of_ok served tt P well h
 on_through (Err _) served P well h = well
 
 -- the answers of a new run, by the end of what kept it
-pub new_through : (kept : Result (Unit {0}) JournalFault) (served : Result (Unit {0}) ServiceFault) (sites : List SitePlan) (stations : List StationPlan) (before : Option (List ℕ)) (left : Left) (input told now : Option (List ℕ)) → OnOk kept (served ≡ Ok tt)
+pub new_through : (kept : Result (Unit {0}) JournalFault) (served : Result (Unit {0}) ServiceFault) (sites : List SitePlan)
+    (stations : List StationPlan) (before : Option (List ℕ)) (left : Left) (input told now : Option (List ℕ))
+    → OnOk kept (served ≡ Ok tt)
     → IsNewRun sites stations before left (TellsNew served stations input told now) → IsNewRun sites stations before left (TellsNew kept stations input told now)
 new_through kept served sites stations before left input told now well r = record {
   head = r.head;
@@ -57,7 +59,9 @@ new_through kept served sites stations before left input told now well r = recor
 }
 
 -- the answers of a restored run, by the end of what kept it
-pub restored_through : (kept : Result (Unit {0}) JournalFault) (served : Result (Unit {0}) ServiceFault) (allows : Bool) (connections : Option ℕ) (input before : Option (List ℕ)) (left : Left) (told now : Option (List ℕ)) → OnOk kept (served ≡ Ok tt)
+pub restored_through : (kept : Result (Unit {0}) JournalFault) (served : Result (Unit {0}) ServiceFault) (allows : Bool)
+    (connections : Option ℕ) (input before : Option (List ℕ)) (left : Left) (told now : Option (List ℕ))
+    → OnOk kept (served ≡ Ok tt)
     → IsRestoredRun allows input before left (TellsRestored served connections told now) → IsRestoredRun allows input before left (TellsRestored kept connections told now)
 restored_through kept served allows connections input before left told now well r = record {
   read = r.read;
@@ -73,11 +77,15 @@ restored_through kept served allows connections input before left told now well 
   stations = r.stations;
   firsts = r.firsts;
   script = telling _ _ _ _ _ _ _ _
-      (λ log t. on_through kept served ((reported : Option (List ℕ)) × Grows told reported × IsToldOf r.sites r.stations (contents_of r.firsts) log (lines_in (operator_input connections r.rest)) reported now) well t) r.script;
+      (λ log t. on_through kept served
+      ((reported : Option (List ℕ)) × Grows told reported × IsToldOf r.sites r.stations (contents_of r.firsts) log (lines_in (operator_input connections r.rest)) reported now)
+      well t) r.script;
 }
 
 -- the answers of a new run, at other names of its input and of what its outputs had before
-pub new_run : {N T : Type 0} (r : Result (Served N T) JournalFault) (journals : N → Option (List ℕ)) (consoles : T → Option (List ℕ)) (sites : List SitePlan) (stations : List StationPlan) (before before' input input' told told' : Option (List ℕ))
+pub new_run : {N T : Type 0} (r : Result (Served N T) JournalFault) (journals : N → Option (List ℕ))
+    (consoles : T → Option (List ℕ)) (sites : List SitePlan) (stations : List StationPlan)
+    (before before' input input' told told' : Option (List ℕ))
     → before ≡ before' → input ≡ input' → told ≡ told'
     → IfOk r (λ s. IsNewRun sites stations before (left_of journals s) (TellsNew s.ended stations input told (consoles s.console)))
     → IfOk r (λ s. (e : Result (Unit {0}) JournalFault) → OnOk e (s.ended ≡ Ok tt) → IsNewRun sites stations before' (left_of journals s) (TellsNew e stations input' told' (consoles s.console)))
@@ -89,7 +97,9 @@ new_run (Ok s) journals consoles sites stations before before' input input' told
 new_run (Err f) journals consoles sites stations before before' input input' told told' b i t is = is
 
 -- the same of a restored run
-pub restored_run : {N T : Type 0} (r : Result (Served N T) JournalFault) (journals : N → Option (List ℕ)) (consoles : T → Option (List ℕ)) (allows : Bool) (connections : Option ℕ) (before before' input input' told told' : Option (List ℕ))
+pub restored_run : {N T : Type 0} (r : Result (Served N T) JournalFault) (journals : N → Option (List ℕ))
+    (consoles : T → Option (List ℕ)) (allows : Bool) (connections : Option ℕ)
+    (before before' input input' told told' : Option (List ℕ))
     → before ≡ before' → input ≡ input' → told ≡ told'
     → IfOk r (λ s. IsRestoredRun allows input before (left_of journals s) (TellsRestored s.ended connections told (consoles s.console)))
     → IfOk r (λ s. (e : Result (Unit {0}) JournalFault) → OnOk e (s.ended ≡ Ok tt) → IsRestoredRun allows input' before' (left_of journals s) (TellsRestored e connections told' (consoles s.console)))
@@ -114,7 +124,9 @@ on_both (Ok _) P Q h = h
 on_both (Err _) P Q h = (h, h)
 
 -- the run of a server without a journal
-pub unwritten_run : {W N T C E : Type 0} (contents : W → Option (List ℕ)) (nowhere : N → Option (List ℕ)) (consoles : T → Option (List ℕ)) (reports : E → Option (List ℕ)) (errors : E) (ran : Ran W C E) (served : Result (Served N T) JournalFault)
+pub unwritten_run : {W N T C E : Type 0} (contents : W → Option (List ℕ)) (nowhere : N → Option (List ℕ))
+    (consoles : T → Option (List ℕ)) (reports : E → Option (List ℕ)) (errors : E) (ran : Ran W C E)
+    (served : Result (Served N T) JournalFault)
     (holds : Left → Result (Unit {0}) JournalFault → Option (List ℕ) → Type 0)
     → IfOk served (λ s. (e : Result (Unit {0}) JournalFault) → OnOk e (s.ended ≡ Ok tt) → holds (left_of nowhere s) e (consoles s.console))
     → EndsUnwritten contents consoles reports errors served ran → IsUnwrittenRun contents reports errors ran holds
@@ -122,27 +134,43 @@ unwritten_run contents nowhere consoles reports errors ran (Err fault) holds h i
 unwritten_run contents nowhere consoles reports errors ran (Ok s) holds h is = (is.0, is.1, at is.0 is.3)
   where
     at : (e : Result (Unit {0}) JournalFault) → OnOk e ((s.ended ≡ Ok tt) × HasOutput contents ran.ended.output (λ now. Appends (consoles s.console) now s.boards.items))
-        → OnOk e ((left : Left) × (answered : Option (List ℕ)) × holds left e answered × (left.passes ≡ ran.passes.items) × HasOutput contents ran.ended.output (λ now. Appends answered now left.boards))
+        → OnOk e ((left : Left) × (answered : Option (List ℕ)) × holds left e answered × (left.passes ≡ ran.passes.items)
+        × HasOutput contents ran.ended.output (λ now. Appends answered now left.boards))
     at (Ok u) w = (left_of nowhere s, consoles s.console, h (Ok u) w.0, sym (λ i. (is.2 i).items), w.1)
     at (Err f) w = w
 
 -- the run of a server without a journal that found no memory
-pub unwritten_failed : {W C E : Type 0} (contents : W → Option (List ℕ)) (reports : E → Option (List ℕ)) (errors : E) (ran : Ran W C E) (fault : JournalFault) (holds : Left → Result (Unit {0}) JournalFault → Option (List ℕ) → Type 0)
+pub unwritten_failed : {W C E : Type 0} (contents : W → Option (List ℕ)) (reports : E → Option (List ℕ)) (errors : E)
+    (ran : Ran W C E) (fault : JournalFault) (holds : Left → Result (Unit {0}) JournalFault → Option (List ℕ) → Type 0)
     → IsServerEnd reports errors ran.ended (Err fault) → IsUnwrittenRun contents reports errors ran holds
 unwritten_failed contents reports errors ran fault holds is = (Err fault, is, tt)
 
 -- the run of a server with a journal
-pub journal_run : {W C E : Type 0} (contents : W → Option (List ℕ)) (consoles : C → Option (List ℕ)) (reports : E → Option (List ℕ)) (errors : E) (ran : Ran W C E) (served : Result (Served W C) JournalFault)
+pub journal_run : {W C E : Type 0} (contents : W → Option (List ℕ)) (consoles : C → Option (List ℕ))
+    (reports : E → Option (List ℕ)) (errors : E) (ran : Ran W C E) (served : Result (Served W C) JournalFault)
     (holds : Left → Result (Unit {0}) JournalFault → Option (List ℕ) → Type 0)
     → IfOk served (λ s. (e : Result (Unit {0}) JournalFault) → OnOk e (s.ended ≡ Ok tt) → holds (left_of contents s) e (consoles s.console))
     → EndsJournalled consoles reports errors served ran → IsJournalRun contents consoles reports errors ran holds
 journal_run {W} contents consoles reports errors ran (Err fault) holds h is =
     let ended : Result (Unit {0}) JournalFault = Err fault in
-    let P : Option W → Type 0 = λ o. IfSome o (λ x. (answered : Option (List ℕ)) × holds (record { now = contents x; buffer = []; broken = false; boards = []; passes = ran.passes.items; answers = 0; browsed = 0 }) ended answered
+    let P : Option W → Type 0 =
+    λ o. IfSome o (λ x. (answered : Option (List ℕ))
+    × holds (record { now = contents x; buffer = []; broken = false; boards = []; passes = ran.passes.items; answers = 0; browsed = 0 }) ended answered
     × OnOk ended (HasOutput consoles ran.console (λ now. Appends answered now []))) in
     record { ended = ended; end = is.0; buffer = []; broken = false; boards = []; answers = 0; browsed = 0; journal = subst P (sym is.1) h; given = h }
 journal_run {W} contents consoles reports errors ran (Ok s) holds h is =
-    let P : Option W → List Held → Type 0 = λ o ps. IfSome o (λ x. (answered : Option (List ℕ)) × holds (record { now = contents x; buffer = s.unwritten.items; broken = s.is_broken; boards = s.boards.items; passes = ps; answers = s.answers; browsed = s.browsed }) is.0 answered
+    let P : Option W → List Held
+    → Type 0 = λ o ps. IfSome o
+    (λ x. (answered : Option (List ℕ))
+    × holds (record {
+      now = contents x;
+      buffer = s.unwritten.items;
+      broken = s.is_broken;
+      boards = s.boards.items;
+      passes = ps;
+      answers = s.answers;
+      browsed = s.browsed;
+    }) is.0 answered
     × OnOk is.0 (HasOutput consoles ran.console (λ now. Appends answered now s.boards.items))) in
     let both = on_both is.0 (s.ended ≡ Ok tt) (HasOutput consoles ran.console (λ now. Appends (consoles s.console) now s.boards.items)) is.4 in
     record {

@@ -27,16 +27,22 @@ names_of word site station e = at (is_name (site_of word) && is_name (station_of
     at false g = cc g
 
 -- a word that is one too many
-pub one_too_many : (viewers : ℕ) (period : Periods) (order : Order) (limits : Bounds) (words : List (Bor (List ℕ))) (d : Bor (List ℕ)) (sites : List SitePlan) (stations : List StationPlan) (site station : List ℕ) → 1 ≤ length words
+pub one_too_many : (viewers : ℕ) (period : Periods) (order : Order) (limits : Bounds) (words : List (Bor (List ℕ)))
+    (d : Bor (List ℕ)) (sites : List SitePlan) (stations : List StationPlan) (site station : List ℕ)
+    → 1 ≤ length words
     → station_word (slice_index_or words 0 d).now ≡ Some (site, station) → is_past (position (λ s. bytes_eq site s.name) sites) sites stations limits ≡ true
     → declared_by viewers period order limits (map (λ w. w.now) words) sites stations ≡ (Some (slice_index_or words 0 d).now, (sites, stations))
 one_too_many viewers period order limits [] d sites stations site station some e past = absurd (omega (arith, some))
 one_too_many viewers period order limits (w ∷ words) d sites stations site station some e past =
-    ap (λ b. cond b (Some w.now, (sites, stations)) (declared_by viewers period order limits (map (λ x. x.now) words) (sites_with (found_site w.now sites) (site_of w.now) viewers period order sites) (stations ++ new_station limits sites w.now ∷ [])))
+    ap (λ b. cond b (Some w.now, (sites, stations))
+    (declared_by viewers period order limits (map (λ x. x.now) words)
+    (sites_with (found_site w.now sites) (site_of w.now) viewers period order sites)
+    (stations ++ new_station limits sites w.now ∷ [])))
     (ap (λ n. is_past (position (λ s. bytes_eq n s.name) sites) sites stations limits) (names_of w.now site station e).0 ∙ past)
 
 -- a word that is declared, and those behind it
-pub one_declared : (viewers : ℕ) (period : Periods) (order : Order) (limits : Bounds) (words rest : List (Bor (List ℕ))) (d : Bor (List ℕ)) (sites new_sites : List SitePlan) (stations new_stations : List StationPlan) (site station : List ℕ)
+pub one_declared : (viewers : ℕ) (period : Periods) (order : Order) (limits : Bounds) (words rest : List (Bor (List ℕ)))
+    (d : Bor (List ℕ)) (sites new_sites : List SitePlan) (stations new_stations : List StationPlan) (site station : List ℕ)
     (end : Option (List ℕ) × (List SitePlan × List StationPlan)) → 1 ≤ length words → rest ≡ drop 1 words
     → station_word (slice_index_or words 0 d).now ≡ Some (site, station) → is_past (position (λ s. bytes_eq site s.name) sites) sites stations limits ≡ false
     → new_sites ≡ sites_with (position (λ s. bytes_eq site s.name) sites) site viewers period order sites
@@ -46,8 +52,15 @@ pub one_declared : (viewers : ℕ) (period : Periods) (order : Order) (limits : 
 one_declared viewers period order limits [] rest d sites new_sites stations new_stations site station end some r e past f g later = absurd (omega (arith, some))
 one_declared viewers period order limits (w ∷ words) rest d sites new_sites stations new_stations site station end some r e past f g later =
     let n = names_of w.now site station e in
-    ap (λ b. cond b (Some w.now, (sites, stations)) (declared_by viewers period order limits (map (λ x. x.now) words) (sites_with (found_site w.now sites) (site_of w.now) viewers period order sites) (stations ++ new_station limits sites w.now ∷ [])))
+    ap (λ b. cond b (Some w.now, (sites, stations))
+    (declared_by viewers period order limits (map (λ x. x.now) words)
+    (sites_with (found_site w.now sites) (site_of w.now) viewers period order sites)
+    (stations ++ new_station limits sites w.now ∷ [])))
     (ap (λ n. is_past (position (λ s. bytes_eq n s.name) sites) sites stations limits) n.0 ∙ past)
-    ∙ ap (λ m. declared_by viewers period order limits (map (λ x. x.now) words) (sites_with (position (λ s. bytes_eq m s.name) sites) m viewers period order sites) (stations ++ record { site = site_number (position (λ s. bytes_eq m s.name) sites) sites; name = station_of w.now; limits = limits } ∷ [])) n.0
-    ∙ ap (λ m. declared_by viewers period order limits (map (λ x. x.now) words) (sites_with (position (λ s. bytes_eq site s.name) sites) site viewers period order sites) (stations ++ record { site = site_number (position (λ s. bytes_eq site s.name) sites) sites; name = m; limits = limits } ∷ [])) n.1
+    ∙ ap (λ m. declared_by viewers period order limits (map (λ x. x.now) words)
+    (sites_with (position (λ s. bytes_eq m s.name) sites) m viewers period order sites)
+    (stations ++ record { site = site_number (position (λ s. bytes_eq m s.name) sites) sites; name = station_of w.now; limits = limits } ∷ [])) n.0
+    ∙ ap (λ m. declared_by viewers period order limits (map (λ x. x.now) words)
+    (sites_with (position (λ s. bytes_eq site s.name) sites) site viewers period order sites)
+    (stations ++ record { site = site_number (position (λ s. bytes_eq site s.name) sites) sites; name = m; limits = limits } ∷ [])) n.1
     ∙ (λ i. declared_by viewers period order limits (map (λ x. x.now) (sym r i)) (sym f i) (sym g i)) ∙ later

@@ -122,7 +122,8 @@ station_words found = unwrap_or (option_words found (codes "stations")) []
 -- limits, that is reported.
 abbrev pub AsksStations : Found → ℕ → Option Bounds → Result Plan WordFault → Type 0
 AsksStations found glances None plan = plan ≡ Err BadLimits
-AsksStations found glances (Some limits) plan = (period : Periods) × (AsksPeriod found period × ((order : Order) × (AsksOrder found order × AnswersWords plan (if nat_lt 0 glances then 1 else 0) period order limits (station_words found))))
+AsksStations found glances (Some limits) plan = (period : Periods)
+    × (AsksPeriod found period × ((order : Order) × (AsksOrder found order × AnswersWords plan (if nat_lt 0 glances then 1 else 0) period order limits (station_words found))))
 
 -- The plan of a server is that of its words, under the limits that the options ask for.
 abbrev pub AsksPlan : Found → ℕ → Result Plan WordFault → Type 0

@@ -109,7 +109,9 @@ pub record IsServerEnd {W E : Type 0} (reports : E → Option (List ℕ)) (error
 -- A server with a journal on its output. If the output comes back, the journal is as it has to be;
 -- after Ok it comes back. The console then took what it has to, which belongs to the journal's
 -- lines, and then the boards.
-pub record IsJournalRun {W C E : Type 0} (contents : W → Option (List ℕ)) (consoles : C → Option (List ℕ)) (reports : E → Option (List ℕ)) (errors : E) (ran : Ran W C E) (holds : Left → Result (Unit {0}) JournalFault → Option (List ℕ) → Type 0) : Type 0 where
+pub record IsJournalRun {W C E : Type 0} (contents : W → Option (List ℕ)) (consoles : C → Option (List ℕ))
+    (reports : E → Option (List ℕ)) (errors : E) (ran : Ran W C E)
+    (holds : Left → Result (Unit {0}) JournalFault → Option (List ℕ) → Type 0) : Type 0 where
   pub ended : Result (Unit {0}) JournalFault
   pub end : IsServerEnd reports errors ran.ended ended
   pub buffer : List ℕ
@@ -117,7 +119,9 @@ pub record IsJournalRun {W C E : Type 0} (contents : W → Option (List ℕ)) (c
   pub boards : List ℕ
   pub answers : ℕ
   pub browsed : ℕ
-  pub journal : IfSome ran.ended.output (λ output. (answered : Option (List ℕ)) × holds (record { now = contents output; buffer = buffer; broken = broken; boards = boards; passes = ran.passes.items; answers = answers; browsed = browsed }) ended answered
+  pub journal : IfSome ran.ended.output
+      (λ output. (answered : Option (List ℕ))
+      × holds (record { now = contents output; buffer = buffer; broken = broken; boards = boards; passes = ran.passes.items; answers = answers; browsed = browsed }) ended answered
       × OnOk ended (HasOutput consoles ran.console (λ now. Appends answered now boards)))
   pub given : OnOk ended (is_some ran.ended.output ≡ true)
 
@@ -126,7 +130,8 @@ pub record IsJournalRun {W C E : Type 0} (contents : W → Option (List ℕ)) (c
 abbrev pub IsUnwrittenRun : {W C E : Type 0} → (W → Option (List ℕ)) → (E → Option (List ℕ)) → E → Ran W C E → (Left → Result (Unit {0}) JournalFault → Option (List ℕ) → Type 0) → Type 0
 IsUnwrittenRun contents reports errors ran holds =
     (ended : Result (Unit {0}) JournalFault) × IsServerEnd reports errors ran.ended ended
-    × OnOk ended ((left : Left) × (answered : Option (List ℕ)) × holds left ended answered × (left.passes ≡ ran.passes.items) × HasOutput contents ran.ended.output (λ now. Appends answered now left.boards))
+    × OnOk ended ((left : Left) × (answered : Option (List ℕ)) × holds left ended answered × (left.passes ≡ ran.passes.items)
+    × HasOutput contents ran.ended.output (λ now. Appends answered now left.boards))
 
 -- A server that does not begin, since its words make no plan: the exit status is 2, nothing is
 -- written to its output, and standard error has `fault <name>` and a line with the cause.
@@ -139,14 +144,18 @@ Runs contents consoles reports Replay input output console errors ran = IsReplay
 Runs contents consoles reports (Serve (Err fault) journalling journalled) input output console errors ran = IsWordMistake reports fault output errors ran.ended
 Runs contents consoles reports (Serve (Ok plan) journalling true) input output console errors ran =
     IsJournalRun contents consoles reports errors ran
-    (λ left ended answered. IsNewRun plan.sites.items plan.stations.items (contents output) left (TellsNew ended plan.stations.items (operator_input journalling.live.connections input) (consoles console) answered))
+    (λ left ended answered. IsNewRun plan.sites.items plan.stations.items (contents output) left
+    (TellsNew ended plan.stations.items (operator_input journalling.live.connections input) (consoles console) answered))
 Runs contents consoles reports (Serve (Ok plan) journalling false) input output console errors ran =
     IsUnwrittenRun contents reports errors ran
     (λ left ended answered. IsNewRun plan.sites.items plan.stations.items None left (TellsNew ended plan.stations.items (operator_input journalling.live.connections input) (contents output) answered))
 Runs contents consoles reports (ServeRestored restoring true) input output console errors ran =
-    IsJournalRun contents consoles reports errors ran (λ left ended answered. IsRestoredRun restoring.allows_left_out input (contents output) left (TellsRestored ended restoring.journalling.live.connections (consoles console) answered))
+    IsJournalRun contents consoles reports errors ran
+    (λ left ended answered. IsRestoredRun restoring.allows_left_out input (contents output) left
+    (TellsRestored ended restoring.journalling.live.connections (consoles console) answered))
 Runs contents consoles reports (ServeRestored restoring false) input output console errors ran =
-    IsUnwrittenRun contents reports errors ran (λ left ended answered. IsRestoredRun restoring.allows_left_out input None left (TellsRestored ended restoring.journalling.live.connections (contents output) answered))
+    IsUnwrittenRun contents reports errors ran
+    (λ left ended answered. IsRestoredRun restoring.allows_left_out input None left (TellsRestored ended restoring.journalling.live.connections (contents output) answered))
 Runs contents consoles reports (Simulate stations events) input output console errors ran =
     IsUnwrittenRun contents reports errors ran (λ left ended answered. (answered ≡ contents output) × IsSimulatedRun stations left)
 

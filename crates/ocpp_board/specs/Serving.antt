@@ -20,5 +20,6 @@ EndsUnwritten contents consoles reports errors (Ok s) ran = (ended : Result (Uni
 -- after Ok its operator's lines ended well, and the console took the boards behind what it had taken.
 abbrev pub EndsJournalled : {W C E : Type 0} → (C → Option (List ℕ)) → (E → Option (List ℕ)) → E → Result (Served W C) JournalFault → Ran W C E → Type 0
 EndsJournalled consoles reports errors (Err fault) ran = IsServerEnd reports errors ran.ended (Err fault) × (ran.ended.output ≡ None)
-EndsJournalled consoles reports errors (Ok s) ran = (ended : Result (Unit {0}) JournalFault) × IsServerEnd reports errors ran.ended ended × (ran.ended.output ≡ Some s.journal) × (ran.passes ≡ s.passes)
+EndsJournalled consoles reports errors (Ok s) ran = (ended : Result (Unit {0}) JournalFault)
+    × IsServerEnd reports errors ran.ended ended × (ran.ended.output ≡ Some s.journal) × (ran.passes ≡ s.passes)
     × OnOk ended ((s.ended ≡ Ok tt) × HasOutput consoles ran.console (λ now. Appends (consoles s.console) now s.boards.items))

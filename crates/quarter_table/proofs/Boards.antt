@@ -70,7 +70,8 @@ quarter_flows order period es q =
 quarters_of : (order : Order) (period : Periods) (es : List Entry) → map (λ f. f.0) (board_flows_by order period es) ≡ map (λ t. t.0) (parts_of_both order period es)
 quarters_of order period es =
     map-append (λ (f : Flowed). f.0) (parts_toward Import (side order period Import es)) (parts_toward Export (side order period Export es))
-    ∙ (λ i. map_map (λ (f : Flowed). f.0) (λ (t : Part). line t.0 (flows_toward Import t.1)) (side order period Import es) i ++ map_map (λ (f : Flowed). f.0) (λ (t : Part). line t.0 (flows_toward Export t.1)) (side order period Export es) i)
+    ∙ (λ i. map_map (λ (f : Flowed). f.0) (λ (t : Part). line t.0 (flows_toward Import t.1)) (side order period Import es) i
+    ++ map_map (λ (f : Flowed). f.0) (λ (t : Part). line t.0 (flows_toward Export t.1)) (side order period Export es) i)
     ∙ sym (map-append (λ (t : Part). t.0) (side order period Import es) (side order period Export es))
 
 -- The rows of a station's parts are the periods of its board.
@@ -93,8 +94,12 @@ whole_pairs period d ps apart = by_rule period.rule refl
         ∙ ap (λ fs. line (settled_by rule period.length p.1.moment) (flows_toward d (difference p)) ∷ fs) (each rule is rest)
 
     by_rule : (rule : Settle) → period.rule ≡ rule → parts_toward d (parts_over period ps) ≡ flows_of period d ps
-    by_rule Later is = subst (λ r. parts_toward d (flat_map (λ p. parts_by r period.length (change_of p)) ps) ≡ map (λ p. line (settled_by r period.length p.1.moment) (flows_toward d (difference p))) ps) (sym is) (each Later (λ p. refl) ps)
-    by_rule Closing is = subst (λ r. parts_toward d (flat_map (λ p. parts_by r period.length (change_of p)) ps) ≡ map (λ p. line (settled_by r period.length p.1.moment) (flows_toward d (difference p))) ps) (sym is) (each Closing (λ p. refl) ps)
+    by_rule Later is =
+        subst (λ r. parts_toward d (flat_map (λ p. parts_by r period.length (change_of p)) ps) ≡ map (λ p. line (settled_by r period.length p.1.moment) (flows_toward d (difference p))) ps)
+        (sym is) (each Later (λ p. refl) ps)
+    by_rule Closing is =
+        subst (λ r. parts_toward d (flat_map (λ p. parts_by r period.length (change_of p)) ps) ≡ map (λ p. line (settled_by r period.length p.1.moment) (flows_toward d (difference p))) ps)
+        (sym is) (each Closing (λ p. refl) ps)
     by_rule Even is = absurd (apart is)
 
 pub whole_station : (order : Order) (period : Periods) (es : List Entry) → (period.rule ≡ Even → ⊥) → board_flows_by order period es ≡ station_flows_by order period es

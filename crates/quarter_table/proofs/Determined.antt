@@ -15,7 +15,8 @@ first_missing : (x y : QuarterRow) (ys : List QuarterRow) → x.quarter < y.quar
 first_missing x y ys lt order = after_missing x.quarter (y ∷ ys) (lt, after_less x.quarter y.quarter ys (omega arith) order.0)
 
 -- Behind two first rows of one period the other rows agree too.
-behind_first : (x y : QuarterRow) (xs ys : List QuarterRow) → x.quarter ≡ y.quarter → AreInOrder (x ∷ xs) → AreInOrder (y ∷ ys) → ((q : ℕ) → row_at q (x ∷ xs) ≡ row_at q (y ∷ ys)) → (q : ℕ) → row_at q xs ≡ row_at q ys
+behind_first : (x y : QuarterRow) (xs ys : List QuarterRow) → x.quarter ≡ y.quarter → AreInOrder (x ∷ xs) → AreInOrder (y ∷ ys)
+    → ((q : ℕ) → row_at q (x ∷ xs) ≡ row_at q (y ∷ ys)) → (q : ℕ) → row_at q xs ≡ row_at q ys
 behind_first x y xs ys e xo yo same q = elim (cases_lt x.quarter q) [
   | inl after ↦ sym (row_other q x xs (λ is. absurd (omega arith))) ∙ same q ∙ row_other q y ys (λ is. absurd (omega arith))
   | inr le ↦ after_missing q xs (after_less q x.quarter xs le xo.0) ∙ sym (after_missing q ys (after_less q y.quarter ys (omega arith) yo.0))

@@ -39,7 +39,8 @@ some_own : (q : ℕ) (fs : List Flowed) → IsIn q (map (λ f. f.0) fs) → 0 < 
 some_own q [] there = absurd there
 some_own q (f ∷ fs) there = elim (cases_eq f.0 q) [
   | inl is ↦ subst (λ fl. 0 < length fl) (sym (own_same q f fs is)) (omega arith)
-  | inr not ↦ subst (λ fl. 0 < length fl) (sym (own_other q f fs not)) (some_own q fs (⊎_elim {C = IsIn q (map (λ f. f.0) fs)} (λ (e : q ≡ f.0). absurd (not (sym e))) (λ (rest : IsIn q (map (λ f. f.0) fs)). rest) there))
+  | inr not ↦ subst (λ fl. 0 < length fl) (sym (own_other q f fs not))
+      (some_own q fs (⊎_elim {C = IsIn q (map (λ f. f.0) fs)} (λ (e : q ≡ f.0). absurd (not (sym e))) (λ (rest : IsIn q (map (λ f. f.0) fs)). rest) there))
 ]
 
 -- A period is among those of pairs, or has none.
@@ -47,7 +48,9 @@ in_or_none : (q : ℕ) (fs : List Flowed) → IsIn q (map (λ f. f.0) fs) ⊎ (o
 in_or_none q [] = inr refl
 in_or_none q (f ∷ fs) = elim (cases_eq f.0 q) [
   | inl is ↦ inl (inl (sym is))
-  | inr not ↦ ⊎_elim {C = IsIn q (map (λ f. f.0) (f ∷ fs)) ⊎ (own q (f ∷ fs) ≡ [])} (λ (rest : IsIn q (map (λ f. f.0) fs)). inl (inr rest)) (λ (none : own q fs ≡ []). inr (own_other q f fs not ∙ none)) (in_or_none q fs)
+  | inr not ↦ ⊎_elim {C = IsIn q (map (λ f. f.0) (f ∷ fs)) ⊎ (own q (f ∷ fs) ≡ [])}
+      (λ (rest : IsIn q (map (λ f. f.0) fs)). inl (inr rest)) (λ (none : own q fs ≡ []). inr (own_other q f fs not ∙ none))
+      (in_or_none q fs)
 ]
 
 -- Numbers that rise, less the second one.
@@ -128,7 +131,9 @@ same_row q m n a b pairs each = let flows = same_flows a b each in λ i. row_as 
 -- Pairs that add up the same, by whatever measure, have the same row for each period.
 pub row_alike : (q : ℕ) (xs ys : List Flowed) → ((measure : Flowed → ℕ) → sum_by measure xs ≡ sum_by measure ys) → row_of q xs ≡ row_of q ys
 row_alike q xs ys same =
-    let part : (measure : Flowed → ℕ) → sum_by measure (own q xs) ≡ sum_by measure (own q ys) = λ measure. passed_sum measure (λ f. f.0 == q) xs ∙ same (λ f. cond (f.0 == q) (measure f) 0) ∙ sym (passed_sum measure (λ f. f.0 == q) ys) in
+    let part : (measure : Flowed → ℕ)
+    → sum_by measure (own q xs) ≡ sum_by measure (own q ys) =
+    λ measure. passed_sum measure (λ f. f.0 == q) xs ∙ same (λ f. cond (f.0 == q) (measure f) 0) ∙ sym (passed_sum measure (λ f. f.0 == q) ys) in
     let pairs : length (own q xs) ≡ length (own q ys) = length-filter (λ f. f.0 == q) xs ∙ same (λ f. cond (f.0 == q) 1 0) ∙ sym (length-filter (λ f. f.0 == q) ys) in
     same_row q (length (own q xs)) (length (own q ys)) (total (own q xs)) (total (own q ys)) pairs (λ p. p.total_of (own q xs) ∙ part (λ f. p.measure f.1) ∙ sym (p.total_of (own q ys)))
 
@@ -183,11 +188,14 @@ set_made q row xs ys is others =
 pub made_added : (front : List Flowed) (q : ℕ) (flow : ByDirection Energy) (back : List Flowed)
     → set_row (with_pair flow (row_at q (rows_of (front ++ back)))) (rows_of (front ++ back)) ≡ rows_of (front ++ (q, flow) ∷ back)
 made_added front q flow back =
-    set_made q (with_pair flow (row_at q (rows_of (front ++ back)))) (front ++ back) (front ++ (q, flow) ∷ back) (ap (with_pair flow) (made_row q (front ++ back)) ∙ sym (row_with_pair front q flow back)) (λ k apart. sym (row_without_pair front k q flow back apart))
+    set_made q (with_pair flow (row_at q (rows_of (front ++ back)))) (front ++ back) (front ++ (q, flow) ∷ back)
+    (ap (with_pair flow) (made_row q (front ++ back)) ∙ sym (row_with_pair front q flow back))
+    (λ k apart. sym (row_without_pair front k q flow back apart))
 
 -- The rows of pairs, with one of them taken out, are those of the other pairs.
 pub made_removed : (front : List Flowed) (q : ℕ) (flow : ByDirection Energy) (back : List Flowed)
     → set_row (without_pair flow (row_at q (rows_of (front ++ (q, flow) ∷ back)))) (rows_of (front ++ (q, flow) ∷ back)) ≡ rows_of (front ++ back)
 made_removed front q flow back =
     let there = made_row q (front ++ (q, flow) ∷ back) ∙ row_with_pair front q flow back in
-    set_made q (without_pair flow (row_at q (rows_of (front ++ (q, flow) ∷ back)))) (front ++ (q, flow) ∷ back) (front ++ back) (ap (without_pair flow) there ∙ less_more flow (row_of q (front ++ back))) (λ k apart. row_without_pair front k q flow back apart)
+    set_made q (without_pair flow (row_at q (rows_of (front ++ (q, flow) ∷ back)))) (front ++ (q, flow) ∷ back) (front ++ back)
+    (ap (without_pair flow) there ∙ less_more flow (row_of q (front ++ back))) (λ k apart. row_without_pair front k q flow back apart)

@@ -7,12 +7,14 @@ use Rattle.quarter_table.specs.Kept.{StandsAt, BelongsAt}
 use Rattle.quarter_table.proofs.Orders.{earlier_on, later_past, row_here, row_other, after_at, after_less, after_later, after_missing, none_earlier}
 
 -- Behind the rows of earlier periods is the row of the period, if there is one.
-pub stands : (q : ℕ) (rs : List QuarterRow) (d : QuarterRow) → AreInOrder rs → length (earlier q rs) < length rs → (get_or rs (length (earlier q rs)) d).quarter ≡ q → StandsAt q rs (length (earlier q rs))
+pub stands : (q : ℕ) (rs : List QuarterRow) (d : QuarterRow) → AreInOrder rs → length (earlier q rs) < length rs
+    → (get_or rs (length (earlier q rs)) d).quarter ≡ q → StandsAt q rs (length (earlier q rs))
 stands q [] d order lt is = absurd (omega arith)
 stands q (r ∷ rs) d order lt is = elim (cases_lt r.quarter q) [
   | inl small ↦
       let on = earlier_on q r rs small in
-      let rest = stands q rs d order.1 (let l : length (earlier q (r ∷ rs)) ≡ suc (length (earlier q rs)) = ap length on in omega arith) (sym (ap (λ es. (get_or (r ∷ rs) (length es) d).quarter) on) ∙ is) in
+      let rest = stands q rs d order.1 (let l : length (earlier q (r ∷ rs)) ≡ suc (length (earlier q rs)) = ap length on in omega arith)
+      (sym (ap (λ es. (get_or (r ∷ rs) (length es) d).quarter) on) ∙ is) in
       let other = row_other q r rs (λ e. absurd (omega arith)) in
       subst (λ es. StandsAt q (r ∷ rs) (length es)) (sym on) (record {
         row = rest.row ∙ ap Some (sym other);
@@ -34,12 +36,14 @@ stands q (r ∷ rs) d order lt is = elim (cases_lt r.quarter q) [
 ]
 
 -- Where none is there, none is anywhere.
-pub belongs : (q : ℕ) (rs : List QuarterRow) (d : QuarterRow) → AreInOrder rs → (length (earlier q rs) < length rs → (get_or rs (length (earlier q rs)) d).quarter ≢ q) → BelongsAt q rs (length (earlier q rs))
+pub belongs : (q : ℕ) (rs : List QuarterRow) (d : QuarterRow) → AreInOrder rs
+    → (length (earlier q rs) < length rs → (get_or rs (length (earlier q rs)) d).quarter ≢ q) → BelongsAt q rs (length (earlier q rs))
 belongs q [] d order not = record { absent = refl; within = omega arith; front = refl; back = refl }
 belongs q (r ∷ rs) d order not = elim (cases_lt r.quarter q) [
   | inl small ↦
       let on = earlier_on q r rs small in
-      let rest = belongs q rs d order.1 (λ lt is. not (let l : length (earlier q (r ∷ rs)) ≡ suc (length (earlier q rs)) = ap length on in omega arith) (ap (λ es. (get_or (r ∷ rs) (length es) d).quarter) on ∙ is)) in
+      let rest = belongs q rs d order.1
+      (λ lt is. not (let l : length (earlier q (r ∷ rs)) ≡ suc (length (earlier q rs)) = ap length on in omega arith) (ap (λ es. (get_or (r ∷ rs) (length es) d).quarter) on ∙ is)) in
       subst (λ es. BelongsAt q (r ∷ rs) (length es)) (sym on) (record {
         absent = row_other q r rs (λ e. absurd (omega arith)) ∙ rest.absent;
         within = omega (arith, rest.within);

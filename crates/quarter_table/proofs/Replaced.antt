@@ -47,7 +47,12 @@ after_filter p q (r ∷ rs) after = elim (p r) as (λ b. AreAfter q (cond b (r �
 -- Rows in order, without some of them.
 order_filter : (p : QuarterRow → Bool) (rs : List QuarterRow) → AreInOrder rs → AreInOrder (filter p rs)
 order_filter p [] order = tt
-order_filter p (r ∷ rs) order = elim (p r) as (λ b. AreInOrder (cond b (r ∷ filter p rs) (filter p rs))) [ true ↦ (after_filter p r.quarter rs order.0, order_filter p rs order.1) | false ↦ order_filter p rs order.1 ]
+order_filter p (r ∷ rs) order =
+    elim (p r) as (λ b. AreInOrder (cond b (r ∷ filter p rs) (filter p rs))) [
+      | true ↦
+          (after_filter p r.quarter rs order.0, order_filter p rs order.1)
+      | false ↦ order_filter p rs order.1
+    ]
 
 -- Rows that have pairs, without some of them.
 pairs_filter : (p : QuarterRow → Bool) (rs : List QuarterRow) → HavePairs rs → HavePairs (filter p rs)

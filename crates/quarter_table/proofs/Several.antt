@@ -23,7 +23,8 @@ rows_with-append [] gs rows = refl
 rows_with-append (f ∷ fs) gs rows = rows_with-append fs gs (rows_plus f rows)
 
 -- One part more is added.
-pub part_more : (d : Direction) (parts : List Part) (i : ℕ) (t : Part) (old rows next : List QuarterRow) → i < length parts → t ≡ get_or parts i t → rows ≡ rows_with (parts_toward d (take i parts)) old → next ≡ rows_plus (t.0, flows_toward d t.1) rows
+pub part_more : (d : Direction) (parts : List Part) (i : ℕ) (t : Part) (old rows next : List QuarterRow) → i < length parts
+    → t ≡ get_or parts i t → rows ≡ rows_with (parts_toward d (take i parts)) old → next ≡ rows_plus (t.0, flows_toward d t.1) rows
     → next ≡ rows_with (parts_toward d (take (i + 1) parts)) old
 part_more d parts i t old rows next lt is was added =
     added ∙ ap (rows_plus (t.0, flows_toward d t.1)) was
@@ -50,7 +51,9 @@ one_side period d all some rest same measure =
     omega (arith, sum_by-map measure shown all, same f, sum_by-append f some rest, sum_by-map measure shown some, sum_by-map measure shown rest)
 
 -- Both directions together.
-pub both_sides : (measure : Flowed → ℕ) (all some rest others few more : List Flowed) → sum_by measure all ≡ sum_by measure some + sum_by measure rest → sum_by measure others ≡ sum_by measure few + sum_by measure more
+pub both_sides : (measure : Flowed → ℕ) (all some rest others few more : List Flowed)
+    → sum_by measure all ≡ sum_by measure some + sum_by measure rest
+    → sum_by measure others ≡ sum_by measure few + sum_by measure more
     → sum_by measure (all ++ others) ≡ sum_by measure ((some ++ few) ++ (rest ++ more))
 both_sides measure all some rest others few more one other =
     omega (arith, one, other, sum_by-append measure all others, sum_by-append measure (some ++ few) (rest ++ more), sum_by-append measure some few, sum_by-append measure rest more)
@@ -65,7 +68,10 @@ pub rows_less : (period : Periods) (es more front : List Entry) (e : Entry) (bac
 rows_less period es more front e back one =
     let side = λ (d : Direction). one_side period d (pairs d es) (gone_by d front e back) (kept_by d es front e back) (λ f. less_kept d f es more front e back one) in
     made_alike (station_flows period es) (gone_flows period front e back ++ kept_flows period es front e back) (λ measure.
-    both_sides measure (flows_of period Import (pairs Import es)) (flows_of period Import (gone_by Import front e back)) (flows_of period Import (kept_by Import es front e back)) (flows_of period Export (pairs Export es)) (flows_of period Export (gone_by Export front e back)) (flows_of period Export (kept_by Export es front e back)) (side Import measure) (side Export measure))
+    both_sides measure (flows_of period Import (pairs Import es)) (flows_of period Import (gone_by Import front e back))
+    (flows_of period Import (kept_by Import es front e back)) (flows_of period Export (pairs Export es))
+    (flows_of period Export (gone_by Export front e back)) (flows_of period Export (kept_by Export es front e back))
+    (side Import measure) (side Export measure))
 
 -- With it: those that it brings, and those that it leaves.
 pub rows_more : (period : Periods) (es more front : List Entry) (e : Entry) (back : List Entry) → IsOneMore es more front e back
@@ -73,7 +79,10 @@ pub rows_more : (period : Periods) (es more front : List Entry) (e : Entry) (bac
 rows_more period es more front e back one =
     let side = λ (d : Direction). one_side period d (pairs d more) (came_by d front e back) (kept_by d es front e back) (λ f. more_kept d f es more front e back one) in
     made_alike (station_flows period more) (came_flows period front e back ++ kept_flows period es front e back) (λ measure.
-    both_sides measure (flows_of period Import (pairs Import more)) (flows_of period Import (came_by Import front e back)) (flows_of period Import (kept_by Import es front e back)) (flows_of period Export (pairs Export more)) (flows_of period Export (came_by Export front e back)) (flows_of period Export (kept_by Export es front e back)) (side Import measure) (side Export measure))
+    both_sides measure (flows_of period Import (pairs Import more)) (flows_of period Import (came_by Import front e back))
+    (flows_of period Import (kept_by Import es front e back)) (flows_of period Export (pairs Export more))
+    (flows_of period Export (came_by Export front e back)) (flows_of period Export (kept_by Export es front e back))
+    (side Import measure) (side Export measure))
 
 -- One more live event: the pairs that it takes away are taken out, and those that it brings are added.
 pub rows_event_more : (period : Periods) (es more front : List Entry) (e : Entry) (back : List Entry) → IsOneMore es more front e back

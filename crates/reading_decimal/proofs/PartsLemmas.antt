@@ -140,7 +140,8 @@ point_parts int digits rest i d x =
     let read = exp_parts rest x in
     record {
       whole = scan_whole u ∙ ap (slice_range u 0) ends ∙ whole_front int (46 ∷ (digits ++ rest));
-      fraction = point_fraction u is_point ∙ (λ j. slice_range u (ends j + 1) (next j)) ∙ ap (λ k. take k (drop (n + 1) u)) front ∙ ap (take (length digits)) after ∙ take_at digits rest (length digits) refl;
+      fraction = point_fraction u is_point ∙ (λ j. slice_range u (ends j + 1) (next j)) ∙ ap (λ k. take k (drop (n + 1) u)) front
+          ∙ ap (take (length digits)) after ∙ take_at digits rest (length digits) refl;
       exponent = point_exponent u is_point ∙ exponent_at-drop u (digits_end u (digits_end u 0 + 1)) ∙ ap (λ r. exponent_at r 0) last ∙ read.0;
       exponent_negative = point_negative u is_point ∙ negative_at-drop u (digits_end u (digits_end u 0 + 1)) ∙ ap (λ r. negative_at r 0) last ∙ read.1;
     }

@@ -21,7 +21,8 @@ StartsQuarters = (period number : ℕ) → IsPeriod period → IsQuarterOf perio
 
 -- Each moment but the first closes the period before the one that it begins, where it begins one; elsewhere it closes the one that it lies in.
 pub record ClosesQuarters : Type 0 where
-  pub begins : (period moment : ℕ) → IsPeriod period → IsMoment moment → first_moment < moment → moment ≡ quarter_start period (quarter_at period moment) → closed_at period moment + 1 ≡ quarter_at period moment
+  pub begins : (period moment : ℕ) → IsPeriod period → IsMoment moment → first_moment < moment
+      → moment ≡ quarter_start period (quarter_at period moment) → closed_at period moment + 1 ≡ quarter_at period moment
   pub within : (period moment : ℕ) → IsPeriod period → IsMoment moment → moment ≢ quarter_start period (quarter_at period moment) → closed_at period moment ≡ quarter_at period moment
   pub first : (period : ℕ) → closed_at period first_moment ≡ quarter_at period first_moment
 

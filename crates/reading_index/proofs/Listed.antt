@@ -76,11 +76,13 @@ all_owned o (t ∷ ts) = ⊎_elim
 -- Those of an owner rise, as all do.
 behind_passed : (p : Timed → Bool) (n : ℕ) (ts : List Timed) → AreAbove n ts → AreAbove n (filter p ts)
 behind_passed p n [] behind = tt
-behind_passed p n (t ∷ ts) behind = elim (p t) as (λ b. AreAbove n (cond b (t ∷ filter p ts) (filter p ts))) [ true ↦ (behind.0, behind_passed p n ts behind.1) | false ↦ behind_passed p n ts behind.1 ]
+behind_passed p n (t ∷ ts) behind =
+    elim (p t) as (λ b. AreAbove n (cond b (t ∷ filter p ts) (filter p ts))) [ true ↦ (behind.0, behind_passed p n ts behind.1) | false ↦ behind_passed p n ts behind.1 ]
 
 pub filter-ranked : (p : Timed → Bool) (ts : List Timed) → AreRising ts → AreRising (filter p ts)
 filter-ranked p [] up = tt
-filter-ranked p (t ∷ ts) up = elim (p t) as (λ b. AreRising (cond b (t ∷ filter p ts) (filter p ts))) [ true ↦ (behind_passed p t.0 ts up.0, filter-ranked p ts up.1) | false ↦ filter-ranked p ts up.1 ]
+filter-ranked p (t ∷ ts) up =
+    elim (p t) as (λ b. AreRising (cond b (t ∷ filter p ts) (filter p ts))) [ true ↦ (behind_passed p t.0 ts up.0, filter-ranked p ts up.1) | false ↦ filter-ranked p ts up.1 ]
 
 -- The first rank of an owner is its own.
 pub owner_of-first : (o : ℕ) → owner_of (rank o 0 0 0) ≡ o
@@ -90,12 +92,18 @@ owner_of-first o =
     ∙ div-mul-add o (2 ^ 62) 0 (omega arith)
 
 -- What a search for the next reading of an owner finds.
-pub found_left : (o own k r : ℕ) (es : List (Entry MeterReading)) (ts : List Timed) (at : Option (Entry MeterReading)) (got : Option Timed) → k ≡ rank o 0 0 0 → own ≡ owner_of k → o ≤ owner_of r → AreRising es → map with_rank es ≡ ts → at ≡ first_of (from r es) → got ≡ only_owned own (option_map with_rank at)
+pub found_left : (o own k r : ℕ) (es : List (Entry MeterReading)) (ts : List Timed) (at : Option (Entry MeterReading)) (got : Option Timed)
+    → k ≡ rank o 0 0 0 → own ≡ owner_of k → o ≤ owner_of r → AreRising es → map with_rank es ≡ ts → at ≡ first_of (from r es)
+    → got ≡ only_owned own (option_map with_rank at)
     → got ≡ first_of (from_on r (owned o ts))
 found_left o own k r es ts at got first is low rising all at_is got_is =
     let same : own ≡ o = is ∙ ap owner_of first ∙ owner_of-first o in
     got_is ∙ (λ i. only_owned (same i) (option_map with_rank (at_is i))) ∙ first_behind o r es low rising ∙ ap (λ us. first_of (from_on r (owned o us))) all
 
 -- One reading more is listed.
-pub one_more : (r : ℕ) (e : Timed) (done next all : List PlacedReading) (ts : List Timed) → IsFirst r e ts → next ≡ done ++ placed_at e ∷ [] → done ++ map placed_at (from_on r ts) ≡ all → next ++ map placed_at (from_on (e.0 + 1) ts) ≡ all
-one_more r e done next all ts first more was = ap (λ rs. rs ++ map placed_at (from_on (e.0 + 1) ts)) more ∙ append_assoc done (placed_at e ∷ []) (map placed_at (from_on (e.0 + 1) ts)) ∙ sym (ap (λ us. done ++ map placed_at us) first.steps) ∙ was
+pub one_more : (r : ℕ) (e : Timed) (done next all : List PlacedReading) (ts : List Timed) → IsFirst r e ts
+    → next ≡ done ++ placed_at e ∷ [] → done ++ map placed_at (from_on r ts) ≡ all
+    → next ++ map placed_at (from_on (e.0 + 1) ts) ≡ all
+one_more r e done next all ts first more was = ap (λ rs. rs ++ map placed_at (from_on (e.0 + 1) ts)) more
+    ∙ append_assoc done (placed_at e ∷ []) (map placed_at (from_on (e.0 + 1) ts))
+    ∙ sym (ap (λ us. done ++ map placed_at us) first.steps) ∙ was

@@ -27,7 +27,8 @@ ranked (e ∷ es) rising = (behind_above e.0 es rising.0, ranked es rising.1)
 pub put_in : (r : ℕ) (f : Filed MeterReading) (es : List E) → map with_rank (below r es ++ (r, f) ∷ from r es) ≡ put_in_time (λ (t : Timed). t.0) (r, f.value) (map with_rank es)
 put_in r f [] = refl
 put_in r f (e ∷ es) =
-    (elim (nat_lt e.0 r) as (λ b. map with_rank (cond b (e ∷ below r es) [] ++ (r, f) ∷ cond b (from r es) (e ∷ es)) ≡ cond b (with_rank e ∷ put_in_time (λ (t : Timed). t.0) (r, f.value) (map with_rank es)) ((r, f.value) ∷ with_rank e ∷ map with_rank es)) [
+    (elim (nat_lt e.0 r) as (λ b. map with_rank (cond b (e ∷ below r es) [] ++ (r, f) ∷ cond b (from r es) (e ∷ es))
+    ≡ cond b (with_rank e ∷ put_in_time (λ (t : Timed). t.0) (r, f.value) (map with_rank es)) ((r, f.value) ∷ with_rank e ∷ map with_rank es)) [
       | true ↦ ap (λ ts. with_rank e ∷ ts) (put_in r f es)
       | false ↦ refl
     ])
@@ -48,7 +49,8 @@ none_filed r (e ∷ es) none =
 -- No reading behind a rank has it.
 none_behind : (r n : ℕ) (es : List E) → r ≤ n → AreAbove n es → has_rank r (map with_rank es) ≡ false
 none_behind r n [] le above = refl
-none_behind r n (e ∷ es) le above = or_from (eqb e.0 r) (has_rank r (map with_rank es)) (ne_eqb e.0 r (λ same. absurd (let up = above.0 in omega (arith, le, same, up)))) (none_behind r n es le above.1)
+none_behind r n (e ∷ es) le above =
+    or_from (eqb e.0 r) (has_rank r (map with_rank es)) (ne_eqb e.0 r (λ same. absurd (let up = above.0 in omega (arith, le, same, up)))) (none_behind r n es le above.1)
 
 -- Something is filed under a rank exactly if a reading has it.
 pub filed_rank : (r : ℕ) (es : List E) → AreRising es → is_some (filed_at r (from r es)) ≡ has_rank r (map with_rank es)
@@ -84,7 +86,8 @@ taken_out r (e ∷ es) rising some = ⊎_elim
     (λ (same : e.0 ≡ r).
     ap (λ b. map with_rank (cond b (e ∷ below r es) [] ++ drop 1 (cond b (from r es) (e ∷ es)))) (le-ltb e.0 r le)
     ∙ sym (ap (λ b. cond (not b) (with_rank e ∷ without r (map with_rank es)) (without r (map with_rank es))) (eq-eqb e.0 r same) ∙ without_behind r e.0 es le rising.0))
-    (λ (apart : e.0 ≡ r → ⊥). absurd (no_some (sym (ap (λ b. is_some (filed_at r (cond b (from r es) (e ∷ es)))) (le-ltb e.0 r le) ∙ ap (λ b. is_some (cond b (Some e.1) None)) (ne_eqb e.0 r apart)) ∙ some)))
+    (λ (apart : e.0 ≡ r → ⊥). absurd
+    (no_some (sym (ap (λ b. is_some (filed_at r (cond b (from r es) (e ∷ es)))) (le-ltb e.0 r le) ∙ ap (λ b. is_some (cond b (Some e.1) None)) (ne_eqb e.0 r apart)) ∙ some)))
     (cases_eq e.0 r))
     (cases_lt e.0 r)
   where
@@ -120,7 +123,8 @@ owner_up m n le = div_up (m / 2 ^ 10 / 2 ^ 31) (n / 2 ^ 10 / 2 ^ 31) (2 ^ 62) (o
 none_owned : (o n : ℕ) (es : List E) → o < owner_of n → AreAbove n es → owned o (map with_rank es) ≡ []
 none_owned o n [] lt above = refl
 none_owned o n (e ∷ es) lt above =
-    ap (λ b. cond b (with_rank e ∷ owned o (map with_rank es)) (owned o (map with_rank es))) (ne_eqb (owner_of e.0) o (λ same. absurd (let up = owner_up n e.0 (let a = above.0 in omega (arith, a)) in omega (arith, up, lt, same))))
+    ap (λ b. cond b (with_rank e ∷ owned o (map with_rank es)) (owned o (map with_rank es)))
+    (ne_eqb (owner_of e.0) o (λ same. absurd (let up = owner_up n e.0 (let a = above.0 in omega (arith, a)) in omega (arith, up, lt, same))))
     ∙ none_owned o n es lt above.1
 
 not_yet : (r : ℕ) (b : Bool) (e : Timed) (ts : List Timed) → e.0 < r → from_on r (cond b (e ∷ ts) ts) ≡ from_on r ts
@@ -139,7 +143,8 @@ first_behind o r (e ∷ es) low rising =
     (λ (le : r ≤ e.0). ap (λ b. only_owned o (option_map with_rank (first_of (cond b (from r es) (e ∷ es))))) (le-ltb e.0 r le) ∙ ⊎_elim
     (λ (same : owner_of e.0 ≡ o).
     ap (λ b. cond b (Some (with_rank e)) None) (eq-eqb (owner_of e.0) o same)
-    ∙ sym (ap (λ b. first_of (from_on r (cond b (with_rank e ∷ ts) ts))) (eq-eqb (owner_of e.0) o same) ∙ ap (λ b. first_of (cond (not b) (with_rank e ∷ from_on r ts) (from_on r ts))) (le-ltb e.0 r le)))
+    ∙ sym (ap (λ b. first_of (from_on r (cond b (with_rank e ∷ ts) ts))) (eq-eqb (owner_of e.0) o same)
+    ∙ ap (λ b. first_of (cond (not b) (with_rank e ∷ from_on r ts) (from_on r ts))) (le-ltb e.0 r le)))
     (λ (apart : owner_of e.0 ≡ o → ⊥).
     let up = owner_up r e.0 le in
     let later : o < owner_of e.0 = strictly (omega (arith, low, up)) apart in
@@ -176,7 +181,8 @@ last_below r n e [] l above rising lt is = let same = unwrapped is in subst (IsL
     unwrapped h = cc
 last_below r n e (f ∷ es) l above rising lt is = ⊎_elim
     (λ (on : f.0 < r).
-    let rest : IsLastBelow r e.0 l = last_below r e.0 f es l rising.0 rising.1 on (sym (last_cons e f (below r es)) ∙ sym (ap (λ b. last_of (e ∷ cond b (f ∷ below r es) [])) (lt-ltb f.0 r on)) ∙ is) in
+    let rest : IsLastBelow r e.0 l =
+    last_below r e.0 f es l rising.0 rising.1 on (sym (last_cons e f (below r es)) ∙ sym (ap (λ b. last_of (e ∷ cond b (f ∷ below r es) [])) (lt-ltb f.0 r on)) ∙ is) in
     record { under = rest.under; over = let up = rest.over in let a = above.0 in omega (arith, up, a) })
     (λ (end : r ≤ f.0).
     let same = unwrapped (sym (ap (λ b. last_of (e ∷ cond b (f ∷ below r es) [])) (le-ltb f.0 r end)) ∙ is) in subst (IsLastBelow r n) same (record { under = lt; over = above.0 }))
@@ -212,7 +218,8 @@ last_in_front r (e ∷ es) rising =
     (cases_lt e.0 r)
   where
     front_none : (b : Bool) → r ≤ e.0 → in_front r (cond b (with_rank e ∷ owned (owner_of r) (map with_rank es)) (owned (owner_of r) (map with_rank es))) ≡ []
-    front_none true le = ap (λ b. cond b (with_rank e ∷ in_front r (owned (owner_of r) (map with_rank es))) (in_front r (owned (owner_of r) (map with_rank es)))) (le-ltb e.0 r le) ∙ no_front r e.0 (owner_of r) es le rising.0
+    front_none true le = ap (λ b. cond b (with_rank e ∷ in_front r (owned (owner_of r) (map with_rank es))) (in_front r (owned (owner_of r) (map with_rank es)))) (le-ltb e.0 r le)
+        ∙ no_front r e.0 (owner_of r) es le rising.0
     front_none false le = no_front r e.0 (owner_of r) es le rising.0
 
     alone : (b : Bool) → cond b (Some (with_rank e)) None ≡ last_of (cond b (with_rank e ∷ []) [])
@@ -220,7 +227,8 @@ last_in_front r (e ∷ es) rising =
     alone false = refl
 
     step : (fs : List E) → below r es ≡ fs → only_owned (owner_of r) (option_map with_rank (last_of fs)) ≡ last_of (in_front r (owned (owner_of r) (map with_rank es))) → e.0 < r
-        → only_owned (owner_of r) (option_map with_rank (last_of (e ∷ fs))) ≡ last_of (cond (eqb (owner_of e.0) (owner_of r)) (with_rank e ∷ in_front r (owned (owner_of r) (map with_rank es))) (in_front r (owned (owner_of r) (map with_rank es))))
+        → only_owned (owner_of r) (option_map with_rank (last_of (e ∷ fs)))
+        ≡ last_of (cond (eqb (owner_of e.0) (owner_of r)) (with_rank e ∷ in_front r (owned (owner_of r) (map with_rank es))) (in_front r (owned (owner_of r) (map with_rank es))))
     step [] is rest lt =
         let none = none_last (in_front r (owned (owner_of r) (map with_rank es))) rest in
         alone (eqb (owner_of e.0) (owner_of r)) ∙ ap (λ ts. last_of (cond (eqb (owner_of e.0) (owner_of r)) (with_rank e ∷ ts) ts)) (sym none)
@@ -228,7 +236,8 @@ last_in_front r (e ∷ es) rising =
       where
         with_last : (l : Option E) → last_of (f ∷ fs) ≡ l → only_owned (owner_of r) (option_map with_rank (last_of (e ∷ f ∷ fs))) ≡ only_owned (owner_of r) (option_map with_rank l)
             → only_owned (owner_of r) (option_map with_rank l) ≡ last_of (in_front r (owned (owner_of r) (map with_rank es)))
-            → only_owned (owner_of r) (option_map with_rank (last_of (e ∷ f ∷ fs))) ≡ last_of (cond (eqb (owner_of e.0) (owner_of r)) (with_rank e ∷ in_front r (owned (owner_of r) (map with_rank es))) (in_front r (owned (owner_of r) (map with_rank es))))
+            → only_owned (owner_of r) (option_map with_rank (last_of (e ∷ f ∷ fs)))
+            ≡ last_of (cond (eqb (owner_of e.0) (owner_of r)) (with_rank e ∷ in_front r (owned (owner_of r) (map with_rank es))) (in_front r (owned (owner_of r) (map with_rank es))))
         with_last None last whole rest = absurd (never f fs last)
           where
             never : (f : E) (fs : List E) → last_of (f ∷ fs) ≡ None → ⊥
@@ -236,7 +245,8 @@ last_in_front r (e ∷ es) rising =
             never f (g ∷ gs) h = never g gs (sym (last_cons f g gs) ∙ h)
         with_last (Some l) last whole rest = ⊎_elim
             (λ (same : owner_of l.0 ≡ owner_of r).
-            let found : Some (with_rank l) ≡ last_of (in_front r (owned (owner_of r) (map with_rank es))) = sym (ap (λ b. cond b (Some (with_rank l)) None) (eq-eqb (owner_of l.0) (owner_of r) same)) ∙ rest in
+            let found : Some (with_rank l) ≡ last_of (in_front r (owned (owner_of r) (map with_rank es))) =
+            sym (ap (λ b. cond b (Some (with_rank l)) None) (eq-eqb (owner_of l.0) (owner_of r) same)) ∙ rest in
             whole ∙ ap (λ b. cond b (Some (with_rank l)) None) (eq-eqb (owner_of l.0) (owner_of r) same) ∙ sym (either (eqb (owner_of e.0) (owner_of r)) found))
             (λ (apart : owner_of l.0 ≡ owner_of r → ⊥).
             let at : IsLastBelow r e.0 l = placed l last in
@@ -244,10 +254,13 @@ last_in_front r (e ∷ es) rising =
             let up = owner_up e.0 l.0 (let o = at.over in omega (arith, o)) in let down = owner_up l.0 r (let u = at.under in omega (arith, u)) in
             let other : owner_of e.0 ≡ owner_of r → ⊥ = λ same. apart (omega (arith, up, down, same)) in
             whole ∙ ap (λ b. cond b (Some (with_rank l)) None) (ne_eqb (owner_of l.0) (owner_of r) apart)
-            ∙ sym (ap (λ b. last_of (cond b (with_rank e ∷ in_front r (owned (owner_of r) (map with_rank es))) (in_front r (owned (owner_of r) (map with_rank es))))) (ne_eqb (owner_of e.0) (owner_of r) other) ∙ ap last_of none))
+            ∙ sym (ap (λ b. last_of (cond b (with_rank e ∷ in_front r (owned (owner_of r) (map with_rank es))) (in_front r (owned (owner_of r) (map with_rank es)))))
+            (ne_eqb (owner_of e.0) (owner_of r) other)
+            ∙ ap last_of none))
             (cases_eq (owner_of l.0) (owner_of r))
           where
-            either : (b : Bool) → Some (with_rank l) ≡ last_of (in_front r (owned (owner_of r) (map with_rank es))) → last_of (cond b (with_rank e ∷ in_front r (owned (owner_of r) (map with_rank es))) (in_front r (owned (owner_of r) (map with_rank es)))) ≡ Some (with_rank l)
+            either : (b : Bool) → Some (with_rank l) ≡ last_of (in_front r (owned (owner_of r) (map with_rank es)))
+                → last_of (cond b (with_rank e ∷ in_front r (owned (owner_of r) (map with_rank es))) (in_front r (owned (owner_of r) (map with_rank es)))) ≡ Some (with_rank l)
             either true found = some_last (with_rank l) (with_rank e) (in_front r (owned (owner_of r) (map with_rank es))) found
             either false found = sym found
 

@@ -16,7 +16,8 @@ each_nothing measure (x ∷ xs) none = let all = sum_by-cons measure x xs in (om
 pub no_fall : (period : Periods) (p : Pair) → p.0.mwh ≤ p.1.mwh → AllByRecursion (λ t. t.1.down ≡ 0) (parts_of period p)
 no_fall period p up =
     let alone = append-nil (parts_of period p) in
-    let all : sum_by (λ (t : Part). t.1.down) (parts_of period p) ≡ sum_by (λ (q : Pair). (difference q).down) (p ∷ []) = ap (sum_by (λ (t : Part). t.1.down)) (sym alone) ∙ parts_down period (p ∷ []) in
+    let all : sum_by (λ (t : Part). t.1.down) (parts_of period p) ≡ sum_by (λ (q : Pair). (difference q).down) (p ∷ []) =
+    ap (sum_by (λ (t : Part). t.1.down)) (sym alone) ∙ parts_down period (p ∷ []) in
     let one = sum_by-cons (λ (q : Pair). (difference q).down) p [] in
     each_nothing (λ (t : Part). t.1.down) (parts_of period p) (omega (arith, all, one, up))
 

@@ -304,7 +304,8 @@ module _ (es more : List Entry) (e : Entry) (m : IsOneMoreOfRepeats es more e) w
       let many = sum_by-flat_map f (λ tx. pairs_by Moment d tx bare) (transactions_of (live bare)) in
       omega (arith, all, own, less, many)
 
-  parts_stay : (d : Direction) (f : Part → ℕ) (period : Periods) (q : ℕ) → sum_by f (filter (λ t. t.0 == q) (parts_over period (all_pairs_by Moment d bare))) ≡ sum_by f (filter (λ t. t.0 == q) (parts_over period (all_pairs_by Moment d es)))
+  parts_stay : (d : Direction) (f : Part → ℕ) (period : Periods) (q : ℕ)
+      → sum_by f (filter (λ t. t.0 == q) (parts_over period (all_pairs_by Moment d bare))) ≡ sum_by f (filter (λ t. t.0 == q) (parts_over period (all_pairs_by Moment d es)))
   parts_stay d f period q = passed (all_pairs_by Moment d bare) ∙ sums_stay d (λ p. sum_by (λ t. taken (t.0 == q) (f t)) (parts_of period p)) ∙ sym (passed (all_pairs_by Moment d es))
     where
       passed : (ps : List Pair) → sum_by f (filter (λ t. t.0 == q) (parts_over period ps)) ≡ sum_by (λ p. sum_by (λ t. taken (t.0 == q) (f t)) (parts_of period p)) ps

@@ -24,7 +24,8 @@ module _ (most room left : ℕ) (bytes : List ℕ) where
       ∙ ap (λ l. l ∷ lines_of most ys) (sym (kept_line_of Feed most held t.1.0 t.1.3))
 
   -- what the end of the input ends is the last, if there is any
-  last : (held xs ys : List ℕ) → xs ≡ bytes ++ ys → ys ≡ [] → TakesLine most room left (Ok Input) bytes held → Gives (lines_of most xs) (came_of Input held) (line_of Input most held) (lines_of most ys)
+  last : (held xs ys : List ℕ) → xs ≡ bytes ++ ys → ys ≡ [] → TakesLine most room left (Ok Input) bytes held
+      → Gives (lines_of most xs) (came_of Input held) (line_of Input most held) (lines_of most ys)
   last [] xs ys e none t =
       let empty : bytes ≡ [] = none_kept most [] bytes t.2 refl in
       (ap (lines_of most) (e ∙ ap (λ l. bytes ++ l) none ∙ append-nil bytes ∙ empty), ap (lines_of most) none)
@@ -46,7 +47,8 @@ module _ (most room left : ℕ) (bytes : List ℕ) where
 
 -- the same, of a reader of lines that may be this long
 pub next_comes : (end : LineEnd) (came : Came) (held : List ℕ) (most now_most room left : ℕ) (r0 r1 : Option (List ℕ)) → most ≡ longest_line → now_most ≡ most → came ≡ came_of end held
-    → (bytes : List ℕ) × Consumes r0 r1 bytes × TakesLine most room left (Ok end) bytes held → (end ≡ Input → OnSome r0 (IsAtEnd r1)) → Comes (lines_in r0) came (line_of end now_most held) (lines_in r1)
+    → (bytes : List ℕ) × Consumes r0 r1 bytes × TakesLine most room left (Ok end) bytes held → (end ≡ Input → OnSome r0 (IsAtEnd r1))
+    → Comes (lines_in r0) came (line_of end now_most held) (lines_in r1)
 next_comes end came held most now_most room left r0 r1 short same is t at_end =
     subst (λ k. Comes (lines_in r0) k (line_of end now_most held) (lines_in r1)) (sym is)
     (subst (λ n. Comes (lines_in r0) (came_of end held) (line_of end n held) (lines_in r1)) (sym (same ∙ short))

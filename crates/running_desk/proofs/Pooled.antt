@@ -18,7 +18,8 @@ taken before now o place p at within value items more =
 abbrev pub is_of : ℕ → Held → Bool
 is_of station p = p.station == station
 
-found : (station : ℕ) (passes : List Held) (place : ℕ) → position (is_of station) passes ≡ Some place → (result : Option Held) → result ≡ slice_get passes place → IfSome result (λ p. p.station ≡ station)
+found : (station : ℕ) (passes : List Held) (place : ℕ) → position (is_of station) passes ≡ Some place → (result : Option Held)
+    → result ≡ slice_get passes place → IfSome result (λ p. p.station ≡ station)
 found station passes place at None is = tt
 found station passes place at (Some p) is =
     let first = position-Some (is_of station) passes place p at in
@@ -26,7 +27,8 @@ found station passes place at (Some p) is =
     let test : is_of station p ≡ true = sym (ap (is_of station) same) ∙ first.1 in
     eqb-true p.station station test
 
-taken_at : (station : ℕ) (before now : Pooled) (o : Option ℕ) → position (is_of station) before.passes ≡ o → (result : Option Held) → IsTaken o before result now → IfSome result (λ p. p.station ≡ station)
+taken_at : (station : ℕ) (before now : Pooled) (o : Option ℕ) → position (is_of station) before.passes ≡ o
+    → (result : Option Held) → IsTaken o before result now → IfSome result (λ p. p.station ≡ station)
 taken_at station before now None at result h = let P : Option Held → Type 0 = λ r. IfSome r (λ p. p.station ≡ station) in subst P (sym h.0) tt
 taken_at station before now (Some place) at result h = found station before.passes place at result h.0
 

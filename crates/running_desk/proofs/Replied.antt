@@ -50,7 +50,8 @@ step_of : (at : StationPlace) (p : Held) (command : Command) (a : Answer) (p' : 
 step_of at p command a p' told h = record { changes = h.before.changes; content = h.before; reached = h.reached; answered = h.answered }
 
 -- what a submitted command is answered, in the words of the step
-stepped : (at : StationPlace) (p : Held) (command : Command) (a : Answer) (p' : Held) (told : Option Known) → Submitted at p command a p' told → IsStepAt at.limits command a ⊎ (a ≡ Refused ChangesExhausted)
+stepped : (at : StationPlace) (p : Held) (command : Command) (a : Answer) (p' : Held) (told : Option Known)
+    → Submitted at p command a p' told → IsStepAt at.limits command a ⊎ (a ≡ Refused ChangesExhausted)
 stepped at p command (Accepted n) p' told h = inl (record { changes = h.count; content = h.before; reached = h.reached; answered = h.taken.answered })
 stepped at p command Repeat p' told h = inl (step_of at p command Repeat p' told h)
 stepped at p command (Refused ChangesExhausted) p' told h = inr refl
@@ -63,7 +64,8 @@ stepped at p command (Refused AlreadyVoided) p' told h = inl (step_of at p comma
 stepped at p command (Refused NotVoided) p' told h = inl (step_of at p command (Refused NotVoided) p' told h)
 
 -- totals of a station are those that a replay prints
-pub totals_told : (asked : WhichTotals) (places : List StationPlace) (name : List ℕ) (f : figures.Figures) (e x : Energy) → AreTotalsOfName places name f e x → AreTotals places name asked (totals_line asked f e x)
+pub totals_told : (asked : WhichTotals) (places : List StationPlace) (name : List ℕ) (f : figures.Figures) (e x : Energy)
+    → AreTotalsOfName places name f e x → AreTotals places name asked (totals_line asked f e x)
 unfolding stands_with
 totals_told Figures places name f e x h =
     record {
@@ -85,7 +87,10 @@ totals_told Export places name f e x h =
     }
 
 -- the line of a command that was submitted is what a replay answers
-pub commanded : {M : Type 0} (gives : Command → Answer → Option Known → Option M → Type 0) (seen : Option M) (places : List StationPlace) (name : List ℕ) (p : Held) (command : Command) (p' : Held) (line : List ℕ) (named : IsNamed places name p.station) → IsCommandLine gives named.place p command p' line seen → IsCommanded places name command line
+pub commanded : {M : Type 0} (gives : Command → Answer → Option Known → Option M → Type 0) (seen : Option M)
+    (places : List StationPlace) (name : List ℕ) (p : Held) (command : Command) (p' : Held) (line : List ℕ)
+    (named : IsNamed places name p.station)
+    → IsCommandLine gives named.place p command p' line seen → IsCommanded places name command line
 commanded gives seen places name p command p' line named h =
     elim (stepped named.place p command h.answer p' h.told h.submitted) [
       | inl s ↦ inl (record {
@@ -97,13 +102,23 @@ commanded gives seen places name p command p' line named h =
     ]
 
 -- a meaning's answer, as a line, is what a replay answers
-replied : {M : Type 0} (gives : ℕ → StationPlace → Command → Answer → Option Known → Option M → Type 0) (seen : Option M) (places : List StationPlace) (name : List ℕ) (p : Held) (named : IsNamed places name p.station) (moment : ℕ) (m : Meaning) (text : Option (List ℕ)) (p' : Held) (told : Option Known) (line : List ℕ)
+replied : {M : Type 0} (gives : ℕ → StationPlace → Command → Answer → Option Known → Option M → Type 0) (seen : Option M)
+    (places : List StationPlace) (name : List ℕ) (p : Held) (named : IsNamed places name p.station) (moment : ℕ) (m : Meaning)
+    (text : Option (List ℕ)) (p' : Held) (told : Option Known) (line : List ℕ)
     → AnswersMeaning gives places p m text p' told seen → line ≡ ended_line (unwrap_or text (codes "silent"))
     → ((s : Station) × IsStationOf places name s × (line ≡ (by_meaning m s (record start { moment = moment })).1)) ⊎ IsExhausted m line
 replied gives seen places name p named moment Silence text p' told line h is =
-    inl (with_content name named.place.limits empty_content, stands_with places name p.station named zero empty_content refl, is ∙ ap (λ (t : Option (List ℕ)). ended_line (unwrap_or t (codes "silent"))) h.same)
+    inl (
+      with_content name named.place.limits empty_content,
+      stands_with places name p.station named zero empty_content refl,
+      is ∙ ap (λ (t : Option (List ℕ)). ended_line (unwrap_or t (codes "silent"))) h.same,
+    )
 replied gives seen places name p named moment (Ready reply) text p' told line h is =
-    inl (with_content name named.place.limits empty_content, stands_with places name p.station named zero empty_content refl, is ∙ ap (λ (t : Option (List ℕ)). ended_line (unwrap_or t (codes "silent"))) h.same)
+    inl (
+      with_content name named.place.limits empty_content,
+      stands_with places name p.station named zero empty_content refl,
+      is ∙ ap (λ (t : Option (List ℕ)). ended_line (unwrap_or t (codes "silent"))) h.same,
+    )
 replied gives seen places name p named moment (Event id request) text p' told line h is =
     let said = is ∙ ap (λ (t : Option (List ℕ)). ended_line (unwrap_or t (codes "silent"))) h.reply in
     elim (stepped named.place p (Deliver request.key request.event) h.answer p' told (h.submitted.settled named.place named.there)) [
@@ -116,7 +131,9 @@ replied gives seen places name p named moment (Event id request) text p' told li
     ]
 
 -- words that were read
-sent_read : {M : Type 0} (gives : ℕ → StationPlace → Command → Answer → Option Known → Option M → Type 0) (seen : Option M) (places : List StationPlace) (name : List ℕ) (p : Held) (named : IsNamed places name p.station) (words : List ℕ) (moment : ℕ) (text : Option (List ℕ)) (p' : Held) (told : Option Known) (memory : Bool) (line : List ℕ)
+sent_read : {M : Type 0} (gives : ℕ → StationPlace → Command → Answer → Option Known → Option M → Type 0) (seen : Option M)
+    (places : List StationPlace) (name : List ℕ) (p : Held) (named : IsNamed places name p.station) (words : List ℕ) (moment : ℕ)
+    (text : Option (List ℕ)) (p' : Held) (told : Option Known) (memory : Bool) (line : List ℕ)
     → Answers gives places p words moment text p' told seen memory → line ≡ ended_line (unwrap_or text (codes "silent")) → IsSent places name words moment line
 sent_read gives seen places name p named words moment text p' told true line h is =
     inr (inr (record { reply = h.reply; tells = h.tells; is = is ∙ ap (λ (t : Option (List ℕ)). ended_line (unwrap_or t (codes "silent"))) h.ready.same }))
@@ -127,12 +144,19 @@ sent_read gives seen places name p named words moment text p' told false line h 
     ]
 
 -- the line of a message that was answered is what a replay answers
-pub sent : {M : Type 0} (gives : ℕ → StationPlace → Command → Answer → Option Known → Option M → Type 0) (seen : Option M) (places : List StationPlace) (name : List ℕ) (p : Held) (named : IsNamed places name p.station) (words : List ℕ) (p' : Held) (line : List ℕ) → IsMessageLine gives places p words p' line seen → (moment : ℕ) × IsSent places name words moment line
+pub sent : {M : Type 0} (gives : ℕ → StationPlace → Command → Answer → Option Known → Option M → Type 0) (seen : Option M)
+    (places : List StationPlace) (name : List ℕ) (p : Held) (named : IsNamed places name p.station) (words : List ℕ) (p' : Held)
+    (line : List ℕ)
+    → IsMessageLine gives places p words p' line seen → (moment : ℕ) × IsSent places name words moment line
 sent gives seen places name p named words p' line h = (h.moment, sent_read gives seen places name p named words h.moment h.text p' h.told h.memory line h.answers h.is)
 
 -- the line of the answer to a command that was submitted, with what was seen
-pub submitted_line : {M : Type 0} (gives : ℕ → StationPlace → Command → Answer → Option Known → Option M → Type 0) (seen : Option M) (places roster : List StationPlace) (p p' : Held) (command : Command) (a : Answer) (told : Option Known) (before now : List ℕ) → places ≡ roster → before ≡ []
-    → ((at : StationPlace) → slice_get roster p.station ≡ Some at → Submitted at p command a p' told) → IsGivenAt gives roster p.station command a told seen → now ≡ before ++ ended_line (answer_text a)
+pub submitted_line : {M : Type 0} (gives : ℕ → StationPlace → Command → Answer → Option Known → Option M → Type 0)
+    (seen : Option M) (places roster : List StationPlace) (p p' : Held) (command : Command) (a : Answer) (told : Option Known)
+    (before now : List ℕ)
+    → places ≡ roster → before ≡ []
+    → ((at : StationPlace) → slice_get roster p.station ≡ Some at → Submitted at p command a p' told)
+    → IsGivenAt gives roster p.station command a told seen → now ≡ before ++ ended_line (answer_text a)
     → (at : StationPlace) → slice_get places p.station ≡ Some at → IsCommandLine (gives p.station at) at p command p' now seen
 submitted_line gives seen places roster p p' command a told before now same empty settled given put at there =
     let here = ap (λ (x : List StationPlace). slice_get x p.station) (sym same) ∙ there in
@@ -145,7 +169,8 @@ submitted_line gives seen places roster p p' command a told before now same empt
     }
 
 -- the list of a transaction that is asked for
-pub list_told : {T E : Type 0} (r : Result T E) (what : TxList) (places : List StationPlace) (name tx : List ℕ) (l : TxListing) (now : List ℕ) → IsListingOfName places name tx l → OnOk r (now ≡ listed what name tx l) → OnOk r (IsList places what name tx now)
+pub list_told : {T E : Type 0} (r : Result T E) (what : TxList) (places : List StationPlace) (name tx : List ℕ) (l : TxListing) (now : List ℕ)
+    → IsListingOfName places name tx l → OnOk r (now ≡ listed what name tx l) → OnOk r (IsList places what name tx now)
 unfolding stands_with
 list_told (Ok _) what places name tx l now h put = inl (record {
   station = Some (with_content name h.named.place.limits h.listing.content);
@@ -155,7 +180,8 @@ list_told (Ok _) what places name tx l now h put = inl (record {
 list_told (Err _) what places name tx l now h put = put
 
 -- the line of the totals that are asked for
-pub totals_line_told : {T E : Type 0} (r : Result T E) (asked : WhichTotals) (places : List StationPlace) (name : List ℕ) (f : figures.Figures) (e x : Energy) (now : List ℕ) → AreTotalsOfName places name f e x
+pub totals_line_told : {T E : Type 0} (r : Result T E) (asked : WhichTotals) (places : List StationPlace) (name : List ℕ) (f : figures.Figures) (e x : Energy) (now : List ℕ)
+    → AreTotalsOfName places name f e x
     → OnOk r (now ≡ totals_line asked f e x) → OnOk r (IsTotals places name asked now)
 totals_line_told (Ok _) asked places name f e x now totals put = inl (subst (AreTotals places name asked) (sym put) (totals_told asked places name f e x totals))
 totals_line_told (Err _) asked places name f e x now totals put = put

@@ -28,7 +28,8 @@ Stands None now done = ⊤
 Stands (Some all) None done = ⊥
 Stands (Some all) (Some rest) done = before_close all ≡ done ++ before_close rest
 
-module _ {M : Type 0} (gives : ℕ → StationPlace → Command → Answer → Option Known → Option M → Type 0) (shows : ℕ → List (List ℕ × Board) → M → Type 0) (sites : List SitePlan) (places : List StationPlace) where
+module _ {M : Type 0} (gives : ℕ → StationPlace → Command → Answer → Option Known → Option M → Type 0)
+    (shows : ℕ → List (List ℕ × Board) → M → Type 0) (sites : List SitePlan) (places : List StationPlace) where
   -- a line with its answer
   abbrev Own : Replied M → Type 0
   Own l = IsReplyOrMemory gives shows sites places (line_meaning l.line) l.text l.seen
@@ -83,7 +84,9 @@ module _ {M : Type 0} (gives : ℕ → StationPlace → Command → Answer → O
       sym (s ∙ ap (λ l. done ++ before_close l) comes.0 ∙ append-nil done)
 
   -- what came ended the server
-  pub ended : (came : Came) (line : Line) (first now next : Option (List Line)) (w0 w1 : Option (List ℕ)) (handed : List M) → SoFar first now w0 w1 handed → Comes now came line next → ends came line ≡ true → AddsReplies gives shows sites places first w0 w1 handed
+  pub ended : (came : Came) (line : Line) (first now next : Option (List Line)) (w0 w1 : Option (List ℕ)) (handed : List M)
+      → SoFar first now w0 w1 handed → Comes now came line next → ends came line ≡ true
+      → AddsReplies gives shows sites places first w0 w1 handed
   ended came line first now next w0 w1 handed so_far comes closes =
       record {
         lines = so_far.lines;
@@ -109,7 +112,8 @@ module _ {M : Type 0} (gives : ℕ → StationPlace → Command → Answer → O
   as_line line (Some rest) (Some later) comes = comes.0 ∙ ap (λ l. line ∷ l) (sym comes.1)
 
   -- one line more was answered
-  answered : (line : Line) (first now next : Option (List Line)) (w0 w1 w2 : Option (List ℕ)) (handed more : List M) (seen : Option M) → is_close line ≡ false → SoFar first now w0 w1 handed → Comes now kind.Line line next
+  answered : (line : Line) (first now next : Option (List Line)) (w0 w1 w2 : Option (List ℕ)) (handed more : List M) (seen : Option M)
+      → is_close line ≡ false → SoFar first now w0 w1 handed → Comes now kind.Line line next
       → AddsReply gives shows sites places line w1 w2 seen → more ≡ handed ++ if_seen seen → SoFar first next w0 w2 more
   answered line first now next w0 w1 w2 handed more seen goes so_far comes a kept =
       let own : Replied M = record { line = line; text = a.0; seen = seen } in
@@ -120,25 +124,29 @@ module _ {M : Type 0} (gives : ℕ → StationPlace → Command → Answer → O
         replies = All-append Own so_far.lines one so_far.replies (All-cons Own own [] a.2 (All-nil Own));
         adds = subst (Appends w0 w2) (sym (flat_map-append (λ (l : Replied M). l.text) so_far.lines one))
             (Appends-trans w0 w1 w2 (texts so_far.lines) (texts one) so_far.adds (subst (Appends w1 w2) (sym (append-nil a.0)) a.1));
-        all = kept ∙ ap (λ l. l ++ if_seen seen) so_far.all ∙ ap (λ l. seen_with so_far.lines ++ l) (sym (append-nil (if_seen seen))) ∙ sym (flat_map-append (λ (l : Replied M). if_seen l.seen) so_far.lines one);
+        all = kept ∙ ap (λ l. l ++ if_seen seen) so_far.all ∙ ap (λ l. seen_with so_far.lines ++ l) (sym (append-nil (if_seen seen)))
+            ∙ sym (flat_map-append (λ (l : Replied M). if_seen l.seen) so_far.lines one);
       }
 
   -- what came was answered, and did not end the server
-  pub goes_on : (came : Came) (line : Line) (first now next : Option (List Line)) (w0 w1 w2 : Option (List ℕ)) (handed more : List M) (seen : Option M) → ends came line ≡ false → SoFar first now w0 w1 handed → Comes now came line next
+  pub goes_on : (came : Came) (line : Line) (first now next : Option (List Line)) (w0 w1 w2 : Option (List ℕ)) (handed more : List M) (seen : Option M)
+      → ends came line ≡ false → SoFar first now w0 w1 handed → Comes now came line next
       → AddsReply gives shows sites places line w1 w2 seen → more ≡ handed ++ if_seen seen → SoFar first next w0 w2 more
   goes_on kind.Line line first now next w0 w1 w2 handed more seen goes so_far comes a kept = answered line first now next w0 w1 w2 handed more seen goes so_far comes a kept
   goes_on kind.LastLine line first now next w0 w1 w2 handed more seen goes so_far comes a kept = answered line first now next w0 w1 w2 handed more seen goes so_far (as_line line now next comes) a kept
   goes_on kind.End line first now next w0 w1 w2 handed more seen goes so_far comes a kept = cc
 
   -- no line is behind the last line
-  none_behind : (line : Line) (first now next : Option (List Line)) (before done : List Line) → Stands first now before → Stands first next done → Comes now kind.LastLine line next → AreAnswered first done
+  none_behind : (line : Line) (first now next : Option (List Line)) (before done : List Line) → Stands first now before
+      → Stands first next done → Comes now kind.LastLine line next → AreAnswered first done
   none_behind line None now next before done s0 s comes = tt
   none_behind line (Some all) None next before done s0 s comes = absurd s0
   none_behind line (Some all) (Some rest) None before done s0 s comes = absurd s
   none_behind line (Some all) (Some rest) (Some later) before done s0 s comes = sym (s ∙ ap (λ l. done ++ before_close l) comes.1 ∙ append-nil done)
 
   -- the last line was answered
-  pub finished : (line : Line) (first now next : Option (List Line)) (w0 w1 w2 : Option (List ℕ)) (handed more : List M) (seen : Option M) → ends kind.LastLine line ≡ false → SoFar first now w0 w1 handed → Comes now kind.LastLine line next
+  pub finished : (line : Line) (first now next : Option (List Line)) (w0 w1 w2 : Option (List ℕ)) (handed more : List M) (seen : Option M)
+      → ends kind.LastLine line ≡ false → SoFar first now w0 w1 handed → Comes now kind.LastLine line next
       → AddsReply gives shows sites places line w1 w2 seen → more ≡ handed ++ if_seen seen → AddsReplies gives shows sites places first w0 w2 more
   finished line first now next w0 w1 w2 handed more seen goes so_far comes a kept =
       let done : SoFar first next w0 w2 more = answered line first now next w0 w1 w2 handed more seen goes so_far (as_line line now next comes) a kept in
@@ -151,15 +159,20 @@ module _ {M : Type 0} (gives : ℕ → StationPlace → Command → Answer → O
       }
 
   -- the same, of what a line is called
-  pub ended_at : (came : Came) (own line : Line) (first now next : Option (List Line)) (w0 w1 : Option (List ℕ)) (handed : List M) → own ≡ line → SoFar first now w0 w1 handed → Comes now came line next → ends came own ≡ true → AddsReplies gives shows sites places first w0 w1 handed
+  pub ended_at : (came : Came) (own line : Line) (first now next : Option (List Line)) (w0 w1 : Option (List ℕ)) (handed : List M)
+      → own ≡ line → SoFar first now w0 w1 handed → Comes now came line next → ends came own ≡ true
+      → AddsReplies gives shows sites places first w0 w1 handed
   ended_at came own line first now next w0 w1 handed same so_far comes closes = ended came line first now next w0 w1 handed so_far comes (sym (ap (ends came) same) ∙ closes)
 
-  pub goes_on_at : (came : Came) (own other line : Line) (first now next : Option (List Line)) (w0 w1 w2 : Option (List ℕ)) (handed more : List M) (seen : Option M) → own ≡ line → other ≡ line → ends came own ≡ false → SoFar first now w0 w1 handed → Comes now came line next
+  pub goes_on_at : (came : Came) (own other line : Line) (first now next : Option (List Line)) (w0 w1 w2 : Option (List ℕ)) (handed more : List M) (seen : Option M)
+      → own ≡ line → other ≡ line → ends came own ≡ false → SoFar first now w0 w1 handed → Comes now came line next
       → AddsReply gives shows sites places other w1 w2 seen → more ≡ handed ++ if_seen seen → SoFar first next w0 w2 more
   goes_on_at came own other line first now next w0 w1 w2 handed more seen same too goes so_far comes a kept =
       goes_on came line first now next w0 w1 w2 handed more seen (sym (ap (ends came) same) ∙ goes) so_far comes (subst (λ l. AddsReply gives shows sites places l w1 w2 seen) too a) kept
 
-  pub finished_at : (came : Came) (own other line : Line) (first now next : Option (List Line)) (w0 w1 w2 : Option (List ℕ)) (handed more : List M) (seen : Option M) → came ≡ kind.LastLine → own ≡ line → other ≡ line → ends came own ≡ false → SoFar first now w0 w1 handed → Comes now came line next
+  pub finished_at : (came : Came) (own other line : Line) (first now next : Option (List Line)) (w0 w1 w2 : Option (List ℕ)) (handed more : List M) (seen : Option M)
+      → came ≡ kind.LastLine → own ≡ line → other ≡ line → ends came own ≡ false → SoFar first now w0 w1 handed
+      → Comes now came line next
       → AddsReply gives shows sites places other w1 w2 seen → more ≡ handed ++ if_seen seen → AddsReplies gives shows sites places first w0 w2 more
   finished_at came own other line first now next w0 w1 w2 handed more seen is same too goes so_far comes a kept =
       finished line first now next w0 w1 w2 handed more seen

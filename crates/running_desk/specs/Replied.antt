@@ -126,7 +126,8 @@ IsBoard shows sites places (Some site) text seen = IsShownBoard shows sites plac
 
 -- A command was submitted with a pass at a station of this place, the line has the answer to it,
 -- and what was seen belongs to that answer.
-pub record IsCommandLine {M : Type 0} (gives : Command → Answer → Option Known → Option M → Type 0) (at : StationPlace) (p : Held) (command : Command) (p' : Held) (line : List ℕ) (seen : Option M) : Type 0 where
+pub record IsCommandLine {M : Type 0} (gives : Command → Answer → Option Known → Option M → Type 0) (at : StationPlace) (p : Held)
+    (command : Command) (p' : Held) (line : List ℕ) (seen : Option M) : Type 0 where
   pub answer : Answer
   pub told : Option Known
   pub submitted : Submitted at p command answer p' told
@@ -165,7 +166,8 @@ IsSent places name words moment text =
 
 -- A station's words were answered with a pass at some moment, the line has that answer, and what was seen belongs to
 -- it.
-pub record IsMessageLine {M : Type 0} (gives : ℕ → StationPlace → Command → Answer → Option Known → Option M → Type 0) (places : List StationPlace) (p : Held) (words : List ℕ) (p' : Held) (line : List ℕ) (seen : Option M) : Type 0 where
+pub record IsMessageLine {M : Type 0} (gives : ℕ → StationPlace → Command → Answer → Option Known → Option M → Type 0)
+    (places : List StationPlace) (p : Held) (words : List ℕ) (p' : Held) (line : List ℕ) (seen : Option M) : Type 0 where
   pub moment : ℕ
   pub text : Option (List ℕ)
   pub told : Option Known
@@ -182,7 +184,8 @@ IsMessaged gives places name words text seen =
 -- The answer to an operator's line at a desk of these sites and stations, by what the line says,
 -- and what was seen of the desk's journal then: `gives` with an answer to a command, `shows` with a
 -- site's boards. Moments come from the clock, so a line that gives one is at fault.
-abbrev pub IsReply : {M : Type 0} → (ℕ → StationPlace → Command → Answer → Option Known → Option M → Type 0) → (ℕ → List (List ℕ × Board) → M → Type 0) → List SitePlan → List StationPlace → LineMeaning → List ℕ → Option M → Type 0
+abbrev pub IsReply : {M : Type 0} → (ℕ → StationPlace → Command → Answer → Option Known → Option M → Type 0)
+    → (ℕ → List (List ℕ × Board) → M → Type 0) → List SitePlan → List StationPlace → LineMeaning → List ℕ → Option M → Type 0
 IsReply gives shows sites places nothing text seen = text ≡ []
 IsReply gives shows sites places (fails fault) text seen = text ≡ fault_line fault
 IsReply gives shows sites places (sets_limits transactions events readings changes) text seen = text ≡ fault_line DeclaredLate
@@ -201,5 +204,6 @@ IsReply gives shows sites places (lists what name tx) text seen = IsList places 
 IsReply gives shows sites places (marks word) text seen = text ≡ mark_line word
 
 -- An operator's line gets this answer, or `fault OutOfMemory`.
-abbrev pub IsReplyOrMemory : {M : Type 0} → (ℕ → StationPlace → Command → Answer → Option Known → Option M → Type 0) → (ℕ → List (List ℕ × Board) → M → Type 0) → List SitePlan → List StationPlace → LineMeaning → List ℕ → Option M → Type 0
+abbrev pub IsReplyOrMemory : {M : Type 0} → (ℕ → StationPlace → Command → Answer → Option Known → Option M → Type 0)
+    → (ℕ → List (List ℕ × Board) → M → Type 0) → List SitePlan → List StationPlace → LineMeaning → List ℕ → Option M → Type 0
 IsReplyOrMemory gives shows sites places meaning text seen = IsReply gives shows sites places meaning text seen ⊎ (text ≡ ended_line (codes "fault OutOfMemory"))

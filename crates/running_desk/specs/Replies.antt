@@ -23,7 +23,9 @@ pub record Replied (M : Type 0) : Type 0 where
 -- The answers to the operator's lines that come, up to the line that says `close`, were appended
 -- one after the other, and nothing else. `lines` has each line with its answer and with what was
 -- seen of the desk's journal, and `handed` is all that was seen.
-pub record AddsReplies {M : Type 0} (gives : ℕ → StationPlace → Command → Answer → Option Known → Option M → Type 0) (shows : ℕ → List (List ℕ × Board) → M → Type 0) (sites : List SitePlan) (places : List StationPlace) (coming : Option (List Line)) (before now : Option (List ℕ)) (handed : List M) : Type 0 where
+pub record AddsReplies {M : Type 0} (gives : ℕ → StationPlace → Command → Answer → Option Known → Option M → Type 0)
+    (shows : ℕ → List (List ℕ × Board) → M → Type 0) (sites : List SitePlan) (places : List StationPlace)
+    (coming : Option (List Line)) (before now : Option (List ℕ)) (handed : List M) : Type 0 where
   pub lines : List (Replied M)
   pub those : AreAnswered coming (map (λ l. l.line) lines)
   pub replies : All (λ l. IsReplyOrMemory gives shows sites places (line_meaning l.line) l.text l.seen) lines
@@ -31,5 +33,7 @@ pub record AddsReplies {M : Type 0} (gives : ℕ → StationPlace → Command �
   pub all : handed ≡ flat_map (λ l. if_seen l.seen) lines
 
 -- The answer to a line was written.
-abbrev pub AddsReply : {M : Type 0} → (ℕ → StationPlace → Command → Answer → Option Known → Option M → Type 0) → (ℕ → List (List ℕ × Board) → M → Type 0) → List SitePlan → List StationPlace → Line → Option (List ℕ) → Option (List ℕ) → Option M → Type 0
+abbrev pub AddsReply : {M : Type 0} → (ℕ → StationPlace → Command → Answer → Option Known → Option M → Type 0)
+    → (ℕ → List (List ℕ × Board) → M → Type 0) → List SitePlan → List StationPlace → Line → Option (List ℕ) → Option (List ℕ)
+    → Option M → Type 0
 AddsReply gives shows sites places line before now seen = (text : List ℕ) × Appends before now text × IsReplyOrMemory gives shows sites places (line_meaning line) text seen

@@ -9,7 +9,8 @@ ok_told (Ok x) A B f a = f a
 ok_told (Err e) A B f a = tt
 
 -- an answer that is written behind nothing
-pub written_whole : {T E : Type 0} (r : Result T E) (s : Script) (text old new : List ℕ) (after : Script × List ℕ) → after ≡ (s, text) → old ≡ [] → OnOk r (new ≡ old ++ text) → OnOk r (after ≡ (s, new))
+pub written_whole : {T E : Type 0} (r : Result T E) (s : Script) (text old new : List ℕ) (after : Script × List ℕ)
+    → after ≡ (s, text) → old ≡ [] → OnOk r (new ≡ old ++ text) → OnOk r (after ≡ (s, new))
 written_whole r s text old new after is empty told = ok_told r (new ≡ old ++ text) (after ≡ (s, new)) (λ e. is ∙ ap (λ l. (s, l)) (sym (e ∙ ap (λ l. l ++ text) empty))) told
 
 -- if a call succeeds, what follows for its value from what it ensures

@@ -39,12 +39,15 @@ count_is site ys = sym (length-filter (λ (s : StationPlan). eqb s.site site) ys
 row_is : (xs : List StationPlan) (site n : ℕ) → row_at xs site n ≡ length (limits_at (take n xs) site)
 row_is xs site n = count_is site (take n xs)
 
-module _ (d : Drafted) (cells : List Cell) (books : List Book) (passes : List Held) (r : IsRunning d.sites d.stations cells books passes) (period : Periods) (site : ℕ) (b : Book) (book : slice_get books site ≡ Some b) where
+module _ (d : Drafted) (cells : List Cell) (books : List Book) (passes : List Held)
+    (r : IsRunning d.sites d.stations cells books passes) (period : Periods) (site : ℕ) (b : Book)
+    (book : slice_get books site ≡ Some b) where
   abbrev order : Order
   order = order_at d.sites site
 
   abbrev Rows : ℕ → Type 0
-  Rows n = map (λ row. row_after row b.posts) (range_with_len 0 (length (limits_at (take n d.stations) site))) ≡ map (λ (s : List ℕ × Board). s.1.figures) (boards_at order period (take n d.stations) cells site)
+  Rows n = map (λ row. row_after row b.posts) (range_with_len 0 (length (limits_at (take n d.stations) site)))
+      ≡ map (λ (s : List ℕ × Board). s.1.figures) (boards_at order period (take n d.stations) cells site)
 
   rows_step : (n : ℕ) → n < length d.stations → Rows n → Rows (n + 1)
   rows_step n less rows =
@@ -57,8 +60,10 @@ module _ (d : Drafted) (cells : List Cell) (books : List Book) (passes : List He
       let m = length (limits_at (take n d.stations) site) in
       let row : c.0.row ≡ m = place.row ∙ ap (λ k. row_at d.stations k n) e ∙ row_is d.stations site n in
       let tied = (r.shown n c.0 b c.1 (ap (slice_get books) (place.site ∙ e) ∙ book)).tied in
-      let shown : row_after m b.posts ≡ figures_by order (entries c.0.content) = ap (λ k. row_after k b.posts) (sym row) ∙ tied ∙ ap (λ o. figures_by o (entries c.0.content)) (place.order ∙ ap (order_at d.sites) e) in
-      let count : length (limits_at (take (n + 1) d.stations) site) ≡ m + 1 = ap length (limits_more_yes d.stations site n s.0 less read e) ∙ length-append (limits_at (take n d.stations) site) (s.0.limits ∷ []) in
+      let shown : row_after m b.posts ≡ figures_by order (entries c.0.content) =
+      ap (λ k. row_after k b.posts) (sym row) ∙ tied ∙ ap (λ o. figures_by o (entries c.0.content)) (place.order ∙ ap (order_at d.sites) e) in
+      let count : length (limits_at (take (n + 1) d.stations) site) ≡ m + 1 =
+      ap length (limits_more_yes d.stations site n s.0 less read e) ∙ length-append (limits_at (take n d.stations) site) (s.0.limits ∷ []) in
       ap (λ k. map (λ row. row_after row b.posts) (range_with_len 0 k)) count
       ∙ map-range_with_len_more (λ row. row_after row b.posts) 0 m m (omega arith)
       ∙ (λ i. rows i ++ shown i ∷ [])
@@ -75,7 +80,8 @@ module _ (d : Drafted) (cells : List Cell) (books : List Book) (passes : List He
   all_rows (suc n) most = let same : n + 1 ≡ suc n = omega arith in subst Rows same (rows_step n (omega (arith, most)) (all_rows n (omega (arith, most))))
 
   -- the sums over a book's rows are those over the boards of its stations
-  pub totals_are : sum_of_figures (map (λ row. row_after row b.posts) (range_with_len 0 (length b.limits))) ≡ (site_board period (boards_at (order_at d.sites site) period d.stations cells site)).figures
+  pub totals_are : sum_of_figures (map (λ row. row_after row b.posts) (range_with_len 0 (length b.limits)))
+      ≡ (site_board period (boards_at (order_at d.sites site) period d.stations cells site)).figures
   totals_are =
       let all : take (length d.stations) d.stations ≡ d.stations = take_all (length d.stations) d.stations (omega arith) in
       ap (λ l. sum_of_figures (map (λ row. row_after row b.posts) (range_with_len 0 (length l)))) (r.books_are site b book ∙ ap (λ xs. limits_at xs site) (sym all))
@@ -97,11 +103,13 @@ pub one_place : (names : List (List ℕ)) (j k : ℕ) → has_twice names ≡ fa
 one_place [] j k once lj lk same = absurd (omega arith)
 one_place (m ∷ names) zero zero once lj lk same = refl
 one_place (m ∷ names) zero (suc k) once lj lk same = absurd (differ m (get_or names k []) (none_at names m k (neither (list_any (bytes_eq m) names) (has_twice names) once).0 (omega (arith, lk))) same)
-one_place (m ∷ names) (suc j) zero once lj lk same = absurd (differ m (get_or names j []) (none_at names m j (neither (list_any (bytes_eq m) names) (has_twice names) once).0 (omega (arith, lj))) (sym same))
+one_place (m ∷ names) (suc j) zero once lj lk same =
+    absurd (differ m (get_or names j []) (none_at names m j (neither (list_any (bytes_eq m) names) (has_twice names) once).0 (omega (arith, lj))) (sym same))
 one_place (m ∷ names) (suc j) (suc k) once lj lk same = ap suc (one_place names j k (neither (list_any (bytes_eq m) names) (has_twice names) once).1 (omega (arith, lj)) (omega (arith, lk)) same)
 
 -- what has a name that occurs once is found by it
-pub found_once : {X : Type 0} (f : X → List ℕ) (xs : List X) (k : ℕ) (name : List ℕ) → has_twice (map f xs) ≡ false → k < length xs → get_or (map f xs) k [] ≡ name → position (λ x. bytes_eq name (f x)) xs ≡ Some k
+pub found_once : {X : Type 0} (f : X → List ℕ) (xs : List X) (k : ℕ) (name : List ℕ) → has_twice (map f xs) ≡ false
+    → k < length xs → get_or (map f xs) k [] ≡ name → position (λ x. bytes_eq name (f x)) xs ≡ Some k
 found_once {X} f xs k name once less named = at (position (λ (x : X). bytes_eq name (f x)) xs) refl
   where
     names : List (List ℕ)
@@ -130,7 +138,9 @@ found_alike sites name site k once less lk named = ⊎_elim
     (λ (e : k ≡ site). (bytes_eq-Decides name (site_name sites k)).1 (sym named ∙ ap (site_name sites) (sym e)) ∙ sym (eq-eqb k site e))
     (λ (e : k ≢ site).
     no_match (bytes_eq name (site_name sites k)) refl
-    (λ is. e (one_place (map (λ (s : SitePlan). s.name) sites) k site once (omega (arith, lk, length-map sites (λ (s : SitePlan). s.name))) (omega (arith, less, length-map sites (λ (s : SitePlan). s.name)))
+    (λ is. e (one_place (map (λ (s : SitePlan). s.name) sites) k site once
+    (omega (arith, lk, length-map sites (λ (s : SitePlan). s.name)))
+    (omega (arith, less, length-map sites (λ (s : SitePlan). s.name)))
     (sym ((bytes_eq-Decides name (site_name sites k)).0 is) ∙ sym named)))
     ∙ sym (ne_eqb k site e))
     (cases_eq k site)
@@ -140,12 +150,14 @@ found_alike sites name site k once less lk named = ⊎_elim
     no_match false is never = refl
 
 -- the boards of a site's stations, found by its name
-shown_alike : (order : Order) (period : Periods) (sites : List SitePlan) (stations : List StationPlan) (cells : List Cell) (name : List ℕ) (site : ℕ) → All (λ s. bytes_eq name (site_name sites s.site) ≡ eqb s.site site) stations
+shown_alike : (order : Order) (period : Periods) (sites : List SitePlan) (stations : List StationPlan) (cells : List Cell) (name : List ℕ) (site : ℕ)
+    → All (λ s. bytes_eq name (site_name sites s.site) ≡ eqb s.site site) stations
     → map (shown_station order period) (stations_of name (filled (planned_world sites stations) cells)) ≡ boards_at order period stations cells site
 shown_alike order period sites [] cells name site all = refl
 shown_alike order period sites (s ∷ stations) [] name site all = refl
 shown_alike order period sites (s ∷ stations) (c ∷ cells) name site all =
-    ap (λ t. map (shown_station order period) (cond t (first ∷ rest) rest)) (all 0 s (omega arith)) ∙ one (eqb s.site site) (shown_alike order period sites stations cells name site (λ k d lt. all (suc k) d (omega (arith, lt))))
+    ap (λ t. map (shown_station order period) (cond t (first ∷ rest) rest)) (all 0 s (omega arith))
+    ∙ one (eqb s.site site) (shown_alike order period sites stations cells name site (λ k d lt. all (suc k) d (omega (arith, lt))))
   where
     first : Station
     first = record { site = site_name sites s.site; name = s.name; limits = s.limits; content = c.content }
@@ -154,21 +166,35 @@ shown_alike order period sites (s ∷ stations) (c ∷ cells) name site all =
     rest = stations_of name (filled (planned_world sites stations) cells)
 
     one : (t : Bool) → map (shown_station order period) rest ≡ boards_at order period stations cells site
-        → map (shown_station order period) (cond t (first ∷ rest) rest) ≡ cond t ((s.name, board_by order period (entries c.content)) ∷ boards_at order period stations cells site) (boards_at order period stations cells site)
+        → map (shown_station order period) (cond t (first ∷ rest) rest)
+        ≡ cond t ((s.name, board_by order period (entries c.content)) ∷ boards_at order period stations cells site) (boards_at order period stations cells site)
     one true e = ap (λ l. (s.name, board_by order period (entries c.content)) ∷ l) e
     one false e = e
 
-pub site_shown : (order : Order) (period : Periods) (sites : List SitePlan) (stations : List StationPlan) (cells : List Cell) (name : List ℕ) (site : ℕ) → has_twice (map (λ s. s.name) sites) ≡ false → All (λ s. s.site < length sites) stations
-    → position (λ s. bytes_eq name s.name) sites ≡ Some site → map (shown_station order period) (stations_of name (filled (planned_world sites stations) cells)) ≡ boards_at order period stations cells site
+pub site_shown : (order : Order) (period : Periods) (sites : List SitePlan) (stations : List StationPlan) (cells : List Cell) (name : List ℕ) (site : ℕ)
+    → has_twice (map (λ s. s.name) sites) ≡ false → All (λ s. s.site < length sites) stations
+    → position (λ s. bytes_eq name s.name) sites ≡ Some site
+    → map (shown_station order period) (stations_of name (filled (planned_world sites stations) cells)) ≡ boards_at order period stations cells site
 site_shown order period sites stations cells name site once placed e =
     let there = some_placed {X = SitePlan} (λ s. s.name) name sites site e in
     shown_alike order period sites stations cells name site (λ k s lt. found_alike sites name site (get_or stations k s).site once there.less (placed k s lt) there.named)
 
 -- ---- the board
 
-pub board_is : (name : List ℕ) (in_order order : Order) (by period : Periods) (b : NamedBoard) (stations : World) (boards : List (List ℕ × Board)) → map (shown_station order period) stations ≡ boards → in_order ≡ order → by ≡ period → b.name ≡ name → b.period ≡ period → b.order ≡ order → b.figures ≡ (site_board period boards).figures → b.quarters ≡ (site_board period boards).quarters → b.stations ≡ boards
+pub board_is : (name : List ℕ) (in_order order : Order) (by period : Periods) (b : NamedBoard) (stations : World) (boards : List (List ℕ × Board))
+    → map (shown_station order period) stations ≡ boards → in_order ≡ order → by ≡ period → b.name ≡ name → b.period ≡ period
+    → b.order ≡ order → b.figures ≡ (site_board period boards).figures → b.quarters ≡ (site_board period boards).quarters
+    → b.stations ≡ boards
     → b ≡ shown_site name in_order by stations
 board_is name in_order order by period b stations boards shown ordered same names period_is order_is figures_are quarters_are stations_are =
     ◌∙◌ {A = NamedBoard} (λ i. record { name = names i; period = period_is i; order = order_is i; figures = figures_are i; quarters = quarters_are i; stations = stations_are i })
-    (◌∙◌ {A = NamedBoard} (λ i. record { name = name; period = period; order = order; figures = (site_board period (sym shown i)).figures; quarters = (site_board period (sym shown i)).quarters; stations = sym shown i })
+    (◌∙◌ {A = NamedBoard}
+    (λ i. record {
+      name = name;
+      period = period;
+      order = order;
+      figures = (site_board period (sym shown i)).figures;
+      quarters = (site_board period (sym shown i)).quarters;
+      stations = sym shown i;
+    })
     (λ i. shown_site name (sym ordered i) (sym same i) stations))

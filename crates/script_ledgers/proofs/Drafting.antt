@@ -29,7 +29,8 @@ alike_planned sites [] = tt
 alike_planned sites (s ∷ stations) = (refl, alike_planned sites stations)
 
 -- the sum of what the stations of a plan may store
-sum_planned : (sites : List SitePlan) (stations : List StationPlan) → sum_by (λ (s : Station). s.limits.readings) (planned_world sites stations) ≡ sum_by (λ (s : StationPlan). s.limits.readings) stations
+sum_planned : (sites : List SitePlan) (stations : List StationPlan)
+    → sum_by (λ (s : Station). s.limits.readings) (planned_world sites stations) ≡ sum_by (λ (s : StationPlan). s.limits.readings) stations
 sum_planned sites [] = refl
 sum_planned sites (s ∷ stations) =
     sum_by-cons (λ (x : Station). x.limits.readings) (new_station s.limits (site_name sites s.site) s.name) (planned_world sites stations)
@@ -53,7 +54,9 @@ past_plan d site o kept e =
     let stations : length (planned_world d.sites d.stations) ≡ length d.stations = length-map d.stations (λ s. new_station s.limits (site_name d.sites s.site) s.name) in
     let readings = sum_by (λ (s : StationPlan). s.limits.readings) d.stations in
     let few : length names ≤ most_sites = omega (arith, length-map d.sites (λ (s : SitePlan). s.name), kept.few_sites) in
-    ap (λ n. nat_le most_stations n || (nat_lt most_plan_readings (sum_by (λ (s : Station). s.limits.readings) (planned_world d.sites d.stations) + d.limits.readings) || nat_lt most_sites (length (sites_with site names)))) stations
+    ap (λ n. nat_le most_stations n ||
+    (nat_lt most_plan_readings (sum_by (λ (s : Station). s.limits.readings) (planned_world d.sites d.stations) + d.limits.readings) ||
+    nat_lt most_sites (length (sites_with site names)))) stations
     ∙ ap (λ n. nat_le most_stations (length d.stations) || (nat_lt most_plan_readings (n + d.limits.readings) || nat_lt most_sites (length (sites_with site names)))) (sum_planned d.sites d.stations)
     ∙ ap (λ b. nat_le most_stations (length d.stations) || (nat_lt most_plan_readings (readings + d.limits.readings) || b))
     (sites_after (is_among site names) site names few ∙ ap (λ b. not b && nat_le most_sites (length names)) (among_found site d.sites o e)
@@ -75,7 +78,8 @@ site_kept sites stations name kept room none =
       few_sites = omega (arith, more, room);
       few_stations = kept.few_stations;
       few_readings = kept.few_readings;
-      sites_once = ap has_twice (map-append (λ (s : SitePlan). s.name) sites (new ∷ [])) ∙ once_behind (map (λ (s : SitePlan). s.name) sites) name kept.sites_once (none_placed {X = SitePlan} (λ s. s.name) name sites none);
+      sites_once = ap has_twice (map-append (λ (s : SitePlan). s.name) sites (new ∷ []))
+          ∙ once_behind (map (λ (s : SitePlan). s.name) sites) name kept.sites_once (none_placed {X = SitePlan} (λ s. s.name) name sites none);
       stations_once = kept.stations_once;
       placed = λ k d lt. let p = kept.placed k d lt in omega (arith, p, more);
       unviewed = All-append (λ (s : SitePlan). s.viewers ≡ 0) sites (new ∷ []) kept.unviewed (All-cons (λ (s : SitePlan). s.viewers ≡ 0) new [] refl (All-nil (λ (s : SitePlan). s.viewers ≡ 0)));
@@ -99,7 +103,8 @@ periods_more name sites none =
     map-append (λ (s : SitePlan). s.period) sites (record { name = name; viewers = 0; period = default_periods; order = Sequence } ∷ [])
     ∙ ap (λ b. cond b (map (λ (s : SitePlan). s.period) sites) (map (λ (s : SitePlan). s.period) sites ++ default_periods ∷ [])) (sym (none_placed {X = SitePlan} (λ s. s.name) name sites none))
 
-periods_same : (name : List ℕ) (sites : List SitePlan) (n : ℕ) → position (λ s. bytes_eq name s.name) sites ≡ Some n → map (λ s. s.period) sites ≡ periods_with name (map (λ s. s.name) sites) (map (λ s. s.period) sites)
+periods_same : (name : List ℕ) (sites : List SitePlan) (n : ℕ) → position (λ s. bytes_eq name s.name) sites ≡ Some n
+    → map (λ s. s.period) sites ≡ periods_with name (map (λ s. s.name) sites) (map (λ s. s.period) sites)
 periods_same name sites n e =
     ap (λ b. cond b (map (λ (s : SitePlan). s.period) sites) (map (λ (s : SitePlan). s.period) sites ++ default_periods ∷ [])) (sym (some_placed {X = SitePlan} (λ s. s.name) name sites n e).among)
 
@@ -110,7 +115,8 @@ orders_more name sites none =
     map-append (λ (s : SitePlan). s.order) sites (record { name = name; viewers = 0; period = default_periods; order = Sequence } ∷ [])
     ∙ ap (λ b. cond b (map (λ (s : SitePlan). s.order) sites) (map (λ (s : SitePlan). s.order) sites ++ Sequence ∷ [])) (sym (none_placed {X = SitePlan} (λ s. s.name) name sites none))
 
-orders_same : (name : List ℕ) (sites : List SitePlan) (n : ℕ) → position (λ s. bytes_eq name s.name) sites ≡ Some n → map (λ s. s.order) sites ≡ orders_with name (map (λ s. s.name) sites) (map (λ s. s.order) sites)
+orders_same : (name : List ℕ) (sites : List SitePlan) (n : ℕ) → position (λ s. bytes_eq name s.name) sites ≡ Some n
+    → map (λ s. s.order) sites ≡ orders_with name (map (λ s. s.name) sites) (map (λ s. s.order) sites)
 orders_same name sites n e =
     ap (λ b. cond b (map (λ (s : SitePlan). s.order) sites) (map (λ (s : SitePlan). s.order) sites ++ Sequence ∷ [])) (sym (some_placed {X = SitePlan} (λ s. s.name) name sites n e).among)
 
@@ -126,7 +132,8 @@ same_named (s ∷ sites) new k less = by k less (same_named sites new)
     by zero lt later = refl
     by (suc j) lt later = later j (omega (arith, lt))
 
-same_worlds : (sites : List SitePlan) (new : SitePlan) (stations : List StationPlan) → All (λ s. s.site < length sites) stations → planned_world (sites ++ new ∷ []) stations ≡ planned_world sites stations
+same_worlds : (sites : List SitePlan) (new : SitePlan) (stations : List StationPlan) → All (λ s. s.site < length sites) stations
+    → planned_world (sites ++ new ∷ []) stations ≡ planned_world sites stations
 same_worlds sites new [] all = refl
 same_worlds sites new (s ∷ stations) all =
     (λ i. new_station s.limits (same_named sites new s.site (all 0 s (omega arith)) i) s.name ∷ planned_world (sites ++ new ∷ []) stations)
@@ -152,8 +159,10 @@ station_kept sites stations number name limits kept there room fit none =
       few_stations = omega (arith, count, room);
       few_readings = omega (arith, sum, fit);
       sites_once = kept.sites_once;
-      stations_once = ap has_twice (map-append (λ (s : StationPlan). s.name) stations (new ∷ [])) ∙ once_behind (map (λ (s : StationPlan). s.name) stations) name kept.stations_once (none_placed {X = StationPlan} (λ s. s.name) name stations none);
-      placed = All-append (λ (s : StationPlan). s.site < length sites) stations (new ∷ []) kept.placed (All-cons (λ (s : StationPlan). s.site < length sites) new [] there (All-nil (λ (s : StationPlan). s.site < length sites)));
+      stations_once = ap has_twice (map-append (λ (s : StationPlan). s.name) stations (new ∷ []))
+          ∙ once_behind (map (λ (s : StationPlan). s.name) stations) name kept.stations_once (none_placed {X = StationPlan} (λ s. s.name) name stations none);
+      placed = All-append (λ (s : StationPlan). s.site < length sites) stations (new ∷ []) kept.placed
+          (All-cons (λ (s : StationPlan). s.site < length sites) new [] there (All-nil (λ (s : StationPlan). s.site < length sites)));
       unviewed = kept.unviewed;
     }
 
@@ -184,7 +193,11 @@ has_room o sites stations limits none =
 pub joins : (d : Drafted) (o : Option ℕ) (site name : List ℕ) → o ≡ position (λ s. bytes_eq site s.name) d.sites → IsPlan d.sites d.stations → is_past o d.sites d.stations d.limits ≡ false
     → position (λ s. bytes_eq name s.name) d.stations ≡ None
     → IsPlan (plan.sites_with o site 0 default_periods Sequence d.sites) (d.stations ++ record { site = site_number o d.sites; name = name; limits = d.limits } ∷ [])
-    × (planned (record d { sites = plan.sites_with o site 0 default_periods Sequence d.sites; stations = d.stations ++ record { site = site_number o d.sites; name = name; limits = d.limits } ∷ [] }) ≡ (joined_by None (planned d) site name).0)
+    × (planned (record d {
+      sites = plan.sites_with o site 0 default_periods Sequence d.sites;
+      stations = d.stations ++ record { site = site_number o d.sites; name = name; limits = d.limits } ∷ [];
+    })
+    ≡ (joined_by None (planned d) site name).0)
 joins d None site name e kept room none =
     let new : SitePlan = record { name = site; viewers = 0; period = default_periods; order = Sequence } in
     let station : StationPlan = record { site = length d.sites; name = name; limits = d.limits } in
@@ -196,7 +209,15 @@ joins d None site name e kept room none =
     ∙ ap (λ w. w ++ new_station d.limits (site_name (d.sites ++ new ∷ []) (length d.sites)) name ∷ []) (same_worlds d.sites new d.stations kept.placed)
     ∙ ap (λ n. planned_world d.sites d.stations ++ new_station d.limits n name ∷ []) (last_named d.sites new) in (
       station_kept (d.sites ++ new ∷ []) d.stations (length d.sites) name d.limits begun (omega (arith, more)) r.few r.fit none,
-      (λ i. record { limits = d.limits; sites = sites_more site d.sites (sym e) i; periods = periods_more site d.sites (sym e) i; orders = orders_more site d.sites (sym e) i; world = world i; opened = false; moment = d.moment }),
+      (λ i. record {
+        limits = d.limits;
+        sites = sites_more site d.sites (sym e) i;
+        periods = periods_more site d.sites (sym e) i;
+        orders = orders_more site d.sites (sym e) i;
+        world = world i;
+        opened = false;
+        moment = d.moment;
+      }),
     )
 joins d (Some n) site name e kept room none =
     let station : StationPlan = record { site = n; name = name; limits = d.limits } in
@@ -206,7 +227,15 @@ joins d (Some n) site name e kept room none =
     map-append (λ (s : StationPlan). new_station s.limits (site_name d.sites s.site) s.name) d.stations (station ∷ [])
     ∙ ap (λ x. planned_world d.sites d.stations ++ new_station d.limits x name ∷ []) (site_there site d.sites n (sym e)) in (
       station_kept d.sites d.stations n name d.limits kept there.less r.few r.fit none,
-      (λ i. record { limits = d.limits; sites = sites_same site d.sites n (sym e) i; periods = periods_same site d.sites n (sym e) i; orders = orders_same site d.sites n (sym e) i; world = world i; opened = false; moment = d.moment }),
+      (λ i. record {
+        limits = d.limits;
+        sites = sites_same site d.sites n (sym e) i;
+        periods = periods_same site d.sites n (sym e) i;
+        orders = orders_same site d.sites n (sym e) i;
+        world = world i;
+        opened = false;
+        moment = d.moment;
+      }),
     )
 
 -- ---- declarations
@@ -216,7 +245,8 @@ pub declared_new : (d : Drafted) (name : List ℕ) → position (λ s. bytes_eq 
 declared_new d name none = unnamed {X = StationPlan} (λ s. s.name) name d.stations (planned d).world (alike_planned d.sites d.stations) none
 
 -- a declaration that is not past the plan
-pub declared_within : (d : Drafted) (site name : List ℕ) → is_past_plan (planned d) site ≡ false → declared_to (planned d) site name ≡ joined_by (station_named name (planned d).world) (planned d) site name
+pub declared_within : (d : Drafted) (site name : List ℕ) → is_past_plan (planned d) site ≡ false
+    → declared_to (planned d) site name ≡ joined_by (station_named name (planned d).world) (planned d) site name
 declared_within d site name e = ap (λ b. cond b (planned d, fault_line PlanLimit) (joined_by (station_named name (planned d).world) (planned d) site name)) e
 
 -- a station that is declared already

@@ -37,7 +37,8 @@ pub enlisted_step : (old items : List Cell) (i : ℕ) (passes more : List Held) 
 enlisted_step old items i passes more x c p all less items_are passes_are cell_is pass_is more_is =
     let same : get_or items i x ≡ get_or old i x = ap (λ l. get_or l i x) items_are ∙ turned_at first_given old i x less in
     let none : (get_or old i x).counts ≡ [] = all i x less in
-    let cell : c ≡ first_given (get_or old i x) = cell_is ∙ (λ j. record (same j) { counts = (same j).counts ++ 0 ∷ [] }) ∙ ap (λ (k : List ℕ). record (get_or old i x) { counts = k ++ 0 ∷ [] }) none in
+    let cell : c ≡ first_given (get_or old i x) = cell_is ∙ (λ j. record (same j) { counts = (same j).counts ++ 0 ∷ [] })
+    ∙ ap (λ (k : List ℕ). record (get_or old i x) { counts = k ++ 0 ∷ [] }) none in
     let pass : p ≡ new_pass (get_or old i x).station 0 = pass_is ∙ (λ j. new_pass (same j).station (length (same j).counts)) ∙ ap (λ (k : List ℕ). new_pass (get_or old i x).station (length k)) none in
     let to : Cell → Held = λ d. new_pass d.station 0 in (
       (λ j. set (items_are j) i (cell j)) ∙ turned_more first_given old i x less,

@@ -94,7 +94,8 @@ commanded old new o s command a opened e did =
     ∙ (λ i. (sym did.script_is i, ended_line (answer_text a)))
 
 -- a message
-meant : (old new : Script) (s : Station) (m : Message) (reply text : List ℕ) → old.opened ≡ true → IsMeaningOf text old.moment m → TakesMessage old new s m reply → by_meaning (message text old.moment) s old ≡ (new, reply)
+meant : (old new : Script) (s : Station) (m : Message) (reply text : List ℕ) → old.opened ≡ true → IsMeaningOf text old.moment m
+    → TakesMessage old new s m reply → by_meaning (message text old.moment) s old ≡ (new, reply)
 meant old new s (read.Event id key event token) reply text opened is took =
     ap (λ x. by_meaning x s old) is
     ∙ (λ i. (record old { opened = sym opened i; world = world_after old.world (s.name, Deliver key event) }, sym took.1 i))
@@ -105,6 +106,7 @@ meant old new s (read.Reply shown false) reply text opened is took =
 meant old new s read.Silent reply text opened is took =
     ap (λ x. by_meaning x s old) is ∙ (λ i. (record old { opened = sym opened i }, sym took.1 i)) ∙ (λ i. (sym took.0 i, reply))
 
-pub received : (old new : Script) (o : Option Station) (s : Station) (m : Message) (reply text : List ℕ) → old.opened ≡ true → o ≡ Some s → IsMeaningOf text old.moment m → TakesMessage old new s m reply
+pub received : (old new : Script) (o : Option Station) (s : Station) (m : Message) (reply text : List ℕ) → old.opened ≡ true
+    → o ≡ Some s → IsMeaningOf text old.moment m → TakesMessage old new s m reply
     → sent_to o old text ≡ (new, reply)
 received old new o s m reply text opened e is took = ap (λ x. sent_to x old text) e ∙ meant old new s m reply text opened is took

@@ -40,7 +40,8 @@ module _ (sites : List SitePlan) (stations : List StationPlan) (old : List Cell)
   placed_new : (k : ℕ) (s : StationPlan) (c : Cell) → slice_get stations k ≡ Some s → slice_get cells k ≡ Some c → IsPlaced sites stations k s c
   placed_new k s c planned at =
       let o = was k c at in
-      let is : o.0 ≡ new_cell k s.site (row_at stations s.site k) s.limits (period_at sites s.site) (order_at sites s.site) = some_same o.0 (new_cell k s.site (row_at stations s.site k) s.limits (period_at sites s.site) (order_at sites s.site)) (sym o.1.0 ∙ new.each k s planned) in
+      let is : o.0 ≡ new_cell k s.site (row_at stations s.site k) s.limits (period_at sites s.site) (order_at sites s.site) =
+      some_same o.0 (new_cell k s.site (row_at stations s.site k) s.limits (period_at sites s.site) (order_at sites s.site)) (sym o.1.0 ∙ new.each k s planned) in
       let c_is : first_given (new_cell k s.site (row_at stations s.site k) s.limits (period_at sites s.site) (order_at sites s.site)) ≡ c = ap first_given (sym is) ∙ o.1.1 in
       subst (IsPlaced sites stations k s) c_is (record { station = refl; site = refl; row = refl; limits = refl; period = refl; order = refl })
 
@@ -90,10 +91,13 @@ module _ (sites : List SitePlan) (stations : List StationPlan) (old : List Cell)
   empty_new k c at =
       let o = was k c at in
       let s = stands stations k (omega (arith, slice_get_within old k o.0 o.1.0, new.count)) in
-      let is : o.0 ≡ new_cell k s.0.site (row_at stations s.0.site k) s.0.limits (period_at sites s.0.site) (order_at sites s.0.site) = some_same o.0 (new_cell k s.0.site (row_at stations s.0.site k) s.0.limits (period_at sites s.0.site) (order_at sites s.0.site)) (sym o.1.0 ∙ new.each k s.0 s.1) in
+      let is : o.0 ≡ new_cell k s.0.site (row_at stations s.0.site k) s.0.limits (period_at sites s.0.site) (order_at sites s.0.site) =
+      some_same o.0 (new_cell k s.0.site (row_at stations s.0.site k) s.0.limits (period_at sites s.0.site) (order_at sites s.0.site)) (sym o.1.0 ∙ new.each k s.0 s.1) in
       ap (λ (x : Cell). x.content) (sym o.1.1) ∙ ap (λ (x : Cell). x.content) is
 
-  filled_new : (ss : List StationPlan) (cs : List Cell) → length cs ≡ length ss → ((k : ℕ) (c : Cell) → slice_get cs k ≡ Some c → c.content ≡ empty_content) → filled (planned_world sites ss) cs ≡ planned_world sites ss
+  filled_new : (ss : List StationPlan) (cs : List Cell) → length cs ≡ length ss
+      → ((k : ℕ) (c : Cell) → slice_get cs k ≡ Some c → c.content ≡ empty_content)
+      → filled (planned_world sites ss) cs ≡ planned_world sites ss
   filled_new [] cs count all = refl
   filled_new (s ∷ ss) [] count all = absurd (omega (arith, count))
   filled_new (s ∷ ss) (c ∷ cs) count all =

@@ -20,14 +20,17 @@ use Rattle.script_ledgers.specs.Running.{IsRunning}
 pub faultless : (sites : List SitePlan) (stations : List StationPlan) → IsPlan sites stations → plan_fault sites stations ≡ None
 faultless sites stations plan =
     let readings : leb (sum_by (λ (s : StationPlan). s.limits.readings) stations) most_plan_readings ≡ true = grind (arith, nat_tests, plan.few_readings) in
-    let viewers : list_all (λ (s : SitePlan). leb s.viewers most_viewers) sites ≡ true = list_all-from_AllPass (λ (s : SitePlan). leb s.viewers most_viewers) sites (λ k d less. ap (λ n. leb n most_viewers) (plan.unviewed k d less)) in
-    let placed : list_all (λ (s : StationPlan). ltb s.site (length sites)) stations ≡ true = list_all-from_AllPass (λ (s : StationPlan). ltb s.site (length sites)) stations (λ k d less. let there = plan.placed k d less in grind (arith, nat_tests, there)) in
+    let viewers : list_all (λ (s : SitePlan). leb s.viewers most_viewers) sites ≡ true =
+    list_all-from_AllPass (λ (s : SitePlan). leb s.viewers most_viewers) sites (λ k d less. ap (λ n. leb n most_viewers) (plan.unviewed k d less)) in
+    let placed : list_all (λ (s : StationPlan). ltb s.site (length sites)) stations ≡ true =
+    list_all-from_AllPass (λ (s : StationPlan). ltb s.site (length sites)) stations (λ k d less. let there = plan.placed k d less in grind (arith, nat_tests, there)) in
     let within : is_within_limits sites stations ≡ true = and_from _ _ (and_from _ _ (and_from _ _ readings viewers) placed) (ap not plan.sites_once) in
     ap (λ b. cond (not b) (Some PlanLimit) (cond (has_twice (map (λ (s : StationPlan). s.name) stations)) (Some StationTwice) None)) within
     ∙ ap (λ b. cond b (Some StationTwice) None) plan.stations_once
 
 -- each cell is where the plan has its station
-pub cells_of : (sites : List SitePlan) (stations : List StationPlan) (cells : List Cell) (books : List Book) (passes : List Held) → IsRunning sites stations cells books passes → AreCellsOf sites stations cells
+pub cells_of : (sites : List SitePlan) (stations : List StationPlan) (cells : List Cell) (books : List Book) (passes : List Held)
+    → IsRunning sites stations cells books passes → AreCellsOf sites stations cells
 cells_of sites stations cells books passes r = record {
   count = r.all_cells;
   each = λ k s c planned at.

@@ -48,7 +48,8 @@ kept_of f change same n [] = refl
 kept_of f change same zero (s ∷ sites) = ap (λ x. x ∷ map f sites) (same s)
 kept_of f change same (suc n) (s ∷ sites) = ap (λ l. f s ∷ l) (kept_of f change same n sites)
 
-set_of : {X : Type 0} (f : SitePlan → X) (change : SitePlan → SitePlan) (x : X) → ((s : SitePlan) → f (change s) ≡ x) → (n : ℕ) (sites : List SitePlan) → map f (sites_changed change n sites) ≡ slice_set (map f sites) n x
+set_of : {X : Type 0} (f : SitePlan → X) (change : SitePlan → SitePlan) (x : X) → ((s : SitePlan) → f (change s) ≡ x)
+    → (n : ℕ) (sites : List SitePlan) → map f (sites_changed change n sites) ≡ slice_set (map f sites) n x
 set_of f change x is n [] = refl
 set_of f change x is zero (s ∷ sites) = ap (λ y. y ∷ map f sites) (is s)
 set_of f change x is (suc n) (s ∷ sites) = ap (λ l. f s ∷ l) (set_of f change x is n sites)
@@ -95,7 +96,8 @@ module _ (change : SitePlan → SitePlan) (named : (s : SitePlan) → (change s)
       planned (record d { sites = sites }) ≡ record (planned d) { periods = map (λ (s : SitePlan). s.period) sites; orders = map (λ (s : SitePlan). s.order) sites }
   planned_with d n =
       let names = kept_of (λ (s : SitePlan). s.name) change named n d.sites in
-      λ i. record (planned (record d { sites = sites_changed change n d.sites })) { sites = names i; world = map (λ (s : StationPlan). new_station s.limits (get_or (names i) s.site []) s.name) d.stations }
+      λ i. record (planned (record d { sites = sites_changed change n d.sites }))
+      { sites = names i; world = map (λ (s : StationPlan). new_station s.limits (get_or (names i) s.site []) s.name) d.stations }
 
 -- ---- other settlement periods
 
@@ -136,7 +138,9 @@ pub ordered_kept : (n : ℕ) (order : Order) (sites : List SitePlan) (stations :
 ordered_kept n order sites stations kept = plan_kept (λ (s : SitePlan). record s { order = order }) (λ s. refl) (λ s. refl) n sites stations kept
 
 -- what an `order` line is answered
-pub order_unknown : (d : Drafted) (name : List ℕ) (order : Order) → position (λ (s : SitePlan). bytes_eq name s.name) d.sites ≡ None → order_to (planned d) name order ≡ (planned d, fault_line UnknownSite)
+pub order_unknown : (d : Drafted) (name : List ℕ) (order : Order)
+    → position (λ (s : SitePlan). bytes_eq name s.name) d.sites ≡ None
+    → order_to (planned d) name order ≡ (planned d, fault_line UnknownSite)
 order_unknown d name order e = ap (λ o. ordered_by o (planned d) order) (number_alike name d.sites ∙ e)
 
 pub order_known : (d : Drafted) (name : List ℕ) (n : ℕ) (order : Order) → position (λ (s : SitePlan). bytes_eq name s.name) d.sites ≡ Some n

@@ -79,7 +79,8 @@ module _ (sites : List SitePlan) (stations : List StationPlan) (cells : List Cel
 
   -- ---- after a command on one station
 
-  module _ (k : ℕ) (c c' : Cell) (p p' : Held) (b b' : Book) (command : Command) (a : Answer) (at : slice_get cells k ≡ Some c) (held : slice_get passes k ≡ Some p) (book : slice_get books c.site ≡ Some b)
+  module _ (k : ℕ) (c c' : Cell) (p p' : Held) (b b' : Book) (command : Command) (a : Answer) (at : slice_get cells k ≡ Some c)
+      (held : slice_get passes k ≡ Some p) (book : slice_get books c.site ≡ Some b)
       (cell_is : c' ≡ cell_after c p command) (book_is : b' ≡ record b { posts = posts_after b.posts c' a }) (answer_is : a ≡ answer c.limits c.content command) (known : Knows c' p') where
     tied_then : AreTied (set cells k c') (set books c.site b')
     tied_then = tied_step cells books k c c' b b' p command a at book cell_is book_is answer_is are_tied r.apart
@@ -142,13 +143,15 @@ module _ (sites : List SitePlan) (stations : List StationPlan) (cells : List Cel
 -- ---- the script
 
 -- the world of running ledgers has the stations' names
-pub alike_running : (sites : List SitePlan) (stations : List StationPlan) (cells : List Cell) → length cells ≡ length stations → AreAlike {X = StationPlan} (λ s. s.name) stations (filled (planned_world sites stations) cells)
+pub alike_running : (sites : List SitePlan) (stations : List StationPlan) (cells : List Cell) → length cells ≡ length stations
+    → AreAlike {X = StationPlan} (λ s. s.name) stations (filled (planned_world sites stations) cells)
 alike_running sites [] cells count = tt
 alike_running sites (s ∷ stations) [] count = absurd (omega (arith, count))
 alike_running sites (s ∷ stations) (c ∷ cells) count = (refl, alike_running sites stations cells (omega (arith, count)))
 
 -- the station at a place
-pub station_at : (w : World) (cells : List Cell) (k : ℕ) (s : Station) (c : Cell) → slice_get w k ≡ Some s → slice_get cells k ≡ Some c → slice_get (filled w cells) k ≡ Some (record s { content = c.content })
+pub station_at : (w : World) (cells : List Cell) (k : ℕ) (s : Station) (c : Cell) → slice_get w k ≡ Some s
+    → slice_get cells k ≡ Some c → slice_get (filled w cells) k ≡ Some (record s { content = c.content })
 station_at [] cells k s c at is = absurd (cc at)
 station_at (x ∷ w) [] k s c at is = absurd (cc is)
 station_at (x ∷ w) (d ∷ cells) zero s c at is = let same : x ≡ s = some_same x s at in let cell : d ≡ c = some_same d c is in λ i. Some (record (same i) { content = (cell i).content })
@@ -168,7 +171,9 @@ other_name (x ∷ w) name zero s none at =
 other_name (x ∷ w) name (suc k) s none at = other_name w name k s (neither (bytes_eq name x.name) (list_any (bytes_eq name) (map (λ (y : Station). y.name) w)) none).1 at
 
 -- a command on a name that no station has
-no_other : (w : World) (cells : List Cell) (name : List ℕ) (command : Command) → list_any (bytes_eq name) (map (λ (x : Station). x.name) w) ≡ false → world_after (filled w cells) (name, command) ≡ filled w cells
+no_other : (w : World) (cells : List Cell) (name : List ℕ) (command : Command)
+    → list_any (bytes_eq name) (map (λ (x : Station). x.name) w) ≡ false
+    → world_after (filled w cells) (name, command) ≡ filled w cells
 no_other [] cells name command none = refl
 no_other (x ∷ w) [] name command none = refl
 no_other (x ∷ w) (c ∷ cells) name command none =
@@ -177,7 +182,8 @@ no_other (x ∷ w) (c ∷ cells) name command none =
     ap (λ b. cond b (station_after y command) y ∷ world_after (filled w cells) (name, command)) p.0 ∙ ap (λ l. y ∷ l) (no_other w cells name command p.1)
 
 -- a command on the station of a place
-pub step_world : (w : World) (cells : List Cell) (k : ℕ) (s : Station) (c c' : Cell) (command : Command) → has_twice (map (λ (x : Station). x.name) w) ≡ false → slice_get w k ≡ Some s → slice_get cells k ≡ Some c
+pub step_world : (w : World) (cells : List Cell) (k : ℕ) (s : Station) (c c' : Cell) (command : Command)
+    → has_twice (map (λ (x : Station). x.name) w) ≡ false → slice_get w k ≡ Some s → slice_get cells k ≡ Some c
     → c'.content ≡ (step s.limits c.content command).0 → filled w (set cells k c') ≡ world_after (filled w cells) (s.name, command)
 step_world [] cells k s c c' command once at is after = absurd (cc at)
 step_world (x ∷ w) [] k s c c' command once at is after = absurd (cc is)
@@ -199,13 +205,15 @@ step_world (x ∷ w) (d ∷ cells) (suc k) s c c' command once at is after =
     ∙ ap (λ b. cond b (station_after y command) y ∷ world_after (filled w cells) (s.name, command)) (sym other)
 
 -- the station of a plan at a place
-pub planned_at : (sites : List SitePlan) (stations : List StationPlan) (k : ℕ) (s : StationPlan) → slice_get stations k ≡ Some s → slice_get (planned_world sites stations) k ≡ Some (new_station s.limits (site_name sites s.site) s.name)
+pub planned_at : (sites : List SitePlan) (stations : List StationPlan) (k : ℕ) (s : StationPlan) → slice_get stations k ≡ Some s
+    → slice_get (planned_world sites stations) k ≡ Some (new_station s.limits (site_name sites s.site) s.name)
 planned_at sites [] k s at = absurd (cc at)
 planned_at sites (x ∷ stations) zero s at = ap (λ (y : StationPlan). Some (new_station y.limits (site_name sites y.site) y.name)) (some_same x s at)
 planned_at sites (x ∷ stations) (suc k) s at = planned_at sites stations k s at
 
 -- a command that was settled takes the step of the script's station
-pub settles : (d : Drafted) (cells : List Cell) (books : List Book) (passes : List Held) (r : IsRunning d.sites d.stations cells books passes) (k : ℕ) (c c' : Cell) (p : Held) (command : Command) (a : Answer)
+pub settles : (d : Drafted) (cells : List Cell) (books : List Book) (passes : List Held)
+    (r : IsRunning d.sites d.stations cells books passes) (k : ℕ) (c c' : Cell) (p : Held) (command : Command) (a : Answer)
     → slice_get cells k ≡ Some c → c' ≡ cell_after c p command → a ≡ answer c.limits c.content command
     → IfSome (slice_get (filled (planned_world d.sites d.stations) cells) k) (λ s. Settles (running d cells) (running d (set cells k c')) s command a)
 settles d cells books passes r k c c' p command a at is answered =

@@ -26,7 +26,15 @@ planned_world sites stations = map (λ s. new_station s.limits (site_name sites 
 
 -- A script with its ledgers not opened yet.
 abbrev pub planned : Drafted → Script
-planned d = record { limits = d.limits; sites = map (λ s. s.name) d.sites; periods = map (λ s. s.period) d.sites; orders = map (λ s. s.order) d.sites; world = planned_world d.sites d.stations; opened = false; moment = d.moment }
+planned d = record {
+  limits = d.limits;
+  sites = map (λ s. s.name) d.sites;
+  periods = map (λ s. s.period) d.sites;
+  orders = map (λ s. s.order) d.sites;
+  world = planned_world d.sites d.stations;
+  opened = false;
+  moment = d.moment;
+}
 
 -- What is true of the plan of any declarations: it has no more than a plan may have, each name is
 -- there once, each station is at one of its sites, and no site has a viewer.

@@ -22,7 +22,16 @@ filled (s ∷ ss) (c ∷ cells) = record s { content = c.content } ∷ filled ss
 
 -- A script with its ledgers opened.
 abbrev pub running : Drafted → List Cell → Script
-running d cells = record { limits = d.limits; sites = map (λ s. s.name) d.sites; periods = map (λ s. s.period) d.sites; orders = map (λ s. s.order) d.sites; world = filled (planned_world d.sites d.stations) cells; opened = true; moment = d.moment }
+running d cells =
+    record {
+      limits = d.limits;
+      sites = map (λ s. s.name) d.sites;
+      periods = map (λ s. s.period) d.sites;
+      orders = map (λ s. s.order) d.sites;
+      world = filled (planned_world d.sites d.stations) cells;
+      opened = true;
+      moment = d.moment;
+    }
 
 -- How many posts were made in all.
 abbrev pub posts_in : List Book → ℕ

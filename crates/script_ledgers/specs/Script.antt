@@ -166,7 +166,15 @@ is_past_plan s site =
 
 -- one more station, if no other has its name
 abbrev pub joined_by : Option Station → Script → List ℕ → List ℕ → Script × List ℕ
-joined_by None s site name = (record s { sites = sites_with site s.sites; periods = periods_with site s.sites s.periods; orders = orders_with site s.sites s.orders; world = s.world ++ new_station s.limits site name ∷ [] }, [])
+joined_by None s site name = (
+  record s {
+    sites = sites_with site s.sites;
+    periods = periods_with site s.sites s.periods;
+    orders = orders_with site s.sites s.orders;
+    world = s.world ++ new_station s.limits site name ∷ [];
+  },
+  [],
+)
 joined_by (Some _) s site name = (s, fault_line StationTwice)
 
 -- a declaration before the ledgers are opened

@@ -41,12 +41,17 @@ state_of (Some d) opened = record { script = planned d.draft; posts = 0 }
 
 -- Stations, scripts and states are kept as the tuples of their parts.
 abbrev pub station_code : Coded Station
-station_code = code_by (List ℕ × (List ℕ × (Bounds × Content))) (coded× (coded_list coded_ℕ) (coded× (coded_list coded_ℕ) (coded× bounds_code content_code))) (λ s. (s.site, (s.name, (s.limits, s.content)))) (λ p. record { site = p.0; name = p.1.0; limits = p.1.1.0; content = p.1.1.1 }) (λ _. refl)
+station_code =
+    code_by (List ℕ × (List ℕ × (Bounds × Content)))
+    (coded× (coded_list coded_ℕ) (coded× (coded_list coded_ℕ) (coded× bounds_code content_code)))
+    (λ s. (s.site, (s.name, (s.limits, s.content)))) (λ p. record { site = p.0; name = p.1.0; limits = p.1.1.0; content = p.1.1.1 })
+    (λ _. refl)
 
 abbrev pub script_code : Coded Script
 script_code =
     code_by (Bounds × (List (List ℕ) × (List Periods × (List Order × (List Station × (Bool × ℕ))))))
-    (coded× bounds_code (coded× (coded_list (coded_list coded_ℕ)) (coded× (coded_list periods_code) (coded× (coded_list orders.the_row.coded) (coded× (coded_list station_code) (coded× coded_bool coded_ℕ))))))
+    (coded× bounds_code (coded× (coded_list (coded_list coded_ℕ))
+    (coded× (coded_list periods_code) (coded× (coded_list orders.the_row.coded) (coded× (coded_list station_code) (coded× coded_bool coded_ℕ))))))
     (λ s. (s.limits, (s.sites, (s.periods, (s.orders, (s.world, (s.opened, s.moment)))))))
     (λ p. record { limits = p.0; sites = p.1.0; periods = p.1.1.0; orders = p.1.1.1.0; world = p.1.1.1.1.0; opened = p.1.1.1.1.1.0; moment = p.1.1.1.1.1.1 })
     (λ _. refl)

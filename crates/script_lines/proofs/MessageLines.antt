@@ -26,10 +26,12 @@ parted_word : (word rest : List ℕ) → list_all is_word_byte word ≡ true →
 parted_word word rest h =
     let text = word ++ 32 ∷ rest in
     let none = λ (k : ℕ) (less : k < length word). ap is_space (get_or_append_left word (32 ∷ rest) 0 k less) ∙ not_a_space (get_or word k 0) (AllPass-from_list_all is_word_byte word h k 0 less) in
-    let at : position_or_len is_space text ≡ length word = position_or_len_is is_space text (length word) 0 (omega (arith, length-append word (32 ∷ rest))) none (λ less. ap is_space (get_or-append_seam word 32 rest 0)) in
+    let at : position_or_len is_space text ≡ length word =
+    position_or_len_is is_space text (length word) 0 (omega (arith, length-append word (32 ∷ rest))) none (λ less. ap is_space (get_or-append_seam word 32 rest 0)) in
     let within : ltb (length word) (length text) ≡ true = grind (arith, nat_tests, length-append word (32 ∷ rest)) in
     let longer : length word + 1 ≡ length (word ++ 32 ∷ []) = omega (arith, length-append word (32 ∷ [])) in
-    let back : drop (length word + 1) text ≡ rest = ap (λ k. drop k text) longer ∙ ap (drop (length (word ++ 32 ∷ []))) (sym (append_assoc word (32 ∷ []) rest)) ∙ drop-append_seam (word ++ 32 ∷ []) rest in
+    let back : drop (length word + 1) text ≡ rest =
+    ap (λ k. drop k text) longer ∙ ap (drop (length (word ++ 32 ∷ []))) (sym (append_assoc word (32 ∷ []) rest)) ∙ drop-append_seam (word ++ 32 ∷ []) rest in
     ap (λ k. cond (ltb k (length text)) (Some (take k text, drop (k + 1) text)) None) at
     ∙ ap (λ b. cond b (Some (take (length word) text, drop (length word + 1) text)) None) within
     ∙ (λ i. Some (take-append_seam word (32 ∷ rest) i, back i))
@@ -64,7 +66,8 @@ pub msg_says : (station text : List ℕ) → IsUtf8 text → is_name station ≡
 msg_says station text utf8 named =
     let rest = station ++ 32 ∷ text in
     let behind : IsUtf8 (32 ∷ text) = IsUtf8-append (32 ∷ []) text (ascii_utf8 (32 ∷ []) refl) utf8 in
-    let whole : IsUtf8 (codes "msg " ++ rest) = IsUtf8-append (codes "msg ") rest (ascii_utf8 (codes "msg ") refl) (IsUtf8-append station (32 ∷ text) (ascii_utf8 station (word_ascii station (name_word station named))) behind) in
+    let whole : IsUtf8 (codes "msg " ++ rest) =
+    IsUtf8-append (codes "msg ") rest (ascii_utf8 (codes "msg ") refl) (IsUtf8-append station (32 ∷ text) (ascii_utf8 station (word_ascii station (name_word station named))) behind) in
     ap (λ b. cond b (by_text (codes "msg " ++ rest)) (fails BadLine)) (is_utf8-from_IsUtf8 (codes "msg " ++ rest) whole)
     ∙ ap (λ o. o >>= by_first_word) (parted_word (codes "msg") rest refl)
     ∙ ap (λ o. msg_line (option_map_or (λ ends. ends.0 ∷ ends.1 ∷ []) o (rest ∷ []))) (parted_word station text (name_word station named))

@@ -57,7 +57,9 @@ pub passed_on : {T E : Type 0} (r : Result T E) (e : E) → IsErrAnd r (λ x. x 
 passed_on (Ok _) e told = absurd told
 passed_on (Err x) e told = sym (ap Err told)
 
-module _ (max_line_bytes max_line_bytes' room left : ℕ) (held held' : List ℕ) (r0 r1 r2 w0 w1 w2 : Option (List ℕ)) (p : PartOfLine max_line_bytes room left held r0 r1 w0 w1) (same : max_line_bytes' ≡ max_line_bytes) (flushed : Keeps w1 w2) (result : Result Piece ReplayFault) where
+module _ (max_line_bytes max_line_bytes' room left : ℕ) (held held' : List ℕ) (r0 r1 r2 w0 w1 w2 : Option (List ℕ))
+    (p : PartOfLine max_line_bytes room left held r0 r1 w0 w1) (same : max_line_bytes' ≡ max_line_bytes) (flushed : Keeps w1 w2)
+    (result : Result Piece ReplayFault) where
   kept_on : (part : List ℕ) → held' ≡ take (max_line_bytes + 1) (held ++ part) → held' ≡ take (max_line_bytes + 1) (p.raw ++ part)
   kept_on part e = e ∙ ap (λ l. take (max_line_bytes + 1) (l ++ part)) p.held_is ∙ kept_again (max_line_bytes + 1) p.raw part
 

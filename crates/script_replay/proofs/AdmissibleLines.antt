@@ -120,7 +120,9 @@ fine_words (word, rest) =
 
 fine_bytes : (bytes : List ℕ) → IsFine (by_bytes bytes)
 fine_bytes [] = tt
-fine_bytes (b ∷ bs) = either (b == 35) nothing (by_words (b ∷ bs)) tt (either (is_utf8 (b ∷ bs)) (parted (b ∷ bs) >>= by_first_word) (fails BadLine) (reads (parted (b ∷ bs)) by_first_word fine_words) tt)
+fine_bytes (b ∷ bs) =
+    either (b == 35) nothing (by_words (b ∷ bs)) tt
+    (either (is_utf8 (b ∷ bs)) (parted (b ∷ bs) >>= by_first_word) (fails BadLine) (reads (parted (b ∷ bs)) by_first_word fine_words) tt)
 
 pub fine_line : (line : Line) → IsFine (line_meaning line)
 fine_line None = tt

@@ -24,7 +24,8 @@ use Rattle.script_lines.proofs.Pieces.{front_has_none, but_last}
 use Rattle.script_lines.proofs.Cuts.{cut-open, cut-ended, cut-unended, complete-unended, kept_line_of, unended_whole, none_kept, all_kept}
 
 -- what follows lines that were answered
-module _ (T all_read : Type 0) (old now : List Line → List ℕ) (max_line_bytes room left : ℕ) (done front : List ℕ) (told : AnsweredBy old now max_line_bytes done front) (within : length done + left ≡ room) where
+module _ (T all_read : Type 0) (old now : List Line → List ℕ) (max_line_bytes room left : ℕ) (done front : List ℕ)
+    (told : AnsweredBy old now max_line_bytes done front) (within : length done + left ≡ room) where
   -- a front of what follows is a front of all
   front_follows : (read written : List ℕ) → WritesFrontOf all_read now max_line_bytes read written → WritesFrontOf all_read old max_line_bytes (done ++ read) (front ++ written)
   front_follows read written (inl w) = inl (w.0, told (λ _. []) read ∙ ap (λ l. front ++ l) w.1 ∙ sym (append_assoc front written w.0))
@@ -157,7 +158,8 @@ AnsweredBy-trans old now later max_line_bytes done front more_done more_front to
 
 module _ (old now : List Line → List ℕ) (max_line_bytes room left : ℕ) (r0 r1 r2 w0 w1 w2 : Option (List ℕ)) (p : AnsweredLines old now max_line_bytes room left r0 r1 w0 w1) where
   -- the loop ends as what it did last ends
-  pub closes : (T all_read : Type 0) (result : Result T ReplayFault) (bytes part : List ℕ) → Consumes r1 r2 bytes → Appends w1 w2 part → Began result bytes × Replays all_read now max_line_bytes left result bytes part
+  pub closes : (T all_read : Type 0) (result : Result T ReplayFault) (bytes part : List ℕ) → Consumes r1 r2 bytes
+      → Appends w1 w2 part → Began result bytes × Replays all_read now max_line_bytes left result bytes part
       → (read written : List ℕ) × Consumes r0 r2 read × Appends w0 w2 written × Began result read × Replays all_read old max_line_bytes room result read written
   closes T all_read result bytes part read wrote r =
       let all = follows_on T all_read old now max_line_bytes room left p.done p.front p.told p.within result bytes part r.0 r.1 in (
@@ -181,14 +183,17 @@ Tells T old max_line_bytes room r0 r1 w0 w1 result =
     (read written : List ℕ) × Consumes r0 r1 read × Appends w0 w1 written × Began result read × Replays (OnSome r0 (IsAtEnd r1)) old max_line_bytes room result read written
 
 -- what a replay of a whole script ensures
-pub as_replay : (r0 r1 w0 w1 : Option (List ℕ)) (result : Result (Unit {0}) ReplayFault) → Tells (Unit {0}) (script_text start) longest_line longest_script r0 r1 w0 w1 result → IsReplay r0 r1 w0 w1 result
+pub as_replay : (r0 r1 w0 w1 : Option (List ℕ)) (result : Result (Unit {0}) ReplayFault)
+    → Tells (Unit {0}) (script_text start) longest_line longest_script r0 r1 w0 w1 result → IsReplay r0 r1 w0 w1 result
 as_replay r0 r1 w0 w1 result t = (t.0, t.1, t.2, t.3, t.5)
 
 -- a look at what comes next failed, and consumed nothing
 pub look_failed : (T : Type 0) (old now now' : List Line → List ℕ) (max_line_bytes room left : ℕ) (r0 r1 r1' w0 w1 : Option (List ℕ)) → AnsweredLines old now max_line_bytes room left r0 r1 w0 w1
     → Keeps r1 r1' → now' ≡ now → now' [] ≡ [] → Tells T old max_line_bytes room r0 r1' w0 w1 (Err ReadFault)
 look_failed T old now now' max_line_bytes room left r0 r1 r1' w0 w1 answered kept same empty =
-    closes old now' max_line_bytes room left r0 r1' r1' w0 w1 w1 (looked old now now' max_line_bytes room left r0 r1 r1' w0 w1 answered kept same) T (OnSome r0 (IsAtEnd r1')) (Err ReadFault) [] [] (Consumes-nil r1') (Appends-nil w1)
+    closes old now' max_line_bytes room left r0 r1' r1' w0 w1 w1
+    (looked old now now' max_line_bytes room left r0 r1 r1' w0 w1 answered kept same) T (OnSome r0 (IsAtEnd r1')) (Err ReadFault) []
+    [] (Consumes-nil r1') (Appends-nil w1)
     (tt, (omega arith, sym empty))
 
 -- the same of a fault that a `?` passes on
@@ -267,7 +272,8 @@ module _ (old now : List Line → List ℕ) (max_line_bytes room left' : ℕ) (r
       omega (arith, t.4, ap length t.2, length-append t.0 (10 ∷ []))
 
   -- a line was read
-  module _ (end : LineEnd) (is : result ≡ Ok end) (some : 0 < length (line_read end held)) (max_line_bytes'' : ℕ) (line : Line) (same'' : max_line_bytes'' ≡ max_line_bytes) (line_is : line ≡ line_of end max_line_bytes'' held)
+  module _ (end : LineEnd) (is : result ≡ Ok end) (some : 0 < length (line_read end held)) (max_line_bytes'' : ℕ) (line : Line)
+      (same'' : max_line_bytes'' ≡ max_line_bytes) (line_is : line ≡ line_of end max_line_bytes'' held)
       (w3 : Option (List ℕ)) (part : List ℕ) (wrote : Appends w2 w3 part) where
     raw_of : (raw : List ℕ) × HasNoFeed raw × (n.bytes ≡ line_read end raw) × (held ≡ take (max_line_bytes + 1) raw) × (length n.bytes + left' ≡ n.left)
     raw_of = taken_line max_line_bytes n.left left' end n.bytes held (taken (Ok end) is)
@@ -291,9 +297,11 @@ module _ (old now : List Line → List ℕ) (max_line_bytes room left' : ℕ) (r
     pub answer_fault : (T : Type 0) (fault : ReplayFault) → (end ≡ Input → OnSome r0 (IsAtEnd r2)) → StopsAtLine now line fault part → Tells T old max_line_bytes room r0 r2 w0 w3 (Err fault)
     answer_fault T fault reached stops =
         closes old now max_line_bytes room n.left r0 n.r1 r2 w0 n.w1 w3 n.answered T (OnSome r0 (IsAtEnd r2)) (Err fault) (line_read end raw_of.0) part read_on wrote_on
-        (stops_at_answer now n.empty max_line_bytes T (OnSome r0 (IsAtEnd r2)) n.left end raw_of.0 fault part reached raw_of.1 some_raw fits (subst (λ l. StopsAtLine now l fault part) line_whole stops))
+        (stops_at_answer now n.empty max_line_bytes T (OnSome r0 (IsAtEnd r2)) n.left end raw_of.0 fault part reached raw_of.1 some_raw
+        fits (subst (λ l. StopsAtLine now l fault part) line_whole stops))
 
-    pub answer_stopped : (T : Type 0) (fault : ReplayFault) (passed : Result T ReplayFault) → (end ≡ Input → OnSome r0 (IsAtEnd r2)) → IsErrAnd passed (λ x. x ≡ fault) → StopsAtLine now line fault part
+    pub answer_stopped : (T : Type 0) (fault : ReplayFault) (passed : Result T ReplayFault) → (end ≡ Input → OnSome r0 (IsAtEnd r2))
+        → IsErrAnd passed (λ x. x ≡ fault) → StopsAtLine now line fault part
         → Tells T old max_line_bytes room r0 r2 w0 w3 passed
     answer_stopped T fault passed reached goes stops =
         Tells-passed T old max_line_bytes room r0 r2 w0 w3 fault passed goes (answer_fault T fault reached stops)
@@ -301,8 +309,11 @@ module _ (old now : List Line → List ℕ) (max_line_bytes room left' : ℕ) (r
     -- it was the last one, and was answered
     pub answer_ended : (later : List Line → List ℕ) → later [] ≡ [] → Replies now later line part → Tells (Unit {0}) old max_line_bytes room r0 r2 w0 w3 (Ok tt)
     answer_ended later none_later replies =
-        closes old now max_line_bytes room n.left r0 n.r1 r2 w0 n.w1 w3 n.answered (Unit {0}) (OnSome r0 (IsAtEnd r2)) (Ok tt) (line_read end raw_of.0) part read_on wrote_on
-        (tt, ends_at_answer now n.empty max_line_bytes (OnSome r0 (IsAtEnd r2)) later none_later n.left end raw_of.0 part raw_of.1 some_raw fits (subst (λ l. Replies now later l part) line_whole replies))
+        closes old now max_line_bytes room n.left r0 n.r1 r2 w0 n.w1 w3 n.answered (Unit {0}) (OnSome r0 (IsAtEnd r2)) (Ok tt) (line_read end raw_of.0) part read_on wrote_on (
+          tt,
+          ends_at_answer now n.empty max_line_bytes (OnSome r0 (IsAtEnd r2)) later none_later n.left end raw_of.0 part raw_of.1
+              some_raw fits (subst (λ l. Replies now later l part) line_whole replies),
+        )
 
   -- a line was read and answered
   module _ (is : result ≡ Ok Feed) (max_line_bytes'' : ℕ) (line : Line) (same'' : max_line_bytes'' ≡ max_line_bytes) (line_is : line ≡ line_of Feed max_line_bytes'' held)

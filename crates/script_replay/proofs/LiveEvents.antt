@@ -238,5 +238,6 @@ live_events_make_totals one other name line m says =
       other_figures = figures_by (order_named (after other) b.site) (entries b.content);
       one_answers = totals_are_from_scratch one line name a says m.is;
       other_answers = totals_are_from_scratch other line name b says o.is;
-      alike = ap (λ order. figures_but_voided (figures_by order (entries a.content))) o.order ∙ ap (λ (x : Board). x.figures) (same_board (order_named (after other) b.site) default_periods a b o.live_events);
+      alike = ap (λ order. figures_but_voided (figures_by order (entries a.content))) o.order
+          ∙ ap (λ (x : Board). x.figures) (same_board (order_named (after other) b.site) default_periods a b o.live_events);
     }

@@ -147,7 +147,8 @@ kept_late : (late : Bool) (s : Script) (after : Script × List ℕ) → Kept s.w
 kept_late true s after kept then = kept
 kept_late false s after kept then = then
 
-kept_limited : (is : Bool) (s : Script) (t e r c : ℕ) → Kept s.world → Kept (cond {A = Script × List ℕ} is (record s { limits = record { transactions = t; events = e; readings = r; changes = c } }, []) (s, fault_line PlanLimit)).0.world
+kept_limited : (is : Bool) (s : Script) (t e r c : ℕ) → Kept s.world
+    → Kept (cond {A = Script × List ℕ} is (record s { limits = record { transactions = t; events = e; readings = r; changes = c } }, []) (s, fault_line PlanLimit)).0.world
 kept_limited true s t e r c kept = kept
 kept_limited false s t e r c kept = kept
 
@@ -262,6 +263,7 @@ same_world (s ∷ ss) name station command once e none = found (bytes_eq name s.
     found true is f later =
         let same : s ≡ station = cc f in
         let named : name ≡ s.name = (bytes_eq-Decides name s.name).0 is in
-        ap (λ c. (record s { content = c }) ∷ world_after ss (name, command)) (same_content s.content command (answer s.limits s.content command) (subst (λ x. ¬ (IsAccepted (answer x.limits x.content command))) (sym same) none))
+        ap (λ c. (record s { content = c }) ∷ world_after ss (name, command))
+        (same_content s.content command (answer s.limits s.content command) (subst (λ x. ¬ (IsAccepted (answer x.limits x.content command))) (sym same) none))
         ∙ ap (λ l. s ∷ l) (no_station ss name command (ap (λ n. station_named n ss) named ∙ once.0))
     found false is f later = ap (λ l. s ∷ l) (later f)

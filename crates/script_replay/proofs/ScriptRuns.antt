@@ -55,10 +55,12 @@ one_joined s t hs new joined fresh closed is =
     let none : hs ≡ [] = is.1 closed in
     let empty : s.world ≡ emptied s.world = is.0 ∙ ap (run (emptied s.world)) none in
     let all : t.world ≡ emptied t.world =
-    joined ∙ ap (λ w. w ++ new ∷ []) empty ∙ ap (λ l. emptied s.world ++ l) (sym fresh) ∙ sym (map-append (λ (x : Station). record x { content = empty_content }) s.world (new ∷ [])) ∙ ap emptied (sym joined) in
+    joined ∙ ap (λ w. w ++ new ∷ []) empty ∙ ap (λ l. emptied s.world ++ l) (sym fresh)
+    ∙ sym (map-append (λ (x : Station). record x { content = empty_content }) s.world (new ∷ [])) ∙ ap emptied (sym joined) in
     (all ∙ ap (run (emptied t.world)) (sym (append-nil hs ∙ none)), λ f. append-nil hs ∙ none)
 
-run_limited : (is : Bool) (s : Script) (t e r c : ℕ) (hs : List Happens) → IsRun s hs → IsRun (cond {A = Script × List ℕ} is (record s { limits = record { transactions = t; events = e; readings = r; changes = c } }, []) (s, fault_line PlanLimit)).0 (hs ++ [])
+run_limited : (is : Bool) (s : Script) (t e r c : ℕ) (hs : List Happens) → IsRun s hs
+    → IsRun (cond {A = Script × List ℕ} is (record s { limits = record { transactions = t; events = e; readings = r; changes = c } }, []) (s, fault_line PlanLimit)).0 (hs ++ [])
 run_limited true s t e r c hs ran = still s (record s { limits = record { transactions = t; events = e; readings = r; changes = c } }) hs refl (λ f. f) ran
 run_limited false s t e r c hs ran = still s s hs refl (λ f. f) ran
 
@@ -66,7 +68,8 @@ run_joined : (o : Option Station) (s : Script) (site name : List ℕ) (hs : List
 run_joined None s site name hs closed ran = one_joined s (joined_by None s site name).0 hs _ refl refl closed ran
 run_joined (Some _) s site name hs closed ran = still s s hs refl (λ f. f) ran
 
-run_declared : (past : Bool) (s : Script) (site name : List ℕ) (hs : List Happens) → s.opened ≡ false → IsRun s hs → IsRun (cond past (s, fault_line PlanLimit) (joined_by (station_named name s.world) s site name)).0 (hs ++ [])
+run_declared : (past : Bool) (s : Script) (site name : List ℕ) (hs : List Happens) → s.opened ≡ false → IsRun s hs
+    → IsRun (cond past (s, fault_line PlanLimit) (joined_by (station_named name s.world) s site name)).0 (hs ++ [])
 run_declared true s site name hs closed ran = still s s hs refl (λ f. f) ran
 run_declared false s site name hs closed ran = run_joined (station_named name s.world) s site name hs closed ran
 
@@ -82,7 +85,8 @@ run_ordered : (o : Option ℕ) (s : Script) (order : Order) (hs : List Happens) 
 run_ordered None s order hs ran = still s s hs refl (λ f. f) ran
 run_ordered (Some number) s order hs ran = still s (ordered_by (Some number) s order).0 hs refl (λ f. f) ran
 
-run_late : (late : Bool) (s : Script) (after : Script × List ℕ) (hs : List Happens) → s.opened ≡ late → IsRun s hs → (s.opened ≡ false → IsRun after.0 (hs ++ [])) → IsRun (cond late (s, fault_line DeclaredLate) after).0 (hs ++ [])
+run_late : (late : Bool) (s : Script) (after : Script × List ℕ) (hs : List Happens) → s.opened ≡ late → IsRun s hs
+    → (s.opened ≡ false → IsRun after.0 (hs ++ [])) → IsRun (cond late (s, fault_line DeclaredLate) after).0 (hs ++ [])
 run_late true s after hs e ran then = still s s hs refl (λ f. f) ran
 run_late false s after hs e ran then = then e
 
@@ -135,8 +139,11 @@ Asks s t name command = (t.world ≡ world_after s.world (name, command)) × Kee
 one_asked : (s : Script) (t : Script) (a b : Happens) → a ∷ [] ≡ b ∷ [] → t.world ≡ world_after s.world a → KeepsSites s t → Asks s t b.0 b.1
 one_asked s t a b e world kept = let same : a ≡ b = cc e in (world ∙ ap (world_after s.world) same, kept)
 
-asks_meaning : (meaning : Meaning) (station : Station) (s : Script) (name : List ℕ) (command : Command) → asked_by meaning station ≡ (name, command) ∷ [] → Asks s (by_meaning meaning station s).0 name command
-asks_meaning (Event id request) station s name command e = one_asked s (by_meaning (Event id request) station s).0 (station.name, Deliver request.key request.event) (name, command) e refl (record { sites = refl; periods = refl; orders = refl })
+asks_meaning : (meaning : Meaning) (station : Station) (s : Script) (name : List ℕ) (command : Command)
+    → asked_by meaning station ≡ (name, command) ∷ [] → Asks s (by_meaning meaning station s).0 name command
+asks_meaning (Event id request) station s name command e =
+    one_asked s (by_meaning (Event id request) station s).0 (station.name, Deliver request.key request.event) (name, command) e refl
+    (record { sites = refl; periods = refl; orders = refl })
 asks_meaning (Ready reply) station s name command e = cc e
 asks_meaning Silence station s name command e = cc e
 
@@ -144,9 +151,11 @@ asks_sent : (station : Option Station) (s : Script) (text name : List ℕ) (comm
 asks_sent None s text name command e = cc e
 asks_sent (Some station) s text name command e = asks_meaning (message text s.moment) station s name command e
 
-asks_commanded : (station : Option Station) (s : Script) (asked : Command) (name : List ℕ) (command : Command) → commanded_by station asked ≡ (name, command) ∷ [] → Asks s (commanded_to station s asked).0 name command
+asks_commanded : (station : Option Station) (s : Script) (asked : Command) (name : List ℕ) (command : Command)
+    → commanded_by station asked ≡ (name, command) ∷ [] → Asks s (commanded_to station s asked).0 name command
 asks_commanded None s asked name command e = cc e
-asks_commanded (Some station) s asked name command e = one_asked s (commanded_to (Some station) s asked).0 (station.name, asked) (name, command) e refl (record { sites = refl; periods = refl; orders = refl })
+asks_commanded (Some station) s asked name command e =
+    one_asked s (commanded_to (Some station) s asked).0 (station.name, asked) (name, command) e refl (record { sites = refl; periods = refl; orders = refl })
 
 asks_step : (s : Script) (meaning : LineMeaning) (name : List ℕ) (command : Command) → asked_of s meaning ≡ (name, command) ∷ [] → Asks s (step_by s meaning).0 name command
 asks_step s nothing name command e = cc e
@@ -219,4 +228,6 @@ order_changes_no_board one other same line site says =
     let world : a.world ≡ b.world =
     worlds_are_runs one ∙ reordered_runs (emptied a.world) (happened start one) (happened start other) reordered
     ∙ ap (λ w. run w (happened start other)) same.stations ∙ sym (worlds_are_runs other) in
-    ap (λ m. (step_by a m).1) says ∙ (λ i. board_answer (record a { sites = same.sites i; periods = same.periods i; orders = same.orders i; world = world i }) site) ∙ sym (ap (λ m. (step_by b m).1) says)
+    ap (λ m. (step_by a m).1) says
+    ∙ (λ i. board_answer (record a { sites = same.sites i; periods = same.periods i; orders = same.orders i; world = world i }) site)
+    ∙ sym (ap (λ m. (step_by b m).1) says)

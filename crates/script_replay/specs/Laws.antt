@@ -72,7 +72,8 @@ TotalsAreFromScratch = (lines : List Line) (line : Line) (name : List ℕ) (stat
 abbrev pub ListsAreFromScratch : Type 0
 ListsAreFromScratch = (lines : List Line) (line : Line) (what : TxList) (name tx : List ℕ) (station : Station) → line_meaning line ≡ lists what name tx
     → station_named name (script_after start lines).world ≡ Some station
-    → (line_step (script_after start lines) line).1 ≡ listed what name tx (listing_by (order_named (script_after start lines) station.site) (period_named (script_after start lines) station.site) tx (entries station.content))
+    → (line_step (script_after start lines) line).1
+    ≡ listed what name tx (listing_by (order_named (script_after start lines) station.site) (period_named (script_after start lines) station.site) tx (entries station.content))
 
 -- the pairs that a list of readings shows in a direction: each reading with the one behind it
 abbrev pub listed_pairs : List PlacedReading → List Pair
@@ -94,7 +95,8 @@ ListedPartsMakePeriods = (order : Order) (period : Periods) (d : Direction) (qua
 abbrev pub BoardsAreFromScratch : Type 0
 BoardsAreFromScratch = (lines : List Line) (line : Line) (site : List ℕ) → line_meaning line ≡ asks_board site
     → is_among site (script_after start lines).sites ≡ true
-    → (line_step (script_after start lines) line).1 ≡ board_text (shown_site site (order_named (script_after start lines) site) (period_named (script_after start lines) site) (stations_of site (script_after start lines).world))
+    → (line_step (script_after start lines) line).1
+    ≡ board_text (shown_site site (order_named (script_after start lines) site) (period_named (script_after start lines) site) (stations_of site (script_after start lines).world))
 
 -- the imported and exported energies of stations in a period, in an order of readings, added up
 abbrev pub sums_in : Order → Periods → ℕ → World → ByDirection Energy
@@ -181,7 +183,9 @@ pub record AreSameDeliveries (one other : List Line) : Type 0 where
   pub stations : emptied (script_after start one).world ≡ emptied (script_after start other).world
   pub one_delivers : All (λ line. IsNoOperation (line_meaning line)) one
   pub other_delivers : All (λ line. IsNoOperation (line_meaning line)) other
-  pub deliveries : All (λ s. IsPermutation (accepted_deliveries s.limits s.content (commands_on s.name (happened start one))) (accepted_deliveries s.limits s.content (commands_on s.name (happened start other)))) (emptied (script_after start one).world)
+  pub deliveries : All (λ s. IsPermutation (accepted_deliveries s.limits s.content (commands_on s.name (happened start one)))
+      (accepted_deliveries s.limits s.content (commands_on s.name (happened start other))))
+      (emptied (script_after start one).world)
 
 -- such scripts have the same boards
 abbrev pub OrderChangesNoBoard : Type 0

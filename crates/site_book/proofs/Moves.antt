@@ -430,7 +430,8 @@ module _ (T : List Post → List ℕ) (wide : ℕ) (len : (log : List Post) → 
   pub stores_as : (slots id : ℕ) (me : Me (Unit {0}) View) (i word n : ℕ) → me ≡ (writing me.0.log [] me.0.pending i, []) → word ≡ suc i → i < wide → n ≡ get_or (T (me.0.log ++ me.0.pending)) i 0
       → Allows Rule slots id me word (λ _. n) (λ _ w. w ≡ (writing me.0.log [] me.0.pending word, me.1))
   stores_as slots id me i word n is next less total =
-      subst (λ (m : Me (Unit {0}) View). Allows Rule slots id m word (λ _. n) (λ _ w. w ≡ (writing m.0.log [] m.0.pending word, m.1))) (sym is) (stores slots id me.0.log me.0.pending i word n next less total)
+      subst (λ (m : Me (Unit {0}) View). Allows Rule slots id m word (λ _. n) (λ _ w. w ≡ (writing m.0.log [] m.0.pending word, m.1)))
+      (sym is) (stores slots id me.0.log me.0.pending i word n next less total)
 
   pub closes_as : (slots id : ℕ) (me : Me (Unit {0}) View) (n : ℕ) → me ≡ (writing me.0.log [] me.0.pending wide, []) → length me.0.pending ≡ 1 → n ≡ 2 * length me.0.log + 2
       → Allows Rule slots id me 0 (λ _. n) (λ _ w. w ≡ (writing (me.0.log ++ me.0.pending) [] [] 0, me.1))
@@ -445,7 +446,8 @@ module _ (T : List Post → List ℕ) (wide : ℕ) (len : (log : List Post) → 
   pub loads_as : (slots id : ℕ) (me : Me (Unit {0}) View) (i word : ℕ) → me ≡ (looking me.0.log me.0.version me.0.read, []) → length me.0.read ≡ i → i < wide → word ≡ suc i
       → Allows Rule slots id me word (λ n. n) (λ n w. w ≡ (looking me.0.log me.0.version (me.0.read ++ n ∷ []), me.1))
   loads_as slots id me i word is count less next =
-      subst (λ (m : Me (Unit {0}) View). Allows Rule slots id m word (λ n. n) (λ n w. w ≡ (looking m.0.log m.0.version (m.0.read ++ n ∷ []), m.1))) (sym is) (loads slots id me.0.log me.0.version me.0.read i word count less next)
+      subst (λ (m : Me (Unit {0}) View). Allows Rule slots id m word (λ n. n) (λ n w. w ≡ (looking m.0.log m.0.version (m.0.read ++ n ∷ []), m.1)))
+      (sym is) (loads slots id me.0.log me.0.version me.0.read i word count less next)
 
   pub checks_as : (slots id : ℕ) (me : Me (Unit {0}) View) → me ≡ (looking me.0.log me.0.version me.0.read, []) → me.0.version % 2 ≡ 0 → length me.0.read ≡ wide
       → Allows Rule slots id me 0 (λ n. n) (λ n w. MatchBool (eqb n me.0.version)

@@ -50,7 +50,8 @@ has-more tables z n count each site less = ⊎_elim
     below site n less apart = omega arith
 
 -- a table that is read, and whether it is there
-pub has-read : (tables : Unopened) (site : ℕ) (o : Option TableId) → site < length tables → o ≡ get_or tables site o → (IsTrue (is_some o) → HasTable tables site) × (HasTable tables site → IsTrue (is_some o))
+pub has-read : (tables : Unopened) (site : ℕ) (o : Option TableId) → site < length tables → o ≡ get_or tables site o
+    → (IsTrue (is_some o) → HasTable tables site) × (HasTable tables site → IsTrue (is_some o))
 has-read tables site o less read = of o (slice_get_read tables (length tables) site o refl less read)
   where
     of : (o : Option TableId) → slice_get tables site ≡ Some o → (IsTrue (is_some o) → HasTable tables site) × (HasTable tables site → IsTrue (is_some o))

@@ -30,7 +30,18 @@ abbrev readings_of : List BookRow → ℕ
 readings_of rows = sum_by (λ l. l.readings) (map (λ r. r.limits) rows)
 
 sum-under : (rows : List BookRow) → AreUnder (length rows) (readings_of rows) (sum_of_figures (map (λ r. r.figures) rows))
-sum-under [] = record { events = omega arith; voided = omega arith; transactions = omega arith; complete = omega arith; missing = omega arith; up = omega arith; down = omega arith; export_up = omega arith; export_down = omega arith }
+sum-under [] =
+    record {
+      events = omega arith;
+      voided = omega arith;
+      transactions = omega arith;
+      complete = omega arith;
+      missing = omega arith;
+      up = omega arith;
+      down = omega arith;
+      export_up = omega arith;
+      export_down = omega arith;
+    }
 sum-under (r ∷ rows) =
     let rest = sum-under rows in
     let w = r.within in
@@ -50,7 +61,9 @@ sum-under (r ∷ rows) =
     }
 
 -- rows in their order, from the row a on
-listed : (rows : List BookRow) (g : ℕ → Figures) (a : ℕ) → ((k : ℕ) (r : BookRow) → slice_get rows k ≡ Some r → r.figures ≡ g (a + k)) → map (λ r. r.figures) rows ≡ map g (range_with_len a (length rows))
+listed : (rows : List BookRow) (g : ℕ → Figures) (a : ℕ)
+    → ((k : ℕ) (r : BookRow) → slice_get rows k ≡ Some r → r.figures ≡ g (a + k))
+    → map (λ r. r.figures) rows ≡ map g (range_with_len a (length rows))
 listed [] g a each = refl
 listed (r ∷ rows) g a each =
     let here : a + 0 ≡ a = omega arith in
@@ -115,7 +128,17 @@ plus-cancel a b c e =
     let down : a.down ≡ b.down = let h : a.down + c.down ≡ b.down + c.down = ap (λ f. f.down) e in omega (arith, h) in
     let export_up : a.export_up ≡ b.export_up = let h : a.export_up + c.export_up ≡ b.export_up + c.export_up = ap (λ f. f.export_up) e in omega (arith, h) in
     let export_down : a.export_down ≡ b.export_down = let h : a.export_down + c.export_down ≡ b.export_down + c.export_down = ap (λ f. f.export_down) e in omega (arith, h) in
-    λ i. record { events = events i; voided = voided i; transactions = transactions i; complete = complete i; missing = missing i; up = up i; down = down i; export_up = export_up i; export_down = export_down i }
+    λ i. record {
+      events = events i;
+      voided = voided i;
+      transactions = transactions i;
+      complete = complete i;
+      missing = missing i;
+      up = up i;
+      down = down i;
+      export_up = export_up i;
+      export_down = export_down i;
+    }
 
 -- the totals are the sums over as many rows as there are limits
 pub totals-sums : (rows : List BookRow) (log : List Post) → AreRows rows log

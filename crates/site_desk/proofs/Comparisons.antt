@@ -14,7 +14,8 @@ use Rattle.site_desk.specs.Close.{figures_at, figures_with}
 
 module _ {X : Type 0} (P : ℕ → X → Type 0) where
   -- one element more
-  pub each_more : (xs : List X) (k : ℕ) (d : X) → d ≡ get_or xs k d → ((j : ℕ) (x : X) → j < k → slice_get xs j ≡ Some x → P j x) → P k d → (j : ℕ) (x : X) → j < k + 1 → slice_get xs j ≡ Some x → P j x
+  pub each_more : (xs : List X) (k : ℕ) (d : X) → d ≡ get_or xs k d → ((j : ℕ) (x : X) → j < k → slice_get xs j ≡ Some x → P j x)
+      → P k d → (j : ℕ) (x : X) → j < k + 1 → slice_get xs j ≡ Some x → P j x
   each_more xs k d is before here j x less at = ⊎_elim
       (λ (e : j ≡ k).
       let same : d ≡ x = is ∙ get_or_from_slice_get xs k x d (ap (slice_get xs) (sym e) ∙ at) in
@@ -46,7 +47,9 @@ figures_cons c cells site =
     ]
 
 -- the step of a loop from the last station to the first
-pub figures_more : (cells : List Cell) (site done : ℕ) (d : Cell) (sum now : Figures) → done < length cells → sum ≡ figures_at (drop (length cells - done) cells) site → d ≡ get_or cells (length cells - 1 - done) d → now ≡ figures_with d site sum
+pub figures_more : (cells : List Cell) (site done : ℕ) (d : Cell) (sum now : Figures) → done < length cells
+    → sum ≡ figures_at (drop (length cells - done) cells) site → d ≡ get_or cells (length cells - 1 - done) d
+    → now ≡ figures_with d site sum
     → now ≡ figures_at (drop (length cells - (done + 1)) cells) site
 figures_more cells site done d sum now less is here_is step =
     let i = length cells - 1 - done in
@@ -58,7 +61,8 @@ figures_more cells site done d sum now less is here_is step =
     ∙ ap (λ n. figures_at (drop n cells) site) here
 
 -- the sums with the figures of a station of the site
-pub plus_told : (r : Option Figures) (c : Cell) (site : ℕ) (sum shown : Figures) (order : Order) (content : Content) → c.site ≡ site → order ≡ c.order → content ≡ c.content → shown ≡ figures_by order (entries content)
+pub plus_told : (r : Option Figures) (c : Cell) (site : ℕ) (sum shown : Figures) (order : Order) (content : Content)
+    → c.site ≡ site → order ≡ c.order → content ≡ c.content → shown ≡ figures_by order (entries content)
     → IfSome r (λ f. f ≡ plus_figures shown sum) → IfSome r (λ f. f ≡ figures_with c site sum)
 plus_told None c site sum shown order content e ordered is figured told = tt
 plus_told (Some f) c site sum shown order content e ordered is figured told =

@@ -42,13 +42,15 @@ all_back (x ∷ xs) [] same = absurd (omega (arith, same))
 all_back (x ∷ xs) (w ∷ ws) same = ap (λ vs. w ∷ vs) (all_back xs ws (omega (arith, same)))
 
 pub site_set : (change : SitePlan → SitePlan) (site : ℕ) (d : SitePlan) (sites : List SitePlan) → site < length sites
-    → take (length sites) (slice_set sites site (change (slice_index_or sites site d)) ++ drop (length (slice_set sites site (change (slice_index_or sites site d)))) sites) ≡ sites_changed change site sites
+    → take (length sites) (slice_set sites site (change (slice_index_or sites site d)) ++ drop (length (slice_set sites site (change (slice_index_or sites site d)))) sites)
+    ≡ sites_changed change site sites
 site_set change site d sites less =
     let set = changed_set change site d sites less in
     (λ i. take (length sites) (set i ++ drop (length (set i)) sites)) ∙ all_back sites (sites_changed change site sites) (changed_length change site sites)
 
 -- periods that were read before they are changed
-pub periods_changed : (change : Periods → Periods) (site : ℕ) (sites : List SitePlan) → sites_changed (λ s. record s { period = change (period_at sites site) }) site sites ≡ sites_changed (λ s. record s { period = change s.period }) site sites
+pub periods_changed : (change : Periods → Periods) (site : ℕ) (sites : List SitePlan)
+    → sites_changed (λ s. record s { period = change (period_at sites site) }) site sites ≡ sites_changed (λ s. record s { period = change s.period }) site sites
 periods_changed change site [] = refl
 periods_changed change zero (s ∷ sites) = refl
 periods_changed change (suc site) (s ∷ sites) = ap (λ ss. s ∷ ss) (periods_changed change site sites)

@@ -17,7 +17,9 @@ pub known_not : {A : Type 0} (r u : A) (b : Bool) → (r ≡ u → ⊥) → true
 known_not r u b apart known = ((λ e. absurd (apart e)), (λ none. let both : true ≡ false = known ∙ none in absurd (cc (both))))
 
 -- the desk of a plan without a fault
-pub new_desk : (sites : List SitePlan) (stations : List StationPlan) (places : List StationPlace) (cells books : ℕ) → plan_fault sites stations ≡ None → AreNewPlaces sites stations places → length stations ≤ 64 → length sites ≤ 16 → cells ≡ length stations → books ≡ length sites
+pub new_desk : (sites : List SitePlan) (stations : List StationPlan) (places : List StationPlace) (cells books : ℕ)
+    → plan_fault sites stations ≡ None → AreNewPlaces sites stations places → length stations ≤ 64 → length sites ≤ 16
+    → cells ≡ length stations → books ≡ length sites
     → IsDesk places cells books
 new_desk sites stations places cells books h new few fewer count sums = record {
   each_cell = count ∙ sym new.count;

@@ -42,25 +42,31 @@ cells_push sites xs cells s new =
       each = λ k t at. ⊎_elim
           (λ (l : (slice_get xs k ≡ Some t) × (k < length xs)).
           get_front cells k _ last (new.each k t l.0)
-          ∙ ap (λ ys. Some (new_cell k t.site (count_by (λ u. eqb u.site t.site) ys) t.limits (period_at sites t.site) (order_at sites t.site))) (sym (take-append-le k xs (s ∷ []) (let less = l.1 in omega arith))))
+          ∙ ap (λ ys. Some (new_cell k t.site (count_by (λ u. eqb u.site t.site) ys) t.limits (period_at sites t.site) (order_at sites t.site)))
+          (sym (take-append-le k xs (s ∷ []) (let less = l.1 in omega arith))))
           (λ (r : (k ≡ length xs) × (s ≡ t)).
-          let Is : ℕ → StationPlan → Type 0 = λ n u. slice_get (cells ++ last ∷ []) n ≡ Some (new_cell n u.site (row_at (xs ++ s ∷ []) u.site n) u.limits (period_at sites u.site) (order_at sites u.site)) in
+          let Is : ℕ → StationPlan
+          → Type 0 = λ n u. slice_get (cells ++ last ∷ []) n ≡ Some (new_cell n u.site (row_at (xs ++ s ∷ []) u.site n) u.limits (period_at sites u.site) (order_at sites u.site)) in
           let here : Is (length xs) s = ap (slice_get (cells ++ last ∷ [])) (sym new.count) ∙ get_last cells last
-          ∙ ap (λ ys. Some (new_cell (length xs) s.site (count_by (λ u. eqb u.site s.site) ys) s.limits (period_at sites s.site) (order_at sites s.site))) (sym (take-append-le (length xs) xs (s ∷ []) (omega arith))) in
+          ∙ ap (λ ys. Some (new_cell (length xs) s.site (count_by (λ u. eqb u.site s.site) ys) s.limits (period_at sites s.site) (order_at sites s.site)))
+          (sym (take-append-le (length xs) xs (s ∷ []) (omega arith))) in
           subst (λ u. Is k u) r.1 (subst (λ n. Is n s) (sym r.0) here))
           (get_push xs s t k at);
     }
 
 -- the step of a loop over stations
-pub cells_more : (sites : List SitePlan) (stations : List StationPlan) (cells : List Cell) (k : ℕ) (s : StationPlan) → k < length stations → s ≡ get_or stations k s → AreNewCells sites (take k stations) cells
+pub cells_more : (sites : List SitePlan) (stations : List StationPlan) (cells : List Cell) (k : ℕ) (s : StationPlan)
+    → k < length stations → s ≡ get_or stations k s → AreNewCells sites (take k stations) cells
     → AreNewCells sites (take (k + 1) stations) (cells ++ new_cell k s.site (row_at stations s.site k) s.limits (period_at sites s.site) (order_at sites s.site) ∷ [])
 cells_more sites stations cells k s less is new =
     let next : take (k + 1) stations ≡ take k stations ++ s ∷ [] = take_more stations k s less ∙ ap (λ z. take k stations ++ z ∷ []) (sym is) in
     let number : length (take k stations) ≡ k = length_take k stations (omega arith) in
-    let row : row_at (take k stations) s.site (length (take k stations)) ≡ row_at stations s.site k = ap (count_by (λ u. eqb u.site s.site)) (take_all (length (take k stations)) (take k stations) (omega arith)) in
+    let row : row_at (take k stations) s.site (length (take k stations)) ≡ row_at stations s.site k =
+    ap (count_by (λ u. eqb u.site s.site)) (take_all (length (take k stations)) (take k stations) (omega arith)) in
     subst (λ ys. AreNewCells sites ys (cells ++ new_cell k s.site (row_at stations s.site k) s.limits (period_at sites s.site) (order_at sites s.site) ∷ [])) (sym next)
     (subst (λ n. AreNewCells sites (take k stations ++ s ∷ []) (cells ++ new_cell n s.site (row_at stations s.site k) s.limits (period_at sites s.site) (order_at sites s.site) ∷ [])) number
-    (subst (λ r. AreNewCells sites (take k stations ++ s ∷ []) (cells ++ new_cell (length (take k stations)) s.site r s.limits (period_at sites s.site) (order_at sites s.site) ∷ [])) row (cells_push sites (take k stations) cells s new)))
+    (subst (λ r. AreNewCells sites (take k stations ++ s ∷ []) (cells ++ new_cell (length (take k stations)) s.site r s.limits (period_at sites s.site) (order_at sites s.site) ∷ []))
+    row (cells_push sites (take k stations) cells s new)))
 
 -- one book more
 pub books_more : (stations : List StationPlan) (books : List Book) (n : ℕ) → AreNewBooks stations n books → AreNewBooks stations (n + 1) (books ++ new_book stations n ∷ [])
@@ -111,7 +117,8 @@ few_at : (stations : List StationPlan) (site : ℕ) → length (limits_at statio
 few_at [] site = omega arith
 few_at (s ∷ stations) site =
     let rest = few_at stations site in
-    elim (eqb s.site site) as (λ b. length (map (λ (t : StationPlan). t.limits) (cond b (s ∷ filter (λ t. eqb t.site site) stations) (filter (λ t. eqb t.site site) stations))) ≤ length (s ∷ stations)) [
+    elim (eqb s.site site) as (λ b. length (map (λ (t : StationPlan). t.limits) (cond b (s ∷ filter (λ t. eqb t.site site) stations) (filter (λ t. eqb t.site site) stations)))
+    ≤ length (s ∷ stations)) [
       | true ↦ omega arith
       | false ↦ omega arith
     ]
@@ -121,7 +128,9 @@ sum_at [] site = omega arith
 sum_at (s ∷ stations) site =
     let rest = sum_at stations site in
     let whole = sum_by-cons (λ (t : StationPlan). t.limits.readings) s stations in
-    elim (eqb s.site site) as (λ b. sum_by (λ (l : Bounds). l.readings) (map (λ (t : StationPlan). t.limits) (cond b (s ∷ filter (λ t. eqb t.site site) stations) (filter (λ t. eqb t.site site) stations))) ≤ sum_by (λ (t : StationPlan). t.limits.readings) (s ∷ stations)) [
+    elim (eqb s.site site) as (λ b. sum_by (λ (l : Bounds). l.readings)
+    (map (λ (t : StationPlan). t.limits) (cond b (s ∷ filter (λ t. eqb t.site site) stations) (filter (λ t. eqb t.site site) stations)))
+    ≤ sum_by (λ (t : StationPlan). t.limits.readings) (s ∷ stations)) [
       | true ↦ omega (arith, rest, whole, sum_by-cons (λ (l : Bounds). l.readings) s.limits (limits_at stations site))
       | false ↦ omega (arith, rest, whole)
     ]
@@ -143,7 +152,9 @@ pub planned_readings : (sites : List SitePlan) (stations : List StationPlan) →
 planned_readings sites stations h =
     let within : is_within_limits sites stations ≡ true = within_of (is_within_limits sites stations) (has_twice (map (λ s. s.name) stations)) h in
     leb-true (sum_by (λ s. s.limits.readings) stations) most_plan_readings
-    (and_left _ _ (and_left _ _ (and_left (leb (sum_by (λ s. s.limits.readings) stations) most_plan_readings && list_all (λ s. leb s.viewers most_viewers) sites && list_all (λ s. ltb s.site (length sites)) stations) _ within)))
+    (and_left _ _ (and_left
+    _ _ (and_left (leb (sum_by (λ s. s.limits.readings) stations) most_plan_readings && list_all (λ s. leb s.viewers most_viewers)
+    sites && list_all (λ s. ltb s.site (length sites)) stations) _ within)))
 
 pub planned_at : (sites : List SitePlan) (stations : List StationPlan) (site : ℕ) → length stations ≤ 64 → plan_fault sites stations ≡ None → ArePlanned (limits_at stations site)
 planned_at sites stations site few h = record {
@@ -164,7 +175,8 @@ planned_sites sites stations k s h at =
     let within : is_within_limits sites stations ≡ true = within_of (is_within_limits sites stations) (has_twice (map (λ s. s.name) stations)) h in
     all_below (length sites) stations k s
     (and_right (leb (sum_by (λ s. s.limits.readings) stations) most_plan_readings && list_all (λ s. leb s.viewers most_viewers) sites) _
-    (and_left (leb (sum_by (λ s. s.limits.readings) stations) most_plan_readings && list_all (λ s. leb s.viewers most_viewers) sites && list_all (λ s. ltb s.site (length sites)) stations) _ within)) at
+    (and_left (leb (sum_by (λ s. s.limits.readings) stations) most_plan_readings && list_all (λ s. leb s.viewers most_viewers) sites
+    && list_all (λ s. ltb s.site (length sites)) stations) _ within)) at
 
 not_twice : (b : Bool) → not b ≡ true → b ≡ false
 not_twice true h = absurd (cc (h))
@@ -176,9 +188,12 @@ no_twin true false h = refl
 no_twin false twice h = absurd (cc (h))
 
 -- the names of a plan without a fault occur once
-pub planned_names : (sites : List SitePlan) (stations : List StationPlan) → plan_fault sites stations ≡ None → (has_twice (map (λ s. s.name) sites) ≡ false) × (has_twice (map (λ s. s.name) stations) ≡ false)
+pub planned_names : (sites : List SitePlan) (stations : List StationPlan) → plan_fault sites stations ≡ None
+    → (has_twice (map (λ s. s.name) sites) ≡ false) × (has_twice (map (λ s. s.name) stations) ≡ false)
 planned_names sites stations h =
     let within : is_within_limits sites stations ≡ true = within_of (is_within_limits sites stations) (has_twice (map (λ s. s.name) stations)) h in (
-      not_twice (has_twice (map (λ s. s.name) sites)) (and_right (leb (sum_by (λ s. s.limits.readings) stations) most_plan_readings && list_all (λ s. leb s.viewers most_viewers) sites && list_all (λ s. ltb s.site (length sites)) stations) _ within),
+      not_twice (has_twice (map (λ s. s.name) sites))
+          (and_right (leb (sum_by (λ s. s.limits.readings) stations) most_plan_readings && list_all (λ s. leb s.viewers most_viewers) sites
+          && list_all (λ s. ltb s.site (length sites)) stations) _ within),
       no_twin (is_within_limits sites stations) (has_twice (map (λ s. s.name) stations)) h,
     )

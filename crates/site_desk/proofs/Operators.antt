@@ -23,7 +23,8 @@ use Rattle.site_desk.specs.Operator.{AreBoardsAt, AreBoardsOf, AreNotedBoards, A
 use Rattle.site_desk.specs.Roster.{IsNamed, StandsAt}
 
 -- one board more, of one place more
-boards_push : (places : List StationPlace) (p : StationPlace) (boards : List (List ℕ × Board)) (b : List ℕ × Board) → AreBoardsOf places boards → IsBoardAt p b → AreBoardsOf (places ++ p ∷ []) (boards ++ b ∷ [])
+boards_push : (places : List StationPlace) (p : StationPlace) (boards : List (List ℕ × Board)) (b : List ℕ × Board)
+    → AreBoardsOf places boards → IsBoardAt p b → AreBoardsOf (places ++ p ∷ []) (boards ++ b ∷ [])
 boards_push [] p [] b all is = (is, tt)
 boards_push [] p (c ∷ boards) b all is = absurd all
 boards_push (q ∷ places) p [] b all is = absurd all
@@ -37,7 +38,8 @@ at_more places site k p less is =
     ∙ filter-append (λ (q : StationPlace). eqb q.site site) (take k places) (p ∷ [])
 
 -- the step of a loop over places: the board of a station of the site is added, and no other
-pub boards_more : (places : List StationPlace) (site k : ℕ) (p : StationPlace) (boards more : List (List ℕ × Board)) → k < length places → p ≡ get_or places k p → AreBoardsAt (take k places) site boards
+pub boards_more : (places : List StationPlace) (site k : ℕ) (p : StationPlace) (boards more : List (List ℕ × Board))
+    → k < length places → p ≡ get_or places k p → AreBoardsAt (take k places) site boards
     → (p.site ≢ site → more ≡ boards) → (p.site ≡ site → (b : List ℕ × Board) × IsBoardAt p b × (more ≡ boards ++ b ∷ [])) → AreBoardsAt (take (k + 1) places) site more
 boards_more places site k p boards more less is all other own = at (eqb p.site site) refl
   where
@@ -53,7 +55,9 @@ boards_more places site k p boards more less is all other own = at (eqb p.site s
         subst (λ qs. AreBoardsOf qs more) (sym same) (subst (AreBoardsOf ps) (sym (other (eqb-false p.site site e))) all)
 
 -- the totals of a cell that is at the place of the station of this name
-pub totals_named : (places : List StationPlace) (name : List ℕ) (k : ℕ) (at : StationPlace) (c : Cell) (f : Figures) (e x : Energy) → IsNamed places name k → at ≡ get_or places k at → StandsAt k at c → AreTotalsWithin c.limits c.order f e x → AreTotalsOfName places name f e x
+pub totals_named : (places : List StationPlace) (name : List ℕ) (k : ℕ) (at : StationPlace) (c : Cell) (f : Figures) (e x : Energy)
+    → IsNamed places name k → at ≡ get_or places k at → StandsAt k at c → AreTotalsWithin c.limits c.order f e x
+    → AreTotalsOfName places name f e x
 totals_named places name k at c f e x named is stands within =
     let place : at ≡ named.place = is ∙ get_or_from_slice_get places k named.place at named.there in
     let limits = stands.limits ∙ ap (λ (p : StationPlace). p.limits) place in
@@ -61,19 +65,29 @@ totals_named places name k at c f e x named is stands within =
     record { number = k; named = named; totals = subst (λ l. AreTotalsWithin l named.place.order f e x) limits (subst (λ o. AreTotalsWithin c.limits o f e x) order within) }
 
 -- the listing of a ledger
-pub listing_shown : {E : Type 0} (r : Result TxListing E) (limits : Bounds) (by_order order : Order) (by period : Periods) (tx : List ℕ) (content c : Content) → IfOk r (λ l. l ≡ listing_by by_order by tx (entries content)) → by_order ≡ order → by ≡ period → content ≡ c → Reached limits c.changes c
+pub listing_shown : {E : Type 0} (r : Result TxListing E) (limits : Bounds) (by_order order : Order) (by period : Periods) (tx : List ℕ) (content c : Content)
+    → IfOk r (λ l. l ≡ listing_by by_order by tx (entries content)) → by_order ≡ order → by ≡ period → content ≡ c
+    → Reached limits c.changes c
     → IfOk r (IsListingWithin limits order period tx)
-listing_shown (Ok l) limits by_order order by period tx content c shown ordered same is reached = record { content = c; reached = reached; is = shown ∙ (λ i. listing_by (ordered i) (same i) tx (entries (is i))) }
+listing_shown (Ok l) limits by_order order by period tx content c shown ordered same is reached =
+    record { content = c; reached = reached; is = shown ∙ (λ i. listing_by (ordered i) (same i) tx (entries (is i))) }
 listing_shown (Err e) limits by_order order by period tx content c shown ordered same is reached = tt
 
 -- that of a cell at the place of the station of this name
-pub listing_named : (places : List StationPlace) (name : List ℕ) (k : ℕ) (at : StationPlace) (c : Cell) (tx : List ℕ) (l : TxListing) → IsNamed places name k → at ≡ get_or places k at → StandsAt k at c → IsListingWithin c.limits c.order c.period tx l → IsListingOfName places name tx l
+pub listing_named : (places : List StationPlace) (name : List ℕ) (k : ℕ) (at : StationPlace) (c : Cell) (tx : List ℕ) (l : TxListing)
+    → IsNamed places name k → at ≡ get_or places k at → StandsAt k at c → IsListingWithin c.limits c.order c.period tx l
+    → IsListingOfName places name tx l
 listing_named places name k at c tx l named is stands within =
     let place : at ≡ named.place = is ∙ get_or_from_slice_get places k named.place at named.there in
     let limits = stands.limits ∙ ap (λ (p : StationPlace). p.limits) place in
     let period = stands.period ∙ ap (λ (p : StationPlace). p.period) place in
     let order = stands.order ∙ ap (λ (p : StationPlace). p.order) place in
-    record { number = k; named = named; listing = subst (λ b. IsListingWithin b named.place.order named.place.period tx l) limits (subst (λ o. IsListingWithin c.limits o named.place.period tx l) order (subst (λ p. IsListingWithin c.limits c.order p tx l) period within)) }
+    record {
+      number = k;
+      named = named;
+      listing = subst (λ b. IsListingWithin b named.place.order named.place.period tx l) limits
+          (subst (λ o. IsListingWithin c.limits o named.place.period tx l) order (subst (λ p. IsListingWithin c.limits c.order p tx l) period within));
+    }
 
 -- what is in a list is in a longer one
 kept_at : {A : Type 0} (xs : List A) (y : A) (i : ℕ) (x : A) → slice_get xs i ≡ Some x → slice_get (xs ++ y ∷ []) i ≡ Some x
@@ -100,8 +114,11 @@ pub record AreSoFar (Is : Cell → Type 0) (places : List StationPlace) (site nu
 pub none_noted : (Is : Cell → Type 0) (places : List StationPlace) (site : ℕ) (boards : List (List ℕ × Board)) → boards ≡ [] → AreSoFar Is places site 0 boards
 none_noted Is places site boards none = record { count = ap length none; each = λ k p less at here. absurd (omega (arith, less)) }
 
-pub noted_more : (Is : Cell → Type 0) (places : List StationPlace) (site number : ℕ) (p : StationPlace) (boards more : List (List ℕ × Board)) → number < length places → p ≡ get_or places number p → AreSoFar Is places site number boards
-    → (p.site ≢ site → more ≡ boards) → (p.site ≡ site → (c : Cell) × Is c × ((b : List ℕ × Board) × IsBoardOfCell number p c b × (more ≡ boards ++ b ∷ []))) → AreSoFar Is places site (number + 1) more
+pub noted_more : (Is : Cell → Type 0) (places : List StationPlace) (site number : ℕ) (p : StationPlace) (boards more : List (List ℕ × Board))
+    → number < length places → p ≡ get_or places number p → AreSoFar Is places site number boards
+    → (p.site ≢ site → more ≡ boards)
+    → (p.site ≡ site → (c : Cell) × Is c × ((b : List ℕ × Board) × IsBoardOfCell number p c b × (more ≡ boards ++ b ∷ [])))
+    → AreSoFar Is places site (number + 1) more
 noted_more Is places site number p boards more less is all other own = at (eqb p.site site) refl
   where
     P : StationPlace → Bool
@@ -153,11 +170,14 @@ noted_more Is places site number p boards more less is all other own = at (eqb p
         }
 
 -- all stations were passed
-pub all_noted : (Is : Cell → Type 0) (places : List StationPlace) (site number : ℕ) (boards : List (List ℕ × Board)) → number ≡ length places → AreSoFar Is places site number boards → AreNotedBoards Is places site boards
+pub all_noted : (Is : Cell → Type 0) (places : List StationPlace) (site number : ℕ) (boards : List (List ℕ × Board))
+    → number ≡ length places → AreSoFar Is places site number boards → AreNotedBoards Is places site boards
 all_noted Is places site number boards whole all k p there here = all.each k p (subst (λ n. k < n) (sym whole) (slice_get_within places k p there)) there here
 
 -- what is so of all cells is so of one among them
-pub noted_boards : (Is : Cell → Type 0) (cells : List Cell) (places : List StationPlace) (site : ℕ) (boards : List (List ℕ × Board)) → ((i : ℕ) (c : Cell) → slice_get cells i ≡ Some c → Is c) → AreNotedBoards (IsAmong cells) places site boards → AreNotedBoards Is places site boards
+pub noted_boards : (Is : Cell → Type 0) (cells : List Cell) (places : List StationPlace) (site : ℕ) (boards : List (List ℕ × Board))
+    → ((i : ℕ) (c : Cell) → slice_get cells i ≡ Some c → Is c) → AreNotedBoards (IsAmong cells) places site boards
+    → AreNotedBoards Is places site boards
 noted_boards Is cells places site boards so all k p there here =
     let b = all k p there here in
     record { cell = b.cell; noted = so b.noted.0 b.cell b.noted.1; board = b.board; there = b.there; is = b.is }
@@ -176,7 +196,9 @@ pub among_at : {A : Type 0} (f : A → Cell) (xs : List A) (i : ℕ) (x : A) (c 
 among_at f xs i x c less is same = (i, slice_get-map f xs i ∙ ap (option_map f) (slice_get-get_or xs i x less ∙ ap Some (sym is)) ∙ ap Some (sym same))
 
 -- the board of a cell that was added
-pub added_of_cell : {T E : Type 0} (r : Result T E) (cells : List Cell) (number : ℕ) (p : StationPlace) (site : ℕ) (c : Cell) (name : List ℕ) (board : Board) (boards more : List (List ℕ × Board)) → IsAmong cells c → StandsAt number p c
+pub added_of_cell : {T E : Type 0} (r : Result T E) (cells : List Cell) (number : ℕ) (p : StationPlace) (site : ℕ) (c : Cell)
+    (name : List ℕ) (board : Board) (boards more : List (List ℕ × Board))
+    → IsAmong cells c → StandsAt number p c
     → name ≡ p.name → board ≡ board_by c.order c.period (entries c.content) → OnOk r (more ≡ boards ++ (name, board) ∷ [])
     → OnOk r (p.site ≡ site → (d : Cell) × IsAmong cells d × ((b : List ℕ × Board) × IsBoardOfCell number p d b × (more ≡ boards ++ b ∷ [])))
 added_of_cell (Ok t) cells number p site c name board boards more among stands named shown put =

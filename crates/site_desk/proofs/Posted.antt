@@ -141,7 +141,8 @@ none_posted stations sites books made site b at =
     omega (arith, none)
 
 -- books that kept the rows of new ones are those of the plan
-pub books_of_plan : (stations : List StationPlan) (sites : ℕ) (books later : List Book) → AreNewBooks stations sites books → AreRowsKept books later → length later ≡ length books → AreBooksOf stations sites later
+pub books_of_plan : (stations : List StationPlan) (sites : ℕ) (books later : List Book) → AreNewBooks stations sites books
+    → AreRowsKept books later → length later ≡ length books → AreBooksOf stations sites later
 books_of_plan stations sites books later made kept count = record {
   count = count ∙ made.count;
   each = λ site b at.

@@ -72,7 +72,8 @@ module _ (at : StationPlace) (number : ℕ) (c : Cell) (b : Book) (p : Held) (co
   tells_of Repeat c' b' told tied is cells books told_is = told_is
   tells_of (Refused why) c' b' told tied is cells books told_is = told_is
 
-  pub submitted : (a : Answer) (c' : Cell) (b' : Book) (p' : Held) (told : Option Known) → (IsAccepted a → Tied c b) → a ≡ answer c.limits c.content command → c' ≡ cell_after c p command → p' ≡ pass_after p a p'.work
+  pub submitted : (a : Answer) (c' : Cell) (b' : Book) (p' : Held) (told : Option Known) → (IsAccepted a → Tied c b)
+      → a ≡ answer c.limits c.content command → c' ≡ cell_after c p command → p' ≡ pass_after p a p'.work
       → p'.work ≤ p.work + most_spent c.order c.content.events command → b' ≡ record b { posts = posts_after b.posts c' a } → told ≡ told_after b' a → Submitted at p command a p' told
   submitted (Accepted n) c' b' p' told tied is cells passes bound books told_is = taken_by n p' told is passes bound (taken_at n c' b' told (tied tt) is cells books told_is)
   submitted Repeat c' b' p' told tied is cells passes bound books told_is = answered_by Repeat p' told is passes told_is
@@ -86,20 +87,32 @@ module _ (at : StationPlace) (number : ℕ) (c : Cell) (b : Book) (p : Held) (co
   submitted (Refused ChangesExhausted) c' b' p' told tied is cells passes bound books told_is = record { pass = passes; untold = told_is }
 
 -- the board of a ledger
-pub board_shown : {E : Type 0} (r : Result Board E) (limits : Bounds) (by period : Periods) (by_order order : Order) (content c : Content) → IfOk r (λ b. b ≡ board_by by_order by (entries content)) → by ≡ period → by_order ≡ order → content ≡ c → Reached limits c.changes c → IfOk r (IsBoardWithin limits period order)
-board_shown (Ok b) limits by period by_order order content c shown same ordered is reached = record { content = c; reached = reached; shown = shown ∙ (λ i. board_by (ordered i) (same i) (entries (is i))) }
+pub board_shown : {E : Type 0} (r : Result Board E) (limits : Bounds) (by period : Periods) (by_order order : Order) (content c : Content)
+    → IfOk r (λ b. b ≡ board_by by_order by (entries content)) → by ≡ period → by_order ≡ order → content ≡ c
+    → Reached limits c.changes c → IfOk r (IsBoardWithin limits period order)
+board_shown (Ok b) limits by period by_order order content c shown same ordered is reached =
+    record { content = c; reached = reached; shown = shown ∙ (λ i. board_by (ordered i) (same i) (entries (is i))) }
 board_shown (Err e) limits by period by_order order content c shown same ordered is reached = tt
 
 -- the board of a cell that is at the place of the station of this name
-pub board_named : (places : List StationPlace) (name : List ℕ) (k : ℕ) (at : StationPlace) (c : Cell) (b : Board) → IsNamed places name k → at ≡ get_or places k at → StandsAt k at c → IsBoardWithin c.limits c.period c.order b → IsBoardOfName places name b
+pub board_named : (places : List StationPlace) (name : List ℕ) (k : ℕ) (at : StationPlace) (c : Cell) (b : Board)
+    → IsNamed places name k → at ≡ get_or places k at → StandsAt k at c → IsBoardWithin c.limits c.period c.order b
+    → IsBoardOfName places name b
 board_named places name k at c b named is stands within =
     let place : at ≡ named.place = is ∙ get_or_from_slice_get places k named.place at named.there in
     let limits = stands.limits ∙ ap (λ (p : StationPlace). p.limits) place in
     let period = stands.period ∙ ap (λ (p : StationPlace). p.period) place in
     let order = stands.order ∙ ap (λ (p : StationPlace). p.order) place in
-    record { number = k; named = named; board = subst (λ l. IsBoardWithin l named.place.period named.place.order b) limits (subst (λ s. IsBoardWithin c.limits s named.place.order b) period (subst (λ o. IsBoardWithin c.limits c.period o b) order within)) }
+    record {
+      number = k;
+      named = named;
+      board = subst (λ l. IsBoardWithin l named.place.period named.place.order b) limits
+          (subst (λ s. IsBoardWithin c.limits s named.place.order b) period (subst (λ o. IsBoardWithin c.limits c.period o b) order within));
+    }
 
 -- the board of a ledger, of just this content
-pub board_of_content : {E : Type 0} (r : Result Board E) (by period : Periods) (by_order order : Order) (content c : Content) → IfOk r (λ b. b ≡ board_by by_order by (entries content)) → by ≡ period → by_order ≡ order → content ≡ c → IfOk r (λ b. b ≡ board_by order period (entries c))
+pub board_of_content : {E : Type 0} (r : Result Board E) (by period : Periods) (by_order order : Order) (content c : Content)
+    → IfOk r (λ b. b ≡ board_by by_order by (entries content)) → by ≡ period → by_order ≡ order → content ≡ c
+    → IfOk r (λ b. b ≡ board_by order period (entries c))
 board_of_content (Ok b) by period by_order order content c shown same ordered is = shown ∙ (λ i. board_by (ordered i) (same i) (entries (is i)))
 board_of_content (Err e) by period by_order order content c shown same ordered is = tt

@@ -47,7 +47,8 @@ limits_row (x ∷ xs) (suc k) s at =
     cases (eqb x.site s.site) (row_at (x ∷ xs) s.site (suc k)) row
 
 -- two stations of a site have two rows
-pub rows_apart : (xs : List StationPlan) (site j k : ℕ) (s t : StationPlan) → slice_get xs j ≡ Some s → slice_get xs k ≡ Some t → s.site ≡ site → t.site ≡ site → row_at xs site j ≡ row_at xs site k → j ≡ k
+pub rows_apart : (xs : List StationPlan) (site j k : ℕ) (s t : StationPlan) → slice_get xs j ≡ Some s → slice_get xs k ≡ Some t
+    → s.site ≡ site → t.site ≡ site → row_at xs site j ≡ row_at xs site k → j ≡ k
 rows_apart [] site j k s t at as_ here there same = absurd (cc (at))
 rows_apart (x ∷ xs) site zero zero s t at as_ here there same = refl
 rows_apart (x ∷ xs) site zero (suc k) s t at as_ here there same =
@@ -79,7 +80,9 @@ station_of sites stations cells k c new at =
     some_same a b h = cc
 
 -- new cells are tied, and no two have one row
-pub new_tied : (sites : List SitePlan) (stations : List StationPlan) (cells : List Cell) (books : List Book) → plan_fault sites stations ≡ None → AreNewCells sites stations cells → AreNewBooks stations (length sites) books → AreTied cells books
+pub new_tied : (sites : List SitePlan) (stations : List StationPlan) (cells : List Cell) (books : List Book)
+    → plan_fault sites stations ≡ None → AreNewCells sites stations cells → AreNewBooks stations (length sites) books
+    → AreTied cells books
 new_tied sites stations cells books h new made k c at =
     let s = station_of sites stations cells k c new at in
     let first : IsTied books (new_cell k s.0.site (row_at stations s.0.site k) s.0.limits (period_at sites s.0.site) (order_at sites s.0.site)) = record {

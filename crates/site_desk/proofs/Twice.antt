@@ -38,7 +38,8 @@ module _ {X : Type 0} (name : X → List ℕ) where
 
   -- the first that occurs again, where what is left begins with this element
   first_left : (xs : List X) (i : ℕ) (x : X) → i < length xs
-      → first_twice (map name (drop i xs)) ≡ (if list_any (λ y. bytes_eq (name (get_or xs i x)) (name y)) (drop (i + 1) xs) then Some (name (get_or xs i x)) else first_twice (map name (drop (i + 1) xs)))
+      → first_twice (map name (drop i xs))
+      ≡ (if list_any (λ y. bytes_eq (name (get_or xs i x)) (name y)) (drop (i + 1) xs) then Some (name (get_or xs i x)) else first_twice (map name (drop (i + 1) xs)))
   first_left xs i x less =
       ap (λ ys. first_twice (map name ys)) (drop_more xs i x less)
       ∙ ap (λ b. if b then Some (name (get_or xs i x)) else first_twice (map name (drop (i + 1) xs))) (any-map (bytes_eq (name (get_or xs i x))) name (drop (i + 1) xs))

@@ -23,22 +23,40 @@ pub record Ended : Type 0 where
 
 -- Figures are kept as the tuple of their parts.
 abbrev pub figures_code : Coded Figures
-figures_code = code_by (ℕ × (ℕ × (ℕ × (ℕ × (ℕ × (ℕ × (ℕ × (ℕ × ℕ)))))))) (coded× coded_ℕ (coded× coded_ℕ (coded× coded_ℕ (coded× coded_ℕ (coded× coded_ℕ (coded× coded_ℕ (coded× coded_ℕ (coded× coded_ℕ coded_ℕ))))))))
+figures_code =
+    code_by (ℕ × (ℕ × (ℕ × (ℕ × (ℕ × (ℕ × (ℕ × (ℕ × ℕ))))))))
+    (coded× coded_ℕ (coded× coded_ℕ (coded× coded_ℕ (coded× coded_ℕ (coded× coded_ℕ (coded× coded_ℕ (coded× coded_ℕ (coded× coded_ℕ coded_ℕ))))))))
     (λ f. (f.events, (f.voided, (f.transactions, (f.complete, (f.missing, (f.up, (f.down, (f.export_up, f.export_down)))))))))
-    (λ p. record { events = p.0; voided = p.1.0; transactions = p.1.1.0; complete = p.1.1.1.0; missing = p.1.1.1.1.0; up = p.1.1.1.1.1.0; down = p.1.1.1.1.1.1.0; export_up = p.1.1.1.1.1.1.1.0; export_down = p.1.1.1.1.1.1.1.1 })
+    (λ p. record {
+      events = p.0;
+      voided = p.1.0;
+      transactions = p.1.1.0;
+      complete = p.1.1.1.0;
+      missing = p.1.1.1.1.0;
+      up = p.1.1.1.1.1.0;
+      down = p.1.1.1.1.1.1.0;
+      export_up = p.1.1.1.1.1.1.1.0;
+      export_down = p.1.1.1.1.1.1.1.1;
+    })
     (λ _. refl)
 
 -- A book is kept as the tuple of its parts.
 abbrev pub book_code : Coded Book
-book_code = code_by (ℕ × (List Bounds × List Post)) (coded× coded_ℕ (coded× (coded_list bounds_code) (coded_list (coded× coded_ℕ figures_code)))) (λ b. (b.site, (b.limits, b.posts))) (λ p. record { site = p.0; limits = p.1.0; posts = p.1.1 }) (λ _. refl)
+book_code = code_by (ℕ × (List Bounds × List Post))
+    (coded× coded_ℕ (coded× (coded_list bounds_code) (coded_list (coded× coded_ℕ figures_code)))) (λ b. (b.site, (b.limits, b.posts)))
+    (λ p. record { site = p.0; limits = p.1.0; posts = p.1.1 }) (λ _. refl)
 
 -- A pass is kept as the tuple of its parts.
 abbrev pub held_code : Coded Held
-held_code = code_by (ℕ × (ℕ × (ℕ × ℕ))) (coded× coded_ℕ (coded× coded_ℕ (coded× coded_ℕ coded_ℕ))) (λ h. (h.station, (h.slot, (h.changes, h.work)))) (λ p. record { station = p.0; slot = p.1.0; changes = p.1.1.0; work = p.1.1.1 }) (λ _. refl)
+held_code = code_by (ℕ × (ℕ × (ℕ × ℕ))) (coded× coded_ℕ (coded× coded_ℕ (coded× coded_ℕ coded_ℕ)))
+    (λ h. (h.station, (h.slot, (h.changes, h.work)))) (λ p. record { station = p.0; slot = p.1.0; changes = p.1.1.0; work = p.1.1.1 })
+    (λ _. refl)
 
 -- They are kept as the tuple of these lists.
 abbrev pub ended_code : Coded Ended
-ended_code = code_by (List Cell × (List Book × List Held)) (coded× (coded_list cell_code) (coded× (coded_list book_code) (coded_list held_code))) (λ e. (e.cells, (e.books, e.passes))) (λ p. record { cells = p.0; books = p.1.0; passes = p.1.1 }) (λ _. refl)
+ended_code = code_by (List Cell × (List Book × List Held))
+    (coded× (coded_list cell_code) (coded× (coded_list book_code) (coded_list held_code))) (λ e. (e.cells, (e.books, e.passes)))
+    (λ p. record { cells = p.0; books = p.1.0; passes = p.1.1 }) (λ _. refl)
 
 -- How many of these passes belong to a station.
 abbrev pub passes_of : ℕ → List Held → ℕ

@@ -19,7 +19,8 @@ limits_at stations site = map (λ s. s.limits) (filter (λ s. s.site == site) st
 -- events, with its site's length of settlement periods and order of readings.
 pub record AreNewCells (sites : List SitePlan) (stations : List StationPlan) (cells : List Cell) : Type 0 where
   pub count : length cells ≡ length stations
-  pub each : (k : ℕ) (s : StationPlan) → slice_get stations k ≡ Some s → slice_get cells k ≡ Some (new_cell k s.site (row_at stations s.site k) s.limits (period_at sites s.site) (order_at sites s.site))
+  pub each : (k : ℕ) (s : StationPlan) → slice_get stations k ≡ Some s
+      → slice_get cells k ≡ Some (new_cell k s.site (row_at stations s.site k) s.limits (period_at sites s.site) (order_at sites s.site))
 
 -- The book of a site of a plan that was just opened.
 abbrev pub new_book : List StationPlan → ℕ → Book

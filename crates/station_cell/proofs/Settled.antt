@@ -19,29 +19,37 @@ use Rattle.station_cell.specs.Cell.{Cell, Held, Knows}
 use Rattle.station_cell.specs.Settle.{Tied, cell_after, counts_after, pass_after, posts_after}
 
 -- a judgement by a cell's ledger is one by the cell
-pub judged_here : (limits limits' : Bounds) (content content' : Content) (command : Command) (a : Answer) → limits ≡ limits' → content ≡ content' → IsJudged limits content command a → IsJudged limits' content' command a
+pub judged_here : (limits limits' : Bounds) (content content' : Content) (command : Command) (a : Answer) → limits ≡ limits'
+    → content ≡ content' → IsJudged limits content command a → IsJudged limits' content' command a
 judged_here limits limits' content content' command a bounds contents j = record { answered = j.answered ∙ (λ i. answer (bounds i) (contents i) command); admissible = j.admissible }
 
 -- a cell after an accepted command, by its parts
-pub cell_changed : (c : Cell) (p : Held) (command : Command) (l : Ledger) (n v : ℕ) → l ≡ record { limits = c.limits; period = c.period; order = c.order; content = (step c.limits c.content command).0 } → answer c.limits c.content command ≡ Accepted n → v ≡ p.changes
-    → ◌≡◌ {A = Cell} (record { station = c.station; site = c.site; row = c.row; limits = l.limits; period = l.period; order = l.order; content = l.content; counts = set c.counts p.slot (v + 1) }) (cell_after c p command)
+pub cell_changed : (c : Cell) (p : Held) (command : Command) (l : Ledger) (n v : ℕ)
+    → l ≡ record { limits = c.limits; period = c.period; order = c.order; content = (step c.limits c.content command).0 }
+    → answer c.limits c.content command ≡ Accepted n → v ≡ p.changes
+    → ◌≡◌ {A = Cell} (record
+    { station = c.station; site = c.site; row = c.row; limits = l.limits; period = l.period; order = l.order; content = l.content; counts = set c.counts p.slot (v + 1) })
+    (cell_after c p command)
 cell_changed c p command l n v left is count =
     let counts : set c.counts p.slot (v + 1) ≡ counts_after c.counts p (answer c.limits c.content command) = ap (λ k. set c.counts p.slot (k + 1)) count ∙ ap (counts_after c.counts p) (sym is) in
     λ i. record { station = c.station; site = c.site; row = c.row; limits = (left i).limits; period = (left i).period; order = (left i).order; content = (left i).content; counts = counts i }
 
 -- the book after an accepted command's post
-pub book_posted : (b b' : Book) (c : Cell) (a : Answer) (n row : ℕ) (f : Figures) → b' ≡ record b { posts = b.posts ++ (row, f) ∷ [] } → row ≡ c.row → f ≡ figures_by c.order (entries c.content) → a ≡ Accepted n
+pub book_posted : (b b' : Book) (c : Cell) (a : Answer) (n row : ℕ) (f : Figures)
+    → b' ≡ record b { posts = b.posts ++ (row, f) ∷ [] } → row ≡ c.row → f ≡ figures_by c.order (entries c.content) → a ≡ Accepted n
     → b' ≡ record b { posts = posts_after b.posts c a }
 book_posted b b' c a n row f posted rows shown is =
     posted ∙ (λ i. record b { posts = b.posts ++ (rows i, shown i) ∷ [] }) ∙ (λ i. record b { posts = posts_after b.posts c (sym is i) })
 
 -- the pass stays known
-known_by : (c : Cell) (p : Held) (command : Command) (a : Answer) (work : ℕ) → Knows c p → Knows (record c { content = content_after c.content command a; counts = counts_after c.counts p a }) (pass_after p a work)
+known_by : (c : Cell) (p : Held) (command : Command) (a : Answer) (work : ℕ) → Knows c p
+    → Knows (record c { content = content_after c.content command a; counts = counts_after c.counts p a }) (pass_after p a work)
 known_by c p command (Accepted n) work k = record { station = k.station; count = get_here c.counts p.slot p.changes (p.changes + 1) k.count }
 known_by c p command Repeat work k = record { station = k.station; count = k.count }
 known_by c p command (Refused why) work k = record { station = k.station; count = k.count }
 
-pub known_after : (c c' : Cell) (p p' : Held) (command : Command) (a : Answer) → c' ≡ cell_after c p command → p' ≡ pass_after p a p'.work → a ≡ answer c.limits c.content command → Knows c p → Knows c' p'
+pub known_after : (c c' : Cell) (p p' : Held) (command : Command) (a : Answer) → c' ≡ cell_after c p command
+    → p' ≡ pass_after p a p'.work → a ≡ answer c.limits c.content command → Knows c p → Knows c' p'
 known_after c c' p p' command a cells passes is k =
     let known = known_by c p command (answer c.limits c.content command) p'.work k in
     subst (λ d. Knows d p') (sym cells) (subst (Knows (cell_after c p command)) (sym (passes ∙ ap (λ x. pass_after p x p'.work) is)) known)
@@ -53,7 +61,8 @@ tied_by c b content counts command (Accepted n) is t = row-push_same c.row (figu
 tied_by c b content counts command Repeat is t = t ∙ ap (λ d. figures_by c.order (entries d)) (sym is)
 tied_by c b content counts command (Refused why) is t = t ∙ ap (λ d. figures_by c.order (entries d)) (sym is)
 
-pub tied_after : (c c' : Cell) (p : Held) (b b' : Book) (command : Command) (a : Answer) → c' ≡ cell_after c p command → b' ≡ record b { posts = posts_after b.posts c' a } → a ≡ answer c.limits c.content command → Tied c b → Tied c' b'
+pub tied_after : (c c' : Cell) (p : Held) (b b' : Book) (command : Command) (a : Answer) → c' ≡ cell_after c p command
+    → b' ≡ record b { posts = posts_after b.posts c' a } → a ≡ answer c.limits c.content command → Tied c b → Tied c' b'
 tied_after c c' p b b' command a cells books is t =
     let now = cell_after c p command in
     let tied : Tied now (record b { posts = posts_after b.posts now (answer c.limits c.content command) }) = tied_by c b now.content now.counts command (answer c.limits c.content command) refl t in
@@ -67,7 +76,9 @@ tied_beside other c b Repeat apart t = t
 tied_beside other c b (Refused why) apart t = t
 
 -- what a test of the row's figures shows
-pub tied_told : (c : Cell) (b : Book) (r : Bool) (row : ℕ) (f h : Figures) (order : Order) (d : Content) → (IsTrue r → f ≡ h) × (f ≡ h → IsTrue r) → row ≡ c.row → f ≡ row_after row b.posts → order ≡ c.order → d ≡ c.content → h ≡ figures_by order (entries d)
+pub tied_told : (c : Cell) (b : Book) (r : Bool) (row : ℕ) (f h : Figures) (order : Order) (d : Content)
+    → (IsTrue r → f ≡ h) × (f ≡ h → IsTrue r) → row ≡ c.row → f ≡ row_after row b.posts → order ≡ c.order → d ≡ c.content
+    → h ≡ figures_by order (entries d)
     → (IsTrue r → Tied c b) × (Tied c b → IsTrue r)
 tied_told c b r row f h order d test rows read ordered is shown =
     let first : f ≡ row_after c.row b.posts = read ∙ ap (λ n. row_after n b.posts) rows in

@@ -44,7 +44,8 @@ IsInService c = c.station ≢ no_station
 -- A cell is kept as the tuple of its parts.
 abbrev pub cell_code : Coded Cell
 cell_code =
-    code_by (ℕ × (ℕ × (ℕ × (Bounds × (Periods × (Order × (Content × List ℕ))))))) (coded× coded_ℕ (coded× coded_ℕ (coded× coded_ℕ (coded× bounds_code (coded× periods_code (coded× orders.the_row.coded (coded× content_code (coded_list coded_ℕ))))))))
+    code_by (ℕ × (ℕ × (ℕ × (Bounds × (Periods × (Order × (Content × List ℕ)))))))
+    (coded× coded_ℕ (coded× coded_ℕ (coded× coded_ℕ (coded× bounds_code (coded× periods_code (coded× orders.the_row.coded (coded× content_code (coded_list coded_ℕ))))))))
     (λ c. (c.station, (c.site, (c.row, (c.limits, (c.period, (c.order, (c.content, c.counts))))))))
     (λ p. record { station = p.0; site = p.1.0; row = p.1.1.0; limits = p.1.1.1.0; period = p.1.1.1.1.0; order = p.1.1.1.1.1.0; content = p.1.1.1.1.1.1.0; counts = p.1.1.1.1.1.1.1 })
     (λ _. refl)

@@ -59,5 +59,7 @@ module _ (order : Order) (limits : Bounds) (es : List Entry) (within : AreAllowe
   lines_within period is = record {
     evse_flows = all_lines (λ n. flows_at_by order n es) (evses es) (λ n. record { import = evse_flow Import n; export = evse_flow Export n });
     quarter_flows = all_lines (λ q. flows_in_by order period q es) (quarters_by order period es) (λ q. record { import = quarter_flow Import period q; export = quarter_flow Export period q });
-    own_quarters = own_lines (λ q. flows_in_by order period q es) period.length (quarters_by order period es) (λ q h. in_period order period es q within.in_range is ((rising-IsIn q (map (λ (t : Part). t.0) (parts_of_both order period es))).0 h));
+    own_quarters =
+        own_lines (λ q. flows_in_by order period q es) period.length (quarters_by order period es)
+        (λ q h. in_period order period es q within.in_range is ((rising-IsIn q (map (λ (t : Part). t.0) (parts_of_both order period es))).0 h));
   }

@@ -17,7 +17,8 @@ use Rattle.station_ledger.specs.Quarters.{IsSumOf, DidMove, DidMoveBoth, MayMove
 use Rattle.station_ledger.proofs.Rows.{room_fewer, rows_more, rows_less}
 use Rattle.station_ledger.proofs.Walks.{rows_moved-append}
 
-regrouped : (period : Periods) (ps : Direction → List Pair) (others : List Flowed) → rows_of (both_quartered period ps ++ others) ≡ rows_of (quartered period Import (ps Import) ++ (quartered period Export (ps Export) ++ others))
+regrouped : (period : Periods) (ps : Direction → List Pair) (others : List Flowed)
+    → rows_of (both_quartered period ps ++ others) ≡ rows_of (quartered period Import (ps Import) ++ (quartered period Export (ps Export) ++ others))
 regrouped period ps others = ap rows_of (append_assoc (quartered period Import (ps Import)) (quartered period Export (ps Export)) others)
 
 module _ (period : Periods) (ps : Direction → List Pair) (t : Table) where

@@ -49,7 +49,9 @@ pub either : (rs : List MeterReading) → length (toward Import rs) + length (to
 either [] = omega arith
 either (r ∷ rs) =
     let rest = either rs in
-    elim r.direction as (λ x. length (cond (same_direction Import x) (r ∷ toward Import rs) (toward Import rs)) + length (cond (same_direction Export x) (r ∷ toward Export rs) (toward Export rs)) ≤ length (r ∷ rs)) [
+    elim r.direction as (λ x. length (cond (same_direction Import x) (r ∷ toward Import rs) (toward Import rs))
+    + length (cond (same_direction Export x) (r ∷ toward Export rs) (toward Export rs))
+    ≤ length (r ∷ rs)) [
       | Import ↦ omega (arith, rest)
       | Export ↦ omega (arith, rest)
     ]
@@ -62,8 +64,20 @@ module _ (order : Order) where
   few_of : (d : Direction) (es : List Entry) → length (all_pairs_by order d es) ≤ sum_by (size d) (live es)
   few_of d es =
       let ts = transactions_of (live es) in
-      let one : (t : List ℕ) → length (pairs_by order d t es) ≤ sum_by (size d) (live_of t es) = λ t. omega (arith, few_followed (readings_by order d t es), length-in_order order (readings_of d t es), length-flat_map (λ (e : Entry). toward d e.1.event.readings) (live_of t es)) in
-      omega (arith, length-flat_map (λ t. pairs_by order d t es) ts, sum_by-le-sum_by (λ t. length (pairs_by order d t es)) (λ t. sum_by (size d) (live_of t es)) ts one, sum_by_transactions (size d) (live es))
+      let one : (t : List ℕ)
+      → length (pairs_by order d t es) ≤ sum_by (size d) (live_of t es) =
+      λ t. omega (
+        arith,
+        few_followed (readings_by order d t es),
+        length-in_order order (readings_of d t es),
+        length-flat_map (λ (e : Entry). toward d e.1.event.readings) (live_of t es),
+      ) in
+      omega (
+        arith,
+        length-flat_map (λ t. pairs_by order d t es) ts,
+        sum_by-le-sum_by (λ t. length (pairs_by order d t es)) (λ t. sum_by (size d) (live_of t es)) ts one,
+        sum_by_transactions (size d) (live es),
+      )
 
   -- there are no more pairs of both directions than readings
   pub few_pairs : (es : List Entry) → length (all_pairs_by order Import es) + length (all_pairs_by order Export es) ≤ readings_stored es
@@ -82,7 +96,12 @@ module _ (order : Order) where
   at_le : (d : Direction) (f : Pair → ℕ) (n : ℕ) (es : List Entry) → sum_by f (flat_map (λ t. pairs_by order d t es) (transactions_at n es)) ≤ sum_by f (all_pairs_by order d es)
   at_le d f n es =
       let ts = transactions_of (live es) in
-      omega (arith, sum_by-flat_map f (λ t. pairs_by order d t es) (transactions_at n es), sum_by-flat_map f (λ t. pairs_by order d t es) ts, part_le (λ t. sum_by f (pairs_by order d t es)) (λ t. evse_of t es == n) ts)
+      omega (
+        arith,
+        sum_by-flat_map f (λ t. pairs_by order d t es) (transactions_at n es),
+        sum_by-flat_map f (λ t. pairs_by order d t es) ts,
+        part_le (λ t. sum_by f (pairs_by order d t es)) (λ t. evse_of t es == n) ts,
+      )
 
   pub evse_up_le : (d : Direction) (n : ℕ) (es : List Entry) → (energy_at_by order d n es).up ≤ (energy_by order d es).up
   evse_up_le d n es = at_le d (λ p. (difference p).up) n es
@@ -94,7 +113,10 @@ module _ (order : Order) where
   own_le : (d : Direction) (f : Pair → ℕ) (tx : List ℕ) (es : List Entry) → sum_by f (pairs_by order d tx es) ≤ sum_by f (all_pairs_by order d es)
   own_le d f tx es =
       let g : List ℕ → ℕ = λ t. sum_by f (pairs_by order d t es) in
-      let absent : list_any (bytes_eq tx) (map (λ (e : Entry). e.0.tx) (live es)) ≡ false → g tx ≡ 0 = λ none. ap (λ (xs : List Entry). sum_by f (followed (in_order order (λ (r : MeterReading). r.moment) (flat_map (λ (e : Entry). toward d e.1.event.readings) xs)))) (none_live tx es (sym (any-map tx (live es)) ∙ none))
+      let absent : list_any (bytes_eq tx) (map (λ (e : Entry). e.0.tx) (live es)) ≡ false
+      → g tx ≡ 0 = λ none. ap
+      (λ (xs : List Entry). sum_by f (followed (in_order order (λ (r : MeterReading). r.moment) (flat_map (λ (e : Entry). toward d e.1.event.readings) xs))))
+      (none_live tx es (sym (any-map tx (live es)) ∙ none))
       ∙ ap (λ rs. sum_by f (followed rs)) (order-nil (λ (r : MeterReading). r.moment) order) in
       omega (arith, sum_by-flat_map f (λ t. pairs_by order d t es) (transactions_of (live es)), sum_by_one g tx (map (λ (e : Entry). e.0.tx) (live es)) absent)
 
@@ -116,5 +138,6 @@ at_evse_le n es = fewer (λ t. evse_of t es == n) (transactions_of (live es))
 pub own_missing_le : (tx : List ℕ) (es : List Entry) → missing (numbers_of tx es) ≤ sum_by (λ t. missing (numbers_of t es)) (transactions_of (live es))
 own_missing_le tx es =
     let g : List ℕ → ℕ = λ t. missing (numbers_of t es) in
-    let absent : list_any (bytes_eq tx) (map (λ (e : Entry). e.0.tx) (live es)) ≡ false → g tx ≡ 0 = λ none. ap (λ (xs : List Entry). missing (map (λ (e : Entry). e.0.seq) xs)) (none_live tx es (sym (any-map tx (live es)) ∙ none)) in
+    let absent : list_any (bytes_eq tx) (map (λ (e : Entry). e.0.tx) (live es)) ≡ false
+    → g tx ≡ 0 = λ none. ap (λ (xs : List Entry). missing (map (λ (e : Entry). e.0.seq) xs)) (none_live tx es (sym (any-map tx (live es)) ∙ none)) in
     omega (arith, sum_by_one g tx (map (λ (e : Entry). e.0.tx) (live es)) absent)

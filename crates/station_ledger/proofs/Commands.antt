@@ -138,7 +138,9 @@ module _ (old new : Chained) (key : KeyName) (place : ByDirection Sides) (has : 
       })
 
 -- the readings of a marked event are what they were
-marked_readings : (d : Direction) (old new : Chained) (key : KeyName) (voided was : Bool) → new.events ≡ marked old.events key voided → IsFound (finite.get old.events key) was → most_for (length (readings_at d new key)) ≡ most_for (length (readings_at d old key))
+marked_readings : (d : Direction) (old new : Chained) (key : KeyName) (voided was : Bool)
+    → new.events ≡ marked old.events key voided → IsFound (finite.get old.events key) was
+    → most_for (length (readings_at d new key)) ≡ most_for (length (readings_at d old key))
 marked_readings d old new key voided was is f =
     ap (λ o. most_for (length (readings_under d o))) (marked_there old new key voided was is f) ∙ sym (ap (λ o. most_for (length (readings_under d o))) f.is)
 
@@ -148,7 +150,9 @@ most_found None = refl
 most_found (Some s) = refl
 
 -- those of a delivered event are its own
-delivered_readings : (d : Direction) (old new : Chained) (key : KeyName) (event : EventContent) → new.events ≡ events_after old.events (Deliver key event) → most_for (length (readings_at d new key)) ≡ most_for (length (toward d event.readings))
+delivered_readings : (d : Direction) (old new : Chained) (key : KeyName) (event : EventContent)
+    → new.events ≡ events_after old.events (Deliver key event)
+    → most_for (length (readings_at d new key)) ≡ most_for (length (toward d event.readings))
 delivered_readings d old new key event is = ap (λ o. most_for (length (readings_under d o))) (delivered_there old new key event is)
 
 -- what each command may cost, by the order
@@ -161,7 +165,8 @@ delivered_spends Moment old new key event is = ap (λ m. most_in_runs key (finit
 pub restored_spends : (order : Order) (old new : Chained) (key : KeyName) → new.events ≡ events_after old.events (Restore key) → IsFound (finite.get old.events key) true
     → most_turned order Coming new key (stored old) ≡ most_spent order old.events (Restore key)
 unfolding most_spent
-restored_spends Sequence old new key is f = omega (arith, marked_readings Import old new key false true is f, marked_readings Export old new key false true is f, most_found (finite.get old.events key))
+restored_spends Sequence old new key is f =
+    omega (arith, marked_readings Import old new key false true is f, marked_readings Export old new key false true is f, most_found (finite.get old.events key))
 restored_spends Moment old new key is f = ap (λ m. most_in_runs key (finite.entries m)) is
 
 pub voided_spends : (order : Order) (old new : Chained) (key : KeyName) → new.events ≡ events_after old.events (Void key) → IsFound (finite.get old.events key) false
@@ -172,7 +177,8 @@ voided_spends Moment old new key is f = refl
 
 -- the live events are the same after an erasure
 pub erased : (old new : Chained) (key : KeyName) → new.events ≡ events_after old.events (Erase key) → IsFound (finite.get old.events key) true → live (stored new) ≡ live (stored old)
-erased old new key is f = ap (λ m. live (finite.entries m)) is ∙ ap live (entries_after_is old.events (Erase key)) ∙ erased_same (stored old) key f.event (finite.entries_sorted old.events) (listed old key (Some f.event) f.is) f.marked_is
+erased old new key is f = ap (λ m. live (finite.entries m)) is ∙ ap live (entries_after_is old.events (Erase key))
+    ∙ erased_same (stored old) key f.event (finite.entries_sorted old.events) (listed old key (Some f.event) f.is) f.marked_is
 
 -- The sums depend only on the live events.
 own_pairs : Order → Direction → List ℕ → List Entry → List (MeterReading × MeterReading)
@@ -223,7 +229,8 @@ summed_same {limits = limits} {es = es} new {sums = sums} same s = record {
   counts = record {
     events = s.counts.events ∙ ap length (sym same);
     transactions = s.counts.transactions ∙ ap (λ l. length (transactions_of l)) (sym same);
-    complete = s.counts.complete ∙ ap (λ l. count_by (λ tx. starts_and_ends (map (λ e. e.1.event.kind) (own_events tx l)) && (missing (map (λ e. e.0.seq) (own_events tx l)) == 0)) (transactions_of l)) (sym same);
+    complete = s.counts.complete
+        ∙ ap (λ l. count_by (λ tx. starts_and_ends (map (λ e. e.1.event.kind) (own_events tx l)) && (missing (map (λ e. e.0.seq) (own_events tx l)) == 0)) (transactions_of l)) (sym same);
     missing_are = s.counts.missing_are ∙ ap (λ l. sum_by (λ tx. missing (map (λ e. e.0.seq) (own_events tx l))) (transactions_of l)) (sym same);
   };
   timed = timed_same limits es new sums.by_moment same s.timed;

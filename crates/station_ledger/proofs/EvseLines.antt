@@ -102,7 +102,9 @@ module _ (sums : List EvseSum) where
   -- what is shown at a number is that number, of an EVSE with a transaction
   shown_there : (k n : ℕ) → IsIn k (shown_at sums n) → (k ≡ n) × (0 < (sum_at sums k).transactions)
   shown_there k n h = elim (nat_lt 0 (sum_at sums n).transactions) as (λ b. nat_lt 0 (sum_at sums n).transactions ≡ b → IsIn k (cond b (n ∷ []) []) → (k ≡ n) × (0 < (sum_at sums k).transactions)) [
-    | true ↦ λ e is. ⊎_elim {C = (k ≡ n) × (0 < (sum_at sums k).transactions)} (λ (same : k ≡ n). (same, subst (λ m. 0 < (sum_at sums m).transactions) (sym same) (ltb-true 0 (sum_at sums n).transactions e))) (λ none. absurd none) is
+    | true ↦ λ e is. ⊎_elim {C = (k ≡ n) × (0 < (sum_at sums k).transactions)}
+        (λ (same : k ≡ n). (same, subst (λ m. 0 < (sum_at sums m).transactions) (sym same) (ltb-true 0 (sum_at sums n).transactions e)))
+        (λ none. absurd none) is
     | false ↦ λ _ none. absurd none
   ] refl h
 
@@ -130,10 +132,12 @@ module _ (sums : List EvseSum) where
     | false ↦ subst AreRising (sym (append-nil (shown_below n sums))) (rises n)
   ]
 
-  next_line : (n : ℕ) (b : Bool) → nat_lt 0 (sum_at sums n).transactions ≡ b → map (line_at sums) (shown_below (n + 1) sums) ≡ map (line_at sums) (shown_below n sums) ++ map (line_at sums) (cond b (n ∷ []) [])
+  next_line : (n : ℕ) (b : Bool) → nat_lt 0 (sum_at sums n).transactions ≡ b
+      → map (line_at sums) (shown_below (n + 1) sums) ≡ map (line_at sums) (shown_below n sums) ++ map (line_at sums) (cond b (n ∷ []) [])
   next_line n b e =
       let next : n + 1 ≡ suc n = omega arith in
-      ap (λ k. map (line_at sums) (shown_below k sums)) next ∙ map-append (line_at sums) (shown_below n sums) (shown_at sums n) ∙ ap (λ c. map (line_at sums) (shown_below n sums) ++ map (line_at sums) (cond c (n ∷ []) [])) e
+      ap (λ k. map (line_at sums) (shown_below k sums)) next ∙ map-append (line_at sums) (shown_below n sums) (shown_at sums n)
+      ∙ ap (λ c. map (line_at sums) (shown_below n sums) ++ map (line_at sums) (cond c (n ∷ []) [])) e
 
   -- the lines with that of the next number
   pub line_more : (n : ℕ) → 0 < (sum_at sums n).transactions → map (line_at sums) (shown_below (n + 1) sums) ≡ map (line_at sums) (shown_below n sums) ++ line_at sums n ∷ []

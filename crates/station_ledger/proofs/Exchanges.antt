@@ -58,7 +58,8 @@ other_keys Coming es new key s one = one
 other_keys Going all less key s one =
     let p = λ (e : Entry). is_lt (key_cmp e.0 key) in let q = λ (e : Entry). is_lt (key_cmp key e.0) in
     let front : before_key key less ≡ before_key key all =
-    ap (filter p) one.less_live ∙ filter-append p (before_key key all) (behind_key key all) ∙ (λ i. again p (live all) i ++ ruled_out q p (λ e. one_side key e.0) (live all) i) ∙ append-nil (before_key key all) in
+    ap (filter p) one.less_live ∙ filter-append p (before_key key all) (behind_key key all)
+    ∙ (λ i. again p (live all) i ++ ruled_out q p (λ e. one_side key e.0) (live all) i) ∙ append-nil (before_key key all) in
     let back : behind_key key less ≡ behind_key key all =
     ap (filter q) one.less_live ∙ filter-append q (before_key key all) (behind_key key all) ∙ (λ i. ruled_out p q (λ e. one_side e.0 key) (live all) i ++ again q (live all) i) in
     let fore = sym front in let rear = sym back in
@@ -78,7 +79,9 @@ were Going es new = refl
 allowed_by : {limits : Bounds} {es : List Entry} (sums : Sums) {b : Option ByMoment} → sums.by_moment ≡ b → AreAllowed (order_in sums) limits es → AreAllowed (order_of b) limits es
 allowed_by {limits = limits} {es = es} sums is h = subst (λ o. AreAllowed (order_of o) limits es) is h
 
-pub rows_by : {limits : Bounds} {es : List Entry} (sums : Sums) {b : Option ByMoment} → sums.by_moment ≡ b → AreQuarterRows (order_in sums) limits es sums.period sums.quarters → AreQuarterRows (order_of b) limits es sums.period sums.quarters
+pub rows_by : {limits : Bounds} {es : List Entry} (sums : Sums) {b : Option ByMoment} → sums.by_moment ≡ b
+    → AreQuarterRows (order_in sums) limits es sums.period sums.quarters
+    → AreQuarterRows (order_of b) limits es sums.period sums.quarters
 rows_by {limits = limits} {es = es} sums is h = subst (λ o. AreQuarterRows (order_of o) limits es sums.period sums.quarters) is h
 
 module _ {way : Way} {es : List Entry} {chains : Chained} {key : KeyName} {place : ByDirection Sides} {sums : Sums}

@@ -11,7 +11,9 @@ use Rattle.ledger_model.specs.Step.{answer_to_deliver}
 use Rattle.ledger_model.proofs.Callers.{same_event-Decides}
 
 -- the answer where an event is under the key
-pub answer_known : (limits : Bounds) (c : Content) (key : KeyName) (event : EventContent) (stored : Stored) (found : Option Stored) (same : Bool) → Some stored ≡ found → (IsTrue same ↔ (stored.event ≡ event)) → cond same Repeat (Refused ConflictingEvent) ≡ answer_to_deliver limits c key event found
+pub answer_known : (limits : Bounds) (c : Content) (key : KeyName) (event : EventContent) (stored : Stored) (found : Option Stored) (same : Bool)
+    → Some stored ≡ found → (IsTrue same ↔ (stored.event ≡ event))
+    → cond same Repeat (Refused ConflictingEvent) ≡ answer_to_deliver limits c key event found
 answer_known limits c key event stored found same is decides =
     ap (λ b. cond b Repeat (Refused ConflictingEvent)) (same_from_decides same _ decides (same_event-Decides stored.event event))
     ∙ ap (answer_to_deliver limits c key event) is

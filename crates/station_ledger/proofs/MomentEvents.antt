@@ -68,7 +68,9 @@ module _ {limits : Bounds} {tx : List ℕ} {es : List Entry} {b : ByMoment} (tim
           zero_if (suc n) h = let e : not ((suc n) == 0) ≡ true = ap not (ne_eqb (suc n) 0 (λ z. absurd (omega (arith, z)))) in let f : true ≡ false = sym e ∙ h in cc
       at_row (Some row) some = subst (λ s. owned (owner s d) b.index.entries ≡ timed_of s d tx es) (given.kept row some) (timed.held d tx row some)
 
-module _ {limits : Bounds} {tx : List ℕ} {es new : List Entry} {b : ByMoment} (timed : AreByMoment limits es b) {slots : Table} {slot : ℕ} (given : IsSlotGiven tx b.slots slots slot) (apart : table.AreApart slots.rows) {next : List Timed} (turned : IsTurned tx slot es new b.index.entries next) where
+module _ {limits : Bounds} {tx : List ℕ} {es new : List Entry} {b : ByMoment} (timed : AreByMoment limits es b) {slots : Table}
+    {slot : ℕ} (given : IsSlotGiven tx b.slots slots slot) (apart : table.AreApart slots.rows) {next : List Timed}
+    (turned : IsTurned tx slot es new b.index.entries next) where
   held_next : (d : Direction) (u : List ℕ) (row : TableRow) → row_of u slots.rows ≡ Some row → owned (owner row.slot d) next ≡ timed_of row.slot d u new
   held_next d u row there = ⊎_elim
       (λ (is : bytes_eq u tx ≡ true).
@@ -95,14 +97,18 @@ module _ {limits : Bounds} {tx : List ℕ} {es new : List Entry} {b : ByMoment} 
   timed_next : (some : not (length (live_of tx new) == 0) ≡ true) (number : length slots.rows ≡ length (transactions_of (live new))) → AreSlots limits new slots
   timed_next some number = record {
     each = λ u. ⊎_elim
-        (λ (is : bytes_eq u tx ≡ true). ap (λ t. is_some (row_of t slots.rows)) (same_id u tx is) ∙ ap is_some given.there ∙ sym some ∙ ap (λ t. not (length (live_of t new) == 0)) (sym (same_id u tx is)))
+        (λ (is : bytes_eq u tx ≡ true). ap (λ t. is_some (row_of t slots.rows)) (same_id u tx is) ∙ ap is_some given.there ∙ sym some
+        ∙ ap (λ t. not (length (live_of t new) == 0)) (sym (same_id u tx is)))
         (λ (other : bytes_eq u tx ≡ false). ap is_some (given.others u other) ∙ timed.slots.each u ∙ ap (λ (l : List Entry). not (length l == 0)) (sym (turned.alive u other)))
         (cases_Bool (bytes_eq u tx));
     number = number;
     room = given.capacity ∙ timed.slots.room;
   }
 
-  pub by_moment_next : (after : ByMoment) → after.slots ≡ slots → after.index.entries ≡ next → after.index.capacity ≡ b.index.capacity → most_event_readings ≤ vec_capacity after.listed → not (length (live_of tx new) == 0) ≡ true → length slots.rows ≡ length (transactions_of (live new)) → length next ≤ live_readings new
+  pub by_moment_next : (after : ByMoment) → after.slots ≡ slots → after.index.entries ≡ next
+      → after.index.capacity ≡ b.index.capacity → most_event_readings ≤ vec_capacity after.listed
+      → not (length (live_of tx new) == 0) ≡ true → length slots.rows ≡ length (transactions_of (live new))
+      → length next ≤ live_readings new
       → AreByMoment limits new after
   by_moment_next after s e cap room some number few =
       record {
@@ -117,12 +123,15 @@ module _ {limits : Bounds} {tx : List ℕ} {es new : List Entry} {b : ByMoment} 
       }
 
   -- without one it gives it back
-  pub by_moment_gone : (after : ByMoment) → ((u : List ℕ) → bytes_eq u tx ≡ false → row_of u after.slots.rows ≡ row_of u slots.rows) → row_of tx after.slots.rows ≡ None → after.slots.capacity ≡ slots.capacity → after.index.entries ≡ next → after.index.capacity ≡ b.index.capacity → most_event_readings ≤ vec_capacity after.listed
+  pub by_moment_gone : (after : ByMoment) → ((u : List ℕ) → bytes_eq u tx ≡ false → row_of u after.slots.rows ≡ row_of u slots.rows)
+      → row_of tx after.slots.rows ≡ None → after.slots.capacity ≡ slots.capacity → after.index.entries ≡ next
+      → after.index.capacity ≡ b.index.capacity → most_event_readings ≤ vec_capacity after.listed
       → live_of tx new ≡ [] → length after.slots.rows ≡ length (transactions_of (live new)) → length next ≤ live_readings new → AreByMoment limits new after
   by_moment_gone after left gone cap e index_cap room none number few = record {
     slots = record {
       each = λ u. ⊎_elim
-          (λ (is : bytes_eq u tx ≡ true). ap (λ t. is_some (row_of t after.slots.rows)) (same_id u tx is) ∙ ap is_some gone ∙ sym (ap (λ t. not (length (live_of t new) == 0)) (same_id u tx is) ∙ ap (λ (l : List Entry). not (length l == 0)) none))
+          (λ (is : bytes_eq u tx ≡ true). ap (λ t. is_some (row_of t after.slots.rows)) (same_id u tx is) ∙ ap is_some gone
+          ∙ sym (ap (λ t. not (length (live_of t new) == 0)) (same_id u tx is) ∙ ap (λ (l : List Entry). not (length l == 0)) none))
           (λ (other : bytes_eq u tx ≡ false). ap is_some (left u other ∙ given.others u other) ∙ timed.slots.each u ∙ ap (λ (l : List Entry). not (length l == 0)) (sym (turned.alive u other)))
           (cases_Bool (bytes_eq u tx));
       number = number;

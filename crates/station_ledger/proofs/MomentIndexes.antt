@@ -36,7 +36,8 @@ puttable [] ts up new = tt
 puttable (x ∷ xs) ts up new = (new.0, puttable xs (put_in_time at x ts) up.1 (new-put x xs ts up.0 new.1))
 
 -- An event's readings may be put in where those of their owner are others.
-pub own_puttable : (o seq : ℕ) (xs ts : List Timed) → AreRising xs → AreOf o xs → AllByRecursion (λ t. own_timed seq t ≡ true) xs → AllByRecursion (λ t. own_timed seq t ≡ false) (owned o ts) → ArePuttable xs ts
+pub own_puttable : (o seq : ℕ) (xs ts : List Timed) → AreRising xs → AreOf o xs → AllByRecursion (λ t. own_timed seq t ≡ true) xs
+    → AllByRecursion (λ t. own_timed seq t ≡ false) (owned o ts) → ArePuttable xs ts
 own_puttable o seq xs ts up mine own foreign = puttable xs ts up (new xs mine own)
   where
     new : (xs : List Timed) → AreOf o xs → AllByRecursion (λ t. own_timed seq t ≡ true) xs → AreNew xs ts
@@ -84,7 +85,9 @@ has_here x (t ∷ ts) =
     or_true false = refl
 
 -- Readings of an owner that are there are taken out: so many fewer.
-pub fewer-take_each : (o seq : ℕ) (xs others ts : List Timed) → AreRising xs → AreOf o xs → AllByRecursion (λ t. own_timed seq t ≡ true) xs → AllByRecursion (λ t. own_timed seq t ≡ false) others → owned o ts ≡ put_each xs others → length (take_each xs ts) + length xs ≤ length ts
+pub fewer-take_each : (o seq : ℕ) (xs others ts : List Timed) → AreRising xs → AreOf o xs
+    → AllByRecursion (λ t. own_timed seq t ≡ true) xs → AllByRecursion (λ t. own_timed seq t ≡ false) others
+    → owned o ts ≡ put_each xs others → length (take_each xs ts) + length xs ≤ length ts
 fewer-take_each o seq [] others ts up mine own foreign is = omega arith
 fewer-take_each o seq (x ∷ xs) others ts up mine own foreign is =
     let apart : AreApart x.0 xs = behind_apart x.0 xs up.0 in

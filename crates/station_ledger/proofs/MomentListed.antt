@@ -69,20 +69,24 @@ listing-start o number left capacity few room = record {
   room = room;
 }
 
-still_new : (x : Timed) (ts us : List Timed) → AllByRecursion (IsAfter x) us → AllByRecursion (λ (u : Timed). AreApart u.0 ts) us → AllByRecursion (λ (u : Timed). AreApart u.0 (put_in_time at x ts)) us
+still_new : (x : Timed) (ts us : List Timed) → AllByRecursion (IsAfter x) us → AllByRecursion (λ (u : Timed). AreApart u.0 ts) us
+    → AllByRecursion (λ (u : Timed). AreApart u.0 (put_in_time at x ts)) us
 still_new x ts [] after new = tt
 still_new x ts (u ∷ us) after new =
     let behind : IsAfter x u = after.0 in
     (each_put (λ t. t.0 ≡ u.0 → ⊥) x ts (λ same. behind.apart (sym same)) new.0, still_new x ts us after.1 new.1)
 
-pub listing-more : (o number place : ℕ) (r : MeterReading) (left : List MeterReading) (listed : List Timed) (capacity more : ℕ) → number < 2 ^ 31 → capacity ≤ more → IsListing o number place (r ∷ left) listed capacity
+pub listing-more : (o number place : ℕ) (r : MeterReading) (left : List MeterReading) (listed : List Timed) (capacity more : ℕ)
+    → number < 2 ^ 31 → capacity ≤ more → IsListing o number place (r ∷ left) listed capacity
     → IsListing o number (place + 1) left (put_in_time at (rank o r.moment number place, r) listed) more
 listing-more o number place r left listed capacity more small le was =
     let x : Timed = (rank o r.moment number place, r) in
     let long = length-put x listed in
     record {
       ranked = put-ranked x listed was.ranked (none_has x.0 listed was.new.0);
-      new = still_new x listed (ranked_from o number (place + 1) left) (from_after o number place number (place + 1) r left small (omega (arith, was.places)) small (omega (arith, was.places)) (omega arith)) was.new.1;
+      new = still_new x listed (ranked_from o number (place + 1) left)
+          (from_after o number place number (place + 1) r left small (omega (arith, was.places)) small (omega (arith, was.places)) (omega arith))
+          was.new.1;
       few = omega (arith, was.few, long);
       places = omega (arith, was.places);
       room = omega (arith, was.room, le);

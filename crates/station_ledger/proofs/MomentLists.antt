@@ -202,15 +202,20 @@ from_after o n p k q r [] number place number_2 room lt = tt
 from_after o n p k q r (s ∷ ss) number place number_2 room lt =
     (after o n p k q r s number place number_2 (omega (arith, room)) lt, from_after o n p k (q + 1) r ss number place number_2 (omega (arith, room)) (omega (arith, lt)))
 
-front_listed : (o n p : ℕ) (rs : List MeterReading) (ts : List Timed) → n < 2 ^ 31 → p + length rs ≤ 2 ^ 10 → ((q : ℕ) (r : MeterReading) → q < 2 ^ 10 → AllByRecursion (IsAfter (rank o r.moment n q, r)) ts) → AreListed ts
+front_listed : (o n p : ℕ) (rs : List MeterReading) (ts : List Timed) → n < 2 ^ 31 → p + length rs ≤ 2 ^ 10
+    → ((q : ℕ) (r : MeterReading) → q < 2 ^ 10 → AllByRecursion (IsAfter (rank o r.moment n q, r)) ts) → AreListed ts
     → AreListed (ranked_from o n p rs ++ ts)
 front_listed o n p [] ts number room behind all = all
 front_listed o n p (r ∷ rs) ts number room behind all = (
-  each_append (IsAfter (rank o r.moment n p, r)) (ranked_from o n (p + 1) rs) ts (from_after o n p n (p + 1) r rs number (omega (arith, room)) number (omega (arith, room)) (omega arith)) (behind p r (omega (arith, room))),
+  each_append (IsAfter (rank o r.moment n p, r)) (ranked_from o n (p + 1) rs) ts
+      (from_after o n p n (p + 1) r rs number (omega (arith, room)) number (omega (arith, room)) (omega arith))
+      (behind p r (omega (arith, room))),
   front_listed o n (p + 1) rs ts number (omega (arith, room)) behind all,
 )
 
-each_from : (P : Timed → Type 0) (o n p : ℕ) (rs : List MeterReading) → ((q : ℕ) (r : MeterReading) → q < 2 ^ 10 → P (rank o r.moment n q, r)) → p + length rs ≤ 2 ^ 10 → AllByRecursion P (ranked_from o n p rs)
+each_from : (P : Timed → Type 0) (o n p : ℕ) (rs : List MeterReading)
+    → ((q : ℕ) (r : MeterReading) → q < 2 ^ 10 → P (rank o r.moment n q, r)) → p + length rs ≤ 2 ^ 10
+    → AllByRecursion P (ranked_from o n p rs)
 each_from P o n p [] here room = tt
 each_from P o n p (r ∷ rs) here room = (here p r (omega (arith, room)), each_from P o n (p + 1) rs here (omega (arith, room)))
 
@@ -230,7 +235,12 @@ length_put_each (x ∷ xs) ts = let rest = length_put_each xs (put_in_time at x 
 
 toward_each : (P : MeterReading → Type 0) (d : Direction) (rs : List MeterReading) → AllByRecursion P rs → AllByRecursion P (toward d rs)
 toward_each P d [] all = tt
-toward_each P d (r ∷ rs) all = elim (same_direction d r.direction) as (λ b. AllByRecursion P (cond b (r ∷ toward d rs) (toward d rs))) [ true ↦ (all.0, toward_each P d rs all.1) | false ↦ toward_each P d rs all.1 ]
+toward_each P d (r ∷ rs) all =
+    elim (same_direction d r.direction) as (λ b. AllByRecursion P (cond b (r ∷ toward d rs) (toward d rs))) [
+      | true ↦
+          (all.0, toward_each P d rs all.1)
+      | false ↦ toward_each P d rs all.1
+    ]
 
 are_own : (own : Timed → Bool) (ts : List Timed) → AllByRecursion (λ t. own t ≡ true) ts → AreOwn own ts
 are_own own [] all = tt
@@ -253,7 +263,9 @@ module _ (slot : ℕ) (d : Direction) (e : Entry) where
     its_distinct = subst AreDistinct (append-none (ranked slot d e)) (listed_distinct _ (front_listed (owner slot d) e.0.seq 0 (toward d e.1.event.readings) [] number room (λ q r lt. tt) tt))
 
     its_own : AllByRecursion (λ t. own_timed e.0.seq t ≡ true) (ranked slot d e)
-    its_own = each_from (λ t. own_timed e.0.seq t ≡ true) (owner slot d) e.0.seq 0 (toward d e.1.event.readings) (λ q r lt. eq-eqb (number_of (rank (owner slot d) r.moment e.0.seq q)) e.0.seq (number_of-rank (owner slot d) r.moment e.0.seq q number lt)) room
+    its_own = each_from (λ t. own_timed e.0.seq t ≡ true) (owner slot d) e.0.seq 0 (toward d e.1.event.readings)
+        (λ q r lt. eq-eqb (number_of (rank (owner slot d) r.moment e.0.seq q)) e.0.seq (number_of-rank (owner slot d) r.moment e.0.seq q number lt))
+        room
 
     pub listed-ranked : AreRising listed
     listed-ranked = subst AreRising (sym (listed_sorted (ranked slot d e) its_distinct)) (distinct_ranked (ranked slot d e) its_distinct)
@@ -306,7 +318,8 @@ few_ranked : (d : Direction) (e : Entry) → IsEntry e → 0 + length (toward d 
 few_ranked d e it = let few = it.event.event.0 in omega (arith, few, few_toward d e.1.event.readings)
 
 -- Events of other numbers have readings of other numbers.
-all_foreign : (slot : ℕ) (d : Direction) (seq : ℕ) (es : List Entry) → AreEntries es → AllByRecursion (λ e. e.0.seq ≡ seq → ⊥) es → AllByRecursion (λ t. own_timed seq t ≡ false) (flat_map (ranked slot d) es)
+all_foreign : (slot : ℕ) (d : Direction) (seq : ℕ) (es : List Entry) → AreEntries es → AllByRecursion (λ e. e.0.seq ≡ seq → ⊥) es
+    → AllByRecursion (λ t. own_timed seq t ≡ false) (flat_map (ranked slot d) es)
 all_foreign slot d seq [] range others = tt
 all_foreign slot d seq (e ∷ es) range others =
     let it : IsEntry e = range.0 in
@@ -319,15 +332,23 @@ all_foreign slot d seq (e ∷ es) range others =
 below_other : (seq : ℕ) (es : List Entry) → AllByRecursion (λ (e : Entry). e.0.seq ≡ seq → ⊥) (filter (λ e. nat_lt e.0.seq seq) es)
 below_other seq [] = tt
 below_other seq (e ∷ es) = ⊎_elim
-    (λ (lt : e.0.seq < seq). subst (λ b. AllByRecursion (λ (f : Entry). f.0.seq ≡ seq → ⊥) (cond b (e ∷ filter (λ f. nat_lt f.0.seq seq) es) (filter (λ f. nat_lt f.0.seq seq) es))) (sym (lt-ltb e.0.seq seq lt)) ((λ same. absurd (omega (arith, lt, same))), below_other seq es))
-    (λ (ge : seq ≤ e.0.seq). subst (λ b. AllByRecursion (λ (f : Entry). f.0.seq ≡ seq → ⊥) (cond b (e ∷ filter (λ f. nat_lt f.0.seq seq) es) (filter (λ f. nat_lt f.0.seq seq) es))) (sym (le-ltb e.0.seq seq ge)) (below_other seq es))
+    (λ (lt : e.0.seq < seq). subst
+    (λ b. AllByRecursion (λ (f : Entry). f.0.seq ≡ seq → ⊥) (cond b (e ∷ filter (λ f. nat_lt f.0.seq seq) es) (filter (λ f. nat_lt f.0.seq seq) es)))
+    (sym (lt-ltb e.0.seq seq lt)) ((λ same. absurd (omega (arith, lt, same))), below_other seq es))
+    (λ (ge : seq ≤ e.0.seq). subst
+    (λ b. AllByRecursion (λ (f : Entry). f.0.seq ≡ seq → ⊥) (cond b (e ∷ filter (λ f. nat_lt f.0.seq seq) es) (filter (λ f. nat_lt f.0.seq seq) es)))
+    (sym (le-ltb e.0.seq seq ge)) (below_other seq es))
     (cases_lt e.0.seq seq)
 
 above_other : (seq : ℕ) (es : List Entry) → AllByRecursion (λ (e : Entry). e.0.seq ≡ seq → ⊥) (filter (λ e. nat_lt seq e.0.seq) es)
 above_other seq [] = tt
 above_other seq (e ∷ es) = ⊎_elim
-    (λ (lt : seq < e.0.seq). subst (λ b. AllByRecursion (λ (f : Entry). f.0.seq ≡ seq → ⊥) (cond b (e ∷ filter (λ f. nat_lt seq f.0.seq) es) (filter (λ f. nat_lt seq f.0.seq) es))) (sym (lt-ltb seq e.0.seq lt)) ((λ same. absurd (omega (arith, lt, same))), above_other seq es))
-    (λ (ge : e.0.seq ≤ seq). subst (λ b. AllByRecursion (λ (f : Entry). f.0.seq ≡ seq → ⊥) (cond b (e ∷ filter (λ f. nat_lt seq f.0.seq) es) (filter (λ f. nat_lt seq f.0.seq) es))) (sym (le-ltb seq e.0.seq ge)) (above_other seq es))
+    (λ (lt : seq < e.0.seq). subst
+    (λ b. AllByRecursion (λ (f : Entry). f.0.seq ≡ seq → ⊥) (cond b (e ∷ filter (λ f. nat_lt seq f.0.seq) es) (filter (λ f. nat_lt seq f.0.seq) es)))
+    (sym (lt-ltb seq e.0.seq lt)) ((λ same. absurd (omega (arith, lt, same))), above_other seq es))
+    (λ (ge : e.0.seq ≤ seq). subst
+    (λ b. AllByRecursion (λ (f : Entry). f.0.seq ≡ seq → ⊥) (cond b (e ∷ filter (λ f. nat_lt seq f.0.seq) es) (filter (λ f. nat_lt seq f.0.seq) es)))
+    (sym (le-ltb seq e.0.seq ge)) (above_other seq es))
     (cases_lt seq e.0.seq)
 
 -- A transaction's readings by rank, with one event more.
@@ -366,7 +387,8 @@ module _ (slot : ℕ) (d : Direction) (es new : List Entry) (e : Entry) (one : I
 
   pub stand_foreign : AllByRecursion (λ t. own_timed e.0.seq t ≡ false) (timed_of slot d e.0.tx es)
   stand_foreign = each_in_time (λ t. own_timed e.0.seq t ≡ false) (flat_map (ranked slot d) (live_of e.0.tx es))
-      (subst (AllByRecursion (λ t. own_timed e.0.seq t ≡ false)) (sym without_it) (each_append (λ t. own_timed e.0.seq t ≡ false) (flat_map (ranked slot d) here) (flat_map (ranked slot d) there) before_foreign behind_foreign))
+      (subst (AllByRecursion (λ t. own_timed e.0.seq t ≡ false)) (sym without_it)
+      (each_append (λ t. own_timed e.0.seq t ≡ false) (flat_map (ranked slot d) here) (flat_map (ranked slot d) there) before_foreign behind_foreign))
 
   -- its readings put in, each where its rank is
   pub come : put_each (put_each (ranked slot d e) []) (timed_of slot d e.0.tx es) ≡ timed_of slot d e.0.tx new
@@ -374,7 +396,8 @@ module _ (slot : ℕ) (d : Direction) (es new : List Entry) (e : Entry) (one : I
       ap (λ us. put_each us (timed_of slot d e.0.tx es)) (listed_sorted (ranked slot d e) distinct)
       ∙ put_each-sorted (ranked slot d e) (timed_of slot d e.0.tx es) distinct
       ∙ ap (λ us. put_each (ranked slot d e) (in_time at us)) without_it
-      ∙ put_each-middle (flat_map (ranked slot d) here) (ranked slot d e) (flat_map (ranked slot d) there) distinct (all_own_apart e.0.seq (flat_map (ranked slot d) here) (ranked slot d e) before_foreign own)
+      ∙ put_each-middle (flat_map (ranked slot d) here) (ranked slot d e) (flat_map (ranked slot d) there) distinct
+      (all_own_apart e.0.seq (flat_map (ranked slot d) here) (ranked slot d e) before_foreign own)
       ∙ ap (in_time at) (sym with_it)
 
   -- and taken out
@@ -398,7 +421,8 @@ live_readings-more es new front e back one =
     omega (arith, more, less, cut)
 
 -- The readings of another transaction stay.
-pub timed_else : (slot : ℕ) (d : Direction) (es new front : List Entry) (e : Entry) (back : List Entry) (u : List ℕ) → IsOneMore es new front e back → bytes_eq u e.0.tx ≡ false → timed_of slot d u new ≡ timed_of slot d u es
+pub timed_else : (slot : ℕ) (d : Direction) (es new front : List Entry) (e : Entry) (back : List Entry) (u : List ℕ)
+    → IsOneMore es new front e back → bytes_eq u e.0.tx ≡ false → timed_of slot d u new ≡ timed_of slot d u es
 timed_else slot d es new front e back u one apart = ap (λ l. in_time at (flat_map (ranked slot d) l)) (live_else es new front e back u one apart)
 
 -- A number is below those of entries.

@@ -59,7 +59,9 @@ both_ways : (rs : List MeterReading) → length (toward Import rs) + length (tow
 both_ways [] = refl
 both_ways (r ∷ rs) =
     let rest = both_ways rs in
-    elim r.direction as (λ x. length (cond (same_direction Import x) (r ∷ toward Import rs) (toward Import rs)) + length (cond (same_direction Export x) (r ∷ toward Export rs) (toward Export rs)) ≡ length (r ∷ rs)) [
+    elim r.direction as (λ x. length (cond (same_direction Import x) (r ∷ toward Import rs) (toward Import rs))
+    + length (cond (same_direction Export x) (r ∷ toward Export rs) (toward Export rs))
+    ≡ length (r ∷ rs)) [
       | Import ↦ omega (arith, rest)
       | Export ↦ omega (arith, rest)
     ]
@@ -70,7 +72,11 @@ IsLong Coming n old new = new ≡ old + n
 IsLong Going n old new = new + n ≤ old
 
 -- An event of a key with its readings under a slot, among events without it and with it.
-module _ (chains : Chained) {less more : List Entry} {key : KeyName} {event : Stored} (one : IsOneMore less more (before_key key less) (key, event) (behind_key key less)) (small : AreAllowed Moment chains.limits less) (large : AreAllowed Moment chains.limits more) (readings : (d : Direction) → readings_at d chains key ≡ toward d event.event.readings) (few : length event.event.readings ≤ most_event_readings) (slot : ℕ) where
+module _ (chains : Chained) {less more : List Entry} {key : KeyName} {event : Stored}
+    (one : IsOneMore less more (before_key key less) (key, event) (behind_key key less))
+    (small : AreAllowed Moment chains.limits less) (large : AreAllowed Moment chains.limits more)
+    (readings : (d : Direction) → readings_at d chains key ≡ toward d event.event.readings)
+    (few : length event.event.readings ≤ most_event_readings) (slot : ℕ) where
   abbrev e : Entry
   e = (key, event)
 
@@ -114,32 +120,48 @@ module _ (chains : Chained) {less more : List Entry} {key : KeyName} {event : St
   few_listed d = let n = ap length (readings d) in let m = few_toward d event.event.readings in omega (arith, n, m, few)
 
   -- an index with its readings of a direction put in, or taken out
-  pub have_place : (way : Way) (d : Direction) (index : TimedReadings) → side slot d index ≡ timed_of slot d key.tx (by_way way less more) → (way ≡ Coming → length index.entries + length (S d) ≤ index.capacity) → HavePlace way (S d) index
-  have_place Coming d index is room = (room refl, own_puttable (owner slot d) key.seq (S d) index.entries (up d) (mine d) (own d) (subst (AllByRecursion (λ r. own_timed key.seq r ≡ false)) (sym is) (others_foreign d)))
+  pub have_place : (way : Way) (d : Direction) (index : TimedReadings)
+      → side slot d index ≡ timed_of slot d key.tx (by_way way less more)
+      → (way ≡ Coming → length index.entries + length (S d) ≤ index.capacity) → HavePlace way (S d) index
+  have_place Coming d index is room =
+      (room refl, own_puttable (owner slot d) key.seq (S d) index.entries (up d) (mine d) (own d) (subst (AllByRecursion (λ r. own_timed key.seq r ≡ false)) (sym is) (others_foreign d)))
   have_place Going d index is room = tt
 
   ranked_next : (way : Way) (d : Direction) (index : TimedReadings) → HavePlace way (S d) index → AreRising index.entries → AreRising (moved_each way (S d) index.entries)
   ranked_next Coming d index place rising = ranked-put_each (S d) index.entries place.1 rising
   ranked_next Going d index place rising = ranked-take_each (S d) index.entries rising
 
-  own_next : (way : Way) (d : Direction) (index : TimedReadings) → HavePlace way (S d) index → AreRising index.entries → side slot d index ≡ timed_of slot d key.tx (by_way way less more) → owned (owner slot d) (moved_each way (S d) index.entries) ≡ timed_of slot d key.tx (by_way way more less)
+  own_next : (way : Way) (d : Direction) (index : TimedReadings) → HavePlace way (S d) index → AreRising index.entries
+      → side slot d index ≡ timed_of slot d key.tx (by_way way less more)
+      → owned (owner slot d) (moved_each way (S d) index.entries) ≡ timed_of slot d key.tx (by_way way more less)
   own_next Coming d index place rising is = owned-put_each (owner slot d) (S d) index.entries place.1 rising (mine d) ∙ ap (put_each (S d)) is ∙ come slot d less more e one large.in_range
   own_next Going d index place rising is = owned-take_each (owner slot d) (S d) index.entries ∙ ap (take_each (S d)) is ∙ go slot d less more e one large.in_range
 
-  else_next : (way : Way) (d : Direction) (index : TimedReadings) → HavePlace way (S d) index → AreRising index.entries → (o : ℕ) → (owner slot d ≡ o → ⊥) → owned o (moved_each way (S d) index.entries) ≡ owned o index.entries
+  else_next : (way : Way) (d : Direction) (index : TimedReadings) → HavePlace way (S d) index → AreRising index.entries → (o : ℕ)
+      → (owner slot d ≡ o → ⊥) → owned o (moved_each way (S d) index.entries) ≡ owned o index.entries
   else_next Coming d index place rising o apart = owned-put_each_else (owner slot d) o (S d) index.entries apart place.1 rising (mine d)
   else_next Going d index place rising o apart = owned-take_each_else (owner slot d) o (S d) index.entries apart (mine d)
 
-  long_next : (way : Way) (d : Direction) (index : TimedReadings) → side slot d index ≡ timed_of slot d key.tx (by_way way less more) → IsLong way (length (S d)) (length index.entries) (length (moved_each way (S d) index.entries))
+  long_next : (way : Way) (d : Direction) (index : TimedReadings)
+      → side slot d index ≡ timed_of slot d key.tx (by_way way less more)
+      → IsLong way (length (S d)) (length index.entries) (length (moved_each way (S d) index.entries))
   long_next Coming d index is = length-put_each (S d) index.entries
-  long_next Going d index is = fewer-take_each (owner slot d) key.seq (S d) (without_it d) index.entries (up d) (mine d) (own d) (others_foreign d) (is ∙ sym (come slot d less more e one large.in_range))
+  long_next Going d index is =
+      fewer-take_each (owner slot d) key.seq (S d) (without_it d) index.entries (up d) (mine d) (own d) (others_foreign d) (is ∙ sym (come slot d less more e one large.in_range))
 
-  bare_side : (way : Way) (d : Direction) (index next : TimedReadings) → side slot d index ≡ timed_of slot d key.tx (by_way way less more) → next.entries ≡ moved_each way (S d) index.entries → side slot d (by_way way index next) ≡ without_it d
+  bare_side : (way : Way) (d : Direction) (index next : TimedReadings)
+      → side slot d index ≡ timed_of slot d key.tx (by_way way less more) → next.entries ≡ moved_each way (S d) index.entries
+      → side slot d (by_way way index next) ≡ without_it d
   bare_side Coming d index next is entries = is
   bare_side Going d index next is entries = ap (owned (owner slot d)) entries ∙ owned-take_each (owner slot d) (S d) index.entries ∙ ap (take_each (S d)) is ∙ go slot d less more e one large.in_range
 
   -- the readings of one direction, in an index and in the periods
-  module _ (way : Way) (period : Periods) (d : Direction) (index : TimedReadings) (t : Table) (rising : AreRising index.entries) (is : side slot d index ≡ timed_of slot d key.tx (by_way way less more)) (P : Direction → List Pair) (rows : t.rows ≡ rows_of (both_quartered period P)) (cap : t.capacity ≡ chains.limits.readings) (at_d : P d ≡ all_pairs_by Moment d (by_way way less more)) (at_other : (P (other d) ≡ all_pairs_by Moment (other d) (by_way way less more)) ⊎ (P (other d) ≡ all_pairs_by Moment (other d) (by_way way more less))) (place : HavePlace way (S d) index) where
+  module _ (way : Way) (period : Periods) (d : Direction) (index : TimedReadings) (t : Table) (rising : AreRising index.entries)
+      (is : side slot d index ≡ timed_of slot d key.tx (by_way way less more)) (P : Direction → List Pair)
+      (rows : t.rows ≡ rows_of (both_quartered period P)) (cap : t.capacity ≡ chains.limits.readings)
+      (at_d : P d ≡ all_pairs_by Moment d (by_way way less more))
+      (at_other : (P (other d) ≡ all_pairs_by Moment (other d) (by_way way less more)) ⊎ (P (other d) ≡ all_pairs_by Moment (other d) (by_way way more less)))
+      (place : HavePlace way (S d) index) where
     abbrev rest : List Flowed
     rest = rest_of period d (P (other d)) (others_in d key.tx less)
 
@@ -156,7 +178,8 @@ module _ (chains : Chained) {less more : List Entry} {key : KeyName} {event : St
       have = moved.moved (owner slot d) key.seq rest (to_move next moved.entries)
 
       pub moved_pairs : AreExchanged period d (pairs_among (put_each (gone_of way (S d)) (without_it d))) (pairs_among (put_each (came_of way (S d)) (without_it d))) rest u m
-      moved_pairs = subst (λ l. AreExchanged period d (pairs_among (put_each (gone_of way (S d)) l)) (pairs_among (put_each (came_of way (S d)) l)) rest u m) (bare_side way d index next is moved.entries) have.moved
+      moved_pairs = subst (λ l. AreExchanged period d (pairs_among (put_each (gone_of way (S d)) l)) (pairs_among (put_each (came_of way (S d)) l)) rest u m)
+          (bare_side way d index next is moved.entries) have.moved
 
       pub moved_rows : (Q : Direction → List Pair) → Q d ≡ all_pairs_by Moment d (by_way way more less) → Q (other d) ≡ P (other d) → u.rows ≡ rows_of (both_quartered period Q)
       moved_rows Q q_d q_other = rows_moved slot chains.limits less more e one small large (small.rising key.tx) (large.rising key.tx) period way d P Q u m q_d q_other moved_pairs

@@ -69,7 +69,8 @@ put-ranked x (t ∷ ts) up none =
 pub has_owned : (k : ℕ) (ts : List Timed) → has_rank k (owned (owner_of k) ts) ≡ has_rank k ts
 has_owned k [] = refl
 has_owned k (t ∷ ts) = ⊎_elim
-    (λ (same : owner_of t.0 ≡ owner_of k). ap (λ b. has_rank k (cond b (t ∷ owned (owner_of k) ts) (owned (owner_of k) ts))) (eq-eqb (owner_of t.0) (owner_of k) same) ∙ ap (λ b. eqb t.0 k || b) (has_owned k ts))
+    (λ (same : owner_of t.0 ≡ owner_of k). ap (λ b. has_rank k (cond b (t ∷ owned (owner_of k) ts) (owned (owner_of k) ts))) (eq-eqb (owner_of t.0) (owner_of k) same)
+    ∙ ap (λ b. eqb t.0 k || b) (has_owned k ts))
     (λ (apart : owner_of t.0 ≡ owner_of k → ⊥).
     ap (λ b. has_rank k (cond b (t ∷ owned (owner_of k) ts) (owned (owner_of k) ts))) (ne_eqb (owner_of t.0) (owner_of k) apart) ∙ has_owned k ts
     ∙ sym (ap (λ b. b || has_rank k ts) (ne_eqb t.0 k (λ (same : t.0 ≡ k). apart (ap owner_of same)))))
@@ -106,7 +107,8 @@ front_none k n (t ∷ ts) le behind = ap (λ b. cond b (t ∷ in_front k ts) (in
 
 all_on : (k n : ℕ) (ts : List Timed) → k ≤ n → AreAbove n ts → from_on k ts ≡ ts
 all_on k n [] le behind = refl
-all_on k n (t ∷ ts) le behind = ap (λ b. cond (not b) (t ∷ from_on k ts) (from_on k ts)) (le-ltb t.0 k (let lt : n < t.0 = behind.0 in omega (arith, lt, le))) ∙ ap (λ us. t ∷ us) (all_on k n ts le behind.1)
+all_on k n (t ∷ ts) le behind = ap (λ b. cond (not b) (t ∷ from_on k ts) (from_on k ts)) (le-ltb t.0 k (let lt : n < t.0 = behind.0 in omega (arith, lt, le)))
+    ∙ ap (λ us. t ∷ us) (all_on k n ts le behind.1)
 
 front_cons : (k : ℕ) (t : Timed) (ts : List Timed) → t.0 < k → in_front k (t ∷ ts) ≡ t ∷ in_front k ts
 front_cons k t ts lt = ap (λ b. cond b (t ∷ in_front k ts) (in_front k ts)) (lt-ltb t.0 k lt)

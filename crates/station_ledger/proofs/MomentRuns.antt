@@ -88,7 +88,8 @@ from_on-behind : (seq : ℕ) (x : Timed) (ts : List Timed) → own_timed seq x �
 from_on-behind seq x [] mine h = tt
 from_on-behind seq x (t ∷ ts) mine h = ⊎_elim
     (λ (lt : t.0 < x.0). subst (λ b. AreAbove x.0 (cond (not b) (t ∷ from_on x.0 ts) (from_on x.0 ts))) (sym (lt-ltb t.0 x.0 lt)) (from_on-behind seq x ts mine h.1))
-    (λ (ge : x.0 ≤ t.0). subst (λ b. AreAbove x.0 (cond (not b) (t ∷ from_on x.0 ts) (from_on x.0 ts))) (sym (le-ltb t.0 x.0 ge)) (strictly x.0 t.0 ge (apart seq x t mine h.0), from_on-behind seq x ts mine h.1))
+    (λ (ge : x.0 ≤ t.0). subst (λ b. AreAbove x.0 (cond (not b) (t ∷ from_on x.0 ts) (from_on x.0 ts))) (sym (le-ltb t.0 x.0 ge))
+    (strictly x.0 t.0 ge (apart seq x t mine h.0), from_on-behind seq x ts mine h.1))
     (cases_lt t.0 x.0)
 
 -- Those that are beyond another reading are behind it.
@@ -201,7 +202,8 @@ abbrev pub AreTurns : Way → ℕ → ℕ → ℕ → Type 0
 AreTurns Coming turns now total = turns ≤ now
 AreTurns Going turns now total = turns + now ≤ total
 
-pub turn_counted : (way : Way) {seq : ℕ} {before after : Option MeterReading} {run now next : List Timed} (r : IsRun way seq before after run now next) (turns total : ℕ) → AreTurns way turns (runs (own_timed seq) now) total → AreTurns way (turns + 1) (runs (own_timed seq) next) total
+pub turn_counted : (way : Way) {seq : ℕ} {before after : Option MeterReading} {run now next : List Timed} (r : IsRun way seq before after run now next) (turns total : ℕ)
+    → AreTurns way turns (runs (own_timed seq) now) total → AreTurns way (turns + 1) (runs (own_timed seq) next) total
 turn_counted Coming {seq = seq} r turns total h = let a = ap (runs (own_timed seq)) r.now_is in let b = ap (runs (own_timed seq)) r.next_is in omega (arith, h, a, b, one_run r)
 turn_counted Going {seq = seq} r turns total h = let a = ap (runs (own_timed seq)) r.now_is in let b = ap (runs (own_timed seq)) r.next_is in omega (arith, h, a, b, one_run r)
 
@@ -220,7 +222,9 @@ pub record AreParted (done left others : List Timed) : Type 0 where
   pub below : AreAbove y.0 left
 
 -- The next run of an event's readings.
-module _ (seq : ℕ) (others done left : List Timed) (x : Timed) (xs : List Timed) (left_is : left ≡ x ∷ xs) (own : AreOwn (own_timed seq) (done ++ left)) (rising : AreRising (done ++ left)) (foreign : AreForeign (own_timed seq) others) (sorted : AreRising others) where
+module _ (seq : ℕ) (others done left : List Timed) (x : Timed) (xs : List Timed) (left_is : left ≡ x ∷ xs)
+    (own : AreOwn (own_timed seq) (done ++ left)) (rising : AreRising (done ++ left)) (foreign : AreForeign (own_timed seq) others)
+    (sorted : AreRising others) where
   abbrev F : List Timed
   F = in_front x.0 others
 
@@ -292,8 +296,11 @@ module _ (seq : ℕ) (others done left : List Timed) (x : Timed) (xs : List Time
         y = y;
         back = ys;
         is = others_are ∙ ap (λ l. F ++ l) is;
-        above = below_both y.0 done run (below_more x.0 y.0 done (let b : AreAbove x.0 (y ∷ ys) = subst (AreAbove x.0) is B_behind in let a = b.0 in omega (arith, a)) done_under) (under-first run ys y (subst (AreInFront run) is run_in_front));
-        below = subst (λ o. AreAbove y.0 (beyond o left)) (sym (ap first_of is)) (beyond-behind seq y left (let f : AreForeign (own_timed seq) (y ∷ ys) = subst (AreForeign (own_timed seq)) is parts_foreign.1 in f.0) left_own left_rising);
+        above = below_both y.0 done run
+            (below_more x.0 y.0 done (let b : AreAbove x.0 (y ∷ ys) = subst (AreAbove x.0) is B_behind in let a = b.0 in omega (arith, a)) done_under)
+            (under-first run ys y (subst (AreInFront run) is run_in_front));
+        below = subst (λ o. AreAbove y.0 (beyond o left)) (sym (ap first_of is))
+            (beyond-behind seq y left (let f : AreForeign (own_timed seq) (y ∷ ys) = subst (AreForeign (own_timed seq)) is parts_foreign.1 in f.0) left_own left_rising);
       })
 
   -- a run that comes, where those before it came
@@ -305,7 +312,9 @@ module _ (seq : ℕ) (others done left : List Timed) (x : Timed) (xs : List Time
     more = fitting (first_of B) xs;
     run_is = run_first;
     now_is = there;
-    next_is = put_each-append done run others ∙ ap (put_each run) there ∙ put_each-under run (put_each done F) B (over-under x.0 (put_each done F) run (under-put_each x.0 done F done_under F_under) from_run.0) ∙ ap (λ l. put_each done F ++ l) (put_each-row run B run_rising run_in_front);
+    next_is = put_each-append done run others ∙ ap (put_each run) there
+        ∙ put_each-under run (put_each done F) B (over-under x.0 (put_each done F) run (under-put_each x.0 done F done_under F_under) from_run.0)
+        ∙ ap (λ l. put_each done F ++ l) (put_each-row run B run_rising run_in_front);
     before_is = ap bare_one (sym ends.0) ∙ last_bare (put_each done F);
     after_is = first_bare B;
     last_fails = ends.1;
@@ -388,7 +397,8 @@ module _ (seq : ℕ) (others done left : List Timed) (x : Timed) (xs : List Time
         over_one y (u ∷ us) h = ((h.0, tt), over_one y us h.1)
 
   -- a run that comes or goes
-  pub next_run : (way : Way) → (done ≡ []) ⊎ ((left ≡ []) ⊎ AreParted done left others) → IsRun way seq (bare_one (last_of F)) (bare_one (first_of B)) run (put_each (still way done left) others) (put_each (still way (done ++ run) rest) others)
+  pub next_run : (way : Way) → (done ≡ []) ⊎ ((left ≡ []) ⊎ AreParted done left others)
+      → IsRun way seq (bare_one (last_of F)) (bare_one (first_of B)) run (put_each (still way done left) others) (put_each (still way (done ++ run) rest) others)
   next_run Coming gap = coming_run gap
   next_run Going gap = going_run
 
@@ -397,7 +407,8 @@ pub at_turn : (P : Sides → List Timed → List Timed → Type 0) {g h : Sides}
 at_turn P {g = g} {h = h} {a = a} {b = b} {x = x} {y = y} e f k holds = subst (P h b) k (subst (λ l. P h l x) f (subst (λ s. P s a x) e holds))
 
 -- A run's pairs in the periods: those that go are there, and those that come are put beside the others.
-module _ (period : Periods) (d : Direction) {way : Way} {seq : ℕ} {before after : Option MeterReading} {run now next : List Timed} (r : IsRun way seq before after run now next) (rest : List Flowed) (t : Table) where
+module _ (period : Periods) (d : Direction) {way : Way} {seq : ℕ} {before after : Option MeterReading} {run now next : List Timed}
+    (r : IsRun way seq before after run now next) (rest : List Flowed) (t : Table) where
   module _ (rows : t.rows ≡ rows_of (quartered period d (pairs_among now) ++ rest)) where
     pub gone_held : HoldsPairs period d (made r (gone_of way run)) t
     gone_held = (beside r period d rest, rows ∙ all_rows r period d rest (gone_of way run) r.now_is)
@@ -421,14 +432,20 @@ pub record IsMoving (period : Periods) (d : Direction) (all left from now : List
   pub more_down : more.down + greatest_reading * (2 * length left) ≤ greatest_reading * (2 * length all)
 
 -- What pairs that went and came cost.
-pub spent_swap : {period : Periods} {d : Direction} {gone came : List Pair} {t next : Table} {w v : ℕ} {m : Moved} → AreSwapped period d gone came t next w v m → (v ≤ w + length gone + length came) × (w ≤ v)
+pub spent_swap : {period : Periods} {d : Direction} {gone came : List Pair} {t next : Table} {w v : ℕ} {m : Moved}
+    → AreSwapped period d gone came t next w v m → (v ≤ w + length gone + length came) × (w ≤ v)
 spent_swap s = (omega (arith, s.taken.work.bound, s.added.work.bound), omega (arith, s.taken.work.grows, s.added.work.grows))
 
 -- A run came, or went, and so much is left.
-module _ {way : Way} {seq : ℕ} {period : Periods} {d : Direction} {before after : Option MeterReading} {run now next : List Timed} (r : IsRun way seq before after run now next) {all left beyond from : List Timed} {rest : List Flowed} {t then : Table} {less more : Energy} {w v : ℕ} {m : Moved} (long : length left ≡ length run + length beyond) where
-  pub run_moved : IsMoving period d all left from now rest t less more → AreSwapped period d (made r (gone_of way run)) (made r (came_of way run)) t then w v m → IsMoving period d all beyond from next rest then (plus less m.less) (plus more m.more)
+module _ {way : Way} {seq : ℕ} {period : Periods} {d : Direction} {before after : Option MeterReading} {run now next : List Timed}
+    (r : IsRun way seq before after run now next) {all left beyond from : List Timed} {rest : List Flowed} {t then : Table}
+    {less more : Energy} {w v : ℕ} {m : Moved} (long : length left ≡ length run + length beyond) where
+  pub run_moved : IsMoving period d all left from now rest t less more
+      → AreSwapped period d (made r (gone_of way run)) (made r (came_of way run)) t then w v m
+      → IsMoving period d all beyond from next rest then (plus less m.less) (plus more m.more)
   run_moved h s = record {
-    rows = put_back period d r rest s.left (made r (came_of way run)) (gone_left period d r rest t h.rows s.taken.quarters) s.added.quarters ∙ sym (all_rows r period d rest (came_of way run) r.next_is);
+    rows = put_back period d r rest s.left (made r (came_of way run)) (gone_left period d r rest t h.rows s.taken.quarters) s.added.quarters
+        ∙ sym (all_rows r period d rest (came_of way run) r.next_is);
     up = omega (arith, h.up, all_up r (gone_of way run) r.now_is, all_up r (came_of way run) r.next_is, ap (λ (e : Energy). e.up) s.taken.sum.is, ap (λ (e : Energy). e.up) s.added.sum.is);
     down = omega (arith, h.down, all_down r (gone_of way run) r.now_is, all_down r (came_of way run) r.next_is, ap (λ (e : Energy). e.down) s.taken.sum.is, ap (λ (e : Energy). e.down) s.added.sum.is);
     less_up = omega (arith, h.less_up, s.taken.sum.up, made_few r (gone_of way run), gone_few r, long, run_some r);
@@ -438,16 +455,22 @@ module _ {way : Way} {seq : ℕ} {period : Periods} {d : Direction} {before afte
   }
 
 -- There is room for the pairs that come.
-module _ {o seq : ℕ} {period : Periods} {d : Direction} {all others : List Timed} {ps : List Pair} {base : Table} {rest : List Flowed} (a : AreApart o seq period d all others ps base rest) {way : Way} {before after : Option MeterReading} {run now next : List Timed} (r : IsRun way seq before after run now next) {from left : List Timed} {t : Table} {less more : Energy} (same : ps ≡ pairs_among from) (cap : t.capacity ≡ base.capacity) (h : IsMoving period d all left from now rest t less more) where
+module _ {o seq : ℕ} {period : Periods} {d : Direction} {all others : List Timed} {ps : List Pair} {base : Table}
+    {rest : List Flowed} (a : AreApart o seq period d all others ps base rest) {way : Way} {before after : Option MeterReading}
+    {run now next : List Timed} (r : IsRun way seq before after run now next) {from left : List Timed} {t : Table}
+    {less more : Energy} (same : ps ≡ pairs_among from) (cap : t.capacity ≡ base.capacity)
+    (h : IsMoving period d all left from now rest t less more) where
   few_now : AreFew (most_readings + 2 * most_event_readings) d (energy_over (fa r ++ fb r)) rest
   few_now =
       let few : AreFew most_readings d (energy_over (pairs_among from)) rest = subst (λ qs. AreFew most_readings d (energy_over qs) rest) same a.few in
       few_more most_readings (2 * most_event_readings) d (energy_over (pairs_among from)) (energy_over (fa r ++ fb r)) rest few
       (omega (arith, h.up, h.more_up, all_up r (gone_of way run) r.now_is, a.small)) (omega (arith, h.down, h.more_down, all_down r (gone_of way run) r.now_is, a.small))
 
-  pub room_beside : {then : Table} (n : ℕ) → then.rows ≡ rows_of (beside r period d rest) → then.capacity ≡ t.capacity → length (fa r ++ fb r) + n + 1 ≤ length others + length all → n ≤ most_event_readings + 1 → HasRoom n then
+  pub room_beside : {then : Table} (n : ℕ) → then.rows ≡ rows_of (beside r period d rest) → then.capacity ≡ t.capacity
+      → length (fa r ++ fb r) + n + 1 ≤ length others + length all → n ≤ most_event_readings + 1 → HasRoom n then
   room_beside n rows then_cap room small =
-      has_room period d (fa r ++ fb r) rest n (most_readings + 2 * most_event_readings) _ rows (omega (arith, room, a.room, cap, then_cap)) (omega (arith, a.few_rows, cap, then_cap)) few_now (omega (arith, small))
+      has_room period d (fa r ++ fb r) rest n (most_readings + 2 * most_event_readings) _ rows
+      (omega (arith, room, a.room, cap, then_cap)) (omega (arith, a.few_rows, cap, then_cap)) few_now (omega (arith, small))
 
 -- What is known of an event's readings while some are left.
 pub record IsTurning (way : Way) (seq : ℕ) (period : Periods) (d : Direction) (all left others : List Timed) (rest : List Flowed) (t : Table) (start w : ℕ) (less more : Energy) : Type 0 where
@@ -466,7 +489,9 @@ one_of P [] x xs h = h.0
 one_of P (d ∷ ds) x xs h = one_of P ds x xs h.1
 
 -- Little energies fit together.
-pub little : (a b : Energy) → a.up ≤ greatest_reading * (4 * most_event_readings) → a.down ≤ greatest_reading * (4 * most_event_readings) → b.up ≤ greatest_reading * (4 * most_event_readings) → b.down ≤ greatest_reading * (4 * most_event_readings) → CanPlus a b
+pub little : (a b : Energy) → a.up ≤ greatest_reading * (4 * most_event_readings)
+    → a.down ≤ greatest_reading * (4 * most_event_readings) → b.up ≤ greatest_reading * (4 * most_event_readings)
+    → b.down ≤ greatest_reading * (4 * most_event_readings) → CanPlus a b
 little a b au ad bu bd = record { up = omega (arith, au, bu); down = omega (arith, ad, bd) }
 
 -- One turn: the readings that fit into the gap at the first of those that are left, and those beyond.
@@ -494,9 +519,11 @@ module _ {others left run next_left : List Timed} {before behind : Option Timed}
       pub next_split : all ≡ (done ++ run) ++ next_left
       next_split = split ∙ ap (λ l. done ++ l) (sym (fitting-beyond behind left) ∙ sym (λ i. turn.run_is i ++ turn.next_is i)) ∙ sym (append_assoc done run next_left)
 
-      pub run_turns : (way : Way) → (done ≡ []) ⊎ ((left ≡ []) ⊎ AreParted done left others) → IsRun way seq (bare_one before) (bare_one behind) run (put_each (still way done left) others) (put_each (still way (done ++ run) next_left) others)
+      pub run_turns : (way : Way) → (done ≡ []) ⊎ ((left ≡ []) ⊎ AreParted done left others)
+          → IsRun way seq (bare_one before) (bare_one behind) run (put_each (still way done left) others) (put_each (still way (done ++ run) next_left) others)
       run_turns way gap =
-          let Q : Option Timed → Option Timed → List Timed → List Timed → Type 0 = λ b e r n. IsRun way seq (bare_one b) (bare_one e) r (put_each (still way done left) others) (put_each (still way (done ++ r) n) others) in
+          let Q : Option Timed → Option Timed → List Timed → List Timed
+          → Type 0 = λ b e r n. IsRun way seq (bare_one b) (bare_one e) r (put_each (still way done left) others) (put_each (still way (done ++ r) n) others) in
           let first = first_of (from_on turn.x.0 others) in
           subst (Q before behind run) (sym turn.next_is)
           (subst (λ r. Q before behind r (beyond behind left)) (sym turn.run_is)
@@ -507,7 +534,9 @@ module _ {others left run next_left : List Timed} {before behind : Option Timed}
       next_gap : (next_left ≡ []) ⊎ AreParted (done ++ run) next_left others
       next_gap =
           let P : List Timed → List Timed → Type 0 = λ r n. (n ≡ []) ⊎ AreParted (done ++ r) n others in
-          subst (λ r. P r next_left) (sym turn.run_is) (subst (P (fitting behind left)) (sym turn.next_is) (subst (λ b. P (fitting b left) (beyond b left)) (sym turn.behind_is) (parted_next seq others done left turn.x turn.xs turn.left_is mine up a.foreign a.sorted)))
+          subst (λ r. P r next_left) (sym turn.run_is)
+          (subst (P (fitting behind left)) (sym turn.next_is)
+          (subst (λ b. P (fitting b left) (beyond b left)) (sym turn.behind_is) (parted_next seq others done left turn.x turn.xs turn.left_is mine up a.foreign a.sorted)))
 
       all_long : length all ≡ length done + length left
       all_long = let e = ap length split in let n = length-append done left in omega (arith, e, n)
@@ -515,7 +544,9 @@ module _ {others left run next_left : List Timed} {before behind : Option Timed}
       run_small : length run ≤ length all
       run_small = omega (arith, all_long, long_left)
 
-    module _ {way : Way} {t : Table} {start w : ℕ} {less more : Energy} (cap : t.capacity ≡ base.capacity) (same : ps ≡ pairs_among (put_each (gone_of way all) others)) (h : IsTurning way seq period d all left others rest t start w less more) where
+    module _ {way : Way} {t : Table} {start w : ℕ} {less more : Energy} (cap : t.capacity ≡ base.capacity)
+        (same : ps ≡ pairs_among (put_each (gone_of way all) others))
+        (h : IsTurning way seq period d all left others rest t start w less more) where
       abbrev gap : Sides
       gap = gap_of before behind
 
@@ -540,9 +571,11 @@ module _ {others left run next_left : List Timed} {before behind : Option Timed}
       pub turn_room : HasRoomWithout period d (run_pairs gap (gone_of way run)) (length (run_pairs gap (came_of way run))) t
       turn_room gone taken =
           room_beside a the_run same cap h.moving (length (run_pairs gap (came_of way run))) (gone_left period d the_run rest t h.moving.rows taken) taken.capacity
-          (let few = all_few the_run (came_of way run) (came_few the_run) in let n = whole way the_run in omega (arith, few, n, all_long h.done h.split, long_left)) (omega (arith, came_small, a.small))
+          (let few = all_few the_run (came_of way run) (came_few the_run) in let n = whole way the_run in omega (arith, few, n, all_long h.done h.split, long_left))
+          (omega (arith, came_small, a.small))
         where
-          whole : (way : Way) (r : IsRun way seq (bare_one before) (bare_one behind) run (put_each (still way h.done left) others) (put_each (still way (h.done ++ run) next_left) others)) → length (r.front ++ r.back) + length run ≤ length others + length h.done + length left
+          whole : (way : Way) (r : IsRun way seq (bare_one before) (bare_one behind) run (put_each (still way h.done left) others) (put_each (still way (h.done ++ run) next_left) others))
+              → length (r.front ++ r.back) + length run ≤ length others + length h.done + length left
           whole Coming r =
               let e = ap length r.now_is in let n = length-put_each h.done others in
               omega (arith, e, n, long_left)
@@ -552,10 +585,12 @@ module _ {others left run next_left : List Timed} {before behind : Option Timed}
 
       module _ {then : Table} {v : ℕ} {m : Moved} (s : AreSwapped period d (run_pairs gap (gone_of way run)) (run_pairs gap (came_of way run)) t then w v m) where
         pub turn_less : CanPlus less m.less
-        turn_less = little less m.less (omega (arith, h.moving.less_up, a.small)) (omega (arith, h.moving.less_down, a.small)) (omega (arith, s.taken.sum.up, gone_small, a.small)) (omega (arith, s.taken.sum.down, gone_small, a.small))
+        turn_less = little less m.less (omega (arith, h.moving.less_up, a.small)) (omega (arith, h.moving.less_down, a.small))
+            (omega (arith, s.taken.sum.up, gone_small, a.small)) (omega (arith, s.taken.sum.down, gone_small, a.small))
 
         pub turn_more : CanPlus more m.more
-        turn_more = little more m.more (omega (arith, h.moving.more_up, a.small)) (omega (arith, h.moving.more_down, a.small)) (omega (arith, s.added.sum.up, came_small, a.small)) (omega (arith, s.added.sum.down, came_small, a.small))
+        turn_more = little more m.more (omega (arith, h.moving.more_up, a.small)) (omega (arith, h.moving.more_down, a.small))
+            (omega (arith, s.added.sum.up, came_small, a.small)) (omega (arith, s.added.sum.down, came_small, a.small))
 
         pub turn_next : IsTurning way seq period d all next_left others rest then start v (plus less m.less) (plus more m.more)
         turn_next =
@@ -572,8 +607,11 @@ module _ {others left run next_left : List Timed} {before behind : Option Timed}
             }
 
 -- The turn that a look into the index finds.
-pub turn_of : (o count : ℕ) (entries : List Timed) {all left run next_left : List Timed} {x : Timed} {before behind : Option Timed} (done : List Timed) → AllByRecursion (λ r. owner_of r.0 ≡ o) all → all ≡ done ++ left → 1 ≤ length left → x ≡ get_or left 0 x
-    → before ≡ last_of (in_front x.0 (owned (owner_of x.0) entries)) → behind ≡ first_of (from_on x.0 (owned (owner_of x.0) entries)) → take count left ≡ fitting behind left → drop count left ≡ beyond behind left → run ≡ take count left → next_left ≡ drop count left
+pub turn_of : (o count : ℕ) (entries : List Timed) {all left run next_left : List Timed} {x : Timed} {before behind : Option Timed} (done : List Timed)
+    → AllByRecursion (λ r. owner_of r.0 ≡ o) all → all ≡ done ++ left → 1 ≤ length left → x ≡ get_or left 0 x
+    → before ≡ last_of (in_front x.0 (owned (owner_of x.0) entries)) → behind ≡ first_of (from_on x.0 (owned (owner_of x.0) entries))
+    → take count left ≡ fitting behind left → drop count left ≡ beyond behind left → run ≡ take count left
+    → next_left ≡ drop count left
     → IsTurn (owned o entries) left run next_left before behind
 turn_of o count entries {left = left} {x = x} done owned_by split some x_is before_is behind_is fit past run_is next_is =
     let left_is : left ≡ x ∷ drop 1 left = first_and_rest left (drop 1 left) x x some x_is refl in
@@ -602,7 +640,10 @@ no_turns : (way : Way) (seq : ℕ) (all others : List Timed) → AreTurns way 0 
 no_turns Coming seq all others = omega arith
 no_turns Going seq all others = omega arith
 
-pub turning_start : (way : Way) {o seq : ℕ} {period : Periods} {d : Direction} {all others : List Timed} {base : Table} {rest : List Flowed} {w : ℕ} {less more : Energy} → less ≡ no_energy → more ≡ no_energy → AreApart o seq period d all others (pairs_among (put_each (gone_of way all) others)) base rest → IsTurning way seq period d all all others rest base w w less more
+pub turning_start : (way : Way) {o seq : ℕ} {period : Periods} {d : Direction} {all others : List Timed} {base : Table} {rest : List Flowed} {w : ℕ} {less more : Energy}
+    → less ≡ no_energy → more ≡ no_energy
+    → AreApart o seq period d all others (pairs_among (put_each (gone_of way all) others)) base rest
+    → IsTurning way seq period d all all others rest base w w less more
 turning_start way {seq = seq} {period = period} {d = d} {all = all} {others = others} {base = base} {rest = rest} {less = less} {more = more} no_less no_more a = record {
   done = [];
   split = refl;
@@ -623,8 +664,11 @@ turning_start way {seq = seq} {period = period} {d = d} {all = all} {others = ot
 }
 
 -- The energies by other names.
-pub turning_by : {way : Way} {seq : ℕ} {period : Periods} {d : Direction} {all left others : List Timed} {rest : List Flowed} {t : Table} {start w : ℕ} {less more l m : Energy} → l ≡ less → m ≡ more → IsTurning way seq period d all left others rest t start w less more → IsTurning way seq period d all left others rest t start w l m
-turning_by {way} {seq} {period} {d} {all} {left} {others} {rest} {t} {start} {w} {less} {more} {l} {m} e f h = subst (λ x. IsTurning way seq period d all left others rest t start w x m) (sym e) (subst (IsTurning way seq period d all left others rest t start w less) (sym f) h)
+pub turning_by : {way : Way} {seq : ℕ} {period : Periods} {d : Direction} {all left others : List Timed} {rest : List Flowed} {t : Table} {start w : ℕ} {less more l m : Energy}
+    → l ≡ less → m ≡ more → IsTurning way seq period d all left others rest t start w less more
+    → IsTurning way seq period d all left others rest t start w l m
+turning_by {way} {seq} {period} {d} {all} {left} {others} {rest} {t} {start} {w} {less} {more} {l} {m} e f h =
+    subst (λ x. IsTurning way seq period d all left others rest t start w x m) (sym e) (subst (IsTurning way seq period d all left others rest t start w less) (sym f) h)
 
 -- At the end all are there that come, and none that go.
 all_moved : (way : Way) (all done left : List Timed) → all ≡ done ++ left → left ≡ [] → still way done left ≡ came_of way all
@@ -636,13 +680,17 @@ all_turns Coming turns now total is all = let e = all refl in omega (arith, is, 
 all_turns Going turns now total is all = omega (arith, is)
 
 -- What occurs once all runs came, or went.
-module _ {o seq : ℕ} {period : Periods} {d : Direction} {all others : List Timed} {ps : List Pair} {base : Table} {rest : List Flowed} (a : AreApart o seq period d all others ps base rest) {way : Way} {left : List Timed} {t : Table} {start w : ℕ} {less more : Energy} (h : IsTurning way seq period d all left others rest t start w less more) (none : left ≡ []) where
+module _ {o seq : ℕ} {period : Periods} {d : Direction} {all others : List Timed} {ps : List Pair} {base : Table}
+    {rest : List Flowed} (a : AreApart o seq period d all others ps base rest) {way : Way} {left : List Timed} {t : Table}
+    {start w : ℕ} {less more : Energy} (h : IsTurning way seq period d all left others rest t start w less more)
+    (none : left ≡ []) where
   then : still way h.done left ≡ came_of way all
   then = all_moved way all h.done left h.split none
 
   pub turning_end : AreExchanged period d (pairs_among (put_each (gone_of way all) others)) (pairs_among (put_each (came_of way all) others)) rest t (record { less = less; more = more })
   turning_end =
-      let m : IsMoving period d all left (put_each (gone_of way all) others) (put_each (came_of way all) others) rest t less more = subst (λ l. IsMoving period d all left (put_each (gone_of way all) others) (put_each l others) rest t less more) then h.moving in
+      let m : IsMoving period d all left (put_each (gone_of way all) others) (put_each (came_of way all) others) rest t less more =
+      subst (λ l. IsMoving period d all left (put_each (gone_of way all) others) (put_each l others) rest t less more) then h.moving in
       record { rows = m.rows; up = m.up; down = m.down; more_up = omega (arith, m.more_up, a.small); more_down = omega (arith, m.more_down, a.small) }
 
   pub turning_work : IsWork (length all + 2 * runs (own_timed seq) (put_each all others)) start w

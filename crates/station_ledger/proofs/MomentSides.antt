@@ -68,11 +68,13 @@ split_quarters period d all mine others split measure =
     let parts = split (λ p. measure (shown p)) in
     omega (arith, whole, one, two, parts)
 
-beside : (period : Periods) (d : Direction) (P : Direction → List Pair) (measure : Flowed → ℕ) → sum_by measure (both_quartered period P) ≡ sum_by measure (quartered period d (P d)) + sum_by measure (quartered period (other d) (P (other d)))
+beside : (period : Periods) (d : Direction) (P : Direction → List Pair) (measure : Flowed → ℕ)
+    → sum_by measure (both_quartered period P) ≡ sum_by measure (quartered period d (P d)) + sum_by measure (quartered period (other d) (P (other d)))
 beside period Import P measure = sum_by-append measure (quartered period Import (P Import)) (quartered period Export (P Export))
 beside period Export P measure = let all = sum_by-append measure (quartered period Import (P Import)) (quartered period Export (P Export)) in omega (arith, all)
 
-both_alike : (period : Periods) (d : Direction) (P : Direction → List Pair) (mine others : List Pair) → IsSplit (P d) mine others → rows_of (both_quartered period P) ≡ rows_of (quartered period d mine ++ rest_of period d (P (other d)) others)
+both_alike : (period : Periods) (d : Direction) (P : Direction → List Pair) (mine others : List Pair) → IsSplit (P d) mine others
+    → rows_of (both_quartered period P) ≡ rows_of (quartered period d mine ++ rest_of period d (P (other d)) others)
 both_alike period d P mine others split =
     made_alike (both_quartered period P) (quartered period d mine ++ rest_of period d (P (other d)) others) (λ measure.
     let whole = beside period d P measure in
@@ -86,7 +88,9 @@ record IsUpTo (n : ℕ) (e : Energy) : Type 0 where
   up : e.up ≤ n
   down : e.down ≤ n
 
-few_beside : (period : Periods) (most : ℕ) (d : Direction) (mine others ps : List Pair) → (energy_over mine).up + (energy_over others).up ≤ greatest_reading * most → (energy_over mine).down + (energy_over others).down ≤ greatest_reading * most
+few_beside : (period : Periods) (most : ℕ) (d : Direction) (mine others ps : List Pair)
+    → (energy_over mine).up + (energy_over others).up ≤ greatest_reading * most
+    → (energy_over mine).down + (energy_over others).down ≤ greatest_reading * most
     → IsUpTo (greatest_reading * most) (energy_over ps) → AreFew most d (energy_over mine) (rest_of period d ps others)
 few_beside period most d mine others ps up down small =
     let a = quartered period d others in let b = quartered period (other d) ps in let m = energy_over mine in let o = energy_over others in let p = energy_over ps in
@@ -130,13 +134,19 @@ runs_shown seq front (t ∷ ts) = ap (λ n. cond {A = ℕ} (own_timed seq t && n
 split_one : (d : Direction) (tx : List ℕ) (es : List Entry) → IsSplit (all_pairs_by Moment d es) (pairs_by Moment d tx es) (others_in d tx es)
 split_one d tx es f =
     let g : List ℕ → ℕ = λ u. sum_by f (pairs_by Moment d u es) in
-    let absent : list_any (bytes_eq tx) (map (λ (e : Entry). e.0.tx) (live es)) ≡ false → g tx ≡ 0 = λ none. ap (λ (xs : List Entry). sum_by f (followed (in_time (λ (r : MeterReading). r.moment) (flat_map (λ (e : Entry). toward d e.1.event.readings) xs)))) (none_live tx es (sym (any-map tx (live es)) ∙ none)) in
+    let absent : list_any (bytes_eq tx) (map (λ (e : Entry). e.0.tx) (live es)) ≡ false
+    → g tx ≡ 0 = λ none. ap
+    (λ (xs : List Entry). sum_by f (followed (in_time (λ (r : MeterReading). r.moment) (flat_map (λ (e : Entry). toward d e.1.event.readings) xs))))
+    (none_live tx es (sym (any-map tx (live es)) ∙ none)) in
     let whole = sum_by-flat_map f (λ u. pairs_by Moment d u es) (transactions_of (live es)) in
     let rest = sum_by-flat_map f (λ u. pairs_by Moment d u es) (filter (λ u. not (bytes_eq tx u)) (transactions_of (live es))) in
     omega (arith, whole, rest, sum_by_one g tx (map (λ (e : Entry). e.0.tx) (live es)) absent)
 
 -- One more live event, under a slot.
-module _ (slot : ℕ) (limits : Bounds) (less more : List Entry) (e : Entry) (one : IsOneMore less more (before_key e.0 less) e (behind_key e.0 less)) (small : AreAllowed Moment limits less) (large : AreAllowed Moment limits more) (up_less : AreRising (numbers_of e.0.tx less)) (up_more : AreRising (numbers_of e.0.tx more)) where
+module _ (slot : ℕ) (limits : Bounds) (less more : List Entry) (e : Entry)
+    (one : IsOneMore less more (before_key e.0 less) e (behind_key e.0 less)) (small : AreAllowed Moment limits less)
+    (large : AreAllowed Moment limits more) (up_less : AreRising (numbers_of e.0.tx less))
+    (up_more : AreRising (numbers_of e.0.tx more)) where
   abbrev pub its : Direction → List Timed
   its d = put_each (ranked slot d e) []
 
@@ -179,7 +189,8 @@ module _ (slot : ℕ) (limits : Bounds) (less more : List Entry) (e : Entry) (on
 
   grows : (d : Direction) → length (pairs_among (standing d)) ≤ length (pairs_among (together d))
   grows d =
-      followed_grows (map (λ (t : Timed). t.1) (standing d)) (map (λ (t : Timed). t.1) (together d)) (let a = bare_long (standing d) in let b = bare_long (together d) in let c = long_together d in omega (arith, a, b, c))
+      followed_grows (map (λ (t : Timed). t.1) (standing d)) (map (λ (t : Timed). t.1) (together d))
+      (let a = bare_long (standing d) in let b = bare_long (together d) in let c = long_together d in omega (arith, a, b, c))
 
   all_long : (d : Direction) → length (all d more) ≡ length (pairs_among (together d)) + length (others d)
   all_long d = let a = split_more d (λ p. 1) in let b = ones (all d more) in let c = ones (pairs_among (together d)) in let f = ones (others d) in omega (arith, a, b, c, f)
@@ -202,10 +213,22 @@ module _ (slot : ℕ) (limits : Bounds) (less more : List Entry) (e : Entry) (on
     sum : IsUpTo (greatest_reading * most_readings) (energy_over ps)
 
   side_less : (d : Direction) → IsSide d (all d less)
-  side_less d = record { count = all_grow d; sum = record { up = omega (arith, few_up Moment d limits less small, small.most_readings_within); down = omega (arith, few_down Moment d limits less small, small.most_readings_within) } }
+  side_less d = record {
+    count = all_grow d;
+    sum = record {
+      up = omega (arith, few_up Moment d limits less small, small.most_readings_within);
+      down = omega (arith, few_down Moment d limits less small, small.most_readings_within);
+    };
+  }
 
   side_more : (d : Direction) → IsSide d (all d more)
-  side_more d = record { count = omega arith; sum = record { up = omega (arith, few_up Moment d limits more large, large.most_readings_within); down = omega (arith, few_down Moment d limits more large, large.most_readings_within) } }
+  side_more d = record {
+    count = omega arith;
+    sum = record {
+      up = omega (arith, few_up Moment d limits more large, large.most_readings_within);
+      down = omega (arith, few_down Moment d limits more large, large.most_readings_within);
+    };
+  }
 
   -- before the readings come or go, and then
   was_split : (way : Way) (d : Direction) → IsSplit (all d (by_way way less more)) (pairs_among (put_each (gone_of way (its d)) (standing d))) (others d)
@@ -233,7 +256,9 @@ module _ (slot : ℕ) (limits : Bounds) (less more : List Entry) (e : Entry) (on
   pairs_will Going d = pairs_standing d
 
   module _ (period : Periods) where
-    apart_with : (d : Direction) (P : Direction → List Pair) (t : Table) (mine : List Pair) → t.rows ≡ rows_of (both_quartered period P) → t.capacity ≡ limits.readings → IsSplit (P d) mine (others d) → IsSide d (P d) → IsSide (other d) (P (other d))
+    apart_with : (d : Direction) (P : Direction → List Pair) (t : Table) (mine : List Pair)
+        → t.rows ≡ rows_of (both_quartered period P) → t.capacity ≡ limits.readings → IsSplit (P d) mine (others d) → IsSide d (P d)
+        → IsSide (other d) (P (other d))
         → AreApart (owner slot d) e.0.seq period d (its d) (standing d) mine t (rest_of period d (P (other d)) (others d))
     apart_with d P t mine rows room split side beyond =
         let number = it.key.number in let few = it.event.event.0 in
@@ -264,7 +289,8 @@ module _ (slot : ℕ) (limits : Bounds) (less more : List Entry) (e : Entry) (on
       will = by_way way more less
 
       -- the pairs that are in the periods before its readings of a direction come or go
-      pub apart_moving : (d : Direction) (P : Direction → List Pair) (t : Table) → t.rows ≡ rows_of (both_quartered period P) → t.capacity ≡ limits.readings → P d ≡ all d was → (P (other d) ≡ all (other d) was) ⊎ (P (other d) ≡ all (other d) will)
+      pub apart_moving : (d : Direction) (P : Direction → List Pair) (t : Table) → t.rows ≡ rows_of (both_quartered period P)
+          → t.capacity ≡ limits.readings → P d ≡ all d was → (P (other d) ≡ all (other d) was) ⊎ (P (other d) ≡ all (other d) will)
           → AreApart (owner slot d) e.0.seq period d (its d) (standing d) (pairs_among (put_each (gone_of way (its d)) (standing d))) t (rest_of period d (P (other d)) (others d))
       apart_moving d P t rows room here there =
           apart_with d P t (pairs_among (put_each (gone_of way (its d)) (standing d))) rows room (λ f. ap (sum_by f) here ∙ was_split way d f) (subst (IsSide d) (sym here) (was_side way d))
@@ -272,32 +298,44 @@ module _ (slot : ℕ) (limits : Bounds) (less more : List Entry) (e : Entry) (on
 
       -- the rows once they came or went
       pub rows_moved : (d : Direction) (P Q : Direction → List Pair) (next : Table) (m : Moved) → Q d ≡ all d will → Q (other d) ≡ P (other d)
-          → AreExchanged period d (pairs_among (put_each (gone_of way (its d)) (standing d))) (pairs_among (put_each (came_of way (its d)) (standing d))) (rest_of period d (P (other d)) (others d)) next m → next.rows ≡ rows_of (both_quartered period Q)
+          → AreExchanged period d (pairs_among (put_each (gone_of way (its d)) (standing d)))
+          (pairs_among (put_each (came_of way (its d)) (standing d))) (rest_of period d (P (other d)) (others d)) next m
+          → next.rows ≡ rows_of (both_quartered period Q)
       rows_moved d P Q next m here there x =
           let came = pairs_among (put_each (came_of way (its d)) (standing d)) in
           x.rows ∙ ap (λ ps. rows_of (quartered period d came ++ rest_of period d ps (others d))) (sym there)
           ∙ sym (both_alike period d Q came (others d) (λ f. ap (sum_by f) here ∙ will_split way d f))
 
       -- what came and went of the energies
-      sums_moved : (d : Direction) (m : Moved) (rest : List Flowed) (next : Table) → AreExchanged period d (pairs_among (put_each (gone_of way (its d)) (standing d))) (pairs_among (put_each (came_of way (its d)) (standing d))) rest next m
+      sums_moved : (d : Direction) (m : Moved) (rest : List Flowed) (next : Table)
+          → AreExchanged period d (pairs_among (put_each (gone_of way (its d)) (standing d))) (pairs_among (put_each (came_of way (its d)) (standing d))) rest next m
           → (plus (energy_by Moment d will) m.less ≡ plus (energy_by Moment d was) m.more) × (plus (energy_of_by Moment d e.0.tx will) m.less ≡ plus (energy_of_by Moment d e.0.tx was) m.more)
       sums_moved d m rest next x =
           let rise : Pair → ℕ = λ p. (difference p).up in let fall : Pair → ℕ = λ p. (difference p).down in
           let up : (energy_by Moment d will).up + m.less.up ≡ (energy_by Moment d was).up + m.more.up = omega (arith, x.up, was_split way d rise, will_split way d rise) in
           let down : (energy_by Moment d will).down + m.less.down ≡ (energy_by Moment d was).down + m.more.down = omega (arith, x.down, was_split way d fall, will_split way d fall) in
-          let own_up : (energy_of_by Moment d e.0.tx will).up + m.less.up ≡ (energy_of_by Moment d e.0.tx was).up + m.more.up = omega (arith, x.up, ap (sum_by rise) (pairs_was way d), ap (sum_by rise) (pairs_will way d)) in
-          let own_down : (energy_of_by Moment d e.0.tx will).down + m.less.down ≡ (energy_of_by Moment d e.0.tx was).down + m.more.down = omega (arith, x.down, ap (sum_by fall) (pairs_was way d), ap (sum_by fall) (pairs_will way d)) in
+          let own_up : (energy_of_by Moment d e.0.tx will).up + m.less.up ≡ (energy_of_by Moment d e.0.tx was).up + m.more.up =
+          omega (arith, x.up, ap (sum_by rise) (pairs_was way d), ap (sum_by rise) (pairs_will way d)) in
+          let own_down : (energy_of_by Moment d e.0.tx will).down + m.less.down ≡ (energy_of_by Moment d e.0.tx was).down + m.more.down =
+          omega (arith, x.down, ap (sum_by fall) (pairs_was way d), ap (sum_by fall) (pairs_will way d)) in
           ((λ i. record { up = up i; down = down i }), (λ i. record { up = own_up i; down = own_down i }))
 
-      pub exchanged_both : (mi me : Moved) (import_rest export_rest : List Flowed) (import_next export_next : Table) → AreExchanged period Import (pairs_among (put_each (gone_of way (its Import)) (standing Import))) (pairs_among (put_each (came_of way (its Import)) (standing Import))) import_rest import_next mi
-          → AreExchanged period Export (pairs_among (put_each (gone_of way (its Export)) (standing Export))) (pairs_among (put_each (came_of way (its Export)) (standing Export))) export_rest export_next me → IsExchanged Moment e.0.tx was will (record { import = mi.less; export = me.less }) (record { import = mi.more; export = me.more })
+      pub exchanged_both : (mi me : Moved) (import_rest export_rest : List Flowed) (import_next export_next : Table)
+          → AreExchanged period Import (pairs_among (put_each (gone_of way (its Import)) (standing Import)))
+          (pairs_among (put_each (came_of way (its Import)) (standing Import))) import_rest import_next mi
+          → AreExchanged period Export (pairs_among (put_each (gone_of way (its Export)) (standing Export)))
+          (pairs_among (put_each (came_of way (its Export)) (standing Export))) export_rest export_next me
+          → IsExchanged Moment e.0.tx was will (record { import = mi.less; export = me.less }) (record { import = mi.more; export = me.more })
       exchanged_both mi me import_rest export_rest import_next export_next x y =
           let a = sums_moved Import mi import_rest import_next x in let b = sums_moved Export me export_rest export_next y in
           record {
-            station = each_way (λ d. plus (energy_by Moment d will) (in_direction d (record { import = mi.less; export = me.less })) ≡ plus (energy_by Moment d was) (in_direction d (record { import = mi.more; export = me.more }))) a.0 b.0;
-            own = each_way (λ d. plus (energy_of_by Moment d e.0.tx will) (in_direction d (record { import = mi.less; export = me.less })) ≡ plus (energy_of_by Moment d e.0.tx was) (in_direction d (record { import = mi.more; export = me.more }))) a.1 b.1;
+            station = each_way (λ d. plus (energy_by Moment d will) (in_direction d (record { import = mi.less; export = me.less }))
+                ≡ plus (energy_by Moment d was) (in_direction d (record { import = mi.more; export = me.more }))) a.0 b.0;
+            own = each_way (λ d. plus (energy_of_by Moment d e.0.tx will) (in_direction d (record { import = mi.less; export = me.less }))
+                ≡ plus (energy_of_by Moment d e.0.tx was) (in_direction d (record { import = mi.more; export = me.more }))) a.1 b.1;
             up_few = each_way (λ d. (in_direction d (record { import = mi.more; export = me.more })).up ≤ greatest_reading * most_readings) (omega (arith, x.more_up)) (omega (arith, y.more_up));
-            down_few = each_way (λ d. (in_direction d (record { import = mi.more; export = me.more })).down ≤ greatest_reading * most_readings) (omega (arith, x.more_down)) (omega (arith, y.more_down));
+            down_few = each_way (λ d. (in_direction d (record { import = mi.more; export = me.more })).down ≤ greatest_reading * most_readings)
+                (omega (arith, x.more_down)) (omega (arith, y.more_down));
           }
 
   -- the work of a direction, by the runs of the order

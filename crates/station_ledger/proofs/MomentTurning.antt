@@ -81,7 +81,8 @@ same_then Coming f less more same = same
 same_then Going f less more same = sym same
 
 -- What a transaction with a live event has among events with it.
-pub room_for_slot : (way : Way) {less more : List Entry} {chains : Chained} {key : KeyName} {b : ByMoment} {period : Periods} {t : Table} → IsMove way less more chains key b period t → row_of key.tx b.slots.rows ≡ None → length b.slots.rows < b.slots.capacity
+pub room_for_slot : (way : Way) {less more : List Entry} {chains : Chained} {key : KeyName} {b : ByMoment} {period : Periods} {t : Table}
+    → IsMove way less more chains key b period t → row_of key.tx b.slots.rows ≡ None → length b.slots.rows < b.slots.capacity
 room_for_slot Coming {less = less} {more = more} {key = key} {b = b} is none =
     let n = transactions_more less more (before_key key less) (key, is.event) (behind_key key less) is.one
     ∙ (λ i. cond ((has_own key.tx (live less) ∙ sym (is.timed.slots.each key.tx)) i) (sym is.timed.slots.number i) (sym is.timed.slots.number i + 1))
@@ -95,26 +96,35 @@ room_for_slot Going {less = less} {more = more} {key = key} {b = b} is none =
     no f = cc
 
 -- There are as many slots then as transactions of the events with it.
-slots_more : (way : Way) {less more : List Entry} {chains : Chained} {key : KeyName} {b : ByMoment} {period : Periods} {t : Table} {slots : Slots} {slot : ℕ} → IsMove way less more chains key b period t → IsSlotGiven key.tx b.slots slots slot → length slots.rows ≡ length (transactions_of (live more))
+slots_more : (way : Way) {less more : List Entry} {chains : Chained} {key : KeyName} {b : ByMoment} {period : Periods} {t : Table} {slots : Slots} {slot : ℕ}
+    → IsMove way less more chains key b period t → IsSlotGiven key.tx b.slots slots slot
+    → length slots.rows ≡ length (transactions_of (live more))
 slots_more Coming {less = less} {more = more} {key = key} is given =
     given.number
-    ∙ sym (transactions_more less more (before_key key less) (key, is.event) (behind_key key less) is.one ∙ (λ i. cond ((has_own key.tx (live less) ∙ sym (is.timed.slots.each key.tx)) i) (sym is.timed.slots.number i) (sym is.timed.slots.number i + 1)))
+    ∙ sym (transactions_more less more (before_key key less) (key, is.event) (behind_key key less) is.one
+    ∙ (λ i. cond ((has_own key.tx (live less) ∙ sym (is.timed.slots.each key.tx)) i) (sym is.timed.slots.number i) (sym is.timed.slots.number i + 1)))
 slots_more Going {less = less} {more = more} {key = key} {b = b} is given =
     given.number
     ∙ ap (λ x. cond x (length b.slots.rows) (length b.slots.rows + 1)) (is.timed.slots.each key.tx ∙ has_live less more (before_key key less) (key, is.event) (behind_key key less) is.one)
     ∙ is.timed.slots.number
 
 -- With a live event then, there is a slot for each transaction.
-slots_then : (way : Way) (tx : List ℕ) (less more : List Entry) (n : ℕ) → n ≡ length (transactions_of (live more)) → length (transactions_of (live more)) ≡ cond (has_transaction tx (live less)) (length (transactions_of (live less))) (length (transactions_of (live less)) + 1)
+slots_then : (way : Way) (tx : List ℕ) (less more : List Entry) (n : ℕ) → n ≡ length (transactions_of (live more))
+    → length (transactions_of (live more)) ≡ cond (has_transaction tx (live less)) (length (transactions_of (live less))) (length (transactions_of (live less)) + 1)
     → (length (live_of tx (by_way way more less)) ≡ 0 → ⊥) → n ≡ length (transactions_of (live (by_way way more less)))
 slots_then Coming tx less more n is one some = is
-slots_then Going tx less more n is one some = is ∙ one ∙ ap (λ h. cond h (length (transactions_of (live less))) (length (transactions_of (live less)) + 1)) (has_own tx (live less) ∙ ap not (ne_eqb (length (live_of tx less)) 0 some))
+slots_then Going tx less more n is one some = is ∙ one
+    ∙ ap (λ h. cond h (length (transactions_of (live less))) (length (transactions_of (live less)) + 1)) (has_own tx (live less) ∙ ap not (ne_eqb (length (live_of tx less)) 0 some))
 
 -- With none, there is one less.
-slots_less : (way : Way) (tx : List ℕ) (less more : List Entry) (n : ℕ) → not (length (live_of tx more) == 0) ≡ true → n ≡ length (transactions_of (live more)) → length (transactions_of (live more)) ≡ cond (has_transaction tx (live less)) (length (transactions_of (live less))) (length (transactions_of (live less)) + 1)
+slots_less : (way : Way) (tx : List ℕ) (less more : List Entry) (n : ℕ) → not (length (live_of tx more) == 0) ≡ true
+    → n ≡ length (transactions_of (live more))
+    → length (transactions_of (live more)) ≡ cond (has_transaction tx (live less)) (length (transactions_of (live less))) (length (transactions_of (live less)) + 1)
     → length (live_of tx (by_way way more less)) ≡ 0 → n ≡ length (transactions_of (live (by_way way more less))) + 1
 slots_less Coming tx less more n lives is one none = let f : false ≡ true = sym (ap not ((Decides-eqb (length (live_of tx more)) 0).1 none)) ∙ lives in cc
-slots_less Going tx less more n lives is one none = is ∙ one ∙ ap (λ h. cond h (length (transactions_of (live less))) (length (transactions_of (live less)) + 1)) (has_own tx (live less) ∙ ap not ((Decides-eqb (length (live_of tx less)) 0).1 none))
+slots_less Going tx less more n lives is one none = is ∙ one
+    ∙ ap (λ h. cond h (length (transactions_of (live less))) (length (transactions_of (live less)) + 1))
+    (has_own tx (live less) ∙ ap not ((Decides-eqb (length (live_of tx less)) 0).1 none))
 
 module _ {way : Way} {less more : List Entry} {chains : Chained} {key : KeyName} {b : ByMoment} {period : Periods} {t : Table} (is : IsMove way less more chains key b period t) where
   abbrev was : List Entry
@@ -137,7 +147,9 @@ module _ {way : Way} {less more : List Entry} {chains : Chained} {key : KeyName}
 
   -- a transaction whose readings come has a live event
   pub some_live : way ≡ Coming → length (live_of key.tx (stored chains)) ≡ 0 → ⊥
-  some_live comes none = no (sym (ap not ((Decides-eqb (length (live_of key.tx more)) 0).1 (ap (λ w. length (live_of key.tx (by_way w more less))) (sym comes) ∙ ap (λ es. length (live_of key.tx es)) is.now_are ∙ none))) ∙ lives)
+  some_live comes none =
+      no (sym (ap not ((Decides-eqb (length (live_of key.tx more)) 0).1
+      (ap (λ w. length (live_of key.tx (by_way w more less))) (sym comes) ∙ ap (λ es. length (live_of key.tx es)) is.now_are ∙ none))) ∙ lives)
     where
       no : false ≡ true → ⊥
       no f = cc
@@ -162,37 +174,63 @@ module _ {way : Way} {less more : List Entry} {chains : Chained} {key : KeyName}
     listed d l_is = l_is ∙ listed_is chains is.one is.small is.large is.readings is.few slot d
 
     first_place : HavePlace way (S Import) b.index
-    first_place = have_place chains is.one is.small is.large is.readings is.few slot way Import b.index (before Import) (λ comes. let n = room_first way (length b.index.entries) (length (S Import)) (length (S Export)) (length is.event.event.readings) (live_readings less) (live_readings more) few_was (long chains is.one is.small is.large is.readings is.few slot) (grown chains is.one is.small is.large is.readings is.few slot) comes in omega (arith, n, room_more chains is.one is.small is.large is.readings is.few slot, is.timed.room))
+    first_place = have_place chains is.one is.small is.large is.readings is.few slot way Import b.index (before Import)
+        (λ comes. let n =
+        room_first way (length b.index.entries) (length (S Import)) (length (S Export)) (length is.event.event.readings)
+        (live_readings less) (live_readings more) few_was (long chains is.one is.small is.large is.readings is.few slot)
+        (grown chains is.one is.small is.large is.readings is.few slot) comes in omega
+        (arith, n, room_more chains is.one is.small is.large is.readings is.few slot, is.timed.room))
 
     pub first_move : {l : List Timed} → l ≡ listed_of slot Import chains key → CanMove way period Import l b.index t
-    first_move l_is = subst (λ l. CanMove way period Import l b.index t) (sym (listed Import l_is)) (can_move chains is.one is.small is.large is.readings is.few slot way period Import b.index t is.timed.in_order (before Import) P is.rows.rows is.rows.room refl (inl refl) first_place)
+    first_move l_is =
+        subst (λ l. CanMove way period Import l b.index t) (sym (listed Import l_is))
+        (can_move chains is.one is.small is.large is.readings is.few slot way period Import b.index t is.timed.in_order (before Import) P
+        is.rows.rows is.rows.room refl (inl refl) first_place)
 
-    module _ {l : List Timed} (l_is : l ≡ listed_of slot Import chains key) {index : TimedReadings} {u : Table} {w v : ℕ} {m : Moved} (first : AreMoved way period Import l b.index index t u w v m) where
+    module _ {l : List Timed} (l_is : l ≡ listed_of slot Import chains key) {index : TimedReadings} {u : Table} {w v : ℕ} {m : Moved}
+        (first : AreMoved way period Import l b.index index t u w v m) where
       moved : AreMoved way period Import (S Import) b.index index t u w v m
       moved = subst (λ s. AreMoved way period Import s b.index index t u w v m) (listed Import l_is) first
 
       rows_meanwhile : u.rows ≡ rows_of (both_quartered period Q)
-      rows_meanwhile = moved_rows chains is.one is.small is.large is.readings is.few slot way period Import b.index t is.timed.in_order (before Import) P is.rows.rows is.rows.room refl (inl refl) first_place moved Q refl refl
+      rows_meanwhile =
+          moved_rows chains is.one is.small is.large is.readings is.few slot way period Import b.index t is.timed.in_order (before Import) P
+          is.rows.rows is.rows.room refl (inl refl) first_place moved Q refl refl
 
       room_meanwhile : u.capacity ≡ chains.limits.readings
       room_meanwhile = moved.room ∙ is.rows.room
 
       rising_meanwhile : AreRising index.entries
-      rising_meanwhile = moved_ranked chains is.one is.small is.large is.readings is.few slot way period Import b.index t is.timed.in_order (before Import) P is.rows.rows is.rows.room refl (inl refl) first_place moved
+      rising_meanwhile =
+          moved_ranked chains is.one is.small is.large is.readings is.few slot way period Import b.index t is.timed.in_order (before Import)
+          P is.rows.rows is.rows.room refl (inl refl) first_place moved
 
       long_meanwhile : IsLong way (length (S Import)) (length b.index.entries) (length index.entries)
-      long_meanwhile = moved_long chains is.one is.small is.large is.readings is.few slot way period Import b.index t is.timed.in_order (before Import) P is.rows.rows is.rows.room refl (inl refl) first_place moved
+      long_meanwhile =
+          moved_long chains is.one is.small is.large is.readings is.few slot way period Import b.index t is.timed.in_order (before Import) P
+          is.rows.rows is.rows.room refl (inl refl) first_place moved
 
       beside : side slot Export index ≡ timed_of slot Export key.tx was
-      beside = moved_else chains is.one is.small is.large is.readings is.few slot way period Import b.index t is.timed.in_order (before Import) P is.rows.rows is.rows.room refl (inl refl) first_place moved (owner slot Export) (sides_apart slot) ∙ before Export
+      beside = moved_else chains is.one is.small is.large is.readings is.few slot way period Import b.index t is.timed.in_order
+          (before Import) P is.rows.rows is.rows.room refl (inl refl) first_place moved (owner slot Export) (sides_apart slot)
+          ∙ before Export
 
       second_place : HavePlace way (S Export) index
-      second_place = have_place chains is.one is.small is.large is.readings is.few slot way Export index beside (λ comes. let n = room_second way (length b.index.entries) (length index.entries) (length (S Import)) (length (S Export)) (length is.event.event.readings) (live_readings less) (live_readings more) few_was long_meanwhile (long chains is.one is.small is.large is.readings is.few slot) (grown chains is.one is.small is.large is.readings is.few slot) comes in omega (arith, n, room_more chains is.one is.small is.large is.readings is.few slot, is.timed.room, moved.capacity))
+      second_place =
+          have_place chains is.one is.small is.large is.readings is.few slot way Export index beside
+          (λ comes. let n =
+          room_second way (length b.index.entries) (length index.entries) (length (S Import)) (length (S Export))
+          (length is.event.event.readings) (live_readings less) (live_readings more) few_was long_meanwhile
+          (long chains is.one is.small is.large is.readings is.few slot) (grown chains is.one is.small is.large is.readings is.few slot)
+          comes in omega (arith, n, room_more chains is.one is.small is.large is.readings is.few slot, is.timed.room, moved.capacity))
 
       pub second_move : {l : List Timed} → l ≡ listed_of slot Export chains key → CanMove way period Export l index u
-      second_move l_is = subst (λ l. CanMove way period Export l index u) (sym (listed Export l_is)) (can_move chains is.one is.small is.large is.readings is.few slot way period Export index u rising_meanwhile beside Q rows_meanwhile room_meanwhile refl (inr refl) second_place)
+      second_move l_is =
+          subst (λ l. CanMove way period Export l index u) (sym (listed Export l_is))
+          (can_move chains is.one is.small is.large is.readings is.few slot way period Export index u rising_meanwhile beside Q rows_meanwhile room_meanwhile refl (inr refl) second_place)
 
-      module _ {k_of : List Timed} (k_is : k_of ≡ listed_of slot Export chains key) {last : TimedReadings} {x : Table} {y : ℕ} {k : Moved} (second : AreMoved way period Export k_of index last u x v y k) where
+      module _ {k_of : List Timed} (k_is : k_of ≡ listed_of slot Export chains key) {last : TimedReadings} {x : Table} {y : ℕ}
+          {k : Moved} (second : AreMoved way period Export k_of index last u x v y k) where
         again : AreMoved way period Export (S Export) index last u x v y k
         again = subst (λ s. AreMoved way period Export s index last u x v y k) (listed Export k_is) second
 
@@ -200,42 +238,68 @@ module _ {way : Way} {less more : List Entry} {chains : Chained} {key : KeyName}
         R d = all_pairs_by Moment d will
 
         pub rows_then : AreQuarterRows Moment chains.limits (stored chains) period x
-        rows_then = subst (λ es. AreQuarterRows Moment chains.limits es period x) is.now_are (record { rows = moved_rows chains is.one is.small is.large is.readings is.few slot way period Export index u rising_meanwhile beside Q rows_meanwhile room_meanwhile refl (inr refl) second_place again R refl refl; room = again.room ∙ room_meanwhile })
+        rows_then = subst (λ es. AreQuarterRows Moment chains.limits es period x) is.now_are
+            (record {
+              rows =
+                  moved_rows chains is.one is.small is.large is.readings is.few slot way period Export index u rising_meanwhile beside Q
+                  rows_meanwhile room_meanwhile refl (inr refl) second_place again R refl refl;
+              room = again.room ∙ room_meanwhile;
+            })
 
         pub all_then : IsExchanged Moment key.tx was (stored chains) (record { import = m.less; export = k.less }) (record { import = m.more; export = k.more })
         all_then =
             subst (λ es. IsExchanged Moment key.tx was es (record { import = m.less; export = k.less }) (record { import = m.more; export = k.more })) is.now_are
             (exchanged_both slot chains.limits less more e is.one is.small is.large (is.small.rising key.tx) (is.large.rising key.tx) period way m k _ _ u x
-            (moved_pairs chains is.one is.small is.large is.readings is.few slot way period Import b.index t is.timed.in_order (before Import) P is.rows.rows is.rows.room refl (inl refl) first_place moved)
+            (moved_pairs chains is.one is.small is.large is.readings is.few slot way period Import b.index t is.timed.in_order (before Import)
+            P is.rows.rows is.rows.room refl (inl refl) first_place moved)
             (moved_pairs chains is.one is.small is.large is.readings is.few slot way period Export index u rising_meanwhile beside Q rows_meanwhile room_meanwhile refl (inr refl) second_place again))
 
         pub work_then : IsWork (most_in_runs key more) w y
         work_then =
-            let a = moved_work chains is.one is.small is.large is.readings is.few slot way period Import b.index t is.timed.in_order (before Import) P is.rows.rows is.rows.room refl (inl refl) first_place moved in
-            let c = moved_work chains is.one is.small is.large is.readings is.few slot way period Export index u rising_meanwhile beside Q rows_meanwhile room_meanwhile refl (inr refl) second_place again in
+            let a = moved_work chains is.one is.small is.large is.readings is.few slot way period Import b.index t is.timed.in_order
+            (before Import) P is.rows.rows is.rows.room refl (inl refl) first_place moved in
+            let c = moved_work chains is.one is.small is.large is.readings is.few slot way period Export index u rising_meanwhile beside Q
+            rows_meanwhile room_meanwhile refl (inr refl) second_place again in
             let n = spent_both slot chains.limits less more e is.one is.small is.large (is.small.rising key.tx) (is.large.rising key.tx) in
             record { bound = omega (arith, a.bound, c.bound, n); grows = omega (arith, a.grows, c.grows) }
 
         own_then : (d : Direction) → owned (owner slot d) last.entries ≡ timed_of slot d key.tx will
-        own_then Import = moved_else chains is.one is.small is.large is.readings is.few slot way period Export index u rising_meanwhile beside Q rows_meanwhile room_meanwhile refl (inr refl) second_place again (owner slot Import) (λ s. sides_apart slot (sym s)) ∙ moved_own chains is.one is.small is.large is.readings is.few slot way period Import b.index t is.timed.in_order (before Import) P is.rows.rows is.rows.room refl (inl refl) first_place moved
-        own_then Export = moved_own chains is.one is.small is.large is.readings is.few slot way period Export index u rising_meanwhile beside Q rows_meanwhile room_meanwhile refl (inr refl) second_place again
+        own_then Import =
+            moved_else chains is.one is.small is.large is.readings is.few slot way period Export index u rising_meanwhile beside Q
+            rows_meanwhile room_meanwhile refl (inr refl) second_place again (owner slot Import) (λ s. sides_apart slot (sym s))
+            ∙ moved_own chains is.one is.small is.large is.readings is.few slot way period Import b.index t is.timed.in_order (before Import)
+            P is.rows.rows is.rows.room refl (inl refl) first_place moved
+        own_then Export =
+            moved_own chains is.one is.small is.large is.readings is.few slot way period Export index u rising_meanwhile beside Q
+            rows_meanwhile room_meanwhile refl (inr refl) second_place again
 
         turned : IsTurned key.tx slot was will b.index.entries last.entries
         turned = record {
           own = own_then;
-          others = λ d s apart. moved_else chains is.one is.small is.large is.readings is.few slot way period Export index u rising_meanwhile beside Q rows_meanwhile room_meanwhile refl (inr refl) second_place again (owner s d) (slots_apart slot s Export d apart) ∙ moved_else chains is.one is.small is.large is.readings is.few slot way period Import b.index t is.timed.in_order (before Import) P is.rows.rows is.rows.room refl (inl refl) first_place moved (owner s d) (slots_apart slot s Import d apart);
+          others = λ d s apart. moved_else chains is.one is.small is.large is.readings is.few slot way period Export index u
+              rising_meanwhile beside Q rows_meanwhile room_meanwhile refl (inr refl) second_place again (owner s d)
+              (slots_apart slot s Export d apart)
+              ∙ moved_else chains is.one is.small is.large is.readings is.few slot way period Import b.index t is.timed.in_order (before Import)
+              P is.rows.rows is.rows.room refl (inl refl) first_place moved (owner s d) (slots_apart slot s Import d apart);
           same = λ s d o apart. same_then way (timed_of s d o) less more (timed_else s d less more (before_key key less) e (behind_key key less) o is.one apart);
           alive = λ o apart. same_then way (live_of o) less more (live_else less more (before_key key less) e (behind_key key less) o is.one apart);
-          ranked_next = moved_ranked chains is.one is.small is.large is.readings is.few slot way period Export index u rising_meanwhile beside Q rows_meanwhile room_meanwhile refl (inr refl) second_place again;
+          ranked_next = moved_ranked chains is.one is.small is.large is.readings is.few slot way period Export index u rising_meanwhile
+              beside Q rows_meanwhile room_meanwhile refl (inr refl) second_place again;
         }
 
         few_then : length last.entries ≤ live_readings will
         few_then =
             subst (λ n. length last.entries ≤ n) (sym (sum_then way more less))
-            (few_both way (length b.index.entries) (length index.entries) (length last.entries) (length (S Import)) (length (S Export)) (length is.event.event.readings) (live_readings less) (live_readings more) few_was long_meanwhile (moved_long chains is.one is.small is.large is.readings is.few slot way period Export index u rising_meanwhile beside Q rows_meanwhile room_meanwhile refl (inr refl) second_place again) (long chains is.one is.small is.large is.readings is.few slot) (grown chains is.one is.small is.large is.readings is.few slot))
+            (few_both way (length b.index.entries) (length index.entries) (length last.entries) (length (S Import)) (length (S Export))
+            (length is.event.event.readings) (live_readings less) (live_readings more) few_was long_meanwhile
+            (moved_long chains is.one is.small is.large is.readings is.few slot way period Export index u rising_meanwhile beside Q
+            rows_meanwhile room_meanwhile refl (inr refl) second_place again)
+            (long chains is.one is.small is.large is.readings is.few slot) (grown chains is.one is.small is.large is.readings is.few slot))
 
         -- the transaction has a live event still
-        pub timed_stays : (after : ByMoment) → table.AreApart slots.rows → after.slots ≡ slots → after.index ≡ last → most_event_readings ≤ vec_capacity after.listed → (length (live_of key.tx (stored chains)) ≡ 0 → ⊥) → AreByMoment chains.limits (stored chains) after
+        pub timed_stays : (after : ByMoment) → table.AreApart slots.rows → after.slots ≡ slots → after.index ≡ last
+            → most_event_readings ≤ vec_capacity after.listed → (length (live_of key.tx (stored chains)) ≡ 0 → ⊥)
+            → AreByMoment chains.limits (stored chains) after
         timed_stays after apart s i room some =
             let still : length (live_of key.tx will) ≡ 0 → ⊥ = λ none. some (ap (λ es. length (live_of key.tx es)) (sym is.now_are) ∙ none) in
             subst (λ es. AreByMoment chains.limits es after) is.now_are
@@ -245,7 +309,10 @@ module _ {way : Way} {less more : List Entry} {chains : Chained} {key : KeyName}
             few_then)
 
         -- or none
-        pub timed_goes : (after : ByMoment) → table.AreApart slots.rows → table.AreRising slots.rows → after.slots.rows ≡ without_row key.tx slots.rows → after.slots.capacity ≡ slots.capacity → after.index ≡ last → most_event_readings ≤ vec_capacity after.listed → length (live_of key.tx (stored chains)) ≡ 0 → AreByMoment chains.limits (stored chains) after
+        pub timed_goes : (after : ByMoment) → table.AreApart slots.rows → table.AreRising slots.rows
+            → after.slots.rows ≡ without_row key.tx slots.rows → after.slots.capacity ≡ slots.capacity → after.index ≡ last
+            → most_event_readings ≤ vec_capacity after.listed → length (live_of key.tx (stored chains)) ≡ 0
+            → AreByMoment chains.limits (stored chains) after
         timed_goes after apart risen rows cap i room gone =
             let none : length (live_of key.tx will) ≡ 0 = ap (λ es. length (live_of key.tx es)) is.now_are ∙ gone in
             subst (λ es. AreByMoment chains.limits es after) is.now_are

@@ -29,13 +29,15 @@ use Rattle.station_ledger.proofs.Rows.{long, each_toward, up_append, down_append
 use Rattle.station_ledger.proofs.Walks.{energy_over-append, quartered-append}
 
 -- The pairs of readings, with a run of some in a gap and without.
-pub with_run : (front run back : List Timed) → followed (bare (front ++ (run ++ back))) ≡ followed (bare front) ++ (pairs_between (last_reading (bare front)) (bare run) (first_reading (bare back)) ++ followed (bare back))
+pub with_run : (front run back : List Timed)
+    → followed (bare (front ++ (run ++ back))) ≡ followed (bare front) ++ (pairs_between (last_reading (bare front)) (bare run) (first_reading (bare back)) ++ followed (bare back))
 with_run front run back =
     ap followed (map-append (λ (t : Timed). t.1) front (run ++ back) ∙ ap (λ rs. bare front ++ rs) (map-append (λ (t : Timed). t.1) run back))
     ∙ followed_cut (bare front) (bare run) (bare back)
 
 -- Rows of pairs, with some between others.
-pub moved_in : (period : Periods) (d : Direction) (a x b : List Pair) (rest : List Flowed) → rows_of (quartered period d (a ++ (x ++ b)) ++ rest) ≡ rows_of (quartered period d x ++ (quartered period d (a ++ b) ++ rest))
+pub moved_in : (period : Periods) (d : Direction) (a x b : List Pair) (rest : List Flowed)
+    → rows_of (quartered period d (a ++ (x ++ b)) ++ rest) ≡ rows_of (quartered period d x ++ (quartered period d (a ++ b) ++ rest))
 moved_in period d a x b rest =
     let q = quartered period d in
     made_alike (q (a ++ (x ++ b)) ++ rest) (q x ++ (q (a ++ b) ++ rest)) (λ measure.
@@ -59,7 +61,8 @@ followed_fewer r [] = refl
 followed_fewer r (s ∷ rs) = let rest = followed_fewer s rs in omega (arith, rest)
 
 -- A little more of it.
-pub few_more : (most more : ℕ) (d : Direction) (e f : Energy) (rest : List Flowed) → AreFew most d e rest → f.up ≤ e.up + greatest_reading * more → f.down ≤ e.down + greatest_reading * more → AreFew (most + more) d f rest
+pub few_more : (most more : ℕ) (d : Direction) (e f : Energy) (rest : List Flowed) → AreFew most d e rest
+    → f.up ≤ e.up + greatest_reading * more → f.down ≤ e.down + greatest_reading * more → AreFew (most + more) d f rest
 few_more most more d e f rest few up down = record {
   up = λ k. let r = (in_direction k (total rest)).up in
       each_toward k d (λ at beside. (at e).up + r ≤ greatest_reading * most → (at f).up + r ≤ greatest_reading * (most + more)) (λ h. omega (arith, h, up)) (λ h. omega (arith, h)) (few.up k);
@@ -68,7 +71,8 @@ few_more most more d e f rest few up down = record {
 }
 
 -- There is room for pairs beside these.
-pub has_room : (period : Periods) (d : Direction) (ps : List Pair) (rest : List Flowed) (n most : ℕ) (t : Table) → t.rows ≡ rows_of (quartered period d ps ++ rest) → length ps + length rest + n ≤ t.capacity → t.capacity ≤ most_readings
+pub has_room : (period : Periods) (d : Direction) (ps : List Pair) (rest : List Flowed) (n most : ℕ) (t : Table)
+    → t.rows ≡ rows_of (quartered period d ps ++ rest) → length ps + length rest + n ≤ t.capacity → t.capacity ≤ most_readings
     → AreFew most d (energy_over ps) rest → most + n ≤ 2 * most_readings → HasRoom n t
 has_room period d ps rest n most t rows room few_rows few small =
     let mine = quartered period d ps in (
@@ -161,7 +165,8 @@ fitting-front [] xs up = nothing (fitting None xs)
     nothing (y ∷ ys) = (tt, nothing ys)
 fitting-front (u ∷ us) [] up = tt
 fitting-front (u ∷ us) (x ∷ xs) up = ⊎_elim
-    (λ (lt : x.0 < u.0). subst (λ b. AreInFront (cond b (x ∷ fitting (Some u) xs) []) (u ∷ us)) (sym (lt-ltb x.0 u.0 lt)) ((lt, above_less x.0 u.0 us (omega (arith, lt)) up.0), fitting-front (u ∷ us) xs up))
+    (λ (lt : x.0 < u.0). subst (λ b. AreInFront (cond b (x ∷ fitting (Some u) xs) []) (u ∷ us)) (sym (lt-ltb x.0 u.0 lt))
+    ((lt, above_less x.0 u.0 us (omega (arith, lt)) up.0), fitting-front (u ∷ us) xs up))
     (λ (ge : u.0 ≤ x.0). subst (λ b. AreInFront (cond b (x ∷ fitting (Some u) xs) []) (u ∷ us)) (sym (le-ltb x.0 u.0 ge)) tt)
     (cases_lt x.0 u.0)
 
@@ -205,17 +210,21 @@ module _ (own : Timed → Bool) where
   run_ends [] (y ∷ ys) mine h = runs_foreign own true y ys h ∙ sym (runs_foreign own false y ys h)
   run_ends (x ∷ xs) back mine h = let one = runs_own own true x (xs ++ back) mine.0 in let rest = run_ends xs back mine.1 h in omega (arith, one, rest)
 
-  front_runs : (b : Bool) (x : Timed) (front ys zs : List Timed) → LastFails own (x ∷ front) → runs_behind false own ys ≡ runs_behind false own zs + 1 → runs_behind b own (x ∷ (front ++ ys)) ≡ runs_behind b own (x ∷ (front ++ zs)) + 1
+  front_runs : (b : Bool) (x : Timed) (front ys zs : List Timed) → LastFails own (x ∷ front)
+      → runs_behind false own ys ≡ runs_behind false own zs + 1
+      → runs_behind b own (x ∷ (front ++ ys)) ≡ runs_behind b own (x ∷ (front ++ zs)) + 1
   front_runs b x [] ys zs fails one = runs_foreign own b x ys fails ∙ one ∙ ap (λ n. n + 1) (sym (runs_foreign own b x zs fails))
   front_runs b x (y ∷ front) ys zs fails one =
       let rest = front_runs (own x) y front ys zs fails one in
       omega (arith, rest)
 
   -- there is one run more
-  pub one_run_more : (front : List Timed) (x : Timed) (xs back : List Timed) → LastFails own front → AreOwn own (x ∷ xs) → FirstFails own back → runs own (front ++ ((x ∷ xs) ++ back)) ≡ runs own (front ++ back) + 1
+  pub one_run_more : (front : List Timed) (x : Timed) (xs back : List Timed) → LastFails own front → AreOwn own (x ∷ xs)
+      → FirstFails own back → runs own (front ++ ((x ∷ xs) ++ back)) ≡ runs own (front ++ back) + 1
   one_run_more [] x xs back fails mine first = let one = runs_own own false x (xs ++ back) mine.0 in let rest = run_ends xs back mine.1 first in omega (arith, one, rest)
   one_run_more (y ∷ front) x xs back fails mine first =
-      let one : runs_behind false own ((x ∷ xs) ++ back) ≡ runs_behind false own back + 1 = (let a = runs_own own false x (xs ++ back) mine.0 in let b = run_ends xs back mine.1 first in omega (arith, a, b)) in
+      let one : runs_behind false own ((x ∷ xs) ++ back) ≡ runs_behind false own back + 1 =
+      (let a = runs_own own false x (xs ++ back) mine.0 in let b = run_ends xs back mine.1 first in omega (arith, a, b)) in
       front_runs false y front ((x ∷ xs) ++ back) back fails one
 
 -- The last reading, without its rank.

@@ -77,13 +77,15 @@ filled (k ∷ front) (m ∷ back) n f up first lt =
     ((λ le. omega (arith, now, was, same, last, before, high, long, short, le, lt)), (λ le. omega (arith, now, was, same, last, before, high, long, short, le, lt)))
 
 -- A number behind the first of some leaves it the first.
-keeps_first : (front back : List ℕ) (n f : ℕ) → AreRising (front ++ n ∷ back) → f ≡ unwrap_or (slice_get (front ++ back) 0) 0 → 0 < length (front ++ back) → f < n → slice_get (front ++ n ∷ back) 0 ≡ Some f
+keeps_first : (front back : List ℕ) (n f : ℕ) → AreRising (front ++ n ∷ back) → f ≡ unwrap_or (slice_get (front ++ back) 0) 0
+    → 0 < length (front ++ back) → f < n → slice_get (front ++ n ∷ back) 0 ≡ Some f
 keeps_first [] [] n f up is some lt = absurd (omega (arith, some))
 keeps_first [] (m ∷ back) n f up is some lt = absurd (omega (arith, up.0, is, lt))
 keeps_first (k ∷ front) back n f up is some lt = ap Some (sym is)
 
 -- An event that names no EVSE is passed over.
-passed : (front : List Entry) (e : Entry) (back : List Entry) → e.1.event.evse ≡ None → filter_map (λ (x : Entry). x.1.event.evse) (front ++ e ∷ back) ≡ filter_map (λ (x : Entry). x.1.event.evse) (front ++ back)
+passed : (front : List Entry) (e : Entry) (back : List Entry) → e.1.event.evse ≡ None
+    → filter_map (λ (x : Entry). x.1.event.evse) (front ++ e ∷ back) ≡ filter_map (λ (x : Entry). x.1.event.evse) (front ++ back)
 passed [] e back none = ap (λ (o : Option ℕ). cons_option o (filter_map (λ (x : Entry). x.1.event.evse) back)) none
 passed (f ∷ front) e back none = ap (cons_option f.1.event.evse) (passed front e back none)
 
@@ -114,12 +116,17 @@ one_less es chains key place come none up energy was kept =
     let rises = subst AreRising now up in
     record {
       live = omega (arith, ap length with, length-append own (e ∷ rest), ap (λ (s : Standing). s.live) is, ap length without, length-append own rest);
-      first = λ lt. ap (λ ns. slice_get ns 0) now ∙ keeps_first (map seq_of own) (map seq_of rest) key.seq was.first rises (ap (λ (s : Standing). s.first) is ∙ ap (λ ns. unwrap_or (slice_get ns 0) 0) before)
+      first = λ lt. ap (λ ns. slice_get ns 0) now
+          ∙ keeps_first (map seq_of own) (map seq_of rest) key.seq was.first rises (ap (λ (s : Standing). s.first) is ∙ ap (λ ns. unwrap_or (slice_get ns 0) 0) before)
           (omega (arith, lives, ap (λ (s : Standing). s.live) is, some_kept (length (live_of tx es)) (standing_with energy tx es) was kept)) lt;
       evse = ap (λ xs. first_or_zero (filter_map (λ (x : Entry). x.1.event.evse) xs)) with ∙ ap first_or_zero (passed own e rest none)
           ∙ sym (ap (λ (s : Standing). s.evse) is ∙ ap (λ xs. first_or_zero (filter_map (λ (x : Entry). x.1.event.evse) xs)) without);
-      within = λ first at lt le. let so = (filled (map seq_of own) (map seq_of rest) key.seq first rises (ap (λ ns. slice_get ns 0) (sym now) ∙ at) lt).0 (omega (arith, le, lives, gone)) in omega (arith, so, ap missing now, gone);
-      beyond = λ first at lt le. let so = (filled (map seq_of own) (map seq_of rest) key.seq first rises (ap (λ ns. slice_get ns 0) (sym now) ∙ at) lt).1 (omega (arith, le, lives, gone)) in omega (arith, so, ap missing now, gone, lives);
+      within = λ first at lt le. let so =
+          (filled (map seq_of own) (map seq_of rest) key.seq first rises (ap (λ ns. slice_get ns 0) (sym now) ∙ at) lt).0
+          (omega (arith, le, lives, gone)) in omega (arith, so, ap missing now, gone);
+      beyond = λ first at lt le. let so =
+          (filled (map seq_of own) (map seq_of rest) key.seq first rises (ap (λ ns. slice_get ns 0) (sym now) ∙ at) lt).1
+          (omega (arith, le, lives, gone)) in omega (arith, so, ap missing now, gone, lives);
     }
 
 -- The EVSE that a stored event names.

@@ -54,7 +54,9 @@ same_number : (a : Answer) (m n : ℕ) → a ≡ Accepted m → a ≡ Accepted n
 same_number a m n h k = let e : Accepted m ≡ Accepted n = sym h ∙ k in cc
 
 -- an accepted command reaches its content
-pub reached_next : (limits : Bounds) (c : Content) (n m : ℕ) (command : Command) → c.changes ≡ n → IsAdmissible command → Reached limits n c → answer limits c command ≡ Accepted m → Reached limits m (record { events = events_after c.events command; changes = m })
+pub reached_next : (limits : Bounds) (c : Content) (n m : ℕ) (command : Command) → c.changes ≡ n → IsAdmissible command
+    → Reached limits n c → answer limits c command ≡ Accepted m
+    → Reached limits m (record { events = events_after c.events command; changes = m })
 reached_next limits c n m command count may reached a =
     let next : m ≡ suc n = (let e = same_number _ m (c.changes + 1) a (is_counted limits c command (told _ m a)).next in omega (arith, e, count)) in
     let after : Content = record { events = events_after c.events command; changes = m } in

@@ -72,7 +72,8 @@ total_quartered period Export ps =
 pub up_quartered : (k : Direction) (period : Periods) (d : Direction) (ps : List Pair) → (in_direction k (total (quartered period d ps))).up ≡ (in_direction k (flows_toward d (energy_over ps))).up
 up_quartered k period d ps = ap (λ (e : ByDirection Energy). (in_direction k e).up) (total_quartered period d ps)
 
-pub down_quartered : (k : Direction) (period : Periods) (d : Direction) (ps : List Pair) → (in_direction k (total (quartered period d ps))).down ≡ (in_direction k (flows_toward d (energy_over ps))).down
+pub down_quartered : (k : Direction) (period : Periods) (d : Direction) (ps : List Pair)
+    → (in_direction k (total (quartered period d ps))).down ≡ (in_direction k (flows_toward d (energy_over ps))).down
 down_quartered k period d ps = ap (λ (e : ByDirection Energy). (in_direction k e).down) (total_quartered period d ps)
 
 pub long : (period : Periods) (d : Direction) (ps : List Pair) → length (quartered period d ps) ≡ length ps

@@ -51,7 +51,8 @@ module _ {limits : Bounds} {tx : List ℕ} {es new : List Entry} {gone came : Di
     table_filled taken put = filled limits tx es new gone came ch.kept ch.traded ch.before ch.after period quarters rows taken put
 
   -- and what both add up to is what the energies exchange
-  pub exchanged : {less more : ByDirection Energy} → ((d : Direction) → IsSumOf (gone d) (in_direction d less)) → ((d : Direction) → IsSumOf (came d) (in_direction d more)) → IsExchanged Sequence tx es new less more
+  pub exchanged : {less more : ByDirection Energy} → ((d : Direction) → IsSumOf (gone d) (in_direction d less))
+      → ((d : Direction) → IsSumOf (came d) (in_direction d more)) → IsExchanged Sequence tx es new less more
   exchanged less_is more_is = record {
     station = λ d. station_exchanged d (ch.traded d) (less_is d).is (more_is d).is;
     own = λ d. own_exchanged d (ch.traded d) (less_is d).is (more_is d).is;
@@ -69,7 +70,8 @@ pub record AreTurned (limits : Bounds) (tx : List ℕ) (es new : List Entry) (su
   pub energies : IsExchanged (order_in sums) tx es new less more
   pub pairs : ArePairsMoved sums mid
 
-module _ {tx : List ℕ} {es : List Entry} {chains : Chained} {key : KeyName} {place : ByDirection Sides} {sums mid : Sums} {less more : ByDirection Energy} (tx_is : tx ≡ key.tx) (after : AreAllowed (order_in sums) chains.limits (stored chains))
+module _ {tx : List ℕ} {es : List Entry} {chains : Chained} {key : KeyName} {place : ByDirection Sides} {sums mid : Sums}
+    {less more : ByDirection Energy} (tx_is : tx ≡ key.tx) (after : AreAllowed (order_in sums) chains.limits (stored chains))
     (energies : IsExchanged (order_in sums) key.tx es (stored chains) less more) (pairs : ArePairsMoved sums mid) where
   pub turned : {way : Way} → AreTurning way es chains key place sums → AreTurned chains.limits tx es (stored chains) sums mid less more
   turned {way = way} h = record {
@@ -146,9 +148,13 @@ module _ {limits : Bounds} {tx : List ℕ} {es new : List Entry} {sums mid : Sum
       replaced {next = next} rows timed all r =
           let same = sym (ap order_of r.by_moment ∙ x.pairs.order) in
           record {
-            standing = subst (λ o. AreStanding o limits new next.kept) same (stands (order_in sums) limits tx es new x.moved x.before x.after was is is_kept mid.kept kept_stands was_found next.kept r.kept r.room);
-            at_evses = subst (λ o. AreEvseSums o new next.evses.items) same (sums_stand (order_in sums) limits tx es new x.moved x.before x.after was is is_kept was_at mid.evses.items evses_stand next.evses.items r.all r.evses);
-            by_quarter = subst (λ o. AreQuarterRows o limits new next.period next.quarters) same (subst (λ p. AreQuarterRows (order_in sums) limits new p next.quarters) (sym (r.period ∙ x.pairs.period)) (subst (AreQuarterRows (order_in sums) limits new sums.period) (sym r.quarters) rows));
+            standing = subst (λ o. AreStanding o limits new next.kept) same
+                (stands (order_in sums) limits tx es new x.moved x.before x.after was is is_kept mid.kept kept_stands was_found next.kept r.kept r.room);
+            at_evses = subst (λ o. AreEvseSums o new next.evses.items) same
+                (sums_stand (order_in sums) limits tx es new x.moved x.before x.after was is is_kept was_at mid.evses.items evses_stand next.evses.items r.all r.evses);
+            by_quarter = subst (λ o. AreQuarterRows o limits new next.period next.quarters) same
+                (subst (λ p. AreQuarterRows (order_in sums) limits new p next.quarters) (sym (r.period ∙ x.pairs.period))
+                (subst (AreQuarterRows (order_in sums) limits new sums.period) (sym r.quarters) rows));
             energies_are = λ d. ap (in_direction d) (r.energies ∙ all ∙ all_may.1) ∙ each_is (λ k. energy_by (order_in sums) k new) d ∙ ap (λ o. energy_by o d new) same;
             counts = counts_stand (order_in sums) limits tx es new x.moved x.before x.after was is is_kept was_at mid.figures counts_were next.figures r.figures;
             timed = subst (λ b. IfSome b (AreByMoment limits new)) (sym r.by_moment) timed;

@@ -65,7 +65,9 @@ none_left (Some r) = refl
 
 -- One step along readings.
 pub stepped : (length : ℕ) (d : Direction) (last : Option MeterReading) (r : MeterReading) (left rest : List MeterReading) (rows next all : List QuarterRow)
-    → left ≡ r ∷ rest → next ≡ with_shares length d (across last (Some r)) rows → with_shares length d (pairs_between last left None) rows ≡ all → with_shares length d (pairs_between (Some r) rest None) next ≡ all
+    → left ≡ r ∷ rest → next ≡ with_shares length d (across last (Some r)) rows
+    → with_shares length d (pairs_between last left None) rows ≡ all
+    → with_shares length d (pairs_between (Some r) rest None) next ≡ all
 stepped length d last r left rest rows next all steps added was =
     ap (with_shares length d (pairs_between (Some r) rest None)) added
     ∙ sym (shares-append length d (across last (Some r)) (pairs_between (Some r) rest None) rows)
@@ -100,7 +102,12 @@ all_found (e ∷ es) up = (ap (λ b. cond b (Some e.1) (find key_cmp e.0 es)) ((
 -- Those that pass a test are found, too.
 found_passed : (p : Entry → Bool) (all es : List Entry) → AllByRecursion (IsFound all) es → AllByRecursion (IsFound all) (filter p es)
 found_passed p all [] found = tt
-found_passed p all (e ∷ es) found = elim (p e) as (λ b. AllByRecursion (IsFound all) (cond b (e ∷ filter p es) (filter p es))) [ true ↦ (found.0, found_passed p all es found.1) | false ↦ found_passed p all es found.1 ]
+found_passed p all (e ∷ es) found =
+    elim (p e) as (λ b. AllByRecursion (IsFound all) (cond b (e ∷ filter p es) (filter p es))) [
+      | true ↦
+          (found.0, found_passed p all es found.1)
+      | false ↦ found_passed p all es found.1
+    ]
 
 -- What the readings under the numbers of a transaction's entries make is what those of the entries make.
 module _ {X : Type 0} (made : ℕ → List MeterReading → List X) where
@@ -124,12 +131,14 @@ module _ {X : Type 0} (made : ℕ → List MeterReading → List X) where
       step false is rest = rest
       step true is rest =
           let same : tx ≡ e.0.tx = (bytes_eq-Decides tx e.0.tx).0 is in
-          let here : readings_under d (find key_cmp (record { tx = tx; seq = e.0.seq }) all) ≡ toward d e.1.event.readings = ap (λ t. readings_under d (find key_cmp (record { tx = t; seq = e.0.seq }) all)) same ∙ ap (readings_under d) found.0 in
+          let here : readings_under d (find key_cmp (record { tx = tx; seq = e.0.seq }) all) ≡ toward d e.1.event.readings =
+          ap (λ t. readings_under d (find key_cmp (record { tx = t; seq = e.0.seq }) all)) same ∙ ap (readings_under d) found.0 in
           λ i. made e.0.seq (here i) ++ rest i
 
   -- So along the numbers of a transaction's live events.
   pub read_along : (d : Direction) (tx : List ℕ) (chains : Chained)
-      → flat_map (λ n. made n (readings_at d chains (record { tx = tx; seq = n }))) (numbers_of tx (stored chains)) ≡ flat_map (λ (e : Entry). made e.0.seq (toward d e.1.event.readings)) (live_of tx (stored chains))
+      → flat_map (λ n. made n (readings_at d chains (record { tx = tx; seq = n }))) (numbers_of tx (stored chains))
+      ≡ flat_map (λ (e : Entry). made e.0.seq (toward d e.1.event.readings)) (live_of tx (stored chains))
   read_along d tx chains =
       let es = stored chains in
       ap (λ (f : ℕ → List X). flat_map f (numbers_of tx es)) (λ i n. made n (readings_under d (finite.get-entries chains.events (record { tx = tx; seq = n }) i)))
@@ -154,8 +163,10 @@ next_number [] rest n some is after = absurd (omega (arith, some))
 next_number (m ∷ was) rest n some is after = λ i. sym is i ∷ sym after i
 
 -- The readings of one number more are listed.
-pub walked : {X : Type 0} (reads : ℕ → List X) (was rest : List ℕ) (n : ℕ) (done next all : List X) → was ≡ n ∷ rest → next ≡ done ++ reads n → done ++ flat_map reads was ≡ all → next ++ flat_map reads rest ≡ all
-walked reads was rest n done next all steps more so_far = ap (λ rs. rs ++ flat_map reads rest) more ∙ append_assoc done (reads n) (flat_map reads rest) ∙ sym (ap (λ ns. done ++ flat_map reads ns) steps) ∙ so_far
+pub walked : {X : Type 0} (reads : ℕ → List X) (was rest : List ℕ) (n : ℕ) (done next all : List X) → was ≡ n ∷ rest
+    → next ≡ done ++ reads n → done ++ flat_map reads was ≡ all → next ++ flat_map reads rest ≡ all
+walked reads was rest n done next all steps more so_far = ap (λ rs. rs ++ flat_map reads rest) more
+    ∙ append_assoc done (reads n) (flat_map reads rest) ∙ sym (ap (λ ns. done ++ flat_map reads ns) steps) ∙ so_far
 
 -- Without their numbers and places they are the readings in a site's order.
 places_off : (n p : ℕ) (rs : List MeterReading) → map (λ (r : PlacedReading). r.reading) (placed_from n p rs) ≡ rs

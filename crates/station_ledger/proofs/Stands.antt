@@ -48,7 +48,9 @@ some_one : (o : Option Standing) → (o ≡ None → ⊥) → one_in o ≡ 1
 some_one None h = absurd (h refl)
 some_one (Some s) h = refl
 
-module _ (order : Order) (limits : Bounds) (tx : List ℕ) (es new : List Entry) (moved : IsMoved order tx es new) (before : AreAllowed order limits es) (after : AreAllowed order limits new) (was is : Option Standing) (is_is : is ≡ kept_of order tx new) where
+module _ (order : Order) (limits : Bounds) (tx : List ℕ) (es new : List Entry) (moved : IsMoved order tx es new)
+    (before : AreAllowed order limits es) (after : AreAllowed order limits new) (was is : Option Standing)
+    (is_is : is ≡ kept_of order tx new) where
   module _ (kept : Mapped Standing) (standing : AreStanding order limits es kept) (was_is : was ≡ find id_cmp tx kept.rows) where
     pub was_kept : was ≡ kept_of order tx es
     was_kept = was_is ∙ standing.each tx
@@ -61,10 +63,11 @@ module _ (order : Order) (limits : Bounds) (tx : List ℕ) (es new : List Entry)
 
     pub stands : (next : Mapped Standing) → next.rows ≡ keep tx is kept.rows → next.capacity ≡ kept.capacity → AreStanding order limits new next
     stands next rows same = record {
-      each = λ u. ap (find id_cmp u) rows ∙ found_keep u tx is kept.rows ∙ (elim (eq_by_cmp id_cmp u tx) as (λ b. eq_by_cmp id_cmp u tx ≡ b → cond b is (find id_cmp u kept.rows) ≡ kept_of order u new) [
-        | true ↦ λ e. is_is ∙ ap (λ t. kept_of order t new) (sym (equal_ids u tx e))
-        | false ↦ λ e. standing.each u ∙ sym (kept_same order u es new (moved.others u (apart_ids u tx e)))
-      ] refl);
+      each = λ u. ap (find id_cmp u) rows ∙ found_keep u tx is kept.rows
+          ∙ (elim (eq_by_cmp id_cmp u tx) as (λ b. eq_by_cmp id_cmp u tx ≡ b → cond b is (find id_cmp u kept.rows) ≡ kept_of order u new) [
+            | true ↦ λ e. is_is ∙ ap (λ t. kept_of order t new) (sym (equal_ids u tx e))
+            | false ↦ λ e. standing.each u ∙ sym (kept_same order u es new (moved.others u (apart_ids u tx e)))
+          ] refl);
       rising = subst (λ rs. AreRising rs) (sym rows) (rises is);
       number = ap length rows ∙ counted is is_is;
       room = same ∙ standing.room;
@@ -82,7 +85,8 @@ module _ (order : Order) (limits : Bounds) (tx : List ℕ) (es new : List Entry)
 
       counted : (o : Option Standing) → o ≡ kept_of order tx new → length (keep tx o kept.rows) ≡ length (transactions_of (live new))
       counted None now = omega (arith, length_out tx kept.rows standing.rising, standing.number, moved.transactions, was_one, ap one_in now)
-      counted (Some s) now = omega (arith, length_put tx s kept.rows standing.rising, standing.number, moved.transactions, was_one, ap one_in now, grown (is_some (find id_cmp tx kept.rows)) (length kept.rows))
+      counted (Some s) now =
+          omega (arith, length_put tx s kept.rows standing.rising, standing.number, moved.transactions, was_one, ap one_in now, grown (is_some (find id_cmp tx kept.rows)) (length kept.rows))
 
   module _ (was_at : was ≡ kept_of order tx es) where
     flow_is : (d : Direction) → in_direction d (flows_in is) ≡ energy_of_by order d tx new
@@ -91,8 +95,26 @@ module _ (order : Order) (limits : Bounds) (tx : List ℕ) (es new : List Entry)
     module _ (evses : List EvseSum) (sums : AreEvseSums order es evses) where
       room_for : (d : Direction) (n : ℕ) → CanPlus (energy_at_by order d n es) (in_direction d (flows_at n is))
       room_for d n = record {
-        up = omega (arith, evse_up_le order d n es, few_up order d limits es before, before.most_readings_within, (flow_at_le d n is).0, ap (λ (e : Energy). e.up) (flow_is d), own_up_le order d tx new, few_up order d limits new after);
-        down = omega (arith, evse_down_le order d n es, few_down order d limits es before, before.most_readings_within, (flow_at_le d n is).1, ap (λ (e : Energy). e.down) (flow_is d), own_down_le order d tx new, few_down order d limits new after);
+        up = omega (
+          arith,
+          evse_up_le order d n es,
+          few_up order d limits es before,
+          before.most_readings_within,
+          (flow_at_le d n is).0,
+          ap (λ (e : Energy). e.up) (flow_is d),
+          own_up_le order d tx new,
+          few_up order d limits new after,
+        );
+        down = omega (
+          arith,
+          evse_down_le order d n es,
+          few_down order d limits es before,
+          before.most_readings_within,
+          (flow_at_le d n is).1,
+          ap (λ (e : Energy). e.down) (flow_is d),
+          own_down_le order d tx new,
+          few_down order d limits new after,
+        );
       }
 
       pub room_at : (n : ℕ) → n ≤ greatest_evse → HasRoomAt n is (sum_at evses n)
@@ -141,7 +163,16 @@ module _ (order : Order) (limits : Bounds) (tx : List ℕ) (es new : List Entry)
         events = omega (arith, counts.events, before.figures_within.events, before.most_events_within, ap live_in is_is, live_kept order tx new, live_le tx new, after.figures_within.events);
         transactions = omega (arith, counts.transactions, before.figures_within.transactions, before.most_transactions_within, one_in_le is);
         complete = omega (arith, counts.complete, before.figures_within.complete, before.most_transactions_within, complete_in_le is);
-        missing_fit = omega (arith, counts.missing_are, before.figures_within.missing, before.most_transactions_within, ap missing_in is_is, missing_kept order tx new, own_missing_le tx new, after.figures_within.missing);
+        missing_fit = omega (
+          arith,
+          counts.missing_are,
+          before.figures_within.missing,
+          before.most_transactions_within,
+          ap missing_in is_is,
+          missing_kept order tx new,
+          own_missing_le tx new,
+          after.figures_within.missing,
+        );
       }
 
       pub do_count : DoCount was (with_figures is f)

@@ -45,7 +45,9 @@ timely-some d (r ∷ rs) h =
 
 timely-entries : (d : Direction) (es : List Entry) → AreEntries es → AreTimely (flat_map (λ e. toward d e.1.event.readings) es)
 timely-entries d [] h = tt
-timely-entries d (e ∷ es) h = timely-append (toward d e.1.event.readings) (flat_map (λ f. toward d f.1.event.readings) es) (timely-some d e.1.event.readings (timely-all e.1.event.readings h.0.event.readings)) (timely-entries d es h.1)
+timely-entries d (e ∷ es) h =
+    timely-append (toward d e.1.event.readings) (flat_map (λ f. toward d f.1.event.readings) es)
+    (timely-some d e.1.event.readings (timely-all e.1.event.readings h.0.event.readings)) (timely-entries d es h.1)
 
 timely-put : (r : MeterReading) (rs : List MeterReading) → IsMoment r.moment → AreTimely rs → AreTimely (put_in_time (λ s. s.moment) r rs)
 timely-put r [] at h = (at, tt)
@@ -73,7 +75,8 @@ followed_timely (r ∷ s ∷ rs) h = All-cons IsTimed (r, s) (followed (s ∷ rs
 of_each : (order : Order) (d : Direction) (es : List Entry) (txs : List (List ℕ)) → AreEntries (live es) → All IsTimed (flat_map (λ tx. pairs_by order d tx es) txs)
 of_each order d es [] h = All-nil IsTimed
 of_each order d es (tx ∷ txs) h = All-append IsTimed (pairs_by order d tx es) (flat_map (λ t. pairs_by order d t es) txs)
-    (followed_timely (in_order order (λ s. s.moment) (readings_of d tx es)) (timely-in_order order (readings_of d tx es) (timely-entries d (live_of tx es) (AreEntries-filter (λ e. bytes_eq tx e.0.tx) (live es) h))))
+    (followed_timely (in_order order (λ s. s.moment) (readings_of d tx es))
+    (timely-in_order order (readings_of d tx es) (timely-entries d (live_of tx es) (AreEntries-filter (λ e. bytes_eq tx e.0.tx) (live es) h))))
     (of_each order d es txs h)
 
 -- so are those of each pair of events
@@ -97,7 +100,8 @@ own_quarter period moment is at =
 -- the nanosecond before a moment is one, but for the first
 before : (moment : ℕ) → IsMoment moment → IsMoment (max (moment - 1) first_moment)
 before moment at =
-    ⊎_elim {C = IsMoment (max (moment - 1) first_moment)} (λ (below : moment - 1 < first_moment). subst IsMoment (sym (max-eq_right {n = moment - 1} (omega (arith, below)))) (omega arith, omega arith))
+    ⊎_elim {C = IsMoment (max (moment - 1) first_moment)}
+    (λ (below : moment - 1 < first_moment). subst IsMoment (sym (max-eq_right {n = moment - 1} (omega (arith, below)))) (omega arith, omega arith))
     (λ (above : first_moment ≤ moment - 1). subst IsMoment (sym (max-eq_left above)) (above, omega (arith, at.1)))
     (cases_lt (moment - 1) first_moment)
 
@@ -108,7 +112,10 @@ settled_quarter Closing period moment is at = own_quarter period (max (moment - 
 settled_quarter Even period moment is at = own_quarter period (max (moment - 1) first_moment) is (before moment at)
 
 whole_in : (rule : Settle) (length : ℕ) (c : Change) (k : ℕ) → IsPeriod length → IsMoment c.until → IsIn k (map (λ (t : Part). t.0) (whole rule length c)) → IsQuarterOf length k
-whole_in rule length c k is until h = ⊎_elim {C = IsQuarterOf length k} (λ (e : k ≡ settled_by rule length c.until). subst (IsQuarterOf length) (sym e) (settled_quarter rule length c.until is until)) (λ never. absurd never) h
+whole_in rule length c k is until h =
+    ⊎_elim {C = IsQuarterOf length k}
+    (λ (e : k ≡ settled_by rule length c.until). subst (IsQuarterOf length) (sym e) (settled_quarter rule length c.until is until))
+    (λ never. absurd never) h
 
 -- a later moment lies in no earlier period
 quarters_rise : (length m n : ℕ) → IsPeriod length → m ≤ n → quarter_at length m ≤ quarter_at length n
@@ -180,12 +187,15 @@ either_part (t ∷ ts) us k h =
 one_direction : (period : Periods) (ps : List Pair) (k : ℕ) → IsPeriod period.length → All IsTimed ps → IsIn k (map (λ (t : Part). t.0) (parts_over period ps)) → IsQuarterOf period.length k
 one_direction period [] k is at h = absurd h
 one_direction period (p ∷ ps) k is at h =
-    ⊎_elim {C = IsQuarterOf period.length k} (λ (here : IsIn k (map (λ (t : Part). t.0) (parts_of period p))). let own : IsTimed p = at 0 p (omega arith) in in_parts period.rule period.length (change_of p) k is own.0 own.1 here)
+    ⊎_elim {C = IsQuarterOf period.length k}
+    (λ (here : IsIn k (map (λ (t : Part). t.0) (parts_of period p))). let own : IsTimed p =
+    at 0 p (omega arith) in in_parts period.rule period.length (change_of p) k is own.0 own.1 here)
     (λ (there : IsIn k (map (λ (t : Part). t.0) (parts_over period ps))). one_direction period ps k is (λ j d lt. at (suc j) d (omega arith)) there)
     (either_part (parts_of period p) (parts_over period ps) k h)
 
 -- each period that a station shows begins at a moment
-pub in_period : (order : Order) (period : Periods) (es : List Entry) (k : ℕ) → AreEntries es → IsPeriod period.length → IsIn k (map (λ (t : Part). t.0) (parts_of_both order period es)) → IsQuarterOf period.length k
+pub in_period : (order : Order) (period : Periods) (es : List Entry) (k : ℕ) → AreEntries es → IsPeriod period.length
+    → IsIn k (map (λ (t : Part). t.0) (parts_of_both order period es)) → IsQuarterOf period.length k
 in_period order period es k range is h =
     ⊎_elim {C = IsQuarterOf period.length k} (λ here. one_direction period (all_pairs_by order Import es) k is (pairs_timed order Import es range) here)
     (λ there. one_direction period (all_pairs_by order Export es) k is (pairs_timed order Export es range) there)

@@ -53,22 +53,30 @@ ones [] = refl
 ones (p ∷ ps) = omega (arith, sum_by-cons (λ (q : Pair). 1) p ps, ones ps)
 
 -- what pairs that go and come move of the energies of the station and of the transaction
-module _ (d : Direction) {tx : List ℕ} {es new : List Entry} {gone came kept : List Pair} (traded : IsTraded d tx es new gone came kept) {less more : Energy} (less_is : less ≡ energy_over gone) (more_is : more ≡ energy_over came) where
+module _ (d : Direction) {tx : List ℕ} {es new : List Entry} {gone came kept : List Pair}
+    (traded : IsTraded d tx es new gone came kept) {less more : Energy} (less_is : less ≡ energy_over gone)
+    (more_is : more ≡ energy_over came) where
   pub station_exchanged : plus (energy d new) less ≡ plus (energy d es) more
   station_exchanged =
       let f = λ (p : Pair). (difference p).up in let g = λ (p : Pair). (difference p).down in
-      let up : (energy d new).up + less.up ≡ (energy d es).up + more.up = omega (arith, traded.old_sum f, traded.new_sum f, sum_by-append f gone kept, sum_by-append f came kept, ap (λ (e : Energy). e.up) less_is, ap (λ (e : Energy). e.up) more_is) in
-      let down : (energy d new).down + less.down ≡ (energy d es).down + more.down = omega (arith, traded.old_sum g, traded.new_sum g, sum_by-append g gone kept, sum_by-append g came kept, ap (λ (e : Energy). e.down) less_is, ap (λ (e : Energy). e.down) more_is) in
+      let up : (energy d new).up + less.up ≡ (energy d es).up + more.up =
+      omega (arith, traded.old_sum f, traded.new_sum f, sum_by-append f gone kept, sum_by-append f came kept, ap (λ (e : Energy). e.up) less_is, ap (λ (e : Energy). e.up) more_is) in
+      let down : (energy d new).down + less.down ≡ (energy d es).down + more.down =
+      omega (arith, traded.old_sum g, traded.new_sum g, sum_by-append g gone kept, sum_by-append g came kept, ap (λ (e : Energy). e.down) less_is, ap (λ (e : Energy). e.down) more_is) in
       λ i. record { up = up i; down = down i }
 
   pub own_exchanged : plus (energy_of d tx new) less ≡ plus (energy_of d tx es) more
   own_exchanged =
-      let up : (energy_of d tx new).up + less.up ≡ (energy_of d tx es).up + more.up = omega (arith, traded.own (λ p. (difference p).up), ap (λ (e : Energy). e.up) less_is, ap (λ (e : Energy). e.up) more_is) in
-      let down : (energy_of d tx new).down + less.down ≡ (energy_of d tx es).down + more.down = omega (arith, traded.own (λ p. (difference p).down), ap (λ (e : Energy). e.down) less_is, ap (λ (e : Energy). e.down) more_is) in
+      let up : (energy_of d tx new).up + less.up ≡ (energy_of d tx es).up + more.up =
+      omega (arith, traded.own (λ p. (difference p).up), ap (λ (e : Energy). e.up) less_is, ap (λ (e : Energy). e.up) more_is) in
+      let down : (energy_of d tx new).down + less.down ≡ (energy_of d tx es).down + more.down =
+      omega (arith, traded.own (λ p. (difference p).down), ap (λ (e : Energy). e.down) less_is, ap (λ (e : Energy). e.down) more_is) in
       λ i. record { up = up i; down = down i }
 
 -- what goes is in an energy of the station with what comes
-module _ (order : Order) (d : Direction) (limits : Bounds) (es : List Entry) (before : AreAllowed order limits es) {flow was : Energy} (is less more : Energy) (flow_is : flow ≡ was) (up_le : was.up ≤ (energy_by order d es).up) (down_le : was.down ≤ (energy_by order d es).down)
+module _ (order : Order) (d : Direction) (limits : Bounds) (es : List Entry) (before : AreAllowed order limits es)
+    {flow was : Energy} (is less more : Energy) (flow_is : flow ≡ was) (up_le : was.up ≤ (energy_by order d es).up)
+    (down_le : was.down ≤ (energy_by order d es).down)
     (exchanged : plus is less ≡ plus was more) (up_few : more.up ≤ greatest_reading * most_readings) (down_few : more.down ≤ greatest_reading * most_readings) where
   up_was : flow.up ≡ was.up
   up_was = ap (λ (e : Energy). e.up) flow_is
@@ -100,24 +108,50 @@ module _ (order : Order) (d : Direction) (limits : Bounds) (es : List Entry) (be
 -- pairs of both directions add up in each as those of that direction
 up_both : (k : Direction) (period : Periods) (ps : Direction → List Pair) → (in_direction k (total (both_quartered period ps))).up ≡ (energy_over (ps k)).up
 up_both Import period ps =
-    omega (arith, up_append Import (quartered period Import (ps Import)) (quartered period Export (ps Export)), up_quartered Import period Import (ps Import), up_quartered Import period Export (ps Export))
+    omega (
+      arith,
+      up_append Import (quartered period Import (ps Import)) (quartered period Export (ps Export)),
+      up_quartered Import period Import (ps Import),
+      up_quartered Import period Export (ps Export),
+    )
 up_both Export period ps =
-    omega (arith, up_append Export (quartered period Import (ps Import)) (quartered period Export (ps Export)), up_quartered Export period Import (ps Import), up_quartered Export period Export (ps Export))
+    omega (
+      arith,
+      up_append Export (quartered period Import (ps Import)) (quartered period Export (ps Export)),
+      up_quartered Export period Import (ps Import),
+      up_quartered Export period Export (ps Export),
+    )
 
 down_both : (k : Direction) (period : Periods) (ps : Direction → List Pair) → (in_direction k (total (both_quartered period ps))).down ≡ (energy_over (ps k)).down
 down_both Import period ps =
-    omega (arith, down_append Import (quartered period Import (ps Import)) (quartered period Export (ps Export)), down_quartered Import period Import (ps Import), down_quartered Import period Export (ps Export))
+    omega (
+      arith,
+      down_append Import (quartered period Import (ps Import)) (quartered period Export (ps Export)),
+      down_quartered Import period Import (ps Import),
+      down_quartered Import period Export (ps Export),
+    )
 down_both Export period ps =
-    omega (arith, down_append Export (quartered period Import (ps Import)) (quartered period Export (ps Export)), down_quartered Export period Import (ps Import), down_quartered Export period Export (ps Export))
+    omega (
+      arith,
+      down_append Export (quartered period Import (ps Import)) (quartered period Export (ps Export)),
+      down_quartered Export period Import (ps Import),
+      down_quartered Export period Export (ps Export),
+    )
 
 -- pairs of both directions that add up as those that go or come and those that are kept
-parted : (period : Periods) (all some rest : Direction → List Pair) → ((d : Direction) (f : Pair → ℕ) → sum_by f (all d) ≡ sum_by f (some d ++ rest d)) → rows_of (both_quartered period all) ≡ rows_of (both_quartered period some ++ both_quartered period rest)
+parted : (period : Periods) (all some rest : Direction → List Pair)
+    → ((d : Direction) (f : Pair → ℕ) → sum_by f (all d) ≡ sum_by f (some d ++ rest d))
+    → rows_of (both_quartered period all) ≡ rows_of (both_quartered period some ++ both_quartered period rest)
 parted period all some rest same =
     let side = λ (d : Direction). one_side period d (all d) (some d) (rest d) (same d) in
     made_alike (both_quartered period all) (both_quartered period some ++ both_quartered period rest) (λ measure.
-    both_sides measure (quartered period Import (all Import)) (quartered period Import (some Import)) (quartered period Import (rest Import)) (quartered period Export (all Export)) (quartered period Export (some Export)) (quartered period Export (rest Export)) (side Import measure) (side Export measure))
+    both_sides measure (quartered period Import (all Import)) (quartered period Import (some Import))
+    (quartered period Import (rest Import)) (quartered period Export (all Export)) (quartered period Export (some Export))
+    (quartered period Export (rest Export)) (side Import measure) (side Export measure))
 
-module _ (limits : Bounds) (tx : List ℕ) (es new : List Entry) (gone came kept : Direction → List Pair) (traded : (d : Direction) → IsTraded d tx es new (gone d) (came d) (kept d)) (before : AreAllowed Sequence limits es) (after : AreAllowed Sequence limits new) where
+module _ (limits : Bounds) (tx : List ℕ) (es new : List Entry) (gone came kept : Direction → List Pair)
+    (traded : (d : Direction) → IsTraded d tx es new (gone d) (came d) (kept d)) (before : AreAllowed Sequence limits es)
+    (after : AreAllowed Sequence limits new) where
   count : (d : Direction) → length (pairs d new) ≡ length (came d) + length (kept d)
   count d = sym (ones (pairs d new)) ∙ (traded d).new_sum (λ p. 1) ∙ ones (came d ++ kept d) ∙ length-append (came d) (kept d)
 
@@ -144,7 +178,18 @@ module _ (limits : Bounds) (tx : List ℕ) (es new : List Entry) (gone came kept
             both_quartered period kept,
             record {
               rows = left_rows;
-              room = omega (arith, n, long period Import (kept Import), long period Export (kept Export), count Import, count Export, few_pairs Sequence new, after.readings_within, taken.capacity, rows.room);
+              room = omega (
+                arith,
+                n,
+                long period Import (kept Import),
+                long period Export (kept Export),
+                count Import,
+                count Export,
+                few_pairs Sequence new,
+                after.readings_within,
+                taken.capacity,
+                rows.room,
+              );
               up = λ k. omega (arith, up_both k period kept, kept_up k, before.most_readings_within, few);
               down = λ k. omega (arith, down_both k period kept, kept_down k, before.most_readings_within, few);
               few = omega (arith, taken.capacity, rows.room, before.most_readings_within);
@@ -153,6 +198,8 @@ module _ (limits : Bounds) (tx : List ℕ) (es new : List Entry) (gone came kept
 
       pub filled : {t2 : Table} → IsTableMoved Coming (both_quartered period came) t1 t2 → AreQuarterRows Sequence limits new period t2
       filled put = record {
-        rows = put.rows ∙ ap (rows_with (both_quartered period came)) left_rows ∙ made_with (both_quartered period came) (both_quartered period kept) ∙ sym (parted period (λ d. pairs d new) came kept (λ d. (traded d).new_sum));
+        rows = put.rows ∙ ap (rows_with (both_quartered period came)) left_rows
+            ∙ made_with (both_quartered period came) (both_quartered period kept)
+            ∙ sym (parted period (λ d. pairs d new) came kept (λ d. (traded d).new_sum));
         room = put.capacity ∙ taken.capacity ∙ rows.room;
       }

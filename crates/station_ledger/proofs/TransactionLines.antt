@@ -64,10 +64,12 @@ bare_found q (t ∷ ts) =
 -- a transaction with an event has some
 some_own : (tx : List ℕ) (es : List Entry) → has_transaction tx es ≡ true → 0 < length (filter (λ (e : Entry). bytes_eq tx e.0.tx) es)
 some_own tx [] h = cc
-some_own tx (e ∷ es) h = elim (bytes_eq tx e.0.tx) as (λ b. (b || has_transaction tx es) ≡ true → 0 < length (cond b (e ∷ filter (λ (f : Entry). bytes_eq tx f.0.tx) es) (filter (λ (f : Entry). bytes_eq tx f.0.tx) es))) [
-  | true ↦ λ _. omega arith
-  | false ↦ λ rest. some_own tx es rest
-] h
+some_own tx (e ∷ es) h =
+    elim (bytes_eq tx e.0.tx) as (λ b. (b || has_transaction tx es) ≡ true
+    → 0 < length (cond b (e ∷ filter (λ (f : Entry). bytes_eq tx f.0.tx) es) (filter (λ (f : Entry). bytes_eq tx f.0.tx) es))) [
+      | true ↦ λ _. omega arith
+      | false ↦ λ rest. some_own tx es rest
+    ] h
 
 -- it is kept just where it has a live event
 kept_has : (order : Order) (tx : List ℕ) (es : List Entry) → is_some (kept_of order tx es) ≡ has_transaction tx (live es)

@@ -78,18 +78,23 @@ pub record IsMoving (way : Way) (period : Periods) (d : Direction) (ps left : Li
 length_is : {left : List Pair} (one more : List Pair) → left ≡ one ++ more → length left ≡ length one + length more
 length_is one more split = ap length split ∙ length-append one more
 
-energy_is : {left : List Pair} (one more : List Pair) (sum flow next : Energy) → left ≡ one ++ more → flow ≡ energy_over one → next ≡ plus sum flow → plus next (energy_over more) ≡ plus sum (energy_over left)
+energy_is : {left : List Pair} (one more : List Pair) (sum flow next : Energy) → left ≡ one ++ more → flow ≡ energy_over one
+    → next ≡ plus sum flow → plus next (energy_over more) ≡ plus sum (energy_over left)
 energy_is {left = left} one more sum flow next split is put =
     let all = ap energy_over split ∙ energy_over-append one more in
     let up : (plus next (energy_over more)).up ≡ (plus sum (energy_over left)).up = omega (arith, ap (λ (e : Energy). e.up) all, ap (λ (e : Energy). e.up) is, ap (λ (e : Energy). e.up) put) in
-    let down : (plus next (energy_over more)).down ≡ (plus sum (energy_over left)).down = omega (arith, ap (λ (e : Energy). e.down) all, ap (λ (e : Energy). e.down) is, ap (λ (e : Energy). e.down) put) in
+    let down : (plus next (energy_over more)).down ≡ (plus sum (energy_over left)).down =
+    omega (arith, ap (λ (e : Energy). e.down) all, ap (λ (e : Energy). e.down) is, ap (λ (e : Energy). e.down) put) in
     λ i. record { up = up i; down = down i }
 
 quartered_is : (period : Periods) (d : Direction) {left : List Pair} (one more : List Pair) → left ≡ one ++ more → quartered period d left ≡ quartered period d one ++ quartered period d more
 quartered_is period d one more split = ap (quartered period d) split ∙ quartered-append period d one more
 
-regrouped : (period : Periods) (d : Direction) {left : List Pair} (one more : List Pair) (others : List Flowed) → left ≡ one ++ more → rows_of (quartered period d left ++ others) ≡ rows_of (quartered period d one ++ (quartered period d more ++ others))
-regrouped period d one more others split = ap (λ fs. rows_of (fs ++ others)) (quartered_is period d one more split) ∙ ap rows_of (append_assoc (quartered period d one) (quartered period d more) others)
+regrouped : (period : Periods) (d : Direction) {left : List Pair} (one more : List Pair) (others : List Flowed)
+    → left ≡ one ++ more
+    → rows_of (quartered period d left ++ others) ≡ rows_of (quartered period d one ++ (quartered period d more ++ others))
+regrouped period d one more others split = ap (λ fs. rows_of (fs ++ others)) (quartered_is period d one more split)
+    ∙ ap rows_of (append_assoc (quartered period d one) (quartered period d more) others)
 
 pub rows_moved-append : (way : Way) (fs gs : List Flowed) (rows : List QuarterRow) → rows_moved way (fs ++ gs) rows ≡ rows_moved way gs (rows_moved way fs rows)
 rows_moved-append Coming fs gs rows = rows_with-append fs gs rows

@@ -12,4 +12,5 @@ pub record IsOneLess (was : Standing) (tx : List ℕ) (seq : ℕ) (es : List Ent
   pub first : was.first < seq → slice_get (numbers_of tx es) 0 ≡ Some was.first
   pub evse : evse_of tx es ≡ was.evse
   pub within : (first : ℕ) → slice_get (numbers_of tx es) 0 ≡ Some first → first < seq → seq < first + was.live + was.missing → missing (numbers_of tx es) + 1 ≡ was.missing
-  pub beyond : (first : ℕ) → slice_get (numbers_of tx es) 0 ≡ Some first → first < seq → first + was.live + was.missing ≤ seq → missing (numbers_of tx es) + (first + was.live + was.missing) ≡ was.missing + seq
+  pub beyond : (first : ℕ) → slice_get (numbers_of tx es) 0 ≡ Some first → first < seq → first + was.live + was.missing ≤ seq
+      → missing (numbers_of tx es) + (first + was.live + was.missing) ≡ was.missing + seq

@@ -29,8 +29,13 @@ content_code = code_by (FinMap key_cmp Stored × ℕ) (coded× (finite.code key_
 
 -- Limits are kept as the tuple of their parts.
 abbrev pub bounds_code : Coded Bounds
-bounds_code = code_by (ℕ × (ℕ × (ℕ × ℕ))) (coded× coded_ℕ (coded× coded_ℕ (coded× coded_ℕ coded_ℕ))) (λ b. (b.transactions, (b.events, (b.readings, b.changes)))) (λ p. record { transactions = p.0; events = p.1.0; readings = p.1.1.0; changes = p.1.1.1 }) (λ _. refl)
+bounds_code = code_by (ℕ × (ℕ × (ℕ × ℕ))) (coded× coded_ℕ (coded× coded_ℕ (coded× coded_ℕ coded_ℕ)))
+    (λ b. (b.transactions, (b.events, (b.readings, b.changes))))
+    (λ p. record { transactions = p.0; events = p.1.0; readings = p.1.1.0; changes = p.1.1.1 }) (λ _. refl)
 
 -- A ledger is kept as the tuple of its parts.
 abbrev pub ledger_code : Coded Ledger
-ledger_code = code_by (Bounds × (Periods × (Order × Content))) (coded× bounds_code (coded× periods_code (coded× orders.the_row.coded content_code))) (λ l. (l.limits, (l.period, (l.order, l.content)))) (λ p. record { limits = p.0; period = p.1.0; order = p.1.1.0; content = p.1.1.1 }) (λ _. refl)
+ledger_code = code_by (Bounds × (Periods × (Order × Content)))
+    (coded× bounds_code (coded× periods_code (coded× orders.the_row.coded content_code)))
+    (λ l. (l.limits, (l.period, (l.order, l.content))))
+    (λ p. record { limits = p.0; period = p.1.0; order = p.1.1.0; content = p.1.1.1 }) (λ _. refl)

@@ -55,8 +55,10 @@ pub record IsMoved (order : Order) (tx : List ℕ) (es new : List Entry) : Type 
   pub others : (u : List ℕ) → bytes_eq u tx ≡ false → live_of u new ≡ live_of u es
   pub events : length (live new) + live_in (kept_of order tx es) ≡ length (live es) + live_in (kept_of order tx new)
   pub transactions : length (transactions_of (live new)) + one_in (kept_of order tx es) ≡ length (transactions_of (live es)) + one_in (kept_of order tx new)
-  pub complete : count_by (λ u. is_complete u new) (transactions_of (live new)) + complete_in (kept_of order tx es) ≡ count_by (λ u. is_complete u es) (transactions_of (live es)) + complete_in (kept_of order tx new)
-  pub missing_are : sum_by (λ u. missing (numbers_of u new)) (transactions_of (live new)) + missing_in (kept_of order tx es) ≡ sum_by (λ u. missing (numbers_of u es)) (transactions_of (live es)) + missing_in (kept_of order tx new)
+  pub complete : count_by (λ u. is_complete u new) (transactions_of (live new)) + complete_in (kept_of order tx es)
+      ≡ count_by (λ u. is_complete u es) (transactions_of (live es)) + complete_in (kept_of order tx new)
+  pub missing_are : sum_by (λ u. missing (numbers_of u new)) (transactions_of (live new)) + missing_in (kept_of order tx es)
+      ≡ sum_by (λ u. missing (numbers_of u es)) (transactions_of (live es)) + missing_in (kept_of order tx new)
   pub at_evse : (n : ℕ) → length (transactions_at n new) + one_at n (kept_of order tx es) ≡ length (transactions_at n es) + one_at n (kept_of order tx new)
   pub flow_at_evse : (d : Direction) (n : ℕ) → plus (energy_at_by order d n new) (in_direction d (flows_at n (kept_of order tx es))) ≡ plus
       (energy_at_by order d n es) (in_direction d (flows_at n (kept_of order tx new)))

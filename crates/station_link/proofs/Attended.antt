@@ -53,7 +53,9 @@ module _ {M : Type 0} (gives : ℕ → StationPlace → Command → Answer → O
       → message words moment ≡ Event id request → slice_get stations p.station ≡ Some at → IsDelivered gives stations p id request reply p' told seen → All (IsAnswered gives) (if_seen seen)
   of_event p p' words moment id request reply told None at means there h = All-nil (IsAnswered gives)
   of_event p p' words moment id request reply told (Some m) at means there h =
-      All-cons (IsAnswered gives) m [] (record { words = words; moment = moment; id = id; request = request; means = means; number = p.station; place = at; answer = h.answer; told = told; given = h.given at there }) (All-nil (IsAnswered gives))
+      All-cons (IsAnswered gives) m []
+      (record { words = words; moment = moment; id = id; request = request; means = means; number = p.station; place = at; answer = h.answer; told = told; given = h.given at there })
+      (All-nil (IsAnswered gives))
 
   -- what came with the answer to a text of this meaning
   of_meaning : (p p' : Held) (words : List ℕ) (moment : ℕ) (meaning : Meaning) (reply : Option (List ℕ)) (told : Option Known) (seen : Option M) (at : StationPlace) → message words moment ≡ meaning

@@ -31,5 +31,6 @@ refuses_unknown stations name h = let r = unknown stations name h in rw r refl
 pub refuses_full : (stations : List StationPlace) (name : List ℕ) → (is_known stations name ≡ false → ⊥) → IsRefusal stations (Request true (Some name)) TooManyPasses
 refuses_full stations name h = let r = known stations name h in rw r refl
 
-pub admits : (stations : List StationPlace) (name : List ℕ) (p : Held) → (is_known stations name ≡ false → ⊥) → IsNamed stations name p.station → p.changes ≡ 0 → IsAdmitted stations (Request true (Some name)) name p
+pub admits : (stations : List StationPlace) (name : List ℕ) (p : Held) → (is_known stations name ≡ false → ⊥)
+    → IsNamed stations name p.station → p.changes ≡ 0 → IsAdmitted stations (Request true (Some name)) name p
 admits stations name p h named fresh = record { allowed = known stations name h; asked = refl; named = named; fresh = fresh }

@@ -24,13 +24,15 @@ use Rattle.transaction_event.specs.Reply.{answers_delivery, memory_reply}
 use Rattle.station_link.specs.Answer.{IsNextPass, IsSubmitted, TellsMemory}
 
 -- an answer of the step to a delivery has a reply
-by_step : (at : StationPlace) (p : Held) (key : KeyName) (event : EventContent) (a : Answer) (p' : Held) (told : Option Known) → EachDeliveryIsAnswered → IsAnswered at p (Deliver key event) a p' told → answers_delivery a ≡ true
+by_step : (at : StationPlace) (p : Held) (key : KeyName) (event : EventContent) (a : Answer) (p' : Held) (told : Option Known)
+    → EachDeliveryIsAnswered → IsAnswered at p (Deliver key event) a p' told → answers_delivery a ≡ true
 by_step at p key event a p' told law h =
     let P : Answer → Type 0 = λ x. answers_delivery x ≡ true in
     subst P h.answered (law at.limits h.before key event)
 
 -- what a delivery comes to at a place has a reply
-replied_at : (at : StationPlace) (p : Held) (key : KeyName) (event : EventContent) (a : Answer) (p' : Held) (told : Option Known) → EachDeliveryIsAnswered → Submitted at p (Deliver key event) a p' told → answers_delivery a ≡ true
+replied_at : (at : StationPlace) (p : Held) (key : KeyName) (event : EventContent) (a : Answer) (p' : Held) (told : Option Known)
+    → EachDeliveryIsAnswered → Submitted at p (Deliver key event) a p' told → answers_delivery a ≡ true
 replied_at at p key event (Accepted n) p' told law h = refl
 replied_at at p key event Repeat p' told law h = refl
 replied_at at p key event (Refused ChangesExhausted) p' told law h = refl
@@ -63,18 +65,22 @@ next_at at p command (Refused NoSuchEvent) p' told h = same_pass p p' told h.unc
 next_at at p command (Refused AlreadyVoided) p' told h = same_pass p p' told h.unchanged
 next_at at p command (Refused NotVoided) p' told h = same_pass p p' told h.unchanged
 
-replied_by : (stations : List StationPlace) (there : Option StationPlace) (p : Held) (key : KeyName) (event : EventContent) (a : Answer) (p' : Held) (told : Option Known) → slice_get stations p.station ≡ there → EachDeliveryIsAnswered → IsSubmitted stations p (Deliver key event) a p' told → answers_delivery a ≡ true
+replied_by : (stations : List StationPlace) (there : Option StationPlace) (p : Held) (key : KeyName) (event : EventContent) (a : Answer) (p' : Held) (told : Option Known)
+    → slice_get stations p.station ≡ there → EachDeliveryIsAnswered → IsSubmitted stations p (Deliver key event) a p' told
+    → answers_delivery a ≡ true
 replied_by stations None p key event a p' told e law h =
     let P : Answer → Type 0 = λ x. answers_delivery x ≡ true in
     subst P (sym (h.stranger e).0) refl
 replied_by stations (Some at) p key event a p' told e law h = replied_at at p key event a p' told law (h.settled at e)
 
-next_by : (stations : List StationPlace) (there : Option StationPlace) (p : Held) (command : Command) (a : Answer) (p' : Held) (told : Option Known) → slice_get stations p.station ≡ there → IsSubmitted stations p command a p' told → IsNextPass p p'
+next_by : (stations : List StationPlace) (there : Option StationPlace) (p : Held) (command : Command) (a : Answer) (p' : Held) (told : Option Known)
+    → slice_get stations p.station ≡ there → IsSubmitted stations p command a p' told → IsNextPass p p'
 next_by stations None p command a p' told e h = same_pass p p' told (h.stranger e).1
 next_by stations (Some at) p command a p' told e h = next_at at p command a p' told (h.settled at e)
 
 -- what a desk answers to a delivery has a reply
-pub submitted_is_replied : (stations : List StationPlace) (p : Held) (key : KeyName) (event : EventContent) (a : Answer) (p' : Held) (told : Option Known) → EachDeliveryIsAnswered → IsSubmitted stations p (Deliver key event) a p' told → answers_delivery a ≡ true
+pub submitted_is_replied : (stations : List StationPlace) (p : Held) (key : KeyName) (event : EventContent) (a : Answer) (p' : Held) (told : Option Known)
+    → EachDeliveryIsAnswered → IsSubmitted stations p (Deliver key event) a p' told → answers_delivery a ≡ true
 submitted_is_replied stations p key event a p' told law h = replied_by stations (slice_get stations p.station) p key event a p' told refl law h
 
 -- the pass after a command to a desk
@@ -82,7 +88,9 @@ pub submitted_pass : (stations : List StationPlace) (p : Held) (command : Comman
 submitted_pass stations p command a p' told h = next_by stations (slice_get stations p.station) p command a p' told refl h
 
 -- what is answered to a delivery has a reply
-pub delivered_is_replied : {E M : Type 0} (stations : List StationPlace) (p : Held) (key : KeyName) (event : EventContent) (result : Result (Answer × Option Known × Option M) E) (p' : Held) → EachDeliveryIsAnswered
+pub delivered_is_replied : {E M : Type 0} (stations : List StationPlace) (p : Held) (key : KeyName) (event : EventContent)
+    (result : Result (Answer × Option Known × Option M) E) (p' : Held)
+    → EachDeliveryIsAnswered
     → IfOk result (λ r. IsSubmitted stations p (Deliver key event) r.0 p' r.1) → IfOk result (λ r. answers_delivery r.0 ≡ true)
 delivered_is_replied stations p key event (Ok r) p' law h = submitted_is_replied stations p key event r.0 p' r.1 law h
 delivered_is_replied stations p key event (Err e) p' law h = h

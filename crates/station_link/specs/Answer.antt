@@ -44,7 +44,9 @@ pub record IsNextPass (p p' : Held) : Type 0 where
 
 -- The reply to an event is the reply to an answer that the desk can give to its delivery, and what comes with it
 -- belongs to that answer.
-pub record IsDelivered {M : Type 0} (gives : ℕ → StationPlace → Command → Answer → Option Known → Option M → Type 0) (stations : List StationPlace) (p : Held) (id : List ℕ) (request : Request) (text : Option (List ℕ)) (p' : Held) (told : Option Known) (seen : Option M) : Type 0 where
+pub record IsDelivered {M : Type 0} (gives : ℕ → StationPlace → Command → Answer → Option Known → Option M → Type 0)
+    (stations : List StationPlace) (p : Held) (id : List ℕ) (request : Request) (text : Option (List ℕ)) (p' : Held)
+    (told : Option Known) (seen : Option M) : Type 0 where
   pub answer : Answer
   pub submitted : IsSubmitted stations p (Deliver request.key request.event) answer p' told
   pub given : IsGivenAt gives stations p.station (Deliver request.key request.event) answer told seen
@@ -63,14 +65,16 @@ pub record TellsMemory {M : Type 0} (words : List ℕ) (p : Held) (text : Option
   pub ready : IsReady (Some reply) p text p' told seen
 
 -- The answer to a meaning: silence, the ready reply, or the reply to the delivery.
-abbrev pub AnswersMeaning : {M : Type 0} → (ℕ → StationPlace → Command → Answer → Option Known → Option M → Type 0) → List StationPlace → Held → Meaning → Option (List ℕ) → Held → Option Known → Option M → Type 0
+abbrev pub AnswersMeaning : {M : Type 0} → (ℕ → StationPlace → Command → Answer → Option Known → Option M → Type 0)
+    → List StationPlace → Held → Meaning → Option (List ℕ) → Held → Option Known → Option M → Type 0
 AnswersMeaning gives stations p Silence text p' told seen = IsReady None p text p' told seen
 AnswersMeaning gives stations p (Ready reply) text p' told seen = IsReady (Some reply) p text p' told seen
 AnswersMeaning gives stations p (Event id request) text p' told seen = IsDelivered gives stations p id request text p' told seen
 
 -- The answer to a station's text at a moment; the last argument says whether there was no memory to read
 -- it.
-abbrev pub Answers : {M : Type 0} → (ℕ → StationPlace → Command → Answer → Option Known → Option M → Type 0) → List StationPlace → Held → List ℕ → ℕ → Option (List ℕ) → Held → Option Known → Option M → Bool → Type 0
+abbrev pub Answers : {M : Type 0} → (ℕ → StationPlace → Command → Answer → Option Known → Option M → Type 0) → List StationPlace
+    → Held → List ℕ → ℕ → Option (List ℕ) → Held → Option Known → Option M → Bool → Type 0
 Answers gives stations p words now text p' told seen true = TellsMemory words p text p' told seen
 Answers gives stations p words now text p' told seen false = AnswersMeaning gives stations p (message words now) text p' told seen
 

@@ -169,9 +169,12 @@ one_more_in_range : (so_far : List MeterReading) (reading : MeterReading) (r : L
 one_more_in_range so_far reading r p is e =
     let t = passed (nat_lt (length so_far) most_event_readings) (so_far ++ reading ∷ []) r _ e in
     let few : length so_far < most_event_readings = ltb-true (length so_far) most_event_readings t.0 in
-    subst AreReadings t.1 (omega (arith, few, length-append so_far (reading ∷ [])), All-append IsMeterReading so_far (reading ∷ []) p.1 (All-cons IsMeterReading reading [] is (All-nil IsMeterReading)))
+    subst AreReadings t.1
+    (omega (arith, few, length-append so_far (reading ∷ [])), All-append IsMeterReading so_far (reading ∷ []) p.1 (All-cons IsMeterReading reading [] is (All-nil IsMeterReading)))
 
-counted_in_range : (nanos : ℕ) → IsMoment nanos → (so_far : List MeterReading) (sampled : Data) (counted : Option Direction) (r : List MeterReading) → AreReadings so_far → if_counted nanos so_far sampled counted ≡ Ok r → AreReadings r
+counted_in_range : (nanos : ℕ) → IsMoment nanos
+    → (so_far : List MeterReading) (sampled : Data) (counted : Option Direction) (r : List MeterReading) → AreReadings so_far
+    → if_counted nanos so_far sampled counted ≡ Ok r → AreReadings r
 counted_in_range nanos is so_far sampled None r p e = subst AreReadings (same_ok {E = PayloadFault} so_far r e) p
 counted_in_range nanos is so_far sampled (Some direction) r p e =
     let mwh = bound (sampled_mwh sampled) _ r e in

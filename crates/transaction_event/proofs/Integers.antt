@@ -22,7 +22,9 @@ no_plus : (token : List ℕ) → 0 < length token → list_all is_ascii_digit to
 no_plus token some all = not_in_digits digits token 43 all (λ h. absurd (omega arith)) 0 some
 
 -- digits behind a sign that is there, or not
-behind_sign : (signed : Bool) (token : List ℕ) → (nat_lt 0 (length (drop (cond signed 1 0) token)) && list_all is_ascii_digit (drop (cond signed 1 0) token)) ≡ true → IsNumeral 10 (cond signed (drop 1 token) (without_leading_plus token))
+behind_sign : (signed : Bool) (token : List ℕ)
+    → (nat_lt 0 (length (drop (cond signed 1 0) token)) && list_all is_ascii_digit (drop (cond signed 1 0) token)) ≡ true
+    → IsNumeral 10 (cond signed (drop 1 token) (without_leading_plus token))
 behind_sign true token h = let p = and_parts _ _ h in (ltb-true _ _ p.0, digits.to _ p.1)
 behind_sign false token h =
     let p = and_parts _ _ h in
@@ -51,5 +53,7 @@ within_token : (low high : ℤ) (token : List ℕ) → is_integer token ≡ true
 within_token low high token t = rw t refl
 
 -- what `parse` refuses is out of range
-pub refused_integer : (low high : ℤ) (token : List ℕ) → FitsSigned w64 low → FitsSigned w64 high → is_integer token ≡ true → (IsNumeral 10 (without_leading_sign token) × FitsSigned w64 (signed_digits_value 10 token) → ⊥) → Err Range ≡ integer_within low high token
+pub refused_integer : (low high : ℤ) (token : List ℕ) → FitsSigned w64 low → FitsSigned w64 high → is_integer token ≡ true
+    → (IsNumeral 10 (without_leading_sign token) × FitsSigned w64 (signed_digits_value 10 token) → ⊥)
+    → Err Range ≡ integer_within low high token
 refused_integer low high token l h t none = out_of_range low high (signed_digits_value 10 token) l h (λ fits. none (numeral_from_integer token t, fits)) ∙ sym (within_token low high token t)

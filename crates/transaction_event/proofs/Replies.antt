@@ -25,7 +25,9 @@ told_by_memory_alone id other Moment e = absurd (other_last_letter id other (fau
 told_by_memory_alone id other OutOfMemory e = refl
 
 -- a fault's reply reports OutOfMemory where that is the fault
-pub fault_tells : (id : List ℕ) (payload : Data) (fault : PayloadFault) (reply : List ℕ) (memory : Bool) → (IsTrue memory ↔ (fault ≡ OutOfMemory)) → (fault ≡ OutOfMemory → PayloadGrows payload) → reply ≡ fault_reply id fault → IsTrue memory ↔ IsMemoryReply (Called id TransactionEvent payload) reply
+pub fault_tells : (id : List ℕ) (payload : Data) (fault : PayloadFault) (reply : List ℕ) (memory : Bool)
+    → (IsTrue memory ↔ (fault ≡ OutOfMemory)) → (fault ≡ OutOfMemory → PayloadGrows payload) → reply ≡ fault_reply id fault
+    → IsTrue memory ↔ IsMemoryReply (Called id TransactionEvent payload) reply
 fault_tells id payload fault reply memory is grows told =
     let memory_alone : (other : List ℕ) → reply ≡ memory_reply other → IsTrue memory = λ other same. is.1 (told_by_memory_alone id other fault (sym told ∙ same)) in (
       λ yes. inr (told ∙ ap (fault_reply id) (is.0 yes), grows (is.0 yes)),
@@ -43,7 +45,10 @@ unread_tells Silence reply e = e
 unread_tells (Ready ready) reply e = e
 
 -- a fault's reply is what its call means
-pub fault_answers : (id : List ℕ) (payload : Data) (fault : PayloadFault) (reply : List ℕ) (memory : Bool) → (IsTrue memory ↔ (fault ≡ OutOfMemory)) → (fault ≢ OutOfMemory → event_reading payload ≡ Err fault) → (fault ≡ OutOfMemory → PayloadGrows payload) → reply ≡ fault_reply id fault → (now : ℕ) → Answers now (Called id TransactionEvent payload) reply memory
+pub fault_answers : (id : List ℕ) (payload : Data) (fault : PayloadFault) (reply : List ℕ) (memory : Bool)
+    → (IsTrue memory ↔ (fault ≡ OutOfMemory)) → (fault ≢ OutOfMemory → event_reading payload ≡ Err fault)
+    → (fault ≡ OutOfMemory → PayloadGrows payload) → reply ≡ fault_reply id fault → (now : ℕ)
+    → Answers now (Called id TransactionEvent payload) reply memory
 fault_answers id payload fault reply true is reads grows told now = inr (told ∙ ap (fault_reply id) (is.0 refl), grows (is.0 refl))
 fault_answers id payload fault reply false is reads grows told now =
     let other : fault ≢ OutOfMemory = λ memory. let impossible : IsTrue false = is.1 memory in cc in

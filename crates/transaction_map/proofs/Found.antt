@@ -32,7 +32,9 @@ module _ {X : Type 0} where
       ] refl (sym (found_put q tx v rows) ∙ h)
 
   -- What is found after one was taken out is another.
-  pub out_cases : (q tx : List ℕ) (x : X) (rows : List (List ℕ × X)) → find id_cmp q (filter (λ r. not (eq_by_cmp id_cmp tx r.0)) rows) ≡ Some x → (eq_by_cmp id_cmp q tx ≡ false) × (find id_cmp q rows ≡ Some x)
+  pub out_cases : (q tx : List ℕ) (x : X) (rows : List (List ℕ × X))
+      → find id_cmp q (filter (λ r. not (eq_by_cmp id_cmp tx r.0)) rows) ≡ Some x
+      → (eq_by_cmp id_cmp q tx ≡ false) × (find id_cmp q rows ≡ Some x)
   out_cases q tx x rows h =
       elim (eq_by_cmp id_cmp q tx) as (λ b. eq_by_cmp id_cmp q tx ≡ b → cond b None (find id_cmp q rows) ≡ Some x → (eq_by_cmp id_cmp q tx ≡ false) × (find id_cmp q rows ≡ Some x)) [
         | true ↦ λ e s. cc
@@ -56,7 +58,8 @@ module _ {X : Type 0} where
   length_out tx rows h = length_without id_cmp id_total tx rows h
 
   -- A put stays within the capacity where a new id has room.
-  pub within_put : (tx : List ℕ) (v : X) (rows : List (List ℕ × X)) (capacity : ℕ) → AreRising rows → length rows ≤ capacity → (find id_cmp tx rows ≡ None → length rows < capacity) → length (put id_cmp tx v rows) ≤ capacity
+  pub within_put : (tx : List ℕ) (v : X) (rows : List (List ℕ × X)) (capacity : ℕ) → AreRising rows → length rows ≤ capacity
+      → (find id_cmp tx rows ≡ None → length rows < capacity) → length (put id_cmp tx v rows) ≤ capacity
   within_put tx v rows capacity rising within room =
       elim (find id_cmp tx rows) as (λ o. find id_cmp tx rows ≡ o → length (put id_cmp tx v rows) ≤ capacity) [
         | None ↦ λ e. let n = length_put tx v rows rising ∙ ap (λ (o : Option X). cond (is_some o) (length rows) (length rows + 1)) e in let lt = room e in omega arith
@@ -93,8 +96,10 @@ module _ {X : Type 0} where
       ]
 
 -- Rising lists have the same ids if the same ids are found in them.
-pub same_ids : {X Y : Type 0} (xs : List (List ℕ × X)) (ys : List (List ℕ × Y)) → AreRising xs → AreRising ys → ((q : List ℕ) → is_some (find id_cmp q xs) ≡ is_some (find id_cmp q ys)) → map (λ r. r.0) xs ≡ map (λ r. r.0) ys
+pub same_ids : {X Y : Type 0} (xs : List (List ℕ × X)) (ys : List (List ℕ × Y)) → AreRising xs → AreRising ys
+    → ((q : List ℕ) → is_some (find id_cmp q xs) ≡ is_some (find id_cmp q ys)) → map (λ r. r.0) xs ≡ map (λ r. r.0) ys
 same_ids xs ys xr yr same =
     let named : names xs ≡ names ys =
-    same_entries id_cmp id_total exact_ids (names xs) (names ys) (subst T (sym (names-rising xs)) xr) (subst T (sym (names-rising ys)) yr) (λ q. names-find q xs ∙ ap (λ b. cond b (Some tt) None) (same q) ∙ sym (names-find q ys)) in
+    same_entries id_cmp id_total exact_ids (names xs) (names ys) (subst T (sym (names-rising xs)) xr)
+    (subst T (sym (names-rising ys)) yr) (λ q. names-find q xs ∙ ap (λ b. cond b (Some tt) None) (same q) ∙ sym (names-find q ys)) in
     sym (names-ids xs) ∙ ap (map (λ r. r.0)) named ∙ names-ids ys

@@ -24,7 +24,9 @@ module _ {X : Type 0} where
       (turned x.0 key Less (subst (λ k. id_cmp x.0 k ≡ Less) here smaller), at_from_found key es i d (second _ _ h) (omega arith) e)
 
   -- An id between smaller and greater ones belongs there.
-  gap_from_parts : (key : List ℕ) (es : List (List ℕ × X)) (i : ℕ) (d : List ℕ × X) → i ≤ length es → ((k : ℕ) → k < i → id_cmp (get_or es k d).0 key ≡ Less) → ((k : ℕ) → i ≤ k → k < length es → id_cmp (get_or es k d).0 key ≡ Greater) → IsGap key es i
+  gap_from_parts : (key : List ℕ) (es : List (List ℕ × X)) (i : ℕ) (d : List ℕ × X) → i ≤ length es
+      → ((k : ℕ) → k < i → id_cmp (get_or es k d).0 key ≡ Less)
+      → ((k : ℕ) → i ≤ k → k < length es → id_cmp (get_or es k d).0 key ≡ Greater) → IsGap key es i
   gap_from_parts key [] i d le small great = omega arith
   gap_from_parts key (x ∷ es) zero d le small great = turned x.0 key Greater (great 0 (omega arith) (omega arith))
   gap_from_parts key (x ∷ es) (suc i) d le small great = (
@@ -33,7 +35,9 @@ module _ {X : Type 0} where
   )
 
   -- A binary search ends at the id, or at the place where it belongs.
-  pub searched : (es : List (List ℕ × X)) (key : List ℕ) (r : Result ℕ ℕ) → AreRising es → IsSearchInRange r (length es) → IsBinarySearchResult (λ (e : List ℕ × X). id_cmp e.0 key) es r → record { at : IfOk r (λ i. IsAt key es i); gap : IfErr r (λ i. IsGap key es i) }
+  pub searched : (es : List (List ℕ × X)) (key : List ℕ) (r : Result ℕ ℕ) → AreRising es → IsSearchInRange r (length es)
+      → IsBinarySearchResult (λ (e : List ℕ × X). id_cmp e.0 key) es r
+      → record { at : IfOk r (λ i. IsAt key es i); gap : IfErr r (λ i. IsGap key es i) }
   searched [] key (Ok i) rising within equal = absurd (omega (arith, within))
   searched [] key (Err i) rising within parted = record { at = tt; gap = omega (arith, within) }
   searched (e ∷ es) key (Ok i) rising within equal = record { at = at_from_found key (e ∷ es) i e rising within (equal e); gap = tt }

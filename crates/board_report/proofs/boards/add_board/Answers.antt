@@ -18,7 +18,9 @@ returns-then-station-site-clause-boards c =
     let read = c.index-stations-number.is ∙ ap (λ l. get_or l c.args.number x) c.as_slice-stations.ensures.value in
     let at = slice_get_read xs (length xs) c.args.number x refl c.requires.there read in
     let cell = stands cells c.args.number (omega (arith, c.requires.there, c.requires.cells.count)) in
-    c.requires.boards ∙ sym (boards_more_no (order_at c.args.plan.now.sites.items c.args.site) (period_at c.args.plan.now.sites.items c.args.site) xs cells c.args.site c.args.number x cell.0 at cell.1 c.if-station-site.true)
+    c.requires.boards ∙ sym
+    (boards_more_no (order_at c.args.plan.now.sites.items c.args.site) (period_at c.args.plan.now.sites.items c.args.site) xs cells
+    c.args.site c.args.number x cell.0 at cell.1 c.if-station-site.true)
 
 pub returns-clause-boards : goal.returns-clause-boards
 returns-clause-boards c =
@@ -32,7 +34,8 @@ returns-clause-boards c =
     let order = c.ledger.ensures.order ∙ c.requires.cells.orders c.args.number x c.index-cells-number.result at stands ∙ ap (order_at c.args.plan.now.sites.items) c.if-station-site.false in
     let shown = c.in_ok-board.ensures.board ∙ (λ i. board_by (order i) (period i) (entries (c.ledger.ensures.content i))) in
     c.in_ok-push.ensures.items ∙ (λ i. c.requires.boards i ++ (c.copied.ensures i, shown i) ∷ [])
-    ∙ sym (boards_more_yes (order_at c.args.plan.now.sites.items c.args.site) (period_at c.args.plan.now.sites.items c.args.site) xs cells c.args.site c.args.number x c.index-cells-number.result at stands c.if-station-site.false)
+    ∙ sym (boards_more_yes (order_at c.args.plan.now.sites.items c.args.site) (period_at c.args.plan.now.sites.items c.args.site) xs
+    cells c.args.site c.args.number x c.index-cells-number.result at stands c.if-station-site.false)
 
 pub returns-clause-within : goal.returns-clause-within
 returns-clause-within c =
@@ -47,4 +50,9 @@ returns-clause-within c =
     subst (λ l. AreBoardsWithin l c.push.new.self.items) (sym more)
     (subst (AreBoardsWithin (limits_at (take c.args.number xs) c.args.site ++ x.limits ∷ [])) (sym c.in_ok-push.ensures.items)
     (within_more (limits_at (take c.args.number xs) c.args.site) c.args.boards.now.items x.limits (c.copied.result, c.in_ok-board.board) c.requires.within
-    (record { entries = entries c.ledger.result.now.content; order = c.ledger.result.now.order; is = by_own c.in_ok-board.board c.ledger.result.now.order c.ledger.result.now.period (entries c.ledger.result.now.content) c.in_ok-board.ensures.board; within = subst (λ l. AreWithin l c.in_ok-board.board.figures) limits c.in_ok-board.ensures.within })))
+    (record {
+      entries = entries c.ledger.result.now.content;
+      order = c.ledger.result.now.order;
+      is = by_own c.in_ok-board.board c.ledger.result.now.order c.ledger.result.now.period (entries c.ledger.result.now.content) c.in_ok-board.ensures.board;
+      within = subst (λ l. AreWithin l c.in_ok-board.board.figures) limits c.in_ok-board.ensures.within;
+    })))

@@ -10,7 +10,8 @@ pub site_board-requires-clause-periods : goal.site_board-requires-clause-periods
 site_board-requires-clause-periods c =
     let plan = c.args.plan.now in
     subst (λ p. AreOfPeriod p c.in_ok-boards.boards.items) (sym c.period-period.ensures)
-    (subst (AreOfPeriod (period_at plan.sites.items c.args.site)) (sym c.in_ok-boards.ensures.boards) (boards_period (order_at plan.sites.items c.args.site) (period_at plan.sites.items c.args.site) plan.stations.items c.args.cells.now c.args.site))
+    (subst (AreOfPeriod (period_at plan.sites.items c.args.site)) (sym c.in_ok-boards.ensures.boards)
+    (boards_period (order_at plan.sites.items c.args.site) (period_at plan.sites.items c.args.site) plan.stations.items c.args.cells.now c.args.site))
 
 pub site_board-requires-clause-fit : goal.site_board-requires-clause-fit
 site_board-requires-clause-fit c =

@@ -21,7 +21,9 @@ returns g c =
     let order = order_at sites site in
     let boards = site_boards sites xs closed.cells site in
     let totals = c.totals-totals.ensures book.0 book.1 ∙ summed.totals in
-    let sums = ap sum_of_figures (figures_alike order period xs closed.cells site c.requires.closed.cells.count c.requires.closed.at_sites (λ k s d at is e. c.requires.closed.cells.orders k s d at is ∙ ap (order_at sites) e)) in
+    let sums = ap sum_of_figures
+    (figures_alike order period xs closed.cells site c.requires.closed.cells.count c.requires.closed.at_sites
+    (λ k s d at is e. c.requires.closed.cells.orders k s d at is ∙ ap (order_at sites) e)) in
     let x = c.index-as_slice-number.result in
     let name = c.copied-name.ensures ∙ ap (λ l. (get_or l site x).name) c.as_slice.ensures.value ∙ name_at sites site x c.requires.planned in
     let there = ap (λ l. site_under sites xs l site c.copied-name.result c.totals-totals.result) c.cells.ensures in

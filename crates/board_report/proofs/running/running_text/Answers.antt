@@ -38,6 +38,8 @@ returns c =
     value_told c.write_board.result _ _
     (λ _ h.
     h
-    ∙ ap board_text (named_is b.board (get_or (map (λ (p : SitePlan). p.name) sites) site []) (period_at sites site) (order_at sites site) _ boards name (b.ensures.figures ∙ c.requires.totals) (b.ensures.period ∙ c.period-period.ensures) (b.ensures.order ∙ c.order-order.ensures)
+    ∙ ap board_text (named_is b.board (get_or (map (λ (p : SitePlan). p.name) sites) site []) (period_at sites site)
+    (order_at sites site) _ boards name (b.ensures.figures ∙ c.requires.totals) (b.ensures.period ∙ c.period-period.ensures)
+    (b.ensures.order ∙ c.order-order.ensures)
     (b.ensures.quarters ∙ ap (λ p. (site_board p boards).quarters) c.period-period.ensures) b.ensures.stations))
     c.write_board.ensures

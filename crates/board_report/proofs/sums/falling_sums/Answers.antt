@@ -9,7 +9,9 @@ add_line-requires c =
     let k = c.loop-left.invariant in
     let left = c.loop-left.left.now in
     subst (CanLead c.last-item.result) (sym k.1.1)
-    (can_lead (take (length left - 1) left) c.last-item.result k.0 c.args.lines.now (last_apart left c.last-item.result k.0 (omega (arith, c.in-len1-up.len_at_least)) c.last-item.is ∙ k.1.0) c.requires.order c.requires.fit)
+    (can_lead (take (length left - 1) left) c.last-item.result k.0 c.args.lines.now
+    (last_apart left c.last-item.result k.0 (omega (arith, c.in-len1-up.len_at_least)) c.last-item.is ∙ k.1.0) c.requires.order
+    c.requires.fit)
 
 -- and gives the sums of one line more
 pub loop-left-preserved : goal.loop-left-preserved

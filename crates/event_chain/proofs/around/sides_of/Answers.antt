@@ -10,14 +10,16 @@ last_at-sides-requires c =
     let p = c.args.places.now in let d = c.args.direction in let slots = c.args.store.now.slots in let key = c.args.key.now in let row = c.in-Some.row in
     let lt : key.seq < 2 ^ 31 = omega (arith, c.seq.ensures.value, c.seq.ensures.range) in
     subst (IsStored slots) (sym c.carriers_around-found.ensures.before)
-    (before_stored d c.args.table.now.rows p.stored.entries (carriers_of p d).entries slots c.requires.keyed c.requires.carry key row c.new-at.result (sym c.requires.row ∙ c.in-Some.is) lt (c.new-at.ensures ∙ ap (rank row.slot) c.seq.ensures.value))
+    (before_stored d c.args.table.now.rows p.stored.entries (carriers_of p d).entries slots c.requires.keyed c.requires.carry key row
+    c.new-at.result (sym c.requires.row ∙ c.in-Some.is) lt (c.new-at.ensures ∙ ap (rank row.slot) c.seq.ensures.value))
 
 pub first_at-sides-requires : goal.first_at-sides-requires
 first_at-sides-requires c =
     let p = c.args.places.now in let d = c.args.direction in let slots = c.args.store.now.slots in let key = c.args.key.now in let row = c.in-Some.row in
     let lt : key.seq < 2 ^ 31 = omega (arith, c.seq.ensures.value, c.seq.ensures.range) in
     subst (IsStored slots) (sym c.carriers_around-found.ensures.behind)
-    (behind_stored d c.args.table.now.rows p.stored.entries (carriers_of p d).entries slots c.requires.keyed c.requires.carry key row c.new-at.result (sym c.requires.row ∙ c.in-Some.is) lt (c.new-at.ensures ∙ ap (rank row.slot) c.seq.ensures.value))
+    (behind_stored d c.args.table.now.rows p.stored.entries (carriers_of p d).entries slots c.requires.keyed c.requires.carry key row
+    c.new-at.result (sym c.requires.row ∙ c.in-Some.is) lt (c.new-at.ensures ∙ ap (rank row.slot) c.seq.ensures.value))
 
 pub returns-in-Some : goal.returns-in-Some
 returns-in-Some c =

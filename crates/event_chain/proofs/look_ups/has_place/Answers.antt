@@ -9,7 +9,10 @@ use Rattle.event_chain.proofs.look_ups.has_place.Goals as goal
 pub returns-clause-some : goal.returns-clause-some
 returns-clause-some c has =
     let es = c.stored-stored.result.entries in
-    subst (λ (x : Index). HasPlace x.entries c.args.slot) c.stored-stored.ensures.same (seg_some c.args.slot es c.first_place.result (ranks_of es (subst (λ (x : Index). AreRising x.entries) (sym c.stored-stored.ensures.same) c.stored-stored.ensures.rising)) c.first_place.ensures (sym c.is_some.ensures ∙ has))
+    subst (λ (x : Index). HasPlace x.entries c.args.slot) c.stored-stored.ensures.same
+    (seg_some c.args.slot es c.first_place.result
+    (ranks_of es (subst (λ (x : Index). AreRising x.entries) (sym c.stored-stored.ensures.same) c.stored-stored.ensures.rising))
+    c.first_place.ensures (sym c.is_some.ensures ∙ has))
 
 pub returns-clause-bare : goal.returns-clause-bare
 returns-clause-bare c has =

@@ -13,7 +13,9 @@ unreachable-requires-in-None-get c =
     let es = c.stored-stored.result.entries in let rows = c.args.table.now.rows in let row = c.in-Some.row in let key = c.args.key.now in
     let lt : key.seq < 2 ^ 31 = omega (arith, c.seq.ensures.value, c.seq.ensures.range) in
     let rising = subst (λ (x : Index). AreRising x.entries) (sym c.stored-stored.ensures.same) c.stored-stored.ensures.rising in
-    let none = sym (ap (λ (x : Index). place_at rows x.entries key) c.stored-stored.ensures.same) ∙ place_at_row rows es key row (sym (c.in-Some.ensures.value ∙ ap (λ t. row_of t rows) c.tx.ensures)) lt ∙ ap (λ r. place_of r es) (ap (rank row.slot) (sym c.seq.ensures.value) ∙ sym c.new-at.ensures)
+    let none = sym (ap (λ (x : Index). place_at rows x.entries key) c.stored-stored.ensures.same)
+    ∙ place_at_row rows es key row (sym (c.in-Some.ensures.value ∙ ap (λ t. row_of t rows) c.tx.ensures)) lt
+    ∙ ap (λ r. place_of r es) (ap (rank row.slot) (sym c.seq.ensures.value) ∙ sym c.new-at.ensures)
     ∙ sym (found_at c.new-at.result es rising) ∙ sym c.get-2.ensures ∙ c.in-None-get.is in
     let f : false ≡ true = ap is_some (sym none) ∙ c.requires in cc
 
@@ -21,6 +23,8 @@ pub returns : goal.returns
 returns c = record {
   row = sym (c.in-Some.ensures.value ∙ ap (λ t. row_of t c.args.table.now.rows) c.tx.ensures);
   key_is = c.new-at.ensures ∙ ap (rank c.in-Some.row.slot) c.seq.ensures.value;
-  slot = sym (found_at c.new-at.result c.args.places.now.stored.entries c.stored-stored.ensures.rising) ∙ sym (ap (λ (x : Index). filed_at c.new-at.result (from c.new-at.result x.entries)) c.stored-stored.ensures.same) ∙ sym c.get-2.ensures ∙ c.in-Some-get.is;
+  slot = sym (found_at c.new-at.result c.args.places.now.stored.entries c.stored-stored.ensures.rising)
+      ∙ sym (ap (λ (x : Index). filed_at c.new-at.result (from c.new-at.result x.entries)) c.stored-stored.ensures.same)
+      ∙ sym c.get-2.ensures ∙ c.in-Some-get.is;
   number = omega (arith, c.seq.ensures.value, c.seq.ensures.range);
 }

@@ -22,13 +22,15 @@ pub link_in-requires-clause-sides : goal.link_in-requires-clause-sides
 link_in-requires-clause-sides c =
     let L = marked_index (Some Live) c.args.index.now in let key = c.args.key in
     let sides = sides_absent L c.args.links.now c.requires.listed (marked_rising (Some Live) c.args.index.now.entries c.requires.rising) key c.requires.absent in
-    let before : c.slot_of_place-before.result ≡ slot_before key L.entries = c.slot_of_place-before.ensures ∙ ap (option_map slot_in) c.place_before.ensures ∙ ap (λ (x : Index). slot_before key x.entries) c.over-live.ensures in
+    let before : c.slot_of_place-before.result ≡ slot_before key L.entries =
+    c.slot_of_place-before.ensures ∙ ap (option_map slot_in) c.place_before.ensures ∙ ap (λ (x : Index). slot_before key x.entries) c.over-live.ensures in
     let after : c.slot_behind-after.result ≡ slot_after key L.entries = c.slot_behind-after.ensures ∙ ap (λ (x : Index). slot_after key x.entries) c.over-live.ensures in
     ((λ x is. sides.0 x (sym before ∙ is)), (λ x is. sides.1 x (sym after ∙ is)))
 
 pub returns : goal.returns
 returns c =
     let L = marked_index (Some Live) c.args.index.now in let key = c.args.key in
-    let before : c.slot_of_place-before.result ≡ slot_before key L.entries = c.slot_of_place-before.ensures ∙ ap (option_map slot_in) c.place_before.ensures ∙ ap (λ (x : Index). slot_before key x.entries) c.over-live.ensures in
+    let before : c.slot_of_place-before.result ≡ slot_before key L.entries =
+    c.slot_of_place-before.ensures ∙ ap (option_map slot_in) c.place_before.ensures ∙ ap (λ (x : Index). slot_before key x.entries) c.over-live.ensures in
     let after : c.slot_behind-after.result ≡ slot_after key L.entries = c.slot_behind-after.ensures ∙ ap (λ (x : Index). slot_after key x.entries) c.over-live.ensures in
     c.link_in.ensures ∙ (λ i. linked_in c.args.links.now (before i) c.args.slot c.args.slot (after i))

@@ -9,7 +9,8 @@ use Rattle.journal_server.proofs.run.end_run.Goals as goal
 
 pub write_boards-requires-clause-closed : goal.write_boards-requires-clause-closed
 write_boards-requires-clause-closed g c =
-    closed_of c.args.plan.now.sites.items c.args.plan.now.stations.items c.args.kept c.in-Ok.closed.closed c.args.ran.passes.items c.args.ran.viewers.items c.requires.sites c.requires.opened c.in-Ok.ensures.stations c.in-Ok.ensures.sites c.in-Ok.ensures.whole
+    closed_of c.args.plan.now.sites.items c.args.plan.now.stations.items c.args.kept c.in-Ok.closed.closed c.args.ran.passes.items
+    c.args.ran.viewers.items c.requires.sites c.requires.opened c.in-Ok.ensures.stations c.in-Ok.ensures.sites c.in-Ok.ensures.whole
 
 pub returns : goal.returns
 returns g c =
@@ -23,7 +24,8 @@ returns g c =
     let texts = c.args.ran.answers.items in
     let all = subst (λ ms. All (λ m. IsPrefix m kept.log) ms) (c.in_ok-moments.ensures ∙ ap (λ ms. ms ++ c.args.ran.boards.items) c.in_ok-more.ensures) kept.begins in
     let begins = all_front (λ m. IsPrefix m kept.log) (handed ++ texts) c.args.ran.boards.items all in
-    let closed = closed_of sites stations c.args.kept ended.closed c.args.ran.passes.items c.args.ran.viewers.items c.requires.sites c.requires.opened c.in-Ok.ensures.stations c.in-Ok.ensures.sites c.in-Ok.ensures.whole in
+    let closed = closed_of sites stations c.args.kept ended.closed c.args.ran.passes.items c.args.ran.viewers.items c.requires.sites
+    c.requires.opened c.in-Ok.ensures.stations c.in-Ok.ensures.sites c.in-Ok.ensures.whole in
     record {
       cells = ended.closed.cells;
       seen = c.in_ok-moments.moments.items;

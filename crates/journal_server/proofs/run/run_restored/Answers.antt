@@ -14,6 +14,8 @@ returns g c =
     value_told c.run_over.result _ _
     (λ s h front restored.
     script_of_plan front c.args.restored.draft.sites c.plan-2.result.now.sites.items c.args.restored.draft.stations c.plan-2.result.now.stations.items cells _ _
-    (λ stations sites log. TellsNew s.ended stations (operator_input c.args.journalling.live.connections (g.I.Read.remaining c.args.input.now)) (g.T.Write.contents c.args.ends.console) (g.T.Write.contents s.console) sites cells log)
+    (λ stations sites log. TellsNew s.ended stations
+    (operator_input c.args.journalling.live.connections (g.I.Read.remaining c.args.input.now))
+    (g.T.Write.contents c.args.ends.console) (g.T.Write.contents s.console) sites cells log)
     c.plan-2.ensures.sites c.plan-2.ensures.stations c.requires.faultless c.requires.cells restored h)
     c.run_over.ensures

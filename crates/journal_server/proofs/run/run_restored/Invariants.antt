@@ -8,4 +8,5 @@ ghosts-run_over-J-Naming g a = record { table = tables.names_of a.desk_parts.tab
 
 -- the table that was just made, what the writer holds, what the cells hold, and the names of the plan's stations
 abbrev pub ghosts-run_over-K-Opening : goal.ghosts-run_over-K-Opening
-ghosts-run_over-K-Opening g a = record { table = a.desk_parts.table; before = g.W.Write.contents a.ends.journal.inner; first = contents_of a.desk_parts.cells.items; name = names_of a.plan.now.stations.items }
+ghosts-run_over-K-Opening g a =
+    record { table = a.desk_parts.table; before = g.W.Write.contents a.ends.journal.inner; first = contents_of a.desk_parts.cells.items; name = names_of a.plan.now.stations.items }

@@ -27,6 +27,7 @@ returns g c =
       firsts = firsts;
       declares = declares;
       script = script_behind _ _ _ _ _ begun c.as_slice.result.now _ _ begins
-          (subst (λ x. IsItsScript c.as_slice.result.now sites x firsts begun (left_of g.W.Write.contents served) (TellsNew served.ended x input (g.T.Write.contents c.args.ends.console) (g.T.Write.contents served.console) sites firsts))
+          (subst (λ x. IsItsScript c.as_slice.result.now sites x firsts begun (left_of g.W.Write.contents served)
+          (TellsNew served.ended x input (g.T.Write.contents c.args.ends.console) (g.T.Write.contents served.console) sites firsts))
           (sym c.plan.ensures.stations ∙ c.is_declared.ensures.stations told) ran);
     }

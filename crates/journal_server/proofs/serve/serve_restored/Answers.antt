@@ -29,6 +29,7 @@ returns-in-Ok-run_restored-clause-serves g c =
       firsts = restored.cells.items;
       script = script_behind _ _ _ _ _ begun run_begins _ _ begins
           (telling _ _ _ _ _ _ _ _
-          (reported c.in-Ok-run_restored.served.ended restored.draft.sites restored.draft.stations restored.cells.items c.args.restoring.journalling.live.connections _ _ _ _ (grows_on _ _ _ c.in-Ok.ensures.grows c.tell_restored.ensures))
+          (reported c.in-Ok-run_restored.served.ended restored.draft.sites restored.draft.stations restored.cells.items
+          c.args.restoring.journalling.live.connections _ _ _ _ (grows_on _ _ _ c.in-Ok.ensures.grows c.tell_restored.ensures))
           ran);
     }

@@ -30,6 +30,8 @@ loop-before-preserved c =
     let name : c.station_name-station.result ≡ simulated_name (suc n) = c.station_name-station.ensures ∙ ap simulated_name (sym next) in
     let number = (λ i. site_number (position (λ (s : SitePlan). bytes_eq c.copied.result s.name) (k.1 i)) (k.1 i)) ∙ number_next c.copied.result n site in (
       k.0,
-      c.declare.ensures.sites ∙ (λ i. sites_with (position (λ (s : SitePlan). bytes_eq c.copied.result s.name) (k.1 i)) c.copied.result 0 (period i) Sequence (k.1 i)) ∙ sites_next c.copied.result n site ∙ ap simulated_sites next,
+      c.declare.ensures.sites
+          ∙ (λ i. sites_with (position (λ (s : SitePlan). bytes_eq c.copied.result s.name) (k.1 i)) c.copied.result 0 (period i) Sequence (k.1 i))
+          ∙ sites_next c.copied.result n site ∙ ap simulated_sites next,
       c.declare.ensures.stations ∙ (λ i. k.2 i ++ record { site = number i; name = name i; limits = limits i } ∷ []) ∙ ap simulated_stations next,
     )

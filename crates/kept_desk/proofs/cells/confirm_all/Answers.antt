@@ -24,5 +24,6 @@ pub returns-clause-first : goal.returns-clause-first
 returns-clause-first g c =
     let items = c.args.moments.items in
     let gives = c.into_iter-moment-iterator.ensures.into_iter_gives in
-    let end = YieldsList-end (YieldsList-from_vec items gives.0 (gives.1 ∙ c.args.moments.ok.0)) c.loop-moment.yielded _ c.loop-moment.yielded_by c.next.result c.next.new.self c.in-None.is c.next.ensures.steps in
+    let end = YieldsList-end (YieldsList-from_vec items gives.0 (gives.1 ∙ c.args.moments.ok.0)) c.loop-moment.yielded
+    _ c.loop-moment.yielded_by c.next.result c.next.new.self c.in-None.is c.next.ensures.steps in
     subst (All (λ m. IsPrefix m c.args.log.now.entries)) (sym (map-id c.loop-moment.yielded) ∙ end.0) c.loop-moment.invariant.first

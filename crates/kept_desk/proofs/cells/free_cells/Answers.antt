@@ -29,5 +29,7 @@ returns-clause-left g c =
     let first = g.K.Opening.first in
     let items = c.args.kept.items in
     let gives = c.into_iter-each-iterator.ensures.into_iter_gives in
-    let end = YieldsList-end (YieldsList-from_vec items gives.0 (gives.1 ∙ c.args.kept.ok.0)) c.loop-each.yielded _ c.loop-each.yielded_by c.next.result c.next.new.self c.in-None.is c.next.ensures.steps in
-    subst (All (λ (e : Cell). IsInService e → IsLeftFrom e.limits (first e.station) e.content (commands_of (of_station e.station c.args.log.now.entries)))) (sym (map-id c.loop-each.yielded) ∙ end.0) c.loop-each.invariant.left
+    let end = YieldsList-end (YieldsList-from_vec items gives.0 (gives.1 ∙ c.args.kept.ok.0)) c.loop-each.yielded
+    _ c.loop-each.yielded_by c.next.result c.next.new.self c.in-None.is c.next.ensures.steps in
+    subst (All (λ (e : Cell). IsInService e → IsLeftFrom e.limits (first e.station) e.content (commands_of (of_station e.station c.args.log.now.entries))))
+    (sym (map-id c.loop-each.yielded) ∙ end.0) c.loop-each.invariant.left

@@ -18,5 +18,6 @@ returns-then-at-len g c =
     let here = read_leaf ls at c.index.result.now c.requires.0 c.index.ensures in
     let past : length leaf ≤ place = subst (λ l. length l ≤ place) here (omega (arith, c.if-place-len.false, c.len.ensures.len)) in
     let e = c.entry-then-at-len.result in
-    let found : slice_get (get_or ls (at + 1) []) 0 ≡ Some e = ap (λ l. slice_get l 0) (sym (read_leaf ls (at + 1) c.index-then-at-len.result.now inside c.index-then-at-len.ensures)) ∙ c.entry-then-at-len.ensures in
+    let found : slice_get (get_or ls (at + 1) []) 0 ≡ Some e =
+    ap (λ l. slice_get l 0) (sym (read_leaf ls (at + 1) c.index-then-at-len.result.now inside c.index-then-at-len.ensures)) ∙ c.entry-then-at-len.ensures in
     sym (first_behind ls (at + 1) e [] inside found) ∙ ap (λ n. slice_get (all_of (drop n ls)) 0) up ∙ ap (λ l. slice_get (l ++ all_of (drop (suc at) ls)) 0) (sym (drop_all place leaf past))

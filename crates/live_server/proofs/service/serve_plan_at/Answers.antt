@@ -15,5 +15,7 @@ pub returns-clause-tells : goal.returns-clause-tells
 returns-clause-tells g c =
     let shared = c.in_ok-shared.ensures in
     let running = c.open-running.ensures in
-    replies_along g.S.Delivers.gives g.S.Serves.shows c.serve_all.result.ended (λ seen. seen.items) _ _ _ _ _ _ _ _ _ _ _ (shared.serves ∙ running.serves) (ap (λ (p : Plan). p.sites.items) (shared.plan ∙ running.plan)) (ap (λ (d : Roster). d.stations) (shared.desk ∙ running.desk))
+    replies_along g.S.Delivers.gives g.S.Serves.shows c.serve_all.result.ended (λ seen. seen.items)
+    _ _ _ _ _ _ _ _ _ _ _ (shared.serves ∙ running.serves) (ap (λ (p : Plan). p.sites.items) (shared.plan ∙ running.plan))
+    (ap (λ (d : Roster). d.stations) (shared.desk ∙ running.desk))
     (ap (λ n. lines_in (operator_input n (g.I.Read.remaining c.args.input.now))) shared.connections) c.in_ok-acceptors.ensures c.serve_all.ensures.tells

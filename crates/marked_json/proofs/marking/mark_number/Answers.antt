@@ -14,7 +14,10 @@ returns-then-not-is_number-clause-err c =
     let left = c.split_at-2.result.1.now in
     let count = c.token_len-count.result in
     let bad : is_number token ≡ false = cc in
-    completed-token_at old c.args.text.now token left c.args.at count c.requires.some c.requires.begins (c.token_len-count.ensures.value ∙ ap (prefix_len goes_on_number) c.split_at.ensures.back) (c.split_at-2.ensures.front ∙ ap (take count) c.split_at.ensures.back) (c.split_at-2.ensures.back ∙ ap (drop count) c.split_at.ensures.back)
+    completed-token_at old c.args.text.now token left c.args.at count c.requires.some c.requires.begins
+    (c.token_len-count.ensures.value ∙ ap (prefix_len goes_on_number) c.split_at.ensures.back)
+    (c.split_at-2.ensures.front ∙ ap (take count) c.split_at.ensures.back)
+    (c.split_at-2.ensures.back ∙ ap (drop count) c.split_at.ensures.back)
     ∙ marked_token-bad old token left (marked outside left) bad
 
 pub returns-then-is_before_colon-clause-err : goal.returns-then-is_before_colon-clause-err
@@ -25,7 +28,10 @@ returns-then-is_before_colon-clause-err c =
     let count = c.token_len-count.result in
     let good : is_number token ≡ true = cc in
     let key : is_before_colon left ≡ true = cc in
-    completed-token_at old c.args.text.now token left c.args.at count c.requires.some c.requires.begins (c.token_len-count.ensures.value ∙ ap (prefix_len goes_on_number) c.split_at.ensures.back) (c.split_at-2.ensures.front ∙ ap (take count) c.split_at.ensures.back) (c.split_at-2.ensures.back ∙ ap (drop count) c.split_at.ensures.back)
+    completed-token_at old c.args.text.now token left c.args.at count c.requires.some c.requires.begins
+    (c.token_len-count.ensures.value ∙ ap (prefix_len goes_on_number) c.split_at.ensures.back)
+    (c.split_at-2.ensures.front ∙ ap (take count) c.split_at.ensures.back)
+    (c.split_at-2.ensures.back ∙ ap (drop count) c.split_at.ensures.back)
     ∙ marked_token-key old token left (marked outside left) good key
 
 pub returns-clause-step : goal.returns-clause-step
@@ -38,8 +44,10 @@ returns-clause-step c =
     let good : is_number token ≡ true = cc in
     let no_key : is_before_colon left ≡ false = cc in
     let long : length token ≡ count = c.split_at-2.ensures.front_len in
-    let last : take (c.args.len + 3 + count) c.put_byte.new.out ≡ take ((c.args.len + 2 + count) + 1) c.put_byte.new.out = ap (λ n. take n c.put_byte.new.out) (let e : c.args.len + 3 + count ≡ (c.args.len + 2 + count) + 1 = omega arith in e) in
-    let middle : take (c.args.len + 2 + count) c.put_bytes-2.new.out ≡ take (c.args.len + 2) c.put_bytes.new.out ++ token = ap (λ n. take (c.args.len + 2 + n) c.put_bytes-2.new.out) (sym long) ∙ c.put_bytes-2.ensures.put in
+    let last : take (c.args.len + 3 + count) c.put_byte.new.out ≡ take ((c.args.len + 2 + count) + 1) c.put_byte.new.out =
+    ap (λ n. take n c.put_byte.new.out) (let e : c.args.len + 3 + count ≡ (c.args.len + 2 + count) + 1 = omega arith in e) in
+    let middle : take (c.args.len + 2 + count) c.put_bytes-2.new.out ≡ take (c.args.len + 2) c.put_bytes.new.out ++ token =
+    ap (λ n. take (c.args.len + 2 + n) c.put_bytes-2.new.out) (sym long) ∙ c.put_bytes-2.ensures.put in
     let added : new ≡ ((old ++ 34 ∷ 35 ∷ []) ++ token) ++ 34 ∷ [] =
     last ∙ c.put_byte.ensures.put ∙ ap (λ xs. xs ++ 34 ∷ []) (middle ∙ ap (λ xs. xs ++ token) c.put_bytes.ensures.put) in
     let end : drop (c.args.at + count) c.args.text.now ≡ left = sym ((c.split_at-2.ensures.back ∙ ap (drop count) c.split_at.ensures.back) ∙ drop-drop count c.args.at c.args.text.now) in
@@ -50,7 +58,9 @@ returns-clause-step c =
       same =
           ap (completed new) end
           ∙ marked_token-good old new token left (marked outside left) good no_key added
-          ∙ sym (completed-token_at old c.args.text.now token left c.args.at count c.requires.some c.requires.begins is (c.split_at-2.ensures.front ∙ ap (take count) c.split_at.ensures.back) (c.split_at-2.ensures.back ∙ ap (drop count) c.split_at.ensures.back));
+          ∙ sym (completed-token_at old c.args.text.now token left c.args.at count c.requires.some c.requires.begins is
+          (c.split_at-2.ensures.front ∙ ap (take count) c.split_at.ensures.back)
+          (c.split_at-2.ensures.back ∙ ap (drop count) c.split_at.ensures.back));
       forward = omega (arith, some);
       within = omega (arith, c.requires.some, c.token_len-count.ensures.within, c.split_at.ensures.back_len);
       few = (omega (arith, few, some), λ more begins. absurd (token_is_whole c.args.text.now c.args.at count is more begins));

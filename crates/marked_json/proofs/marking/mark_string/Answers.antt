@@ -9,7 +9,8 @@ returns-clause-step c =
     let few = c.requires.few.0 in
     record {
       same =
-          completed-string (take c.args.len c.args.out.now) (take (c.args.len + 2 + count) c.put_string-count.new.out) c.args.text.now inside c.args.at count c.requires.some c.requires.quote c.split_at.ensures.back c.put_string-count.ensures.value
+          completed-string (take c.args.len c.args.out.now) (take (c.args.len + 2 + count) c.put_string-count.new.out) c.args.text.now
+          inside c.args.at count c.requires.some c.requires.quote c.split_at.ensures.back c.put_string-count.ensures.value
           (c.put_string-count.ensures.put ∙ ap (λ xs. xs ++ take count inside) c.put_bytes.ensures.put);
       forward = omega arith;
       within = omega (arith, c.requires.some, c.put_string-count.ensures.within, c.split_at.ensures.back_len);

@@ -11,7 +11,15 @@ lines-preserved-in_ok-push c =
     let one = subst (λ o. IfSome o P) c.in-Some.is c.in_ok-event.ensures.found in
     let kept = all-stay-found c.args.bytes.now c.lines.readings.items c.event_of_line.new.readings.items c.event_of_line.ensures.kept c.lines.found.items c.lines.invariant.0 in (
       All-same P c.push.new.self.items (c.lines.found.items ++ c.in-Some.event ∷ []) c.in_ok-push.ensures.items (All-push P c.lines.found.items c.in-Some.event kept one),
-      omega (arith, c.line_start.ensures, length-take (c.lines.end - 1 - c.args.begin) (drop c.args.begin c.args.bytes.now), length-drop c.args.begin c.args.bytes.now, c.lines.invariant.1, c.lines.invariant.2, c.lines-test.true),
+      omega (
+        arith,
+        c.line_start.ensures,
+        length-take (c.lines.end - 1 - c.args.begin) (drop c.args.begin c.args.bytes.now),
+        length-drop c.args.begin c.args.bytes.now,
+        c.lines.invariant.1,
+        c.lines.invariant.2,
+        c.lines-test.true,
+      ),
       omega arith,
     )
 

@@ -20,6 +20,10 @@ returns-in-Err g c =
       run = inr (
         app_of c.in-Ok.program,
         c.in-Ok.ensures,
-        inr (kind, refused, λ fits. subst (λ e. IsReported reports streams.errors e (Err replay.OutOfMemory)) (sym c.unserved-in-Err.ensures) (c.refuse_words.ensures.memory (c.in-Err.ensures.refused fits))),
+        inr (
+          kind,
+          refused,
+          λ fits. subst (λ e. IsReported reports streams.errors e (Err replay.OutOfMemory)) (sym c.unserved-in-Err.ensures) (c.refuse_words.ensures.memory (c.in-Err.ensures.refused fits)),
+        ),
       );
     }

@@ -20,7 +20,9 @@ returns g c =
     let served = c.serve_journalled-served in
     journal_run contents consoles reports streams.errors c.end_journalled-2.result served.result
     (λ left ended answered. IsNewRun sites stations (contents streams.output) left (TellsNew ended stations input (consoles streams.console) answered))
-    (new_run served.result contents consoles sites stations (writer_contents contents c.in-Ok.journal) (contents streams.output) (own (reader_remaining g.P.Input.Read.remaining c.in-Ok.reader)) input (consoles streams.console) (consoles streams.console) c.in-Ok.ensures.output (ap own c.in-Ok.ensures.input) refl served.ensures)
+    (new_run served.result contents consoles sites stations (writer_contents contents c.in-Ok.journal) (contents streams.output)
+    (own (reader_remaining g.P.Input.Read.remaining c.in-Ok.reader)) input (consoles streams.console) (consoles streams.console)
+    c.in-Ok.ensures.output (ap own c.in-Ok.ensures.input) refl served.ensures)
     c.end_journalled-2.ensures
 
 pub returns-in_default : goal.returns-in_default

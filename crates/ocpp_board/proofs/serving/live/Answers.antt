@@ -19,7 +19,9 @@ returns g c =
     let served = c.serve_live-served in
     unwritten_run contents (λ _. None) (writer_contents contents) reports streams.errors c.end_unwritten-2.result served.result
     (λ left ended answered. IsNewRun sites stations None left (TellsNew ended stations input (contents streams.output) answered))
-    (new_run served.result (λ _. None) (writer_contents contents) sites stations None None (own (reader_remaining g.P.Input.Read.remaining c.in-Ok.reader)) input (writer_contents contents c.in-Ok.writer) (contents streams.output) refl (ap own c.in-Ok.ensures.input) c.in-Ok.ensures.output served.ensures)
+    (new_run served.result (λ _. None) (writer_contents contents) sites stations None None
+    (own (reader_remaining g.P.Input.Read.remaining c.in-Ok.reader)) input (writer_contents contents c.in-Ok.writer)
+    (contents streams.output) refl (ap own c.in-Ok.ensures.input) c.in-Ok.ensures.output served.ensures)
     c.end_unwritten-2.ensures
 
 pub returns-in_default : goal.returns-in_default

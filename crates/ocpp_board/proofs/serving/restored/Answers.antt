@@ -18,7 +18,9 @@ returns g c =
     let served = c.serve_restored-served in
     journal_run contents consoles reports streams.errors c.end_journalled-2.result served.result
     (λ left ended answered. IsRestoredRun allows input (contents streams.output) left (TellsRestored ended connections (consoles streams.console) answered))
-    (restored_run served.result contents consoles allows connections (writer_contents contents c.in-Ok.journal) (contents streams.output) (reader_remaining g.P.Input.Read.remaining c.in-Ok.reader) input (consoles streams.console) (consoles streams.console) c.in-Ok.ensures.output c.in-Ok.ensures.input refl served.ensures.serves)
+    (restored_run served.result contents consoles allows connections (writer_contents contents c.in-Ok.journal)
+    (contents streams.output) (reader_remaining g.P.Input.Read.remaining c.in-Ok.reader) input (consoles streams.console)
+    (consoles streams.console) c.in-Ok.ensures.output c.in-Ok.ensures.input refl served.ensures.serves)
     c.end_journalled-2.ensures
 
 pub returns-in_default : goal.returns-in_default

@@ -17,7 +17,9 @@ returns g c =
     let served = c.serve_restored-served in
     unwritten_run contents (λ _. None) (writer_contents contents) reports streams.errors c.end_unwritten-2.result served.result
     (λ left ended answered. IsRestoredRun allows input None left (TellsRestored ended connections (contents streams.output) answered))
-    (restored_run served.result (λ _. None) (writer_contents contents) allows connections None None (reader_remaining g.P.Input.Read.remaining c.in-Ok.reader) input (writer_contents contents c.in-Ok.writer) (contents streams.output) refl c.in-Ok.ensures.input c.in-Ok.ensures.output served.ensures.serves)
+    (restored_run served.result (λ _. None) (writer_contents contents) allows connections None None
+    (reader_remaining g.P.Input.Read.remaining c.in-Ok.reader) input (writer_contents contents c.in-Ok.writer)
+    (contents streams.output) refl c.in-Ok.ensures.input c.in-Ok.ensures.output served.ensures.serves)
     c.end_unwritten-2.ensures
 
 pub returns-in_default : goal.returns-in_default

@@ -11,8 +11,16 @@ use Rattle.ocppj_frame.proofs.json_string.push_json_string.Goals as goal
 
 pub push_escaped-requires : goal.push_escaped-requires
 push_escaped-requires c =
-    let turn = YieldsList-turn (YieldsList-from_chars c.args.text.now c.utf8.text cc) c.loop-character.yielded _ c.loop-character.yielded_by _ _ c.in-Some.character c.in-Some.is c.next.ensures.steps in
-    omega (arith, c.requires.room, turn.0, ap length c.loop-character.invariant, length-append c.args.out.now.bytes (34 ∷ flat_map escaped c.loop-character.yielded), length-flat_map_escaped-le c.loop-character.yielded)
+    let turn = YieldsList-turn (YieldsList-from_chars c.args.text.now c.utf8.text cc) c.loop-character.yielded
+    _ c.loop-character.yielded_by _ _ c.in-Some.character c.in-Some.is c.next.ensures.steps in
+    omega (
+      arith,
+      c.requires.room,
+      turn.0,
+      ap length c.loop-character.invariant,
+      length-append c.args.out.now.bytes (34 ∷ flat_map escaped c.loop-character.yielded),
+      length-flat_map_escaped-le c.loop-character.yielded,
+    )
 
 pub loop-character-preserved : goal.loop-character-preserved
 loop-character-preserved c =
@@ -22,8 +30,18 @@ loop-character-preserved c =
 
 pub push-requires-2 : goal.push-requires-2
 push-requires-2 c =
-    let end = YieldsList-end (YieldsList-from_chars c.args.text.now c.utf8.text cc) c.loop-character.yielded _ c.loop-character.yielded_by _ _ c.in-None.is c.next.ensures.steps in
-    (lit< tt, omega (arith, c.requires.room, end.1, length-encode 34, ap length c.loop-character.invariant, length-append c.args.out.now.bytes (34 ∷ flat_map escaped c.loop-character.yielded), length-flat_map_escaped-le c.loop-character.yielded))
+    let end = YieldsList-end (YieldsList-from_chars c.args.text.now c.utf8.text cc) c.loop-character.yielded _ c.loop-character.yielded_by _ _ c.in-None.is c.next.ensures.steps in (
+      lit< tt,
+      omega (
+        arith,
+        c.requires.room,
+        end.1,
+        length-encode 34,
+        ap length c.loop-character.invariant,
+        length-append c.args.out.now.bytes (34 ∷ flat_map escaped c.loop-character.yielded),
+        length-flat_map_escaped-le c.loop-character.yielded,
+      ),
+    )
 
 pub returns : goal.returns
 returns c =

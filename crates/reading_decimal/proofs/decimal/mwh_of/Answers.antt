@@ -36,7 +36,9 @@ returns c =
     let fits : FitsSigned w8 c.args.multiplier = c.ranges.multiplier in
     let tens = simp to_z-of_z at c.tens_of.ensures in
     let tenths = simp to_z-of_z at c.tenths_of.ensures.value in
-    let collected = mwh-collected token c.args.multiplier c.args.unit p _ _ _ _ _ _ same c.digits_value-value.ensures c.tens_up.ensures tens c.tens_of_unit.ensures.value c.tens_down.ensures.value tenths in
+    let collected =
+    mwh-collected token c.args.multiplier c.args.unit p _ _ _ _ _ _ same c.digits_value-value.ensures c.tens_up.ensures tens
+    c.tens_of_unit.ensures.value c.tens_down.ensures.value tenths in
     let decimal : is_decimal token ≡ true = cc in
     let short : nat_lt 36 (length token) ≡ false = le-ltb _ _ (omega (arith, c.as_bytes-bytes.ensures.len)) in
     let small : digits_value 10 (parts token).exponent ≤ 99 = rw (← same) (omega (arith, c.exponent_value-exponent.ensures)) in

@@ -7,7 +7,10 @@ pub returns-in-Ok-clause-answer : goal.returns-in-Ok-clause-answer
 returns-in-Ok-clause-answer g c =
     let named = c.in-Ok.ensures.named in
     let after = c.submit-submitted.new in
-    value_told c.submit-submitted.result _ _ (λ seen h. commanded (g.S.Delivers.gives c.in-Ok.pass.station named.place) seen c.args.running.now.desk.now.stations c.args.name.now c.in-Ok.pass c.args.what after.pass after.reply.items named (h named.place named.there)) c.submit-submitted.ensures
+    value_told c.submit-submitted.result
+    _ _ (λ seen h. commanded (g.S.Delivers.gives c.in-Ok.pass.station named.place) seen c.args.running.now.desk.now.stations
+    c.args.name.now c.in-Ok.pass c.args.what after.pass after.reply.items named (h named.place named.there))
+    c.submit-submitted.ensures
 
 pub returns-in-Ok-clause-submitted : goal.returns-in-Ok-clause-submitted
 returns-in-Ok-clause-submitted g c =

@@ -8,5 +8,9 @@ returns-in-Err-write_bytes-clause-run g c =
     let old = script_text c.args.script.now.script in
     let new = script_text c.answer.new.self.script in
     let line = line_bytes c.args.line in
-    let t = c.in-Err-write_bytes.ensures in
-    (t.0, t.1, stops_writing old new line c.answer.new.reply.items c.deref.result.now t.0 c.deref.ensures.value (line_replies c.args.script.now.script c.answer.new.self.script line c.answer.new.reply.items c.in-Ok.ensures.step) t.2)
+    let t = c.in-Err-write_bytes.ensures in (
+      t.0,
+      t.1,
+      stops_writing old new line c.answer.new.reply.items c.deref.result.now t.0 c.deref.ensures.value
+          (line_replies c.args.script.now.script c.answer.new.self.script line c.answer.new.reply.items c.in-Ok.ensures.step) t.2,
+    )

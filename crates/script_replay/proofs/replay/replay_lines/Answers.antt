@@ -15,19 +15,27 @@ returns-then-is_err-clause-run g c =
 
 pub returns-in_err-next_line_flushing-clause-run : goal.returns-in_err-next_line_flushing-clause-run
 returns-in_err-next_line_flushing-clause-run g c =
-    let n = asked _ _ _ _ _ _ _ _ _ _ _ _ _ c.next_line_flushing.result c.next_line_flushing.new.self.held.items (looked _ _ _ _ _ _ _ _ _ _ _ c.lines.invariant.0 c.look.ensures.reader (ap (λ (x : State). script_text x.script) c.look.ensures.same)) c.lines.invariant.1 refl c.next_line_flushing.ensures.takes c.next_line_flushing.ensures.writer in
+    let n = asked _ _ _ _ _ _ _ _ _ _ _ _ _ c.next_line_flushing.result c.next_line_flushing.new.self.held.items
+    (looked _ _ _ _ _ _ _ _ _ _ _ c.lines.invariant.0 c.look.ensures.reader (ap (λ (x : State). script_text x.script) c.look.ensures.same))
+    c.lines.invariant.1 refl c.next_line_flushing.ensures.takes c.next_line_flushing.ensures.writer in
     as_replay _ _ _ _ _ (line_stopped _ _ _ _ _ _ _ _ _ _ _ n (Unit {0}) c.in_err-next_line_flushing.field-0.0 _ c.in_err-next_line_flushing.was c.from_residual.ensures.1)
 
 pub returns-in_err-answer_line-in-Feed-clause-run : goal.returns-in_err-answer_line-in-Feed-clause-run
 returns-in_err-answer_line-in-Feed-clause-run g c =
-    let n = asked _ _ _ _ _ _ _ _ _ _ _ _ _ c.next_line_flushing.result c.next_line_flushing.new.self.held.items (looked _ _ _ _ _ _ _ _ _ _ _ c.lines.invariant.0 c.look.ensures.reader (ap (λ (x : State). script_text x.script) c.look.ensures.same)) c.lines.invariant.1 refl c.next_line_flushing.ensures.takes c.next_line_flushing.ensures.writer in
+    let n = asked _ _ _ _ _ _ _ _ _ _ _ _ _ c.next_line_flushing.result c.next_line_flushing.new.self.held.items
+    (looked _ _ _ _ _ _ _ _ _ _ _ c.lines.invariant.0 c.look.ensures.reader (ap (λ (x : State). script_text x.script) c.look.ensures.same))
+    c.lines.invariant.1 refl c.next_line_flushing.ensures.takes c.next_line_flushing.ensures.writer in
     let a = c.in_err-answer_line-in-Feed.ensures.run in
-    as_replay _ _ _ _ _ (answer_stopped _ _ _ _ _ _ _ _ _ _ _ n Feed (c.in_ok-next_line_flushing.was ∙ ap Ok c.in-Feed.is) (some_feed _) _ _ (c.next_line_flushing.ensures.max_line_bytes ∙ c.lines.invariant.1) c.line-line.ensures _ a.0 a.1 (Unit {0}) c.in_err-answer_line-in-Feed.field-0.0 _
+    as_replay _ _ _ _ _ (answer_stopped _ _ _ _ _ _ _ _ _ _ _ n Feed (c.in_ok-next_line_flushing.was ∙ ap Ok c.in-Feed.is)
+    (some_feed _) _ _ (c.next_line_flushing.ensures.max_line_bytes ∙ c.lines.invariant.1) c.line-line.ensures _ a.0 a.1 (Unit {0})
+    c.in_err-answer_line-in-Feed.field-0.0 _
     (no_input _) c.from_residual-in_err-answer_line-in-Feed.ensures.1 a.2)
 
 pub lines-preserved : goal.lines-preserved
 lines-preserved g c =
-    let n = asked _ _ _ _ _ _ _ _ _ _ _ _ _ c.next_line_flushing.result c.next_line_flushing.new.self.held.items (looked _ _ _ _ _ _ _ _ _ _ _ c.lines.invariant.0 c.look.ensures.reader (ap (λ (x : State). script_text x.script) c.look.ensures.same)) c.lines.invariant.1 refl c.next_line_flushing.ensures.takes c.next_line_flushing.ensures.writer in
+    let n = asked _ _ _ _ _ _ _ _ _ _ _ _ _ c.next_line_flushing.result c.next_line_flushing.new.self.held.items
+    (looked _ _ _ _ _ _ _ _ _ _ _ c.lines.invariant.0 c.look.ensures.reader (ap (λ (x : State). script_text x.script) c.look.ensures.same))
+    c.lines.invariant.1 refl c.next_line_flushing.ensures.takes c.next_line_flushing.ensures.writer in
     let a = c.in_ok-answer_line-in-Feed.ensures in
     let is = c.in_ok-next_line_flushing.was ∙ ap Ok c.in-Feed.is in (
       answer_goes_on _ _ _ _ _ _ _ _ _ _ _ n is _ _ (c.next_line_flushing.ensures.max_line_bytes ∙ c.lines.invariant.1) c.line-line.ensures _ a.run.0 a.run.1 _ a.run.2,
@@ -37,25 +45,35 @@ lines-preserved g c =
 
 pub returns-then-is_empty-clause-run : goal.returns-then-is_empty-clause-run
 returns-then-is_empty-clause-run g c =
-    let n = asked _ _ _ _ _ _ _ _ _ _ _ _ _ c.next_line_flushing.result c.next_line_flushing.new.self.held.items (looked _ _ _ _ _ _ _ _ _ _ _ c.lines.invariant.0 c.look.ensures.reader (ap (λ (x : State). script_text x.script) c.look.ensures.same)) c.lines.invariant.1 refl c.next_line_flushing.ensures.takes c.next_line_flushing.ensures.writer in
+    let n = asked _ _ _ _ _ _ _ _ _ _ _ _ _ c.next_line_flushing.result c.next_line_flushing.new.self.held.items
+    (looked _ _ _ _ _ _ _ _ _ _ _ c.lines.invariant.0 c.look.ensures.reader (ap (λ (x : State). script_text x.script) c.look.ensures.same))
+    c.lines.invariant.1 refl c.next_line_flushing.ensures.takes c.next_line_flushing.ensures.writer in
     let none : length c.next_line_flushing.new.self.held.items ≡ 0 = omega (arith, c.next_line_flushing.new.self.held.ok.0, eqb-true _ _ (sym c.if-is_empty.ensures)) in
     as_replay _ _ _ _ (Ok tt) (line_absent _ _ _ _ _ _ _ _ _ _ _ n (c.in_ok-next_line_flushing.was ∙ ap Ok c.in-Input.is) none)
 
 pub returns-in_err-answer_line-in-Input-clause-run : goal.returns-in_err-answer_line-in-Input-clause-run
 returns-in_err-answer_line-in-Input-clause-run g c =
-    let n = asked _ _ _ _ _ _ _ _ _ _ _ _ _ c.next_line_flushing.result c.next_line_flushing.new.self.held.items (looked _ _ _ _ _ _ _ _ _ _ _ c.lines.invariant.0 c.look.ensures.reader (ap (λ (x : State). script_text x.script) c.look.ensures.same)) c.lines.invariant.1 refl c.next_line_flushing.ensures.takes c.next_line_flushing.ensures.writer in
+    let n = asked _ _ _ _ _ _ _ _ _ _ _ _ _ c.next_line_flushing.result c.next_line_flushing.new.self.held.items
+    (looked _ _ _ _ _ _ _ _ _ _ _ c.lines.invariant.0 c.look.ensures.reader (ap (λ (x : State). script_text x.script) c.look.ensures.same))
+    c.lines.invariant.1 refl c.next_line_flushing.ensures.takes c.next_line_flushing.ensures.writer in
     let some : 0 < length c.next_line_flushing.new.self.held.items = omega (arith, c.next_line_flushing.new.self.held.ok.0, nonempty _ c.if-is_empty.ensures) in
     let a = c.in_err-answer_line-in-Input.ensures.run in
-    as_replay _ _ _ _ _ (answer_stopped _ _ _ _ _ _ _ _ _ _ _ n Input (c.in_ok-next_line_flushing.was ∙ ap Ok c.in-Input.is) some _ _ (c.next_line_flushing.ensures.max_line_bytes ∙ c.lines.invariant.1) c.line-line-in-Input.ensures _ a.0 a.1 (Unit {0}) c.in_err-answer_line-in-Input.field-0.0 _
+    as_replay _ _ _ _ _ (answer_stopped _ _ _ _ _ _ _ _ _ _ _ n Input (c.in_ok-next_line_flushing.was ∙ ap Ok c.in-Input.is) some
+    _ _ (c.next_line_flushing.ensures.max_line_bytes ∙ c.lines.invariant.1) c.line-line-in-Input.ensures _ a.0 a.1 (Unit {0})
+    c.in_err-answer_line-in-Input.field-0.0 _
     (λ is. reached_now _ _ _ _ _ _ _ _ _ _ _ n (c.next_line_flushing.ensures.end (c.in_ok-next_line_flushing.was ∙ ap Ok c.in-Input.is))) c.from_residual-in_err-answer_line-in-Input.ensures.1 a.2)
 
 pub returns-in-Input-clause-run : goal.returns-in-Input-clause-run
 returns-in-Input-clause-run g c =
-    let n = asked _ _ _ _ _ _ _ _ _ _ _ _ _ c.next_line_flushing.result c.next_line_flushing.new.self.held.items (looked _ _ _ _ _ _ _ _ _ _ _ c.lines.invariant.0 c.look.ensures.reader (ap (λ (x : State). script_text x.script) c.look.ensures.same)) c.lines.invariant.1 refl c.next_line_flushing.ensures.takes c.next_line_flushing.ensures.writer in
+    let n = asked _ _ _ _ _ _ _ _ _ _ _ _ _ c.next_line_flushing.result c.next_line_flushing.new.self.held.items
+    (looked _ _ _ _ _ _ _ _ _ _ _ c.lines.invariant.0 c.look.ensures.reader (ap (λ (x : State). script_text x.script) c.look.ensures.same))
+    c.lines.invariant.1 refl c.next_line_flushing.ensures.takes c.next_line_flushing.ensures.writer in
     let some : 0 < length c.next_line_flushing.new.self.held.items = omega (arith, c.next_line_flushing.new.self.held.ok.0, nonempty _ c.if-is_empty.ensures) in
     let a = c.in_ok-answer_line-in-Input.ensures.run in
     let later = refl in
-    as_replay _ _ _ _ (Ok tt) (answer_ended _ _ _ _ _ _ _ _ _ _ _ n Input (c.in_ok-next_line_flushing.was ∙ ap Ok c.in-Input.is) some _ _ (c.next_line_flushing.ensures.max_line_bytes ∙ c.lines.invariant.1) c.line-line-in-Input.ensures _ a.0 a.1 _ later a.2)
+    as_replay _ _ _ _ (Ok tt)
+    (answer_ended _ _ _ _ _ _ _ _ _ _ _ n Input (c.in_ok-next_line_flushing.was ∙ ap Ok c.in-Input.is) some
+    _ _ (c.next_line_flushing.ensures.max_line_bytes ∙ c.lines.invariant.1) c.line-line-in-Input.ensures _ a.0 a.1 _ later a.2)
 
 pub lines-init : goal.lines-init
 lines-init g c =
@@ -71,10 +89,14 @@ lines-init g c =
 
 pub returns-then-is_empty-clause-end : goal.returns-then-is_empty-clause-end
 returns-then-is_empty-clause-end g c =
-    let n = asked _ _ _ _ _ _ _ _ _ _ _ _ _ c.next_line_flushing.result c.next_line_flushing.new.self.held.items (looked _ _ _ _ _ _ _ _ _ _ _ c.lines.invariant.0 c.look.ensures.reader (ap (λ (x : State). script_text x.script) c.look.ensures.same)) c.lines.invariant.1 refl c.next_line_flushing.ensures.takes c.next_line_flushing.ensures.writer in
+    let n = asked _ _ _ _ _ _ _ _ _ _ _ _ _ c.next_line_flushing.result c.next_line_flushing.new.self.held.items
+    (looked _ _ _ _ _ _ _ _ _ _ _ c.lines.invariant.0 c.look.ensures.reader (ap (λ (x : State). script_text x.script) c.look.ensures.same))
+    c.lines.invariant.1 refl c.next_line_flushing.ensures.takes c.next_line_flushing.ensures.writer in
     reached_now _ _ _ _ _ _ _ _ _ _ _ n (c.next_line_flushing.ensures.end (c.in_ok-next_line_flushing.was ∙ ap Ok c.in-Input.is))
 
 pub returns-in-Input-clause-end : goal.returns-in-Input-clause-end
 returns-in-Input-clause-end g c =
-    let n = asked _ _ _ _ _ _ _ _ _ _ _ _ _ c.next_line_flushing.result c.next_line_flushing.new.self.held.items (looked _ _ _ _ _ _ _ _ _ _ _ c.lines.invariant.0 c.look.ensures.reader (ap (λ (x : State). script_text x.script) c.look.ensures.same)) c.lines.invariant.1 refl c.next_line_flushing.ensures.takes c.next_line_flushing.ensures.writer in
+    let n = asked _ _ _ _ _ _ _ _ _ _ _ _ _ c.next_line_flushing.result c.next_line_flushing.new.self.held.items
+    (looked _ _ _ _ _ _ _ _ _ _ _ c.lines.invariant.0 c.look.ensures.reader (ap (λ (x : State). script_text x.script) c.look.ensures.same))
+    c.lines.invariant.1 refl c.next_line_flushing.ensures.takes c.next_line_flushing.ensures.writer in
     reached_now _ _ _ _ _ _ _ _ _ _ _ n (c.next_line_flushing.ensures.end (c.in_ok-next_line_flushing.was ∙ ap Ok c.in-Input.is))

@@ -7,7 +7,8 @@ use Rattle.script_replay.proofs.replay.replay_lines.Given as goal
 
 abbrev pub invariant-lines : goal.invariant-lines
 invariant-lines g l =
-    AnsweredLines (script_text start) (script_text l.script.script) longest_line longest_script l.lines.room (g.R.Read.remaining l.fn.reader) (g.R.Read.remaining l.reader) (g.W.Write.contents l.fn.writer) (g.W.Write.contents l.writer)
+    AnsweredLines (script_text start) (script_text l.script.script) longest_line longest_script l.lines.room
+    (g.R.Read.remaining l.fn.reader) (g.R.Read.remaining l.reader) (g.W.Write.contents l.fn.writer) (g.W.Write.contents l.writer)
     × (l.lines.max_line_bytes ≡ longest_line)
     × (l.script.posts + l.lines.room ≤ longest_script)
 

@@ -13,4 +13,6 @@ loop-k-preserved g c =
     (cell_at cell c.args.cells.now c.loop-k.k c.index-cells-k.result c.cell.result.now c.index-cells-k.is c.cell.ensures) c.loop-k.invariant same
 
 pub returns : goal.returns
-returns g c = λ _. each_all (λ j (d : Cell). passes_of j c.args.passes.now ≡ length d.counts) (map g.C.HasCell.cell c.args.cells.now) c.loop-k.k (omega (arith, length-map c.args.cells.now g.C.HasCell.cell)) c.loop-k.invariant
+returns g c = λ _. each_all (λ j (d : Cell). passes_of j c.args.passes.now ≡ length d.counts)
+    (map g.C.HasCell.cell c.args.cells.now) c.loop-k.k (omega (arith, length-map c.args.cells.now g.C.HasCell.cell))
+    c.loop-k.invariant

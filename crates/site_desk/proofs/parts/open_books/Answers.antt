@@ -20,7 +20,9 @@ loop-site-preserved g c =
     record {
       named = opened.named;
       there = λ other least less. subst (λ ts. HasTable ts other) (sym opened.taken) (has-others c.loop-site.tables n other (λ e. absurd (omega (arith, e))) (i.there other (omega arith) less));
-      books = subst (AreNewBooks c.args.stations.now (n + 1)) (sym (c.in_ok-push.ensures.items ∙ ap (λ b. c.loop-site.books.items ++ b ∷ []) (opened.book ∙ ap (λ ls. record { site = n; limits = ls; posts = [] }) (c.as_slice.ensures.value ∙ c.limits_of-limits.ensures))))
+      books = subst (AreNewBooks c.args.stations.now (n + 1))
+          (sym (c.in_ok-push.ensures.items
+          ∙ ap (λ b. c.loop-site.books.items ++ b ∷ []) (opened.book ∙ ap (λ ls. record { site = n; limits = ls; posts = [] }) (c.as_slice.ensures.value ∙ c.limits_of-limits.ensures))))
           (books_more c.args.stations.now c.loop-site.books.items n i.books);
       viewers =
           let each = c.args.viewers_each in
@@ -34,4 +36,6 @@ pub returns-clause-viewers : goal.returns-clause-viewers
 returns-clause-viewers g c =
     let all = viewed_by c.args.viewers_each c.args.sites.now in
     let same : length all ≡ length c.args.sites.now = length_viewed c.args.viewers_each c.args.sites.now in
-    sym (append-nil c.loop-site.viewers.items) ∙ ap (λ l. c.loop-site.viewers.items ++ new_viewers c.loop-site.site l) (sym (drop_all c.loop-site.site all (omega (arith, same)))) ∙ c.loop-site.invariant.viewers
+    sym (append-nil c.loop-site.viewers.items)
+    ∙ ap (λ l. c.loop-site.viewers.items ++ new_viewers c.loop-site.site l) (sym (drop_all c.loop-site.site all (omega (arith, same))))
+    ∙ c.loop-site.invariant.viewers

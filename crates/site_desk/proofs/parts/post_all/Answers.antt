@@ -29,7 +29,8 @@ post_figures-requires-clause-held g c =
     let held = c.loop-cell.invariant.held k d at in
     let less = slice_get_within c.loop-cell.books d.site held.book held.there in
     let book : get_or c.loop-cell.books c.site.result c.index-books-site.result ≡ held.book =
-    some_book _ _ (sym (slice_get-get_or c.loop-cell.books c.site.result c.index-books-site.result (omega (arith, less, c.site.ensures))) ∙ ap (slice_get c.loop-cell.books) c.site.ensures ∙ held.there) in
+    some_book _ _ (sym (slice_get-get_or c.loop-cell.books c.site.result c.index-books-site.result (omega (arith, less, c.site.ensures)))
+    ∙ ap (slice_get c.loop-cell.books) c.site.ensures ∙ held.there) in
     ap (λ (b : Book). slice_get b.limits d.row) book ∙ held.held
 
 pub post_figures-requires-clause-room : goal.post_figures-requires-clause-room

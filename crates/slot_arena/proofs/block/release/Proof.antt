@@ -51,7 +51,8 @@ release_spec 𝓤 𝓛 𝓜 𝓡 wired T W laws alloc_laws g d dd met md =
     let Leave : RattleType = lease.the_row (R E) (P E Z) g in
     let handle = RefOf {n = 3} (0 ∷ []) tt (plain (λ _. P E Z)) (λ _. tt) in let by_value = plain {n = 3} (λ _. First E) in let number = plain {n = 3} (λ _. usize) in
     let owner = plain {n = 3} (λ _. Row E) in let leave = plain {n = 3} (λ _. Leave) in let kept = ended.kept in
-    let stays : Stays params kept = (stay_dropped handle kept.0, (stay_dropped by_value kept.1.0, (stay_dropped number kept.1.1.0, (stay_dropped owner kept.1.1.1.0, (stay_dropped leave kept.1.1.1.1.0, tt))))) in
+    let stays : Stays params kept =
+    (stay_dropped handle kept.0, (stay_dropped by_value kept.1.0, (stay_dropped number kept.1.1.0, (stay_dropped owner kept.1.1.1.0, (stay_dropped leave kept.1.1.1.1.0, tt))))) in
     let 𝓣 = tables_of 𝓤 𝓛.H 𝓜 (tables 𝓤 𝓛.H 𝓜 𝓡 𝓡.env) in let C = 𝓣.C in let Λ = 𝓣.Λ in
     proved_at 𝓛 ended stays c 𝓜 𝓡 (
       Goes-dropped 𝓛 3 handle kept.0 (λ κs x w. refl),
@@ -74,7 +75,8 @@ release_spec 𝓤 𝓛 𝓜 𝓡 wired T W laws alloc_laws g d dd met md =
     -- [what the parameters own; the handle's token; the other tokens]
     fsplit3 ! $ fsplit ! $ feq_l ! (λ e0. move ! (1 ∷ []) $ word_told ! start.ptr vss.1.0 (λ e1. move ! (1 ∷ []) $ fsplit3 ! $ fsplit ! $ feq_l ! (λ e2. flt_l ! (λ len_fits.
     fsplit ! $ mark_told ! E vss.1.1.1.0 (λ e3. move ! (1 ∷ []) $ fsplit ! $ fsplit ! $ mark_told ! E vss.1.1.1.1.0 (λ e4. move ! (1 ∷ []) $ drop ! $ move ! (1 ∷ []) $
-    regoal ! (λ (us : List Val × List Val × List Val × List Val × List Val). prop (WpFn 𝓤 𝓛.H C Λ fn (us.0 ++ (us.1 ++ (us.2 ++ (us.3 ++ (us.4 ++ []))))) Post)) (λ j. (e0 j, e1 j, e2 j, e3 j, e4 j)) refl $
+    regoal ! (λ (us : List Val × List Val × List Val × List Val × List Val). prop (WpFn 𝓤 𝓛.H C Λ fn (us.0 ++ (us.1 ++ (us.2 ++ (us.3 ++ (us.4 ++ []))))) Post))
+    (λ j. (e0 j, e1 j, e2 j, e3 j, e4 j)) refl $
     -- [the places; the lease; the handle; its token; the other tokens]
     enter ! C Λ fn _ Post $ alloc_all ! (λ l. pass_all ! refl ((tt, tt), (word-Good [] start.ptr, ((tt, record { fits = len_fits }), ((tt, (tt, tt)), ((tt, (tt, tt)), tt))))) $
     rewrite ! 0 (λ (at : Ptr × List (PlaceValue E)). ‵ (owned_places (R E) at.0 at.1)) (λ i. (asked.0 i, asked.1 i)) refl $
@@ -87,8 +89,10 @@ release_spec 𝓤 𝓛 𝓜 𝓡 wired T W laws alloc_laws g d dd met md =
     sets ! (is ! (of_opd ! (get_in ! (fld ! refl (stop !)) (sub ! 0 refl (whole !)))) (ap ptr_val at_block)) refl (tt, tt) $
     sets ! (is ! (bin ! (get ! refl) (size_word !) (record { fits = subst (λ (n : ℕ). n < 2 ^ 64) (sym same) bytes_fit })) (ap (vint w64) same)) refl (tt, record { fits = bytes_fit }) $
     group ! 4 $ use1 𝓛 (raw ((Gives Z 𝓛 𝓜.mem 𝓡.returns).pre z))
-    (Gives-goes Z 𝓛 𝓜.mem 𝓡.returns κ q self.ref_ptr self.now (Incl-trans y.0.2.0 lives) b o (len * s) al (block_ty E len) (block_size E len bytes_fit) (block_align E len) bytes_fit (capped_fits (align (elτ E)))) $
-    calls_at_last ! (fm_of 𝓤 𝓛.H 𝓛.laws 𝓣) (Gives Z 𝓛 𝓜.mem 𝓡.returns) (met.deallocate dd) z (and_then ! (get ! refl) (and_then ! (get ! refl) (and_then ! (get ! refl) (and_then ! (align_word !) (no_more !))))) (λ v.
+    (Gives-goes Z 𝓛 𝓜.mem 𝓡.returns κ q self.ref_ptr self.now (Incl-trans y.0.2.0 lives) b o (len * s) al (block_ty E len)
+    (block_size E len bytes_fit) (block_align E len) bytes_fit (capped_fits (align (elτ E)))) $
+    calls_at_last ! (fm_of 𝓤 𝓛.H 𝓛.laws 𝓣) (Gives Z 𝓛 𝓜.mem 𝓡.returns) (met.deallocate dd) z
+    (and_then ! (get ! refl) (and_then ! (get ! refl) (and_then ! (get ! refl) (and_then ! (align_word !) (no_more !))))) (λ v.
     use1 𝓛 (later (given (v ≡ vunit) (‵ (flft κ q)))) (Gives-Gives Z 𝓛 𝓜.mem 𝓡.returns κ q self.ref_ptr self.now b o (len * s) al (block_ty E len) v) $ await ! tt $ learn ! (λ is_unit.
     -- [the handle's token; the other tokens]
     lands_last ! refl (subst (λ (w : Val). T-of (has_ty ty_unit w) × WT w) (sym is_unit) (tt, tt)) $ exec ! C Λ (env fn.locals l) (after 1 fn.body) (at_ret (env fn.locals l) Post) $

@@ -24,8 +24,12 @@ loop-reading-init c =
       items = (λ i. put_each (ranked_from o n 0 (is i)) (none i));
     }
 
-left_are : (c : goal.After-enter-arg-1) → IsListing (owner c.args.slot c.args.direction) c.args.key.now.seq c.loop-reading.place (c.in-Some.reading ∷ c.next.new.self) c.loop-reading.listed.items (vec_capacity c.loop-reading.listed)
-left_are c = subst (λ (rs : List MeterReading). IsListing (owner c.args.slot c.args.direction) c.args.key.now.seq c.loop-reading.place rs c.loop-reading.listed.items (vec_capacity c.loop-reading.listed)) c.in-Some.ensures.steps c.loop-reading.invariant.listing
+left_are : (c : goal.After-enter-arg-1)
+    → IsListing (owner c.args.slot c.args.direction) c.args.key.now.seq c.loop-reading.place (c.in-Some.reading ∷ c.next.new.self)
+    c.loop-reading.listed.items (vec_capacity c.loop-reading.listed)
+left_are c = subst (λ (rs : List MeterReading). IsListing (owner c.args.slot c.args.direction) c.args.key.now.seq
+    c.loop-reading.place rs c.loop-reading.listed.items (vec_capacity c.loop-reading.listed))
+    c.in-Some.ensures.steps c.loop-reading.invariant.listing
 
 pub new-at-requires-clause-place : goal.new-at-requires-clause-place
 new-at-requires-clause-place c = let some = ap length c.in-Some.ensures.steps in let places = c.loop-reading.invariant.listing.places in omega (arith, places, some)
@@ -46,7 +50,8 @@ loop-reading-preserved c =
     let o = owner c.args.slot c.args.direction in let n = c.args.key.now.seq in let p = c.loop-reading.place in
     let r = c.in-Some.reading in let rest = c.next.new.self in let ts = c.loop-reading.listed.items in
     let small : n < 2 ^ 31 = omega (arith, c.seq-number.ensures.range, c.seq-number.ensures.value) in
-    let was : IsListing o n p (r ∷ rest) ts (vec_capacity c.loop-reading.listed) = subst (λ (rs : List MeterReading). IsListing o n p rs ts (vec_capacity c.loop-reading.listed)) c.in-Some.ensures.steps c.loop-reading.invariant.listing in
+    let was : IsListing o n p (r ∷ rest) ts (vec_capacity c.loop-reading.listed) =
+    subst (λ (rs : List MeterReading). IsListing o n p rs ts (vec_capacity c.loop-reading.listed)) c.in-Some.ensures.steps c.loop-reading.invariant.listing in
     let key : c.new-at.result ≡ rank o r.moment n p = c.new-at.ensures ∙ (λ i. rank o (c.moment.ensures i) (c.seq-number.ensures.value i) p) in
     let put : c.enter.new.listed.items ≡ put_in_time at (rank o r.moment n p, r) ts = c.enter.ensures.items ∙ (λ i. put_in_time at (key i, r) ts) in
     let more = listing-more o n p r rest ts (vec_capacity c.loop-reading.listed) (vec_capacity c.enter.new.listed) small c.enter.ensures.capacity was in
@@ -56,7 +61,9 @@ loop-reading-preserved c =
     }
 
 pub returns-clause-items : goal.returns-clause-items
-returns-clause-items c = ap (λ rs. put_each (ranked_from (owner c.args.slot c.args.direction) c.args.key.now.seq c.loop-reading.place rs) c.loop-reading.listed.items) (sym c.in_default.ensures.steps.0) ∙ c.loop-reading.invariant.items
+returns-clause-items c =
+    ap (λ rs. put_each (ranked_from (owner c.args.slot c.args.direction) c.args.key.now.seq c.loop-reading.place rs) c.loop-reading.listed.items) (sym c.in_default.ensures.steps.0)
+    ∙ c.loop-reading.invariant.items
 
 pub returns-clause-room : goal.returns-clause-room
 returns-clause-room c = c.loop-reading.invariant.listing.room

@@ -54,7 +54,9 @@ returns-clause-exchanged c less more is =
     let given = subst (λ tx. IsSlotGiven tx c.args.by_moment.now.slots c.slot_of-slot.new.slots c.slot_of-slot.result) c.tx-tx.ensures c.slot_of-slot.ensures.given in
     let all = all_then is given c.list.ensures.items c.move_listed-import.ensures.moved c.list-2.ensures.items c.move_listed-export.ensures.moved in
     subst (λ (m : ByDirection Energy). IsExchanged Moment c.args.key.now.tx (by_way c.args.way less more) (stored c.args.chains.now) c.exchange_of.result.less m) (sym c.exchange_of.ensures.more)
-    (subst (λ (m : ByDirection Energy). IsExchanged Moment c.args.key.now.tx (by_way c.args.way less more) (stored c.args.chains.now) m (record { import = c.move_listed-import.result.more; export = c.move_listed-export.result.more })) (sym c.exchange_of.ensures.less) all)
+    (subst (λ (m : ByDirection Energy). IsExchanged Moment c.args.key.now.tx (by_way c.args.way less more) (stored c.args.chains.now)
+    m (record { import = c.move_listed-import.result.more; export = c.move_listed-export.result.more }))
+    (sym c.exchange_of.ensures.less) all)
 
 pub returns-clause-rows : goal.returns-clause-rows
 returns-clause-rows c =
@@ -70,9 +72,12 @@ returns-clause-timed c =
     let counted = ap (λ tx. length (live_of tx (stored c.args.chains.now))) c.tx-tx.ensures in
     ⊎_elim {C = AreByMoment c.args.chains.now.limits (stored c.args.chains.now) after}
     (λ none.
-    timed_goes c.requires.2 given c.list.ensures.items c.move_listed-import.ensures.moved c.list-2.ensures.items c.move_listed-export.ensures.moved after c.slot_of-slot.ensures.slotted.apart c.slot_of-slot.ensures.slotted.rising
+    timed_goes c.requires.2 given c.list.ensures.items c.move_listed-import.ensures.moved c.list-2.ensures.items
+    c.move_listed-export.ensures.moved after c.slot_of-slot.ensures.slotted.apart c.slot_of-slot.ensures.slotted.rising
     (c.free_slot.ensures.rows (counted ∙ none) ∙ (λ i. without_row (c.tx-tx.ensures i) (slots i).rows)) (c.free_slot.ensures.capacity ∙ ap (λ (s : Table). s.capacity) slots) refl room none)
-    (λ some. timed_stays c.requires.2 given c.list.ensures.items c.move_listed-import.ensures.moved c.list-2.ensures.items c.move_listed-export.ensures.moved after c.slot_of-slot.ensures.slotted.apart (c.free_slot.ensures.kept (λ none. some (sym counted ∙ none)) ∙ slots) refl room some)
+    (λ some. timed_stays c.requires.2 given c.list.ensures.items c.move_listed-import.ensures.moved c.list-2.ensures.items
+    c.move_listed-export.ensures.moved after c.slot_of-slot.ensures.slotted.apart
+    (c.free_slot.ensures.kept (λ none. some (sym counted ∙ none)) ∙ slots) refl room some)
     (cases_eq (length (live_of c.args.key.now.tx (stored c.args.chains.now))) 0)
 
 pub returns-clause-work : goal.returns-clause-work

@@ -16,7 +16,8 @@ invariant_of-result c =
     let quarters = c.of-2.ensures ∙ c.in_ok-quarters.ensures in
     let lines = lines_within order c.args.chains.now.limits es c.requires.within c.args.sums.now.period (subst (λ p. IsPeriod p.length) c.copied.ensures.value c.copied.ensures.range) in
     subst (λ p. AreStationLines p c.of.result c.of-2.result) (sym c.copied.ensures.value)
-    (subst (λ ls. AreStationLines c.args.sums.now.period ls c.of-2.result) (sym evses) (subst (AreStationLines c.args.sums.now.period (board_by order c.args.sums.now.period es).evses) (sym quarters) lines))
+    (subst (λ ls. AreStationLines c.args.sums.now.period ls c.of-2.result) (sym evses)
+    (subst (AreStationLines c.args.sums.now.period (board_by order c.args.sums.now.period es).evses) (sym quarters) lines))
 
 -- each list is the board's
 pub returns : goal.returns

@@ -12,7 +12,8 @@ use Rattle.station_ledger.proofs.lines.evse_lines.Goals as goal
 pub loop-number-preserved : goal.loop-number-preserved
 loop-number-preserved c =
     let evses = c.args.evses.now in let n = c.loop-number.number in
-    let at : sum_at evses n ≡ c.index-evses-from.result = unwrap_or-slice_get evses n no_sum ∙ (grind (arith, common_steps, c.index-evses-from.is, c.from.ensures, c.loop-number-test.true, c.requires)) in
+    let at : sum_at evses n ≡ c.index-evses-from.result =
+    unwrap_or-slice_get evses n no_sum ∙ (grind (arith, common_steps, c.index-evses-from.is, c.from.ensures, c.loop-number-test.true, c.requires)) in
     elim c.if-sum-gt0.branch [
       | then-sum-gt0+in_ok-push w ↦
           let number = subst (λ o. IfSome o (λ e. e ≡ n)) w.unwrap-evse.ensures w.new.ensures.value in

@@ -26,4 +26,6 @@ returns c =
     let ids = map (λ (r : List ℕ × Standing). r.0) c.args.sums.now.kept.rows in
     let long = length-map c.args.sums.now.kept.rows (λ (r : List ℕ × Standing). r.0) in
     c.loop-place.invariant
-    ∙ ap (map (shown_by (order_in c.args.sums.now) (stored c.args.chains.now))) (take_all c.loop-place.place ids (omega (arith, long, c.loop-place-test.false, c.len-place-end.ensures.len)) ∙ kept_ids (order_in c.args.sums.now) c.args.chains.now.limits c.args.chains.now c.args.sums.now.kept c.requires.standing)
+    ∙ ap (map (shown_by (order_in c.args.sums.now) (stored c.args.chains.now)))
+    (take_all c.loop-place.place ids (omega (arith, long, c.loop-place-test.false, c.len-place-end.ensures.len))
+    ∙ kept_ids (order_in c.args.sums.now) c.args.chains.now.limits c.args.chains.now c.args.sums.now.kept c.requires.standing)

@@ -17,4 +17,6 @@ returns-in-Even-clause-own c =
     let until = subst IsMoment (c.nanos-until.ensures.value ∙ c.moment-2.ensures) c.nanos-until.ensures.range in
     let own = parts_own period (one, other) (subst IsPeriod c.length.ensures.value c.length.ensures.range) since until in
     IfOk-weaker c.even_parts.result _ _
-    (λ parts is. subst (λ (ts : List Part). All (λ (t : Part). IsQuarterOf period.length t.0) ts) (sym (is ∙ (λ i. parts_by (rule i) (c.length.ensures.value i) (change_of (one, other))))) own) c.even_parts.ensures
+    (λ parts is. subst (λ (ts : List Part). All (λ (t : Part). IsQuarterOf period.length t.0) ts)
+    (sym (is ∙ (λ i. parts_by (rule i) (c.length.ensures.value i) (change_of (one, other))))) own)
+    c.even_parts.ensures

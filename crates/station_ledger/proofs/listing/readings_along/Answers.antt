@@ -17,8 +17,11 @@ loop-place-preserved g c =
     let seq = subst (λ o. IfSome o (λ k. k.seq ≡ n)) c.unwrap-key.ensures c.new.ensures.seq in
     let key : c.unwrap-key.result ≡ record { tx = c.args.tx.now; seq = n } = λ i. record { tx = tx i; seq = seq i } in
     record {
-      listed = walked (λ m. placed_from m 0 (readings_at c.args.direction c.args.chains.now (record { tx = c.args.tx.now; seq = m }))) (left ahead walk c.loop-place.place) rest n c.loop-place.listed.items c.push_readings.new.listed.items _
-          (ap (left ahead walk) c.in-Some.is ∙ steps) (c.in_ok-push_readings.ensures ∙ ap (λ k. c.loop-place.listed.items ++ placed_from k.seq 0 (readings_at c.args.direction c.args.chains.now k)) key) c.loop-place.invariant.listed;
+      listed = walked (λ m. placed_from m 0 (readings_at c.args.direction c.args.chains.now (record { tx = c.args.tx.now; seq = m })))
+          (left ahead walk c.loop-place.place) rest n c.loop-place.listed.items c.push_readings.new.listed.items _
+          (ap (left ahead walk) c.in-Some.is ∙ steps)
+          (c.in_ok-push_readings.ensures ∙ ap (λ k. c.loop-place.listed.items ++ placed_from k.seq 0 (readings_at c.args.direction c.args.chains.now k)) key)
+          c.loop-place.invariant.listed;
       stands = c.next-place.ensures.stands;
       few = (subst AreNumbers (ap (left ahead walk) c.in-Some.is ∙ steps) c.loop-place.invariant.few).1;
     }

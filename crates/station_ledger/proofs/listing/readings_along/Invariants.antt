@@ -11,7 +11,8 @@ abbrev pub invariant-loop-place : goal.invariant-loop-place
 invariant-loop-place g l =
     let rest = left g.W.NumberWalk.ahead l.walk l.place in
     record {
-      listed : l.listed.items ++ flat_map (λ n. placed_from n 0 (readings_at l.fn.direction l.chains (record { tx = l.tx; seq = n }))) rest ≡ flat_map (λ n. placed_from n 0 (readings_at l.fn.direction l.chains (record { tx = l.tx; seq = n }))) (g.W.NumberWalk.numbers l.walk);
+      listed : l.listed.items ++ flat_map (λ n. placed_from n 0 (readings_at l.fn.direction l.chains (record { tx = l.tx; seq = n }))) rest
+          ≡ flat_map (λ n. placed_from n 0 (readings_at l.fn.direction l.chains (record { tx = l.tx; seq = n }))) (g.W.NumberWalk.numbers l.walk);
       stands : StandsAt g.W.NumberWalk.ahead l.walk l.place;
       few : AreNumbers rest;
     }

@@ -15,4 +15,6 @@ readings_along-requires c = subst AreNumbers (sym c.walk.ensures) (walk_numbers 
 pub returns : goal.returns
 returns c =
     let reads : ℕ → List PlacedReading = λ n. placed_from n 0 (readings_at c.args.direction c.args.chains.now (record { tx = c.args.tx.now; seq = n })) in
-    subst (λ rs. IfOk c.readings_along.result (λ listed. listed.items ≡ rs)) (ap (flat_map reads) c.walk.ensures ∙ read_along (λ n rs. placed_from n 0 rs) c.args.direction c.args.tx.now c.args.chains.now) c.readings_along.ensures
+    subst (λ rs. IfOk c.readings_along.result (λ listed. listed.items ≡ rs))
+    (ap (flat_map reads) c.walk.ensures ∙ read_along (λ n rs. placed_from n 0 rs) c.args.direction c.args.tx.now c.args.chains.now)
+    c.readings_along.ensures

@@ -33,4 +33,5 @@ returns c =
     let long = length-map c.args.sums.now.kept.rows (λ (r : List ℕ × Standing). r.0) in
     c.loop-place.invariant
     ∙ ap (λ ts. with_shares c.args.sums.now.period.length d (flat_map (λ t. pairs_by order d t es) ts) c.args.table.now.rows)
-    (take_all c.loop-place.place ids (omega (arith, long, c.loop-place-test.false, c.len-place-end.ensures.len)) ∙ kept_ids order c.args.chains.now.limits c.args.chains.now c.args.sums.now.kept c.requires.standing)
+    (take_all c.loop-place.place ids (omega (arith, long, c.loop-place-test.false, c.len-place-end.ensures.len))
+    ∙ kept_ids order c.args.chains.now.limits c.args.chains.now c.args.sums.now.kept c.requires.standing)

@@ -8,4 +8,7 @@ use Rattle.station_ledger.proofs.shares.share_direction.Given as goal
 
 -- the shares of the transactions so far
 abbrev pub invariant-loop-place : goal.invariant-loop-place
-invariant-loop-place l = l.table.rows ≡ with_shares l.sums.period.length l.fn.direction (flat_map (λ tx. pairs_by (order_in l.fn.sums) l.fn.direction tx (stored l.fn.chains)) (take l.place (map (λ r. r.0) l.fn.sums.kept.rows))) l.fn.table.rows
+invariant-loop-place l = l.table.rows
+    ≡ with_shares l.sums.period.length l.fn.direction
+    (flat_map (λ tx. pairs_by (order_in l.fn.sums) l.fn.direction tx (stored l.fn.chains)) (take l.place (map (λ r. r.0) l.fn.sums.kept.rows)))
+    l.fn.table.rows

@@ -16,7 +16,8 @@ unfolding readings
 loop-left-preserved c =
     let r = c.first-item.result in let left = c.loop-left.left.now in let rest = take (length left - 1) (drop 1 left) in
     let steps : left ≡ r ∷ rest = first_and_rest left rest r r c.in-len1-up.len_at_least c.first-item.is (take_rest left 1) in
-    stepped c.args.length c.args.direction c.loop-left.last r.reading (readings left) (readings rest) c.loop-left.table.rows c.share_across.new.table.rows _ (ap readings steps) c.in_ok-share_across.ensures c.loop-left.invariant
+    stepped c.args.length c.args.direction c.loop-left.last r.reading (readings left) (readings rest) c.loop-left.table.rows
+    c.share_across.new.table.rows _ (ap readings steps) c.in_ok-share_across.ensures c.loop-left.invariant
 
 pub returns : goal.returns
 unfolding readings

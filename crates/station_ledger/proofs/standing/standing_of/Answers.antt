@@ -46,7 +46,9 @@ returns-after-missing-eq0 c =
     let head : c.in-Some-Some.first ≡ unwrap_or (slice_get ns 0) 0 = ap (λ o. unwrap_or o 0) (sym first) in
     let complete : c.if-missing-eq0.result ≡ is_complete tx es = elim c.if-missing-eq0.branch [
       | then-missing-eq0 w ↦ w.result-is ∙ w.starts_and_ends.ensures ∙ ends ∙ none_missing (starts_and_ends (kinds_of tx es)) (missing ns) (sym none ∙ w.if-missing-eq0.true)
-      | else-missing-eq0 w ↦ w.result-is ∙ ne_eqb ((c.in-Some-Some.last - c.in-Some-Some.first) - (c.standing-events.result.live - 1)) 0 w.if-missing-eq0.false ∙ some_missing (starts_and_ends (kinds_of tx es)) (missing ns) (λ z. w.if-missing-eq0.false (none ∙ z))
+      | else-missing-eq0 w ↦ w.result-is
+          ∙ ne_eqb ((c.in-Some-Some.last - c.in-Some-Some.first) - (c.standing-events.result.live - 1)) 0 w.if-missing-eq0.false
+          ∙ some_missing (starts_and_ends (kinds_of tx es)) (missing ns) (λ z. w.if-missing-eq0.false (none ∙ z))
     ] in
     (λ i. Some (record { first = head i; live = e.live i; evse = e.evse i; complete = complete i; missing = none i; energy = c.args.energy }))
     ∙ kept_some c.args.energy tx es (omega (arith, some, count))

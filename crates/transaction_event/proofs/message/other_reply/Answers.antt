@@ -15,7 +15,9 @@ use Rattle.transaction_event.specs.Reply.{memory_reply}
 use Rattle.transaction_event.proofs.message.other_reply.Goals as goal
 
 -- the result is what its call means
-is_meant : (now : ℕ) (id shown : List ℕ) (action named : Action) (payload : Data) (body : Body) (reply : List ℕ) → action ≡ named → shown ≡ id → called now id named payload ≡ Ready (result_bytes id body) → reply ≡ result_bytes shown body → called now id action payload ≡ Ready reply
+is_meant : (now : ℕ) (id shown : List ℕ) (action named : Action) (payload : Data) (body : Body) (reply : List ℕ) → action ≡ named
+    → shown ≡ id → called now id named payload ≡ Ready (result_bytes id body) → reply ≡ result_bytes shown body
+    → called now id action payload ≡ Ready reply
 is_meant now id shown action named payload body reply is same means told =
     ap (λ a. called now id a payload) is ∙ means ∙ ap Ready (ap (λ i. result_bytes i body) (sym same) ∙ sym told)
 
@@ -25,7 +27,8 @@ is_no_error id body reply told memory =
     let same : ◌≡◌ {A = ℕ} 51 52 = ap (λ text. get_or text 1 0) (sym told ∙ memory) in
     absurd (omega (arith, same))
 
-is_told : (id : List ℕ) (action : Action) (payload : Data) (reply : List ℕ) → action ≢ TransactionEvent → reply ≢ memory_reply (codes "-1") → IsTrue false ↔ IsMemoryReply (Called id action payload) reply
+is_told : (id : List ℕ) (action : Action) (payload : Data) (reply : List ℕ) → action ≢ TransactionEvent
+    → reply ≢ memory_reply (codes "-1") → IsTrue false ↔ IsMemoryReply (Called id action payload) reply
 is_told id BootNotification payload reply other differs = (λ no. absurd (false≢true no), λ memory. absurd (differs memory))
 is_told id Heartbeat payload reply other differs = (λ no. absurd (false≢true no), λ memory. absurd (differs memory))
 is_told id StatusNotification payload reply other differs = (λ no. absurd (false≢true no), λ memory. absurd (differs memory))
@@ -38,24 +41,29 @@ unreachable-unreachable c = absurd (c.requires (sym c.action.ensures ∙ c.in-Tr
 pub returns-in-BootNotification-clause-meaning : goal.returns-in-BootNotification-clause-meaning
 returns-in-BootNotification-clause-meaning c =
     let call = c.args.call.now in
-    is_meant c.args.now (id_of call) c.id-id.result.now (action_of call) BootNotification (payload_of call) (Boot c.moment_text.result) c.result_text.result.bytes (sym c.action.ensures ∙ c.in-BootNotification.is) c.id-id.ensures.value
+    is_meant c.args.now (id_of call) c.id-id.result.now (action_of call) BootNotification (payload_of call)
+    (Boot c.moment_text.result) c.result_text.result.bytes (sym c.action.ensures ∙ c.in-BootNotification.is) c.id-id.ensures.value
     (ap (λ text. Ready (call_result (id_of call) (boot text))) (sym c.moment_text.ensures)) c.result_text.ensures
 
 pub returns-in-BootNotification-clause-memory : goal.returns-in-BootNotification-clause-memory
 returns-in-BootNotification-clause-memory c =
     let call = c.args.call.now in
-    is_told (id_of call) (action_of call) (payload_of call) c.result_text.result.bytes c.requires (is_no_error c.id-id.result.now (Boot c.moment_text.result) c.result_text.result.bytes c.result_text.ensures)
+    is_told (id_of call) (action_of call) (payload_of call) c.result_text.result.bytes c.requires
+    (is_no_error c.id-id.result.now (Boot c.moment_text.result) c.result_text.result.bytes c.result_text.ensures)
 
 pub returns-in-Heartbeat-clause-meaning : goal.returns-in-Heartbeat-clause-meaning
 returns-in-Heartbeat-clause-meaning c =
     let call = c.args.call.now in
-    is_meant c.args.now (id_of call) c.id-id.result.now (action_of call) Heartbeat (payload_of call) (Now c.moment_text-in-Heartbeat.result) c.result_text-in-Heartbeat.result.bytes (sym c.action.ensures ∙ c.in-Heartbeat.is) c.id-id.ensures.value
+    is_meant c.args.now (id_of call) c.id-id.result.now (action_of call) Heartbeat (payload_of call)
+    (Now c.moment_text-in-Heartbeat.result) c.result_text-in-Heartbeat.result.bytes (sym c.action.ensures ∙ c.in-Heartbeat.is)
+    c.id-id.ensures.value
     (ap (λ text. Ready (call_result (id_of call) (heartbeat text))) (sym c.moment_text-in-Heartbeat.ensures)) c.result_text-in-Heartbeat.ensures
 
 pub returns-in-Heartbeat-clause-memory : goal.returns-in-Heartbeat-clause-memory
 returns-in-Heartbeat-clause-memory c =
     let call = c.args.call.now in
-    is_told (id_of call) (action_of call) (payload_of call) c.result_text-in-Heartbeat.result.bytes c.requires (is_no_error c.id-id.result.now (Now c.moment_text-in-Heartbeat.result) c.result_text-in-Heartbeat.result.bytes c.result_text-in-Heartbeat.ensures)
+    is_told (id_of call) (action_of call) (payload_of call) c.result_text-in-Heartbeat.result.bytes c.requires
+    (is_no_error c.id-id.result.now (Now c.moment_text-in-Heartbeat.result) c.result_text-in-Heartbeat.result.bytes c.result_text-in-Heartbeat.ensures)
 
 pub returns-in-StatusNotification-clause-meaning : goal.returns-in-StatusNotification-clause-meaning
 returns-in-StatusNotification-clause-meaning c =
@@ -69,4 +77,5 @@ returns-in-StatusNotification-clause-meaning c =
 pub returns-in-StatusNotification-clause-memory : goal.returns-in-StatusNotification-clause-memory
 returns-in-StatusNotification-clause-memory c =
     let call = c.args.call.now in
-    is_told (id_of call) (action_of call) (payload_of call) c.result_text-in-StatusNotification.result.bytes c.requires (is_no_error c.id-id.result.now Empty c.result_text-in-StatusNotification.result.bytes c.result_text-in-StatusNotification.ensures)
+    is_told (id_of call) (action_of call) (payload_of call) c.result_text-in-StatusNotification.result.bytes c.requires
+    (is_no_error c.id-id.result.now Empty c.result_text-in-StatusNotification.result.bytes c.result_text-in-StatusNotification.ensures)

@@ -75,19 +75,31 @@ returns-in_err-timestamp-clause-err c =
 pub returns-in_err-trigger_reason-clause-err : goal.returns-in_err-trigger_reason-clause-err
 returns-in_err-trigger_reason-clause-err c =
     let p = err_from_is_err_and c.from_residual-in_err-trigger_reason.result c.from_residual-in_err-trigger_reason.ensures.1 in
-    rw (p.1, p.2) (λ _. sym (by_reason (request_with c.args.members.now) c.in_ok-kind.kind c.in_ok-kind.ensures.value c.in_ok-timestamp.timestamp c.in_ok-timestamp.ensures.value (Err c.in_err-trigger_reason.field-0.0) c.in_err-trigger_reason.ensures.value))
+    rw (p.1, p.2) (λ _. sym
+    (by_reason (request_with c.args.members.now) c.in_ok-kind.kind c.in_ok-kind.ensures.value c.in_ok-timestamp.timestamp
+    c.in_ok-timestamp.ensures.value (Err c.in_err-trigger_reason.field-0.0) c.in_err-trigger_reason.ensures.value))
 
 pub returns-in_err-key-clause-err : goal.returns-in_err-key-clause-err
 returns-in_err-key-clause-err c =
     let p = err_from_is_err_and c.from_residual-in_err-key.result c.from_residual-in_err-key.ensures.1 in
-    rw (p.1, p.2) (λ _. sym (by_key (request_with c.args.members.now) c.in_ok-kind.kind c.in_ok-kind.ensures.value c.in_ok-timestamp.timestamp c.in_ok-timestamp.ensures.value c.in_ok-trigger_reason.field-0.now c.in_ok-trigger_reason.ensures.value (Err c.in_err-key.field-0.0) c.in_err-key.ensures.value))
+    rw (p.1, p.2) (λ _. sym
+    (by_key (request_with c.args.members.now) c.in_ok-kind.kind c.in_ok-kind.ensures.value c.in_ok-timestamp.timestamp
+    c.in_ok-timestamp.ensures.value c.in_ok-trigger_reason.field-0.now c.in_ok-trigger_reason.ensures.value
+    (Err c.in_err-key.field-0.0) c.in_err-key.ensures.value))
 
 pub returns-in_err-evse-clause-err : goal.returns-in_err-evse-clause-err
 returns-in_err-evse-clause-err c =
     let p = err_from_is_err_and c.from_residual-in_err-evse.result c.from_residual-in_err-evse.ensures.1 in
-    rw (p.1, p.2) (λ _. sym (by_evse (request_with c.args.members.now) c.in_ok-kind.kind c.in_ok-kind.ensures.value c.in_ok-timestamp.timestamp c.in_ok-timestamp.ensures.value c.in_ok-trigger_reason.field-0.now c.in_ok-trigger_reason.ensures.value c.in_ok-key.key c.in_ok-key.ensures.value (Err c.in_err-evse.field-0.0) c.in_err-evse.ensures.value))
+    rw (p.1, p.2) (λ _. sym
+    (by_evse (request_with c.args.members.now) c.in_ok-kind.kind c.in_ok-kind.ensures.value c.in_ok-timestamp.timestamp
+    c.in_ok-timestamp.ensures.value c.in_ok-trigger_reason.field-0.now c.in_ok-trigger_reason.ensures.value c.in_ok-key.key
+    c.in_ok-key.ensures.value (Err c.in_err-evse.field-0.0) c.in_err-evse.ensures.value))
 
 pub returns-in_err-token-clause-err : goal.returns-in_err-token-clause-err
 returns-in_err-token-clause-err c =
     let p = err_from_is_err_and c.from_residual-in_err-token.result c.from_residual-in_err-token.ensures.1 in
-    rw (p.1, p.2) (λ _. sym (by_token (request_with c.args.members.now) c.in_ok-kind.kind c.in_ok-kind.ensures.value c.in_ok-timestamp.timestamp c.in_ok-timestamp.ensures.value c.in_ok-trigger_reason.field-0.now c.in_ok-trigger_reason.ensures.value c.in_ok-key.key c.in_ok-key.ensures.value c.in_ok-evse.evse c.in_ok-evse.ensures.value (Err c.in_err-token.field-0.0) c.in_err-token.ensures.value))
+    rw (p.1, p.2) (λ _. sym
+    (by_token (request_with c.args.members.now) c.in_ok-kind.kind c.in_ok-kind.ensures.value c.in_ok-timestamp.timestamp
+    c.in_ok-timestamp.ensures.value c.in_ok-trigger_reason.field-0.now c.in_ok-trigger_reason.ensures.value c.in_ok-key.key
+    c.in_ok-key.ensures.value c.in_ok-evse.evse c.in_ok-evse.ensures.value (Err c.in_err-token.field-0.0)
+    c.in_err-token.ensures.value))

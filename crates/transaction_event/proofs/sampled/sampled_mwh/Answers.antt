@@ -41,11 +41,15 @@ measured sampled measure e = step (of_measure sampled) e
 scaled : (sampled : Data) (measure : Option Data) (scale : Checked Scaling) → Ok measure ≡ measure_of sampled → scale ≡ scale_of measure → scale >>= of_scale sampled ≡ sampled_mwh sampled
 scaled sampled measure scale e s = step (of_scale sampled) s ∙ measured sampled (Ok measure) e
 
-named : (sampled : Data) (measure : Option Data) (scale : Scaling) (token : Checked (List ℕ)) → Ok measure ≡ measure_of sampled → Ok scale ≡ scale_of measure → token ≡ required number_of (codes "value") sampled → token >>= of_token scale ≡ sampled_mwh sampled
+named : (sampled : Data) (measure : Option Data) (scale : Scaling) (token : Checked (List ℕ)) → Ok measure ≡ measure_of sampled
+    → Ok scale ≡ scale_of measure → token ≡ required number_of (codes "value") sampled
+    → token >>= of_token scale ≡ sampled_mwh sampled
 named sampled measure scale token e s t = step (of_token scale) t ∙ scaled sampled measure (Ok scale) e s
 
 -- a reading whose faults are all mapped to `Decimal`
-read_as_mapped : {Q : DecimalFault → PayloadFault → Type 0} (read : Result ℕ DecimalFault) (result : Checked ℕ) → MatchResult read (λ mwh. result ≡ Ok mwh) (λ fault. IsErrAnd result (Q fault)) → ((fault : DecimalFault) (mapped : PayloadFault) → Q fault mapped → mapped ≡ Decimal) → result ≡ decimal read
+read_as_mapped : {Q : DecimalFault → PayloadFault → Type 0} (read : Result ℕ DecimalFault) (result : Checked ℕ)
+    → MatchResult read (λ mwh. result ≡ Ok mwh) (λ fault. IsErrAnd result (Q fault))
+    → ((fault : DecimalFault) (mapped : PayloadFault) → Q fault mapped → mapped ≡ Decimal) → result ≡ decimal read
 read_as_mapped (Ok mwh) result e known = e
 read_as_mapped (Err fault) result e known = let p = err_from_is_err_and result e in p.1 ∙ ap Err (known fault p.0 p.2)
 
@@ -72,7 +76,8 @@ pub returns-in_err-token-clause-value : goal.returns-in_err-token-clause-value
 returns-in_err-token-clause-value c =
     let measure = option_map node c.in_ok-optional_object.field-0 in
     let p = err_from_is_err_and c.from_residual-in_err-token.result c.from_residual-in_err-token.ensures.1 in
-    rw (p.1, p.2) (named (node c.args.sampled) measure c.in_ok-scale.scale (Err c.in_err-token.field-0.0) c.in_ok-optional_object.ensures.value c.in_ok-scale.ensures.value c.in_err-token.ensures.value)
+    rw (p.1, p.2) (named (node c.args.sampled) measure c.in_ok-scale.scale (Err c.in_err-token.field-0.0)
+    c.in_ok-optional_object.ensures.value c.in_ok-scale.ensures.value c.in_err-token.ensures.value)
 
 pub returns-clause-value : goal.returns-clause-value
 returns-clause-value c =
@@ -81,13 +86,15 @@ returns-clause-value c =
     let told = named (node c.args.sampled) measure scale (Ok c.in_ok-token.token.now) c.in_ok-optional_object.ensures.value c.in_ok-scale.ensures.value c.in_ok-token.ensures.value in
     let fits : FitsSigned w8 c.multiplier.result = search rules in
     let read = simp to_z-of_z at c.mwh_of.ensures in
-    read_as_mapped _ c.map_err.result c.map_err.ensures.cases (λ fault mapped is. search rules) ∙ ap decimal (read ∙ ap₂ (mwh_reading c.in_ok-token.token.now) c.multiplier.ensures.value c.unit.ensures.value) ∙ told
+    read_as_mapped _ c.map_err.result c.map_err.ensures.cases (λ fault mapped is. search rules)
+    ∙ ap decimal (read ∙ ap₂ (mwh_reading c.in_ok-token.token.now) c.multiplier.ensures.value c.unit.ensures.value) ∙ told
 
 pub returns-clause-range : goal.returns-clause-range
 returns-clause-range c =
     let fits : FitsSigned w8 c.multiplier.result = search rules in
     let read = simp to_z-of_z at c.mwh_of.ensures in
-    rw (read_as_mapped _ c.map_err.result c.map_err.ensures.cases (λ fault mapped is. search rules)) (in_range _ (λ mwh is. mwh_in_range c.in_ok-token.token.now c.multiplier.result c.unit.result mwh (sym read ∙ is)))
+    rw (read_as_mapped _ c.map_err.result c.map_err.ensures.cases (λ fault mapped is. search rules))
+    (in_range _ (λ mwh is. mwh_in_range c.in_ok-token.token.now c.multiplier.result c.unit.result mwh (sym read ∙ is)))
 
 pub returns-clause-memory : goal.returns-clause-memory
 returns-clause-memory c =

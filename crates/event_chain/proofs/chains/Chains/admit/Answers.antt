@@ -24,7 +24,8 @@ pub around_of-requires-clause-carry : goal.around_of-requires-clause-carry
 around_of-requires-clause-carry c d = c.self.invariant.indexed.carry d
 
 pub around_of-requires-clause-row : goal.around_of-requires-clause-row
-around_of-requires-clause-row c = c.seek-found.ensures.value ∙ ap (λ t. row_of t c.self.inside.table.rows) c.tx-tx.ensures ∙ ap (λ (x : Table). row_of c.args.key.now.tx x.rows) (sym c.seek-found.ensures.same)
+around_of-requires-clause-row c = c.seek-found.ensures.value ∙ ap (λ t. row_of t c.self.inside.table.rows) c.tx-tx.ensures
+    ∙ ap (λ (x : Table). row_of c.args.key.now.tx x.rows) (sym c.seek-found.ensures.same)
 
 pub enter-known-requires-clause-known : goal.enter-known-requires-clause-known
 enter-known-requires-clause-known c = c.seek-found.ensures.value ∙ ap (λ (x : Table). row_of c.tx-tx.result.now x.rows) (sym c.seek-found.ensures.same)
@@ -51,7 +52,8 @@ put-slot-requires-clause-room c =
 pub insert-requires : goal.insert-requires
 insert-requires c =
     let row = c.enter-known.result.0 in let mid = c.enter-known.new.table.rows in let key = c.args.key.now in
-    let entered = subst (λ (x : Table). IsEntered x.rows mid key.tx row) c.seek-found.ensures.same (subst (λ t. IsEntered c.seek-found.new.self.rows mid t row) c.tx-tx.ensures c.enter-known.ensures.entered) in
+    let entered = subst (λ (x : Table). IsEntered x.rows mid key.tx row) c.seek-found.ensures.same
+    (subst (λ t. IsEntered c.seek-found.new.self.rows mid t row) c.tx-tx.ensures c.enter-known.ensures.entered) in
     let number : key.seq < 2 ^ 31 = omega (arith, c.seq.ensures.value, c.seq.ensures.range) in let is = c.new-at.ensures ∙ ap (rank row.slot) c.seq.ensures.value in
     let absent = ap (λ (x : Chained). finite.get x.events key) c.self.view_is ∙ c.requires.absent in
     let fits = ap (λ (x : Chained). room_of x.limits (finite.entries x.events) key.tx (length c.args.event.now.readings)) c.self.view_is ∙ c.requires.room in
@@ -59,28 +61,40 @@ insert-requires c =
     record {
       absent = none_at k mid key row c.new-at.result absent entered number is;
       room = omega (arith, event_room k key.tx (length c.args.event.now.readings) fits, k.roomy.for_stored);
-      slot_for = record { within = omega (arith, c.put-slot.ensures.within, k.counted.slots_are, k.roomy.for_live); unused = unused_free m.table.rows m.places.stored.entries m.places.live.entries m.store.slots k.keyed k.indexed.lives c.put-slot.result c.put-slot.ensures.was_free };
+      slot_for = record {
+        within = omega (arith, c.put-slot.ensures.within, k.counted.slots_are, k.roomy.for_live);
+        unused = unused_free m.table.rows m.places.stored.entries m.places.live.entries m.store.slots k.keyed k.indexed.lives c.put-slot.result c.put-slot.ensures.was_free;
+      };
     }
 
 pub row_with-after-requires : goal.row_with-after-requires
 row_with-after-requires c =
     let row = c.enter-known.result.0 in let mid = c.enter-known.new.table.rows in let key = c.args.key.now in
-    let entered = subst (λ (x : Table). IsEntered x.rows mid key.tx row) c.seek-found.ensures.same (subst (λ t. IsEntered c.seek-found.new.self.rows mid t row) c.tx-tx.ensures c.enter-known.ensures.entered) in
-    let k = c.self.invariant in let few = counts_few k mid key.tx row entered in let most = places_few k in (omega (arith, few.0, most, k.counted.events_few), omega (arith, few.1, most, k.counted.events_few))
+    let entered = subst (λ (x : Table). IsEntered x.rows mid key.tx row) c.seek-found.ensures.same
+    (subst (λ t. IsEntered c.seek-found.new.self.rows mid t row) c.tx-tx.ensures c.enter-known.ensures.entered) in
+    let k = c.self.invariant in
+    let few = counts_few k mid key.tx row entered in
+    let most = places_few k in (omega (arith, few.0, most, k.counted.events_few), omega (arith, few.1, most, k.counted.events_few))
 
 pub renew-requires-clause-slot : goal.renew-requires-clause-slot
 renew-requires-clause-slot c =
     let row = c.enter-known.result.0 in let mid = c.enter-known.new.table.rows in let key = c.args.key.now in
-    let entered = subst (λ (x : Table). IsEntered x.rows mid key.tx row) c.seek-found.ensures.same (subst (λ t. IsEntered c.seek-found.new.self.rows mid t row) c.tx-tx.ensures c.enter-known.ensures.entered) in
-    ap (λ t. option_map (λ (r : TableRow). r.slot) (row_of t mid)) c.tx-tx.ensures ∙ ap (option_map (λ (r : TableRow). r.slot)) (entered_named c.self.inside.table.rows mid key.tx row entered).there ∙ ap Some (sym (ap (λ (r : TableRow). r.slot) c.row_with-after.ensures))
+    let entered = subst (λ (x : Table). IsEntered x.rows mid key.tx row) c.seek-found.ensures.same
+    (subst (λ t. IsEntered c.seek-found.new.self.rows mid t row) c.tx-tx.ensures c.enter-known.ensures.entered) in
+    ap (λ t. option_map (λ (r : TableRow). r.slot) (row_of t mid)) c.tx-tx.ensures
+    ∙ ap (option_map (λ (r : TableRow). r.slot)) (entered_named c.self.inside.table.rows mid key.tx row entered).there
+    ∙ ap Some (sym (ap (λ (r : TableRow). r.slot) c.row_with-after.ensures))
 
 pub invariant_of-self : goal.invariant_of-self
 invariant_of-self c =
     let row = c.enter-known.result.0 in let mid = c.enter-known.new.table.rows in let key = c.args.key.now in
-    let entered = subst (λ (x : Table). IsEntered x.rows mid key.tx row) c.seek-found.ensures.same (subst (λ t. IsEntered c.seek-found.new.self.rows mid t row) c.tx-tx.ensures c.enter-known.ensures.entered) in
+    let entered = subst (λ (x : Table). IsEntered x.rows mid key.tx row) c.seek-found.ensures.same
+    (subst (λ t. IsEntered c.seek-found.new.self.rows mid t row) c.tx-tx.ensures c.enter-known.ensures.entered) in
     let number : key.seq < 2 ^ 31 = omega (arith, c.seq.ensures.value, c.seq.ensures.range) in let is = c.new-at.ensures ∙ ap (rank row.slot) c.seq.ensures.value in
     let absent = ap (λ (x : Chained). finite.get x.events key) c.self.view_is ∙ c.requires.absent in
-    inserted c.self.invariant key mid row c.new-at.result entered number is absent c.renew.new.table c.put-slot.new.self c.insert.new.self.stored c.insert.new.self.live (carriers_of c.insert.new.self) c.insert.new.self.naming c.row_with-after.result c.put-slot.result c.args.event.now (λ d. in_direction d c.carried_by-carries.result) c.is_some-names_evse.result
+    inserted c.self.invariant key mid row c.new-at.result entered number is absent c.renew.new.table c.put-slot.new.self
+    c.insert.new.self.stored c.insert.new.self.live (carriers_of c.insert.new.self) c.insert.new.self.naming c.row_with-after.result
+    c.put-slot.result c.args.event.now (λ d. in_direction d c.carried_by-carries.result) c.is_some-names_evse.result
     (record {
       rows = c.renew.ensures.rows ∙ ap (λ t. with_row t c.row_with-after.result c.enter-known.new.table.rows) c.tx-tx.ensures;
       transactions = c.renew.ensures.capacity ∙ c.enter-known.ensures.capacity ∙ ap (λ (x : Table). x.capacity) c.seek-found.ensures.same;
@@ -105,10 +119,13 @@ invariant_of-self c =
 pub returns-clause-events : goal.returns-clause-events
 returns-clause-events c =
     let row = c.enter-known.result.0 in let mid = c.enter-known.new.table.rows in let key = c.args.key.now in
-    let entered = subst (λ (x : Table). IsEntered x.rows mid key.tx row) c.seek-found.ensures.same (subst (λ t. IsEntered c.seek-found.new.self.rows mid t row) c.tx-tx.ensures c.enter-known.ensures.entered) in
+    let entered = subst (λ (x : Table). IsEntered x.rows mid key.tx row) c.seek-found.ensures.same
+    (subst (λ t. IsEntered c.seek-found.new.self.rows mid t row) c.tx-tx.ensures c.enter-known.ensures.entered) in
     let number : key.seq < 2 ^ 31 = omega (arith, c.seq.ensures.value, c.seq.ensures.range) in let is = c.new-at.ensures ∙ ap (rank row.slot) c.seq.ensures.value in
     let absent = ap (λ (x : Chained). finite.get x.events key) c.self.view_is ∙ c.requires.absent in
-    inserted_events c.self.invariant key mid row c.new-at.result entered number is absent c.renew.new.table c.put-slot.new.self c.insert.new.self.stored c.insert.new.self.live (carriers_of c.insert.new.self) c.insert.new.self.naming c.row_with-after.result c.put-slot.result c.args.event.now (λ d. in_direction d c.carried_by-carries.result) c.is_some-names_evse.result
+    inserted_events c.self.invariant key mid row c.new-at.result entered number is absent c.renew.new.table c.put-slot.new.self
+    c.insert.new.self.stored c.insert.new.self.live (carriers_of c.insert.new.self) c.insert.new.self.naming c.row_with-after.result
+    c.put-slot.result c.args.event.now (λ d. in_direction d c.carried_by-carries.result) c.is_some-names_evse.result
     (record {
       rows = c.renew.ensures.rows ∙ ap (λ t. with_row t c.row_with-after.result c.enter-known.new.table.rows) c.tx-tx.ensures;
       transactions = c.renew.ensures.capacity ∙ c.enter-known.ensures.capacity ∙ ap (λ (x : Table). x.capacity) c.seek-found.ensures.same;

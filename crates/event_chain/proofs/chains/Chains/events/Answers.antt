@@ -20,4 +20,5 @@ returns-in-Some c =
 pub returns-in-None : goal.returns-in-None
 returns-in-None c =
     let m = c.self.inside in let k = c.self.invariant in let tx = c.args.tx.now in
-    c.new.ensures.items ∙ sym (events_absent m.table.rows m.places.stored.entries m.store.slots k.keyed.rising k.keyed.ranks tx (sym c.get.ensures.value ∙ c.in-None.is)) ∙ ap (events_of tx) (sym (entries_all k) ∙ ap (λ (x : Chained). stored x) c.self.view_is)
+    c.new.ensures.items ∙ sym (events_absent m.table.rows m.places.stored.entries m.store.slots k.keyed.rising k.keyed.ranks tx (sym c.get.ensures.value ∙ c.in-None.is))
+    ∙ ap (events_of tx) (sym (entries_all k) ∙ ap (λ (x : Chained). stored x) c.self.view_is)

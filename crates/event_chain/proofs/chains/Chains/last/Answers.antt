@@ -16,4 +16,5 @@ returns c =
     let m = c.self.inside in let k = c.self.invariant in let rows = m.table.rows in let es = m.places.stored.entries in let slots = m.store.slots in
     c.number_of.ensures ∙ ap (option_map number_in) (c.last_live.ensures ∙ ap (last_under m.places.live.entries) c.get.ensures.value)
     ∙ sym (last_number rows es m.places.live.entries slots k.keyed.rising k.keyed.ranks k.indexed.lives c.args.tx.now)
-    ∙ ap (λ xs. let ns = numbers_of c.args.tx.now xs in slice_get ns (length ns - 1)) (sym (entries_all k)) ∙ ap (λ (x : Chained). let ns = numbers_of c.args.tx.now (stored x) in slice_get ns (length ns - 1)) c.self.view_is
+    ∙ ap (λ xs. let ns = numbers_of c.args.tx.now xs in slice_get ns (length ns - 1)) (sym (entries_all k))
+    ∙ ap (λ (x : Chained). let ns = numbers_of c.args.tx.now (stored x) in slice_get ns (length ns - 1)) c.self.view_is

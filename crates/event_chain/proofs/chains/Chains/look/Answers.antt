@@ -14,7 +14,9 @@ get-requires c =
 pub returns-in-Some : goal.returns-in-Some
 returns-in-Some c =
     let m = c.self.inside in
-    ap (λ (o : Option Held). Some (stored_in o)) (sym c.get.ensures) ∙ ap (event_at m.store.slots) (sym c.in-Some.is ∙ c.look_up-found.ensures) ∙ sym (get_place c.self.invariant c.args.key.now) ∙ ap (λ (x : Chained). finite.get x.events c.args.key.now) c.self.view_is
+    ap (λ (o : Option Held). Some (stored_in o)) (sym c.get.ensures)
+    ∙ ap (event_at m.store.slots) (sym c.in-Some.is ∙ c.look_up-found.ensures) ∙ sym (get_place c.self.invariant c.args.key.now)
+    ∙ ap (λ (x : Chained). finite.get x.events c.args.key.now) c.self.view_is
 
 pub returns-in-None : goal.returns-in-None
 returns-in-None c =

@@ -19,7 +19,9 @@ use Rattle.event_chain.proofs.chains.Chains.relink.Goals as goal
 pub locate-at-requires : goal.locate-at-requires
 locate-at-requires c =
     let m = c.self.inside in let key = c.args.key.now in
-    let was = found_voided (finite.get (events_of m.table m.store m.places.stored) key) (ap (λ (x : Chained). found_of (finite.get x.events key)) c.self.view_is ∙ c.requires) in is_placed c.self.invariant key was.0 was.1.0
+    let was = found_voided (finite.get (events_of m.table m.store m.places.stored) key)
+    (ap (λ (x : Chained). found_of (finite.get x.events key)) c.self.view_is ∙ c.requires) in is_placed c.self.invariant key was.0
+    was.1.0
 
 pub get-event-requires : goal.get-event-requires
 get-event-requires c = ap is_some (location_here c.self.invariant c.args.key.now c.locate-at.ensures)
@@ -27,17 +29,20 @@ get-event-requires c = ap is_some (location_here c.self.invariant c.args.key.now
 pub restore-requires : goal.restore-requires
 restore-requires c =
     let m = c.self.inside in let k = c.self.invariant in let key = c.args.key.now in let at = c.locate-at.ensures in
-    let was = found_voided (finite.get (events_of m.table m.store m.places.stored) key) (ap (λ (x : Chained). found_of (finite.get x.events key)) c.self.view_is ∙ c.requires) in let void = location_voided k key at was.0 was.1.0 ∙ was.1.1 in
+    let was = found_voided (finite.get (events_of m.table m.store m.places.stored) key) (ap (λ (x : Chained). found_of (finite.get x.events key)) c.self.view_is ∙ c.requires) in
+    let void = location_voided k key at was.0 was.1.0 ∙ was.1.1 in
     record {
       stored = at.slot;
       not_live = record {
         live = location_absent k key at is_live m.places.live.entries k.indexed.lives (ap not void);
-        carriers = λ d. location_absent k key at (is_carrier d) (carriers_of m.places d).entries (k.indexed.carry d) (ap (λ v. not v && is_some (first_reading (toward d (location_event k key at).event.readings))) void);
+        carriers = λ d. location_absent k key at (is_carrier d) (carriers_of m.places d).entries (k.indexed.carry d)
+            (ap (λ v. not v && is_some (first_reading (toward d (location_event k key at).event.readings))) void);
         naming = location_absent k key at is_naming m.places.naming.entries k.indexed.names (ap (λ v. not v && is_some (location_event k key at).event.evse) void);
       };
       slot_for = record {
         within = omega (arith, location_within k key at, k.counted.slots_are, k.roomy.for_live);
-        unused = unused_voided m.places.stored.entries m.places.live.entries m.store.slots k.indexed.lives c.locate-at.result.slot c.locate-at.result.key (location_event k key at) (location_here k key at) void;
+        unused = unused_voided m.places.stored.entries m.places.live.entries m.store.slots k.indexed.lives c.locate-at.result.slot
+            c.locate-at.result.key (location_event k key at) (location_here k key at) void;
       };
     }
 
@@ -47,7 +52,8 @@ row_with-after-requires c = location_few c.self.invariant c.args.key.now c.locat
 pub invariant_of-self : goal.invariant_of-self
 invariant_of-self c =
     let m = c.self.inside in let k = c.self.invariant in let key = c.args.key.now in let at = c.locate-at.ensures in
-    let was = found_voided (finite.get (events_of m.table m.store m.places.stored) key) (ap (λ (x : Chained). found_of (finite.get x.events key)) c.self.view_is ∙ c.requires) in let void = location_voided k key at was.0 was.1.0 ∙ was.1.1 in
+    let was = found_voided (finite.get (events_of m.table m.store m.places.stored) key) (ap (λ (x : Chained). found_of (finite.get x.events key)) c.self.view_is ∙ c.requires) in
+    let void = location_voided k key at was.0 was.1.0 ∙ was.1.1 in
     let ev = location_is k key at c.get-event.result c.get-event.ensures in
     subst (λ (x : Index). IsChains m.limits c.set.new.self c.set_voided.new.self x c.restore.new.self.live (carriers_of c.restore.new.self) c.restore.new.self.naming) (sym c.restore.ensures.stored)
     (marked_chains k key at c.set.new.self c.set_voided.new.self c.restore.new.self.live (carriers_of c.restore.new.self) c.restore.new.self.naming c.row_with-after.result false (record {
@@ -58,21 +64,33 @@ invariant_of-self c =
       slots = c.set_voided.ensures.slots;
       readings = c.set_voided.ensures.readings;
       room = c.set_voided.ensures.capacity;
-      indexes = in_indexes k key at c.set.new.self.rows c.row_with-after.result (c.set.ensures.rows ∙ ap (λ t. with_row t c.row_with-after.result m.table.rows) c.tx.ensures) (ap (λ (r : TableRow). r.slot) c.row_with-after.ensures) c.set.ensures.slotted.rising c.set.ensures.slotted.apart false
-          c.restore.new.self.live.entries (λ d. (carriers_of c.restore.new.self d).entries) c.restore.new.self.naming.entries (λ d. in_direction d c.carried-carries.result) c.is_some-names_evse.result refl void (λ i. (c.restore.ensures.lives.live i).entries) (λ d i. (c.restore.ensures.lives.carriers d i).entries) (λ i. (c.restore.ensures.lives.naming i).entries)
-          (λ d. c.carried-carries.ensures d ∙ ap (λ (x : Stored). is_some (first_reading (toward d x.event.readings))) ev) (c.is_some-names_evse.ensures ∙ ap is_some (c.evse.ensures ∙ ap (λ (x : Stored). x.event.evse) ev));
+      indexes = in_indexes k key at c.set.new.self.rows c.row_with-after.result
+          (c.set.ensures.rows ∙ ap (λ t. with_row t c.row_with-after.result m.table.rows) c.tx.ensures)
+          (ap (λ (r : TableRow). r.slot) c.row_with-after.ensures) c.set.ensures.slotted.rising c.set.ensures.slotted.apart false
+          c.restore.new.self.live.entries (λ d. (carriers_of c.restore.new.self d).entries) c.restore.new.self.naming.entries
+          (λ d. in_direction d c.carried-carries.result) c.is_some-names_evse.result refl void
+          (λ i. (c.restore.ensures.lives.live i).entries) (λ d i. (c.restore.ensures.lives.carriers d i).entries)
+          (λ i. (c.restore.ensures.lives.naming i).entries)
+          (λ d. c.carried-carries.ensures d ∙ ap (λ (x : Stored). is_some (first_reading (toward d x.event.readings))) ev)
+          (c.is_some-names_evse.ensures ∙ ap is_some (c.evse.ensures ∙ ap (λ (x : Stored). x.event.evse) ev));
       live_cap = (λ i. (c.restore.ensures.lives.live i).capacity);
       carriers_cap = (λ d i. (c.restore.ensures.lives.carriers d i).capacity);
       naming_cap = (λ i. (c.restore.ensures.lives.naming i).capacity);
       same = ap (λ (r : TableRow). r.slot) c.row_with-after.ensures;
       lives = omega (arith, ap (λ (r : TableRow). r.live) c.row_with-after.ensures, ap (λ v. cond {A = ℕ} (not v) 1 0) void);
-      ends = omega (arith, ap (λ (r : TableRow). r.ends) c.row_with-after.ensures, ap end_count (c.kind-kind.ensures ∙ ap (λ (x : Stored). x.event.kind) ev), ap (λ v. cond {A = ℕ} (not v && is_end (location_event k key at).event.kind) 1 0) void);
+      ends = omega (
+        arith,
+        ap (λ (r : TableRow). r.ends) c.row_with-after.ensures,
+        ap end_count (c.kind-kind.ensures ∙ ap (λ (x : Stored). x.event.kind) ev),
+        ap (λ v. cond {A = ℕ} (not v && is_end (location_event k key at).event.kind) 1 0) void,
+      );
     }))
 
 pub returns-clause-events : goal.returns-clause-events
 returns-clause-events c =
     let m = c.self.inside in let k = c.self.invariant in let key = c.args.key.now in let at = c.locate-at.ensures in
-    let was = found_voided (finite.get (events_of m.table m.store m.places.stored) key) (ap (λ (x : Chained). found_of (finite.get x.events key)) c.self.view_is ∙ c.requires) in let void = location_voided k key at was.0 was.1.0 ∙ was.1.1 in
+    let was = found_voided (finite.get (events_of m.table m.store m.places.stored) key) (ap (λ (x : Chained). found_of (finite.get x.events key)) c.self.view_is ∙ c.requires) in
+    let void = location_voided k key at was.0 was.1.0 ∙ was.1.1 in
     let ev = location_is k key at c.get-event.result c.get-event.ensures in
     ap (λ (x : Index). events_of c.set.new.self c.set_voided.new.self x) c.restore.ensures.stored
     ∙ marked_events k key at c.set.new.self c.set_voided.new.self c.restore.new.self.live (carriers_of c.restore.new.self) c.restore.new.self.naming c.row_with-after.result false (record {
@@ -83,14 +101,25 @@ returns-clause-events c =
       slots = c.set_voided.ensures.slots;
       readings = c.set_voided.ensures.readings;
       room = c.set_voided.ensures.capacity;
-      indexes = in_indexes k key at c.set.new.self.rows c.row_with-after.result (c.set.ensures.rows ∙ ap (λ t. with_row t c.row_with-after.result m.table.rows) c.tx.ensures) (ap (λ (r : TableRow). r.slot) c.row_with-after.ensures) c.set.ensures.slotted.rising c.set.ensures.slotted.apart false
-          c.restore.new.self.live.entries (λ d. (carriers_of c.restore.new.self d).entries) c.restore.new.self.naming.entries (λ d. in_direction d c.carried-carries.result) c.is_some-names_evse.result refl void (λ i. (c.restore.ensures.lives.live i).entries) (λ d i. (c.restore.ensures.lives.carriers d i).entries) (λ i. (c.restore.ensures.lives.naming i).entries)
-          (λ d. c.carried-carries.ensures d ∙ ap (λ (x : Stored). is_some (first_reading (toward d x.event.readings))) ev) (c.is_some-names_evse.ensures ∙ ap is_some (c.evse.ensures ∙ ap (λ (x : Stored). x.event.evse) ev));
+      indexes = in_indexes k key at c.set.new.self.rows c.row_with-after.result
+          (c.set.ensures.rows ∙ ap (λ t. with_row t c.row_with-after.result m.table.rows) c.tx.ensures)
+          (ap (λ (r : TableRow). r.slot) c.row_with-after.ensures) c.set.ensures.slotted.rising c.set.ensures.slotted.apart false
+          c.restore.new.self.live.entries (λ d. (carriers_of c.restore.new.self d).entries) c.restore.new.self.naming.entries
+          (λ d. in_direction d c.carried-carries.result) c.is_some-names_evse.result refl void
+          (λ i. (c.restore.ensures.lives.live i).entries) (λ d i. (c.restore.ensures.lives.carriers d i).entries)
+          (λ i. (c.restore.ensures.lives.naming i).entries)
+          (λ d. c.carried-carries.ensures d ∙ ap (λ (x : Stored). is_some (first_reading (toward d x.event.readings))) ev)
+          (c.is_some-names_evse.ensures ∙ ap is_some (c.evse.ensures ∙ ap (λ (x : Stored). x.event.evse) ev));
       live_cap = (λ i. (c.restore.ensures.lives.live i).capacity);
       carriers_cap = (λ d i. (c.restore.ensures.lives.carriers d i).capacity);
       naming_cap = (λ i. (c.restore.ensures.lives.naming i).capacity);
       same = ap (λ (r : TableRow). r.slot) c.row_with-after.ensures;
       lives = omega (arith, ap (λ (r : TableRow). r.live) c.row_with-after.ensures, ap (λ v. cond {A = ℕ} (not v) 1 0) void);
-      ends = omega (arith, ap (λ (r : TableRow). r.ends) c.row_with-after.ensures, ap end_count (c.kind-kind.ensures ∙ ap (λ (x : Stored). x.event.kind) ev), ap (λ v. cond {A = ℕ} (not v && is_end (location_event k key at).event.kind) 1 0) void);
+      ends = omega (
+        arith,
+        ap (λ (r : TableRow). r.ends) c.row_with-after.ensures,
+        ap end_count (c.kind-kind.ensures ∙ ap (λ (x : Stored). x.event.kind) ev),
+        ap (λ v. cond {A = ℕ} (not v && is_end (location_event k key at).event.kind) 1 0) void,
+      );
     })
     ∙ ap (λ (x : Chained). marked x.events key false) c.self.view_is

@@ -19,7 +19,8 @@ pub link_live-requires-clause-unused : goal.link_live-requires-clause-unused
 link_live-requires-clause-unused c = (subst (CanPutIn c.args.key c.args.slot) (sym c.self.view_is) c.requires).slot_for.unused
 
 pub insert-requires-clause-absent : goal.insert-requires-clause-absent
-insert-requires-clause-absent c = let can = subst (CanPutIn c.args.key c.args.slot) (sym c.self.view_is) c.requires in filed_absent c.args.key c.self.inside.index.entries c.self.invariant.rising can.absent
+insert-requires-clause-absent c =
+    let can = subst (CanPutIn c.args.key c.args.slot) (sym c.self.view_is) c.requires in filed_absent c.args.key c.self.inside.index.entries c.self.invariant.rising can.absent
 
 pub insert-requires-clause-room : goal.insert-requires-clause-room
 insert-requires-clause-room c = let can = subst (CanPutIn c.args.key c.args.slot) (sym c.self.view_is) c.requires in omega (arith, can.room, length-map c.self.inside.index.entries place_in)
@@ -32,7 +33,8 @@ invariant_of-self c =
     record {
       rising = c.insert.ensures.rising;
       listed = listed_same (marked_index (Some Live) c.insert.new.self) (index (put nat_cmp key slot L.entries) L.capacity) c.link_live.new.links _ (λ i. (lives i).entries) c.insert.ensures.capacity
-          c.link_live.ensures (listed_put L m.links c.self.invariant.listed (marked_rising (Some Live) m.index.entries up) key (marked_absent (Some Live) key m.index.entries can.absent) slot can.slot_for.within can.slot_for.unused);
+          c.link_live.ensures (listed_put L m.links c.self.invariant.listed (marked_rising (Some Live) m.index.entries up) key
+          (marked_absent (Some Live) key m.index.entries can.absent) slot can.slot_for.within can.slot_for.unused);
     }
 
 pub returns-clause-stored : goal.returns-clause-stored

@@ -10,5 +10,7 @@ pub invariant_of-result : goal.invariant_of-result
 invariant_of-result c =
     record {
       rising = subst (λ (x : keyed.Index ℕ). AreRising x.entries) (sym c.in_ok-open.ensures) tt;
-      listed = listed_same (marked_index (Some Live) c.in_ok-open.field-0) _ c.in_ok-open-2.field-0 _ (ap (λ (x : keyed.Index ℕ). marked_places (Some Live) x.entries) c.in_ok-open.ensures) (ap (λ (x : keyed.Index ℕ). x.capacity) c.in_ok-open.ensures) c.in_ok-open-2.ensures (listed_none c.args.events);
+      listed = listed_same (marked_index (Some Live) c.in_ok-open.field-0) _ c.in_ok-open-2.field-0
+          _ (ap (λ (x : keyed.Index ℕ). marked_places (Some Live) x.entries) c.in_ok-open.ensures)
+          (ap (λ (x : keyed.Index ℕ). x.capacity) c.in_ok-open.ensures) c.in_ok-open-2.ensures (listed_none c.args.events);
     }

@@ -8,23 +8,28 @@ use Rattle.event_chain.proofs.Lists.{listed_same}
 use Rattle.event_chain.proofs.place_index.PlaceIndex.remove.Goals as goal
 
 pub remove-requires : goal.remove-requires
-remove-requires c = ap is_some (filed_some c.args.key c.self.inside.index.entries c.self.invariant.rising (ap (λ (x : Placed). is_some (place_of c.args.key x.stored.entries)) c.self.view_is ∙ c.requires.stored)).1
+remove-requires c =
+    ap is_some (filed_some c.args.key c.self.inside.index.entries c.self.invariant.rising
+    (ap (λ (x : Placed). is_some (place_of c.args.key x.stored.entries)) c.self.view_is ∙ c.requires.stored)).1
 
 pub invariant_of-self : goal.invariant_of-self
 invariant_of-self c =
     let m = c.self.inside in let key = c.args.key in let up = c.self.invariant.rising in
     let filed = filed_some key m.index.entries up (ap (λ (x : Placed). is_some (place_of key x.stored.entries)) c.self.view_is ∙ c.requires.stored) in
-    let lives = (lives_stay m.index c.remove.new.self key up c.remove.ensures.capacity filed.0 filed.1 c.remove.ensures.entries (subst (IsNotLive key) (sym c.self.view_is) c.requires.not_live)).live in
+    let lives = (lives_stay m.index c.remove.new.self key up c.remove.ensures.capacity filed.0 filed.1 c.remove.ensures.entries
+    (subst (IsNotLive key) (sym c.self.view_is) c.requires.not_live)).live in
     record {
       rising = c.remove.ensures.rising;
-      listed = listed_same (marked_index (Some Live) c.remove.new.self) (marked_index (Some Live) m.index) m.links m.links (λ i. (lives i).entries) c.remove.ensures.capacity refl c.self.invariant.listed;
+      listed = listed_same (marked_index (Some Live) c.remove.new.self) (marked_index (Some Live) m.index) m.links m.links
+          (λ i. (lives i).entries) c.remove.ensures.capacity refl c.self.invariant.listed;
     }
 
 pub returns-clause-stored : goal.returns-clause-stored
 returns-clause-stored c =
     let m = c.self.inside in let key = c.args.key in let up = c.self.invariant.rising in
     let filed = filed_some key m.index.entries up (ap (λ (x : Placed). is_some (place_of key x.stored.entries)) c.self.view_is ∙ c.requires.stored) in
-    stored_less m.index c.remove.new.self key up c.remove.ensures.capacity filed.0 filed.1 c.remove.ensures.entries ∙ ap (λ (x : Placed). index (out key x.stored.entries) x.stored.capacity) c.self.view_is
+    stored_less m.index c.remove.new.self key up c.remove.ensures.capacity filed.0 filed.1 c.remove.ensures.entries
+    ∙ ap (λ (x : Placed). index (out key x.stored.entries) x.stored.capacity) c.self.view_is
 
 pub returns-clause-lives : goal.returns-clause-lives
 returns-clause-lives c =

@@ -24,7 +24,11 @@ next-after-requires c =
 
 pub link_out-requires : goal.link_out-requires
 link_out-requires c =
-    let m = c.self.inside in let key = c.args.key in let slot = c.args.slot in let L = marked_index (Some Live) m.index in let rises = marked_rising (Some Live) m.index.entries c.self.invariant.rising in
+    let m = c.self.inside in
+    let key = c.args.key in
+    let slot = c.args.slot in
+    let L = marked_index (Some Live) m.index in
+    let rises = marked_rising (Some Live) m.index.entries c.self.invariant.rising in
     let some = ap (λ (x : Placed). place_of key x.live.entries) c.self.view_is ∙ c.requires.live in
     let sides = sides_present L m.links c.self.invariant.listed rises key slot some in
     let before = c.prev-before.ensures ∙ prev_present L m.links c.self.invariant.listed rises key slot some in
@@ -32,11 +36,18 @@ link_out-requires c =
     ((λ x is. sides.0 x (sym before ∙ is)), (λ x is. sides.1 x (sym after ∙ is)))
 
 pub set_marks-requires : goal.set_marks-requires
-set_marks-requires c = ap is_some (filed_there c.args.key c.args.slot c.self.inside.index.entries c.self.invariant.rising (ap (λ (x : Placed). place_of c.args.key x.stored.entries) c.self.view_is ∙ c.requires.stored)).1.0
+set_marks-requires c =
+    ap is_some (filed_there c.args.key c.args.slot c.self.inside.index.entries c.self.invariant.rising
+    (ap (λ (x : Placed). place_of c.args.key x.stored.entries) c.self.view_is ∙ c.requires.stored)).1.0
 
 pub invariant_of-self : goal.invariant_of-self
 invariant_of-self c =
-    let m = c.self.inside in let key = c.args.key in let slot = c.args.slot in let up = c.self.invariant.rising in let L = marked_index (Some Live) m.index in let rises = marked_rising (Some Live) m.index.entries up in
+    let m = c.self.inside in
+    let key = c.args.key in
+    let slot = c.args.slot in
+    let up = c.self.invariant.rising in
+    let L = marked_index (Some Live) m.index in
+    let rises = marked_rising (Some Live) m.index.entries up in
     let at = ap (λ (x : Placed). place_of key x.stored.entries) c.self.view_is ∙ c.requires.stored in let some = ap (λ (x : Placed). place_of key x.live.entries) c.self.view_is ∙ c.requires.live in
     let before = c.prev-before.ensures ∙ prev_present L m.links c.self.invariant.listed rises key slot some in
     let after = c.next-after.ensures ∙ next_present L m.links c.self.invariant.listed rises key slot some in
@@ -50,9 +61,11 @@ invariant_of-self c =
 pub returns-clause-stored : goal.returns-clause-stored
 returns-clause-stored c =
     let at = ap (λ (x : Placed). place_of c.args.key x.stored.entries) c.self.view_is ∙ c.requires.stored in
-    stored_stays c.self.inside.index c.set_marks.new.self c.args.key c.self.invariant.rising c.set_marks.ensures.capacity c.args.slot at unmarked c.set_marks.ensures.entries ∙ ap (λ (x : Placed). x.stored) c.self.view_is
+    stored_stays c.self.inside.index c.set_marks.new.self c.args.key c.self.invariant.rising c.set_marks.ensures.capacity c.args.slot at unmarked c.set_marks.ensures.entries
+    ∙ ap (λ (x : Placed). x.stored) c.self.view_is
 
 pub returns-clause-lives : goal.returns-clause-lives
 returns-clause-lives c =
     let at = ap (λ (x : Placed). place_of c.args.key x.stored.entries) c.self.view_is ∙ c.requires.stored in
-    subst (λ x. IsLiveLess c.args.key x (placed c.set_marks.new.self)) c.self.view_is (lives_less c.self.inside.index c.set_marks.new.self c.args.key c.self.invariant.rising c.set_marks.ensures.capacity c.args.slot at unmarked c.set_marks.ensures.entries refl)
+    subst (λ x. IsLiveLess c.args.key x (placed c.set_marks.new.self)) c.self.view_is
+    (lives_less c.self.inside.index c.set_marks.new.self c.args.key c.self.invariant.rising c.set_marks.ensures.capacity c.args.slot at unmarked c.set_marks.ensures.entries refl)

@@ -11,18 +11,21 @@ invariant_of-self c =
     let absent : row_of c.args.tx.now rows ≡ None = ap (λ (t : Table). row_of c.args.tx.now t.rows) c.self.view_is ∙ c.requires.absent in
     let same = c.put.ensures.capacity in (
       subst (λ rs. IsTable rs c.pop.new.self.items c.put.new.self.capacity) (sym c.put.ensures.rows)
-          (subst (IsTable _ c.pop.new.self.items) (sym same) (IsTable-add rows c.self.inside.spare.items c.pop.new.self.items c.self.inside.rows.capacity slot c.args.tx.now row c.in-Some.ensures.items was.0 absent refl)),
+          (subst (IsTable _ c.pop.new.self.items) (sym same)
+          (IsTable-add rows c.self.inside.spare.items c.pop.new.self.items c.self.inside.rows.capacity slot c.args.tx.now row c.in-Some.ensures.items was.0 absent refl)),
       omega (arith, was.1, same, c.pop.ensures.capacity),
     )
 
 pub returns-clause-fresh : goal.returns-clause-fresh
 returns-clause-fresh c =
-    let last = last_spare c.self.inside.rows.capacity c.in-Some.slot c.self.inside.rows.rows c.pop.new.self.items (subst (AreSpare c.self.inside.rows.capacity c.self.inside.rows.rows) c.in-Some.ensures.items c.self.invariant.0.spare_are) in
+    let last = last_spare c.self.inside.rows.capacity c.in-Some.slot c.self.inside.rows.rows c.pop.new.self.items
+    (subst (AreSpare c.self.inside.rows.capacity c.self.inside.rows.rows) c.in-Some.ensures.items c.self.invariant.0.spare_are) in
     subst (λ (t : Table). IsFresh c.in-Some.slot t.rows) c.self.view_is last.fresh
 
 pub returns-clause-within : goal.returns-clause-within
 returns-clause-within c =
-    let last = last_spare c.self.inside.rows.capacity c.in-Some.slot c.self.inside.rows.rows c.pop.new.self.items (subst (AreSpare c.self.inside.rows.capacity c.self.inside.rows.rows) c.in-Some.ensures.items c.self.invariant.0.spare_are) in
+    let last = last_spare c.self.inside.rows.capacity c.in-Some.slot c.self.inside.rows.rows c.pop.new.self.items
+    (subst (AreSpare c.self.inside.rows.capacity c.self.inside.rows.rows) c.in-Some.ensures.items c.self.invariant.0.spare_are) in
     subst (λ (t : Table). c.in-Some.slot < t.capacity) c.self.view_is last.below
 
 -- The rows that are there then, with their slots.
@@ -33,4 +36,5 @@ returns-clause-slotted c =
     let same = c.put.ensures.capacity in
     slotted c.put.new.self c.pop.new.self.items (
     subst (λ rs. IsTable rs c.pop.new.self.items c.put.new.self.capacity) (sym c.put.ensures.rows)
-    (subst (IsTable _ c.pop.new.self.items) (sym same) (IsTable-add rows c.self.inside.spare.items c.pop.new.self.items c.self.inside.rows.capacity slot c.args.tx.now row c.in-Some.ensures.items was.0 absent refl)))
+    (subst (IsTable _ c.pop.new.self.items) (sym same)
+    (IsTable-add rows c.self.inside.spare.items c.pop.new.self.items c.self.inside.rows.capacity slot c.args.tx.now row c.in-Some.ensures.items was.0 absent refl)))

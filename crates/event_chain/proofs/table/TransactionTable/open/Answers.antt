@@ -7,7 +7,8 @@ loop-handed-preserved c =
     let was = c.loop-handed.invariant in let n = c.args.capacity - 1 - c.loop-handed.handed in let lt = c.loop-handed-test.true in
     let next : c.args.capacity - c.loop-handed.handed ≡ n + 1 = omega arith in
     let last : c.args.capacity - (c.loop-handed.handed + 1) ≡ n = omega arith in
-    let more = open_spare c.args.capacity n c.loop-handed.spare.items c.push_reserved.new.self.items c.push_reserved.ensures.items (omega arith) (subst (λ k. AreFrom k c.loop-handed.spare.items) next was.from) was.spare in
+    let more = open_spare c.args.capacity n c.loop-handed.spare.items c.push_reserved.new.self.items c.push_reserved.ensures.items
+    (omega arith) (subst (λ k. AreFrom k c.loop-handed.spare.items) next was.from) was.spare in
     record {
       spare = more.1;
       from = subst (λ k. AreFrom k c.push_reserved.new.self.items) (sym last) more.0;

@@ -23,7 +23,8 @@ lines-preserved g c =
     let r2 = g.R.Read.remaining c.look.new.reader in
     let r3 = g.R.Read.remaining c.next.new.reader in
     let looked = c.look.ensures.place in
-    let goes = subst (λ (p : Place). Goes most room p.lines.room first p.standing r0 r2) (sym looked) (goes_same most room before.source.lines.room first (place_of before).standing r0 r1 c.lines.invariant.0 r2 c.look.ensures.reader) in
+    let goes = subst (λ (p : Place). Goes most room p.lines.room first p.standing r0 r2) (sym looked)
+    (goes_same most room before.source.lines.room first (place_of before).standing r0 r1 c.lines.invariant.0 r2 c.look.ensures.reader) in
     let kept = ap (λ (p : Place). p.lines.max_line_bytes) looked ∙ c.lines.invariant.1 in
     let r = c.in_ok-next.ensures.takes in
     let more = c.in_ok-next.field-0 in
@@ -31,7 +32,8 @@ lines-preserved g c =
     let same = c.next.ensures.most ∙ kept in
     let line = ap (λ s. read_line s (held_line next.source.lines)) c.next.ensures.standing ∙ ap (λ k. read_line (place_of here).standing (line_of Feed k held)) same in
     let step = c.in_ok-take.ensures.step in
-    let on = goes_on most room here.source.lines.room first (place_of here).standing r0 r2 goes more next.source.lines.room r.0 held r3 reads r.1 (read_on (place_of next)).standing line c.if-not-branch.false in
+    let on = goes_on most room here.source.lines.room first (place_of here).standing r0 r2 goes more next.source.lines.room r.0 held
+    r3 reads r.1 (read_on (place_of next)).standing line c.if-not-branch.false in
     let less = one_less most here.source.lines.room next.source.lines.room more r.0 held reads in (
       subst (λ (p : Place). Goes most room p.lines.room first p.standing r0 r3) (sym step) on,
       ap (λ (p : Place). p.lines.max_line_bytes) step ∙ same,
@@ -54,9 +56,11 @@ returns-then-not-branch-clause-reads g c =
     let r2 = g.R.Read.remaining c.look.new.reader in
     let r3 = g.R.Read.remaining c.next.new.reader in
     let looked = c.look.ensures.place in
-    let goes = subst (λ (p : Place). Goes most room p.lines.room first p.standing r0 r2) (sym looked) (goes_same most room before.source.lines.room first (place_of before).standing r0 r1 c.lines.invariant.0 r2 c.look.ensures.reader) in
+    let goes = subst (λ (p : Place). Goes most room p.lines.room first p.standing r0 r2) (sym looked)
+    (goes_same most room before.source.lines.room first (place_of before).standing r0 r1 c.lines.invariant.0 r2 c.look.ensures.reader) in
     let kept = ap (λ (p : Place). p.lines.max_line_bytes) looked ∙ c.lines.invariant.1 in
     let r = c.in_ok-next.ensures.takes in
     let more = c.in_ok-next.field-0 in
     let reads = subst (λ k. ReadsLine k here.source.lines.room next.source.lines.room more r.0 held) kept r.2 in
-    goes_until most room here.source.lines.room first (place_of here).standing r0 r2 goes more next.source.lines.room r.0 held r3 reads r.1 (place_of next).standing c.next.ensures.standing c.if-not-branch.true
+    goes_until most room here.source.lines.room first (place_of here).standing r0 r2 goes more next.source.lines.room r.0 held r3
+    reads r.1 (place_of next).standing c.next.ensures.standing c.if-not-branch.true

@@ -10,7 +10,9 @@ use Rattle.kept_desk.proofs.cell.KeptCell.take.Goals as goal
 
 pub take_written-requires-clause-judged : goal.take_written-requires-clause-judged
 take_written-requires-clause-judged g c =
-    judged_here _ _ _ _ c.args.command c.judgement-judgement.result.answer (c.ledger.ensures.limits ∙ ap (λ d. d.limits) c.self.view_is) (c.ledger.ensures.content ∙ ap (λ d. d.content) c.self.view_is) c.judgement-judgement.ensures
+    judged_here _ _ _ _ c.args.command c.judgement-judgement.result.answer
+    (c.ledger.ensures.limits ∙ ap (λ d. d.limits) c.self.view_is) (c.ledger.ensures.content ∙ ap (λ d. d.content) c.self.view_is)
+    c.judgement-judgement.ensures
 
 pub take_written-requires-clause-accepted : goal.take_written-requires-clause-accepted
 take_written-requires-clause-accepted g c = subst IsAccepted (sym c.in-Accepted.is) tt
@@ -20,7 +22,9 @@ returns-in-Repeat-clause-submitted g c =
     let may = c.requires.can in
     let cell = c.args.self.now in
     let book : Book = record { site = c.args.at.place.now.site; limits = []; posts = [] } in
-    let is = sym c.in-Repeat.is ∙ c.judgement-judgement.ensures.answered ∙ (λ i. answer (c.ledger.ensures.limits i) (c.ledger.ensures.content i) c.args.command) ∙ ap (λ d. answer d.limits d.content c.args.command) c.self.view_is in
+    let is = sym c.in-Repeat.is ∙ c.judgement-judgement.ensures.answered
+    ∙ (λ i. answer (c.ledger.ensures.limits i) (c.ledger.ensures.content i) c.args.command)
+    ∙ ap (λ d. answer d.limits d.content c.args.command) c.self.view_is in
     submitted c.args.at.place.now c.args.at.number cell book c.args.pass.now c.args.command may.stands refl may.reached may.counted may.knows
     Repeat (cell_after cell c.args.pass.now c.args.command) book c.args.pass.now _ (λ no. absurd no) is refl refl (omega arith) refl refl
 
@@ -29,6 +33,8 @@ returns-in-Refused-clause-submitted g c =
     let may = c.requires.can in
     let cell = c.args.self.now in
     let book : Book = record { site = c.args.at.place.now.site; limits = []; posts = [] } in
-    let is = sym c.in-Refused.is ∙ c.judgement-judgement.ensures.answered ∙ (λ i. answer (c.ledger.ensures.limits i) (c.ledger.ensures.content i) c.args.command) ∙ ap (λ d. answer d.limits d.content c.args.command) c.self.view_is in
+    let is = sym c.in-Refused.is ∙ c.judgement-judgement.ensures.answered
+    ∙ (λ i. answer (c.ledger.ensures.limits i) (c.ledger.ensures.content i) c.args.command)
+    ∙ ap (λ d. answer d.limits d.content c.args.command) c.self.view_is in
     submitted c.args.at.place.now c.args.at.number cell book c.args.pass.now c.args.command may.stands refl may.reached may.counted may.knows
     (Refused c.in-Refused.why) (cell_after cell c.args.pass.now c.args.command) book c.args.pass.now _ (λ no. absurd no) is refl refl (omega arith) refl refl

@@ -31,7 +31,8 @@ invariant_of-self g c =
     let serves = subst IsInService (sym c.self.view_is) c.requires.can.serves in
     let accepted = subst (λ d. IsAccepted (answer d.limits d.content c.args.judged.command)) (sym c.self.view_is) (subst IsAccepted c.requires.judged.answered c.requires.accepted) in
     λ s.
-    kept_more g.K.Opening.first c.self.inside.cell c.settle_written.new.cell c.args.pass.now c.self.inside.share c.write.new.share c.args.way.now.note.now c.args.way.now.line.now c.args.judged.command c.requires.judged.admissible accepted
+    kept_more g.K.Opening.first c.self.inside.cell c.settle_written.new.cell c.args.pass.now c.self.inside.share c.write.new.share
+    c.args.way.now.note.now c.args.way.now.line.now c.args.judged.command c.requires.judged.admissible accepted
     (c.settle_written.ensures.settled s) c.in-Ok.ensures.known (c.self.invariant serves)
 
 pub returns-in-Ok-clause-received : goal.returns-in-Ok-clause-received

@@ -37,13 +37,16 @@ returns-in-Ok-clause-kept g c =
           let there : slice_get kept k ≡ Some d = ap (λ cs. slice_get cs k) (sym c.free_cells.ensures.cells ∙ sym (ap (λ e. e.cells) c.of.ensures)) ∙ at in
           let station = (c.in-Ok.ensures.whole.whole k d (ap (λ cs. slice_get cs k) (map-id kept) ∙ there)).placed.stands.station in
           let serves : IsInService d = λ out. let here = slice_get_within kept k d there in omega (arith, out, station, here, c.in-Ok.ensures.stations, c.self.invariant.few) in
-          let own = all_at (λ (e : Cell). IsInService e → IsLeftFrom e.limits (first e.station) e.content (commands_of (of_station e.station c.into_inner-log.result.entries))) kept k d c.free_cells.ensures.left there serves in
-          let moved = subst (λ (j : Ledger). IsLeftFrom d.limits (first d.station) d.content (commands_of (of_station d.station j.entries))) (sym (c.confirm_all.ensures.log ∙ c.free_cells.ensures.log)) own in
+          let own = all_at (λ (e : Cell). IsInService e → IsLeftFrom e.limits (first e.station) e.content (commands_of (of_station e.station c.into_inner-log.result.entries)))
+          kept k d c.free_cells.ensures.left there serves in
+          let moved = subst (λ (j : Ledger). IsLeftFrom d.limits (first d.station) d.content (commands_of (of_station d.station j.entries)))
+          (sym (c.confirm_all.ensures.log ∙ c.free_cells.ensures.log)) own in
           subst (λ n. IsLeftFrom d.limits (first n) d.content (commands_of (of_station n log))) station moved;
     }
 
 pub returns-in-Ok-clause-stations : goal.returns-in-Ok-clause-stations
-returns-in-Ok-clause-stations g c = ap length (ap (λ e. e.cells) c.of.ensures ∙ c.free_cells.ensures.cells) ∙ sym c.in-Ok.kept.ok.0 ∙ c.in-Ok.ensures.stations ∙ ap (λ d. length d.stations) c.self.view_is
+returns-in-Ok-clause-stations g c = ap length (ap (λ e. e.cells) c.of.ensures ∙ c.free_cells.ensures.cells)
+    ∙ sym c.in-Ok.kept.ok.0 ∙ c.in-Ok.ensures.stations ∙ ap (λ d. length d.stations) c.self.view_is
 
 pub returns-in-Ok-clause-sites : goal.returns-in-Ok-clause-sites
 returns-in-Ok-clause-sites g c = ap length (ap (λ e. e.books) c.of.ensures) ∙ c.in-Ok.ensures.sites ∙ ap (λ d. d.sites) c.self.view_is

@@ -11,13 +11,22 @@ use Rattle.key_index.proofs.index.KeyIndex.insert.Goals as goal
 pub returns-then-len-lt-LEAF_SIZE-clause-entries : goal.returns-then-len-lt-LEAF_SIZE-clause-entries
 returns-then-len-lt-LEAF_SIZE-clause-entries g c =
     let ls = c.self.inside.leaves.items in let key = g.K.Ranked.rank c.args.key in let filed = c.args.filed in
-    ap all_of c.put_at.ensures.items ∙ put_place key c.new.result ls c.settled-at.result c.settled-at.ensures ∙ ap (λ e. below key (all_of ls) ++ e ∷ from key (all_of ls)) c.new.ensures ∙ ap (λ i. below key i.entries ++ (key, filed) ∷ from key i.entries) c.self.view_is
+    ap all_of c.put_at.ensures.items ∙ put_place key c.new.result ls c.settled-at.result c.settled-at.ensures
+    ∙ ap (λ e. below key (all_of ls) ++ e ∷ from key (all_of ls)) c.new.ensures
+    ∙ ap (λ i. below key i.entries ++ (key, filed) ∷ from key i.entries) c.self.view_is
 
 pub invariant_of-self : goal.invariant_of-self
 invariant_of-self g c =
-    let was = c.self.invariant in let ls = c.self.inside.leaves.items in let key = g.K.Ranked.rank c.args.key in let filed = c.args.filed in let e = c.new.result in let place = c.settled-at.result in let is = c.settled-at.ensures in
+    let was = c.self.invariant in
+    let ls = c.self.inside.leaves.items in
+    let key = g.K.Ranked.rank c.args.key in
+    let filed = c.args.filed in
+    let e = c.new.result in
+    let place = c.settled-at.result in
+    let is = c.settled-at.ensures in
     let at = place.leaf in let leaf = get_or ls at [] in let more = insert leaf place.entry e in let es = all_of ls in
-    let all : all_of c.put_at.new.leaves.items ≡ below key es ++ (key, filed) ∷ from key es = ap all_of c.put_at.ensures.items ∙ put_place key e ls place is ∙ ap (λ x. below key es ++ x ∷ from key es) c.new.ensures in
+    let all : all_of c.put_at.new.leaves.items ≡ below key es ++ (key, filed) ∷ from key es =
+    ap all_of c.put_at.ensures.items ∙ put_place key e ls place is ∙ ap (λ x. below key es ++ x ∷ from key es) c.new.ensures in
     let absent : filed_at key (from key es) ≡ None = ap (λ i. filed_at key (from key i.entries)) c.self.view_is ∙ c.requires.absent in
     let some : 0 < length more = omega (arith, length-insert leaf place.entry e is.entry) in
     let as_many : length c.put_at.new.leaves.items ≡ length ls = ap length c.put_at.ensures.items ∙ length-set ls at more in let round = filled_round ls at is.leaf was.kept.filled in

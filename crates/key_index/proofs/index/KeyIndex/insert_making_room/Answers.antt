@@ -9,7 +9,9 @@ use Rattle.key_index.proofs.Cuts.{rising_leaf, put_all, rising_put, length_put}
 use Rattle.key_index.proofs.index.KeyIndex.insert_making_room.Goals as goal
 
 -- An entry put in, given by its parts.
-put_told : {V : Type 0} (new ls : List (List (Entry V))) (at : ℕ) (e f : Entry V) → new ≡ set ls at (insert (get_or ls at []) (length (below e.0 (get_or ls at []))) e) → e ≡ f → new ≡ set ls at (insert (get_or ls at []) (length (below f.0 (get_or ls at []))) f)
+put_told : {V : Type 0} (new ls : List (List (Entry V))) (at : ℕ) (e f : Entry V)
+    → new ≡ set ls at (insert (get_or ls at []) (length (below e.0 (get_or ls at []))) e) → e ≡ f
+    → new ≡ set ls at (insert (get_or ls at []) (length (below f.0 (get_or ls at []))) f)
 put_told {V} new ls at e f is same = is ∙ ap (λ (x : Entry V). set ls at (insert (get_or ls at []) (length (below x.0 (get_or ls at []))) x)) same
 
 pub put-requires : goal.put-requires
@@ -25,11 +27,18 @@ returns-clause-entries g c =
 
 pub invariant_of-self : goal.invariant_of-self
 invariant_of-self g c =
-    let was = c.self.invariant in let room = c.make_room-at in let ready = room.ensures.ready in let ls = room.new.leaves.items in let at = room.result in let key = g.K.Ranked.rank c.args.key in let filed = c.args.filed in
+    let was = c.self.invariant in
+    let room = c.make_room-at in
+    let ready = room.ensures.ready in
+    let ls = room.new.leaves.items in
+    let at = room.result in
+    let key = g.K.Ranked.rank c.args.key in
+    let filed = c.args.filed in
     let leaf = get_or ls at [] in let more = insert leaf (length (below key leaf)) (key, filed) in let old = c.self.inside.leaves.items in let es = all_of old in
     let same : all_of ls ≡ es = ready.same ∙ c.reclaim.ensures.same in
     let put : c.put.new.leaves.items ≡ set ls at more = put_told _ _ _ _ _ c.put.ensures.items c.new.ensures in
-    let all : all_of c.put.new.leaves.items ≡ below key es ++ (key, filed) ∷ from key es = ap all_of put ∙ put_all key filed ls at ready.belongs ∙ ap (λ l. below key l ++ (key, filed) ∷ from key l) same in
+    let all : all_of c.put.new.leaves.items ≡ below key es ++ (key, filed) ∷ from key es =
+    ap all_of put ∙ put_all key filed ls at ready.belongs ∙ ap (λ l. below key l ++ (key, filed) ∷ from key l) same in
     let absent : filed_at key (from key es) ≡ None = ap (λ i. filed_at key (from key i.entries)) c.self.view_is ∙ c.requires.absent in
     let some : 0 < length more = omega (arith, length-insert leaf (length (below key leaf)) (key, filed) (below_within key leaf)) in
     let as_many : length c.put.new.leaves.items ≡ length ls = ap length put ∙ length-set ls at more in

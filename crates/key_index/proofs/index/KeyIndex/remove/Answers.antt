@@ -16,7 +16,11 @@ take_out-requires g c =
 
 pub release_empty-requires-clause-filled : goal.release_empty-requires-clause-filled
 release_empty-requires-clause-filled g c =
-    let ls = c.self.inside.leaves.items in let at = c.leaf_of-at.result in let b = c.leaf_of-at.ensures in let leaf = get_or ls at [] in let less = remove leaf (length (below (g.K.Ranked.rank c.args.key) leaf)) in
+    let ls = c.self.inside.leaves.items in
+    let at = c.leaf_of-at.result in
+    let b = c.leaf_of-at.ensures in
+    let leaf = get_or ls at [] in
+    let less = remove leaf (length (below (g.K.Ranked.rank c.args.key) leaf)) in
     let round = filled_round ls at b.within c.self.invariant.kept.filled in let kept = set_round ls at less in
     (subst AreFilled (sym (ap (take at) c.take_out.ensures.items ∙ kept.0)) round.0, subst AreFilled (sym (ap (drop (suc at)) c.take_out.ensures.items ∙ kept.1)) round.1)
 
@@ -30,7 +34,12 @@ returns-clause-entries g c =
 
 pub invariant_of-self : goal.invariant_of-self
 invariant_of-self g c =
-    let was = c.self.invariant in let ls = c.self.inside.leaves.items in let at = c.leaf_of-at.result in let b = c.leaf_of-at.ensures in let key = g.K.Ranked.rank c.args.key in let leaf = get_or ls at [] in
+    let was = c.self.invariant in
+    let ls = c.self.inside.leaves.items in
+    let at = c.leaf_of-at.result in
+    let b = c.leaf_of-at.ensures in
+    let key = g.K.Ranked.rank c.args.key in
+    let leaf = get_or ls at [] in
     let less = remove leaf (length (below key leaf)) in let es = all_of ls in
     let there : is_some (filed_at key (from key leaf ++ all_of (drop (suc at) ls))) ≡ true =
     ap (λ l. is_some (filed_at key l)) (sym (from_at key ls at b)) ∙ ap (λ i. is_some (filed_at key (from key i.entries))) c.self.view_is ∙ c.requires in

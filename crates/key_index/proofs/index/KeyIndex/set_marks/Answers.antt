@@ -19,7 +19,12 @@ mark-requires g c =
 
 pub returns-clause-entries : goal.returns-clause-entries
 returns-clause-entries g c =
-    let ls = c.self.inside.leaves.items in let at = c.leaf_of-at.result in let b = c.leaf_of-at.ensures in let key = g.K.Ranked.rank c.args.key in let leaf = get_or ls at [] in let marks = c.args.marks in
+    let ls = c.self.inside.leaves.items in
+    let at = c.leaf_of-at.result in
+    let b = c.leaf_of-at.ensures in
+    let key = g.K.Ranked.rank c.args.key in
+    let leaf = get_or ls at [] in
+    let marks = c.args.marks in
     let there : is_some (filed_at key (from key leaf ++ all_of (drop (suc at) ls))) ≡ true =
     ap (λ l. is_some (filed_at key l)) (sym (from_at key ls at b)) ∙ ap (λ i. is_some (filed_at key (from key i.entries))) c.self.view_is ∙ c.requires in
     let some = present_in key (from key leaf) (all_of (drop (suc at) ls)) b.back there in
@@ -27,18 +32,32 @@ returns-clause-entries g c =
 
 pub invariant_of-self : goal.invariant_of-self
 invariant_of-self g c =
-    let was = c.self.invariant in let ls = c.self.inside.leaves.items in let at = c.leaf_of-at.result in let b = c.leaf_of-at.ensures in let key = g.K.Ranked.rank c.args.key in let leaf = get_or ls at [] in let marks = c.args.marks in
+    let was = c.self.invariant in
+    let ls = c.self.inside.leaves.items in
+    let at = c.leaf_of-at.result in
+    let b = c.leaf_of-at.ensures in
+    let key = g.K.Ranked.rank c.args.key in
+    let leaf = get_or ls at [] in
+    let marks = c.args.marks in
     let es = all_of ls in let new = mark_at marks (length (below key leaf)) leaf in
     let there : is_some (filed_at key (from key leaf ++ all_of (drop (suc at) ls))) ≡ true =
     ap (λ l. is_some (filed_at key l)) (sym (from_at key ls at b)) ∙ ap (λ i. is_some (filed_at key (from key i.entries))) c.self.view_is ∙ c.requires in
     let some = present_in key (from key leaf) (all_of (drop (suc at) ls)) b.back there in
     let all : all_of c.mark.new.leaves.items ≡ below key es ++ mark_at marks 0 (from key es) = ap all_of c.mark.ensures.items ∙ mark_all marks key ls at b some in
     let long : length (all_of c.mark.new.leaves.items) ≡ length es =
-    omega (arith, ap length all, length-append (below key es) (mark_at marks 0 (from key es)), length-mark_at marks (from key es) 0, length-append (below key es) (from key es), ap length (cut_whole key es)) in
+    omega (
+      arith,
+      ap length all,
+      length-append (below key es) (mark_at marks 0 (from key es)),
+      length-mark_at marks (from key es) 0,
+      length-append (below key es) (from key es),
+      ap length (cut_whole key es),
+    ) in
     let as_many : length c.mark.new.leaves.items ≡ length ls = ap length c.mark.ensures.items ∙ length-set ls at new in let round = filled_round ls at b.within was.kept.filled in
     record {
       kept = record {
-        filled = subst AreFilled (sym c.mark.ensures.items) (filled_set ls at new b.within round.0 round.1 (omega (arith, length-mark_at marks leaf (length (below key leaf)), place_within key leaf some)));
+        filled = subst AreFilled (sym c.mark.ensures.items)
+            (filled_set ls at new b.within round.0 round.1 (omega (arith, length-mark_at marks leaf (length (below key leaf)), place_within key leaf some)));
         rising = subst AreRising (sym all) (rising_mark marks key es was.kept.rising);
         empty = was.kept.empty;
       };

@@ -14,7 +14,8 @@ invariant_of-self g c =
     let es = c.self.inside.entries.items in let i = c.args.place in let e = c.args.entry in let n = c.len-len.result in
     let within : i ≤ length es = omega (arith, c.requires.0, ap length c.self.view_is) in
     let whole : set c.copy_within.new.self.items i e ≡ insert es i e =
-    ap (λ l. set l i e) (c.copy_within.ensures.items ∙ ap (λ l. copy_within l i n (i + 1)) c.push_reserved.ensures.items) ∙ put_between es i n (i + 1) e within (omega (arith, c.len-len.ensures)) (omega arith) in (
+    ap (λ l. set l i e) (c.copy_within.ensures.items ∙ ap (λ l. copy_within l i n (i + 1)) c.push_reserved.ensures.items)
+    ∙ put_between es i n (i + 1) e within (omega (arith, c.len-len.ensures)) (omega arith) in (
       omega (arith, c.self.invariant.0, c.push_reserved.ensures.capacity, c.copy_within.ensures.capacity),
       omega (arith, ap length whole, length-insert es i e within, c.requires.1, ap length c.self.view_is),
       λ m. omega (arith, c.more-self-inside.ensures m, c.self.invariant.2 m, count_put m es i e, ap (λ l. length (marked m l)) whole, ap (λ f. weigh (has_mark m f.marks)) c.filed.ensures),
@@ -24,5 +25,6 @@ pub returns : goal.returns
 returns g c =
     let es = c.self.inside.entries.items in let i = c.args.place in let e = c.args.entry in let n = c.len-len.result in
     let within : i ≤ length es = omega (arith, c.requires.0, ap length c.self.view_is) in
-    ap (λ l. set l i e) (c.copy_within.ensures.items ∙ ap (λ l. copy_within l i n (i + 1)) c.push_reserved.ensures.items) ∙ put_between es i n (i + 1) e within (omega (arith, c.len-len.ensures)) (omega arith)
+    ap (λ l. set l i e) (c.copy_within.ensures.items ∙ ap (λ l. copy_within l i n (i + 1)) c.push_reserved.ensures.items)
+    ∙ put_between es i n (i + 1) e within (omega (arith, c.len-len.ensures)) (omega arith)
     ∙ ap (λ l. insert l i e) c.self.view_is

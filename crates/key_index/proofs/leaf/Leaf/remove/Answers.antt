@@ -14,5 +14,12 @@ invariant_of-self g c =
     let es = c.self.inside.entries.items in let within : c.args.place < length es = omega (arith, c.requires, ap length c.self.view_is) in (
       omega (arith, c.self.invariant.0, c.remove-entry.ensures.capacity),
       omega (arith, c.self.invariant.1, ap length c.remove-entry.ensures.items, length-remove es c.args.place within),
-      λ m. omega (arith, c.less-self-inside.ensures m, c.self.invariant.2 m, count_out m es c.args.place c.remove-entry.result within c.remove-entry.ensures.value, ap (λ l. length (marked m l)) c.remove-entry.ensures.items, ap (λ f. weigh (has_mark m f.marks)) c.filed.ensures),
+      λ m. omega (
+        arith,
+        c.less-self-inside.ensures m,
+        c.self.invariant.2 m,
+        count_out m es c.args.place c.remove-entry.result within c.remove-entry.ensures.value,
+        ap (λ l. length (marked m l)) c.remove-entry.ensures.items,
+        ap (λ f. weigh (has_mark m f.marks)) c.filed.ensures,
+      ),
     )

@@ -18,7 +18,15 @@ invariant_of-self g c =
     let new : set es i c.marked_as.result ≡ mark_at marks i es = ap (set es i) c.marked_as.ensures ∙ set_mark marks es i e within c.index-entry.ensures in (
       c.self.invariant.0,
       omega (arith, c.self.invariant.1, length-set es i c.marked_as.result),
-      λ m. omega (arith, c.more-self-inside.ensures m, c.less.ensures m, c.self.invariant.2 m, count_set m marks es i e within c.index-entry.ensures, ap (λ l. length (marked m l)) new, ap (λ f. weigh (has_mark m f.marks)) c.filed-filed.ensures),
+      λ m. omega (
+        arith,
+        c.more-self-inside.ensures m,
+        c.less.ensures m,
+        c.self.invariant.2 m,
+        count_set m marks es i e within c.index-entry.ensures,
+        ap (λ l. length (marked m l)) new,
+        ap (λ f. weigh (has_mark m f.marks)) c.filed-filed.ensures,
+      ),
     )
 
 pub returns : goal.returns

@@ -11,4 +11,6 @@ sent_by-requires c =
     let readings = c.stale.self.readings.items in
     let next = c.in-Some-pop.next in
     let kept = All-pop (IsFound bytes readings) c.stale.self.found.items c.pop.new.self.items (Some next) (c.in-Some-pop.ensures).items c.stale.invariant in
-    subst (λ bs. IsFound bs c.deref-then-next-room-2-3.result.now next) (ap (λ (p : Pieces). p.bytes.items) (sym c.deref-then-next-room-2.ensures) ∙ sym c.deref-then-next-room-2-2.ensures.value) (subst (λ rs. IsFound bytes rs next) (sym c.deref-then-next-room-2-3.ensures.value) kept.1)
+    subst (λ bs. IsFound bs c.deref-then-next-room-2-3.result.now next)
+    (ap (λ (p : Pieces). p.bytes.items) (sym c.deref-then-next-room-2.ensures) ∙ sym c.deref-then-next-room-2-2.ensures.value)
+    (subst (λ rs. IsFound bytes rs next) (sym c.deref-then-next-room-2-3.ensures.value) kept.1)

@@ -24,7 +24,8 @@ invariant_of-self-in-Ok-insert c =
     let rs = c.self.inside.rows.items in let was = c.self.invariant in
     let e = c.in-Ok-insert.ensures.items ∙ added_new c.args.quarter (flows_toward c.args.direction c.args.flow) rs c.in-Err.at _ c.in-Err.ensures.belongs c.toward-more.ensures in
     let row = with_pair (flows_toward c.args.direction c.args.flow) (row_at c.args.quarter rs) in
-    let none : (row_at c.args.quarter c.args.self.now.rows).pairs ≡ 0 = ap (λ t. (row_at c.args.quarter t.rows).pairs) (sym c.self.view_is) ∙ ap (λ (r : QuarterRow). r.pairs) c.in-Err.ensures.belongs.absent in
+    let none : (row_at c.args.quarter c.args.self.now.rows).pairs ≡ 0 =
+    ap (λ t. (row_at c.args.quarter t.rows).pairs) (sym c.self.view_is) ∙ ap (λ (r : QuarterRow). r.pairs) c.in-Err.ensures.belongs.absent in
     let rows : length rs ≡ length c.args.self.now.rows = ap (λ t. length t.rows) c.self.view_is in
     let limit : c.self.inside.capacity ≡ c.args.self.now.capacity = ap (λ t. t.capacity) c.self.view_is in
     let some = c.requires.room none in

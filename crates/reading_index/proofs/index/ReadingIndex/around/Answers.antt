@@ -14,6 +14,7 @@ returns-clause-before c =
 pub returns-clause-behind : goal.returns-clause-behind
 returns-clause-behind c =
     let key = c.args.key in let es = c.self.inside.index.entries in
-    c.owned_by-behind.ensures ∙ ap (λ o. only_owned o (option_map with_rank c.at_or_after.result)) c.owner-owner.ensures ∙ ap (λ l. only_owned (owner_of key) (option_map with_rank l)) c.at_or_after.ensures
+    c.owned_by-behind.ensures ∙ ap (λ o. only_owned o (option_map with_rank c.at_or_after.result)) c.owner-owner.ensures
+    ∙ ap (λ l. only_owned (owner_of key) (option_map with_rank l)) c.at_or_after.ensures
     ∙ first_behind (owner_of key) key es (omega arith) c.place_near-place.ensures.rising
     ∙ ap (λ (i : TimedReadings). first_of (from_on key (owned (owner_of key) i.entries))) c.self.view_is

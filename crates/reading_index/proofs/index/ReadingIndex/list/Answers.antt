@@ -11,7 +11,8 @@ use Rattle.reading_index.proofs.index.ReadingIndex.list.Goals as goal
 pub loop-entry-init : goal.loop-entry-init
 loop-entry-init c =
     let o = owner c.args.slot c.args.direction in (
-      ap (λ k. c.args.listed.now.items ++ map placed_at (from_on k (owned o c.args.self.now.entries))) c.first-from.ensures ∙ ap (λ ts. c.args.listed.now.items ++ map placed_at ts) (all_owned o c.args.self.now.entries),
+      ap (λ k. c.args.listed.now.items ++ map placed_at (from_on k (owned o c.args.self.now.entries))) c.first-from.ensures
+          ∙ ap (λ ts. c.args.listed.now.items ++ map placed_at ts) (all_owned o c.args.self.now.entries),
       subst (λ k. o ≤ owner_of k) (sym c.first-from.ensures) (let is = owner_of-first o in omega (arith, is)),
     )
 
@@ -23,7 +24,9 @@ first_is c =
     let rising = c.place_near-place.ensures.rising in
     first_left c.loop-entry.from c.in-Some.entry (owned o c.args.self.now.entries)
     (subst (λ (ts : List Timed). AreRising (owned o ts)) all (filter-ranked _ _ (ranked es rising)))
-    (sym (found_left o c.owner-owner.result c.first-from.result c.loop-entry.from es _ c.at_or_after.result c.owned_by.result c.first-from.ensures c.owner-owner.ensures c.loop-entry.invariant.1 rising all c.at_or_after.ensures c.owned_by.ensures) ∙ c.in-Some.is)
+    (sym (found_left o c.owner-owner.result c.first-from.result c.loop-entry.from es _ c.at_or_after.result c.owned_by.result
+    c.first-from.ensures c.owner-owner.ensures c.loop-entry.invariant.1 rising all c.at_or_after.ensures c.owned_by.ensures)
+    ∙ c.in-Some.is)
 
 pub loop-entry-smaller : goal.loop-entry-smaller
 loop-entry-smaller c =
@@ -40,12 +43,20 @@ loop-entry-preserved c =
     let first = first_is c in let low = c.loop-entry.invariant.1 in
     let next : c.in-Some-next.next ≡ c.in-Some.entry.0 + 1 = c.in-Some-next.ensures in
     let up = owner_up c.loop-entry.from (c.in-Some.entry.0 + 1) (let l = first.low in omega (arith, l)) in (
-      ap (λ k. c.push.new.self.items ++ map placed_at (from_on k own)) next ∙ one_more c.loop-entry.from c.in-Some.entry c.loop-entry.listed.items c.push.new.self.items _ own first (c.in_ok-push.ensures.items ∙ (λ i. c.loop-entry.listed.items ++ record { number = c.number.ensures i; place = c.place.ensures i; reading = c.in-Some.entry.1 } ∷ [])) c.loop-entry.invariant.0,
+      ap (λ k. c.push.new.self.items ++ map placed_at (from_on k own)) next
+          ∙ one_more c.loop-entry.from c.in-Some.entry c.loop-entry.listed.items c.push.new.self.items _ own first
+          (c.in_ok-push.ensures.items ∙ (λ i. c.loop-entry.listed.items ++ record { number = c.number.ensures i; place = c.place.ensures i; reading = c.in-Some.entry.1 } ∷ []))
+          c.loop-entry.invariant.0,
       subst (λ k. o ≤ owner_of k) (sym next) (omega (arith, low, up)),
     )
 
 pub returns : goal.returns
 returns c =
     let o = owner c.args.slot c.args.direction in let own = owned o c.args.self.now.entries in
-    let none = found_left o c.owner-owner.result c.first-from.result c.loop-entry.from c.self.inside.index.entries _ c.at_or_after.result c.owned_by.result c.first-from.ensures c.owner-owner.ensures c.loop-entry.invariant.1 c.place_near-place.ensures.rising (ap (λ (i : TimedReadings). i.entries) c.self.view_is) c.at_or_after.ensures c.owned_by.ensures in
-    sym (append-nil c.loop-entry.listed.items) ∙ sym (ap (λ ts. c.loop-entry.listed.items ++ map placed_at ts) (none_left c.loop-entry.from own (sym none ∙ c.in_default.is))) ∙ c.loop-entry.invariant.0
+    let none = found_left o c.owner-owner.result c.first-from.result c.loop-entry.from c.self.inside.index.entries
+    _ c.at_or_after.result c.owned_by.result c.first-from.ensures c.owner-owner.ensures c.loop-entry.invariant.1
+    c.place_near-place.ensures.rising (ap (λ (i : TimedReadings). i.entries) c.self.view_is) c.at_or_after.ensures
+    c.owned_by.ensures in
+    sym (append-nil c.loop-entry.listed.items)
+    ∙ sym (ap (λ ts. c.loop-entry.listed.items ++ map placed_at ts) (none_left c.loop-entry.from own (sym none ∙ c.in_default.is)))
+    ∙ c.loop-entry.invariant.0

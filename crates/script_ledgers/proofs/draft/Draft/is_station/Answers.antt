@@ -16,4 +16,6 @@ returns-in-Some c is =
     let named = (bytes_eq-Decides c.args.name.now station.name).0 (sym c.eq.ensures ∙ is) in
     subst (λ (d : Drafted). position {X = StationPlan} (λ s. bytes_eq c.args.name.now s.name) d.stations ≡ Some c.args.number) c.self.view_is
     (found_once {X = StationPlan} (λ s. s.name) stations c.args.number c.args.name.now c.self.invariant.stations_once less
-    (get_or-map {X = StationPlan} (λ s. s.name) stations c.args.number station [] less ∙ ap (λ (s : StationPlan). s.name) (subst (λ (l : List StationPlan). get_or l c.args.number station ≡ station) c.as_slice.ensures.value (sym c.in-Some.ensures.lookup.1)) ∙ sym named))
+    (get_or-map {X = StationPlan} (λ s. s.name) stations c.args.number station [] less
+    ∙ ap (λ (s : StationPlan). s.name) (subst (λ (l : List StationPlan). get_or l c.args.number station ≡ station) c.as_slice.ensures.value (sym c.in-Some.ensures.lookup.1))
+    ∙ sym named))

@@ -23,7 +23,13 @@ site_text-requires-clause-planned g c =
 pub site_text-requires-clause-cells : goal.site_text-requires-clause-cells
 site_text-requires-clause-cells g c =
     let s = c.args.self.now in
-    let all : AreOpenedFor s.draft.sites s.draft.stations s.cells.items = record { count = s.running.all_cells; limits = λ k t d at is. (s.running.placed k t d at is).limits; periods = λ k t d at is. (s.running.placed k t d at is).period; orders = λ k t d at is. (s.running.placed k t d at is).order } in
+    let all : AreOpenedFor s.draft.sites s.draft.stations s.cells.items =
+    record {
+      count = s.running.all_cells;
+      limits = λ k t d at is. (s.running.placed k t d at is).limits;
+      periods = λ k t d at is. (s.running.placed k t d at is).period;
+      orders = λ k t d at is. (s.running.placed k t d at is).order;
+    } in
     subst (λ xs. AreOpenedFor c.plan.result.now.sites.items xs c.deref.result.now) (sym c.plan.ensures.stations)
     (subst (λ l. AreOpenedFor l s.draft.stations c.deref.result.now) (sym c.plan.ensures.sites) (subst (AreOpenedFor s.draft.sites s.draft.stations) (sym c.deref.ensures.value) all))
 
@@ -43,7 +49,15 @@ returns g c =
     let boards = boards_at order period s.draft.stations s.cells.items site in
     let stations = stations_of name (script_of s).world in
     let totals = c.totals-totals.ensures.sums ∙ totals_are s.draft s.cells.items s.books.items s.passes.items s.running period site c.index.result.now book in
-    let alike : site_named name (period_at c.plan.result.now.sites.items site) (order_at c.plan.result.now.sites.items site) c.totals-totals.result (boards_at (order_at c.plan.result.now.sites.items site) (period_at c.plan.result.now.sites.items site) c.plan.result.now.stations.items c.deref.result.now site) ≡ site_named name period order c.totals-totals.result boards =
-    (λ i. site_named name (period_at (c.plan.ensures.sites i) site) (order_at (c.plan.ensures.sites i) site) c.totals-totals.result (boards_at (order_at (c.plan.ensures.sites i) site) (period_at (c.plan.ensures.sites i) site) (c.plan.ensures.stations i) (c.deref.ensures.value i) site)) in
-    let is = board_is name (order_named (script_of s) name) order (period_named (script_of s) name) period (site_named name period order c.totals-totals.result boards) stations boards (site_shown order period s.draft.sites s.draft.stations s.cells.items name site s.running.plan.sites_once s.running.plan.placed c.requires) (order_found name s.draft.sites site c.requires) (period_found name s.draft.sites site c.requires) refl refl refl totals refl refl in
+    let alike : site_named name (period_at c.plan.result.now.sites.items site) (order_at c.plan.result.now.sites.items site)
+    c.totals-totals.result
+    (boards_at (order_at c.plan.result.now.sites.items site) (period_at c.plan.result.now.sites.items site) c.plan.result.now.stations.items c.deref.result.now site)
+    ≡ site_named name period order c.totals-totals.result boards =
+    (λ i. site_named name (period_at (c.plan.ensures.sites i) site) (order_at (c.plan.ensures.sites i) site) c.totals-totals.result
+    (boards_at (order_at (c.plan.ensures.sites i) site) (period_at (c.plan.ensures.sites i) site) (c.plan.ensures.stations i) (c.deref.ensures.value i) site)) in
+    let is = board_is name (order_named (script_of s) name) order (period_named (script_of s) name) period
+    (site_named name period order c.totals-totals.result boards) stations boards
+    (site_shown order period s.draft.sites s.draft.stations s.cells.items name site s.running.plan.sites_once s.running.plan.placed c.requires)
+    (order_found name s.draft.sites site c.requires) (period_found name s.draft.sites site c.requires) refl refl refl totals refl
+    refl in
     value_told c.site_text.result _ _ (λ text h. h ∙ ap board_text alike ∙ ap board_text is) c.site_text.ensures

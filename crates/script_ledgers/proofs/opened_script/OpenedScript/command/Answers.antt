@@ -21,4 +21,5 @@ pub returns-in-None-clause-step : goal.returns-in-None-clause-step
 returns-in-None-clause-step g c =
     let s = c.args.self.now in
     let none = is_none s.draft s.cells.items s.books.items s.passes.items s.running c.args.name.now c.station.result c.station.ensures c.in-None.is in
-    written_whole c.put_fault.result (script_of s) _ c.args.reply.now.items c.put_fault.new.reply.items _ (ap (λ o. commanded_to o (script_of s) c.args.command) none) c.requires.empty c.put_fault.ensures
+    written_whole c.put_fault.result (script_of s) _ c.args.reply.now.items c.put_fault.new.reply.items
+    _ (ap (λ o. commanded_to o (script_of s) c.args.command) none) c.requires.empty c.put_fault.ensures

@@ -19,7 +19,9 @@ returns-in_ok-listing-in-Some g c =
     let content = of.at.content ∙ ap (λ (x : Cell). x.content) cell ∙ sym c.ledger.ensures.content in
     let order = of.at.order ∙ ap (λ (x : Cell). x.order) cell ∙ sym c.ledger.ensures.order in
     let period = of.at.period ∙ ap (λ (x : Cell). x.period) cell ∙ sym c.ledger.ensures.period in
-    let shown = ap (list_answer (order_named (script_of s)) (period_named (script_of s)) what name tx) of.named ∙ (λ i. listed what name tx (listing_by (order i) (period i) tx (entries (content i)))) ∙ ap (listed what name tx) (sym c.in_ok-listing-in-Some.ensures) in
+    let shown = ap (list_answer (order_named (script_of s)) (period_named (script_of s)) what name tx) of.named
+    ∙ (λ i. listed what name tx (listing_by (order i) (period i) tx (entries (content i))))
+    ∙ ap (listed what name tx) (sym c.in_ok-listing-in-Some.ensures) in
     ok_told c.put_listed.result _ _ (λ h. h ∙ sym shown) c.put_listed.ensures
 
 pub returns-in-None : goal.returns-in-None

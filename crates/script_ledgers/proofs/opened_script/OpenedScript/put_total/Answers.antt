@@ -20,7 +20,10 @@ returns-in-Some g c =
     let cell = some_same of.at.cell c.index.result.now (sym of.at.is_cell ∙ stands) in
     let content = of.at.content ∙ ap (λ (x : Cell). x.content) cell ∙ sym c.ledger.ensures.content in
     let order = of.at.order ∙ ap (λ (x : Cell). x.order) cell ∙ sym c.ledger.ensures.order in
-    let shown = ap (total_answer (order_named (script_of s))) of.named ∙ (λ i. ended_line (total_text (figures_by (order i) (entries (content i))))) ∙ ap (λ f. ended_line (total_text f)) (sym c.figures-figures.ensures.value) ∙ ap ended_line (sym c.total_text.ensures) ∙ ap ended_line (sym c.as_str.ensures.value) in
+    let shown = ap (total_answer (order_named (script_of s))) of.named
+    ∙ (λ i. ended_line (total_text (figures_by (order i) (entries (content i)))))
+    ∙ ap (λ f. ended_line (total_text f)) (sym c.figures-figures.ensures.value) ∙ ap ended_line (sym c.total_text.ensures)
+    ∙ ap ended_line (sym c.as_str.ensures.value) in
     ok_told c.put_line.result _ _ (λ h. h ∙ ap (λ l. c.args.reply.now.items ++ l) (sym shown)) c.put_line.ensures
 
 pub returns-in-None : goal.returns-in-None

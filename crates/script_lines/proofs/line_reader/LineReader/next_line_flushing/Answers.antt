@@ -26,8 +26,11 @@ pieces-preserved g c =
     let flushed : Keeps (g.W.Write.contents c.pieces.writer) (g.W.Write.contents c.else-self.writer) =
     elim c.else-self.branch [ else-self-via-then-self+else-is_err w ↦ search rules | else-self-via-else-self w ↦ search rules ] in
     let held = c.read_piece.new.held.items in
-    let t = c.read_piece.ensures.takes in
-    (goes_on _ _ _ _ _ held _ _ _ _ _ _ c.pieces.invariant.0 c.pieces.invariant.1 flushed c.read_piece.result t.0 c.in-Part.count c.in-Part.is_drained t.1 (c.in_ok-read_piece.was ∙ ap Ok c.in-Part.is) t.2, c.pieces.invariant.1)
+    let t = c.read_piece.ensures.takes in (
+      goes_on _ _ _ _ _ held _ _ _ _ _ _ c.pieces.invariant.0 c.pieces.invariant.1 flushed c.read_piece.result t.0 c.in-Part.count
+          c.in-Part.is_drained t.1 (c.in_ok-read_piece.was ∙ ap Ok c.in-Part.is) t.2,
+      c.pieces.invariant.1,
+    )
 
 pub returns-in-WholeLine-clause-takes : goal.returns-in-WholeLine-clause-takes
 returns-in-WholeLine-clause-takes g c =
@@ -35,7 +38,8 @@ returns-in-WholeLine-clause-takes g c =
     elim c.else-self.branch [ else-self-via-then-self+else-is_err w ↦ search rules | else-self-via-else-self w ↦ search rules ] in
     let held = c.read_piece.new.held.items in
     let t = c.read_piece.ensures.takes in
-    feeds _ _ _ _ _ held _ _ _ _ _ _ c.pieces.invariant.0 c.pieces.invariant.1 flushed c.read_piece.result t.0 c.in-WholeLine.count c.in-WholeLine.is_drained t.1 (c.in_ok-read_piece.was ∙ ap Ok c.in-WholeLine.is) t.2
+    feeds _ _ _ _ _ held _ _ _ _ _ _ c.pieces.invariant.0 c.pieces.invariant.1 flushed c.read_piece.result t.0 c.in-WholeLine.count
+    c.in-WholeLine.is_drained t.1 (c.in_ok-read_piece.was ∙ ap Ok c.in-WholeLine.is) t.2
 
 pub returns-in-Beyond-clause-writer : goal.returns-in-Beyond-clause-writer
 returns-in-Beyond-clause-writer g c =

@@ -14,19 +14,25 @@ use Rattle.site_book.proofs.book.SiteBook.post.Goals as goal
 pub replaced-totals-requires-clause-words : goal.replaced-totals-requires-clause-words
 replaced-totals-requires-clause-words g c =
     let i = c.self.invariant in
-    let a = admitted c.self.inside.rows.items c.args.row c.args.figures _ (subst (λ b. Admits b.limits c.args.row c.args.figures) (sym c.self.view_is) c.requires.admitted) c.index_mut-kept.ensures.value in
+    let a = admitted c.self.inside.rows.items c.args.row c.args.figures
+    _ (subst (λ b. Admits b.limits c.args.row c.args.figures) (sym c.self.view_is) c.requires.admitted)
+    c.index_mut-kept.ensures.value in
     totals-words _ _ c.index_mut-kept.result.now _ _ i.rows_are i.totals_are a.1
 
 pub replaced-totals-requires-clause-old : goal.replaced-totals-requires-clause-old
 replaced-totals-requires-clause-old g c =
     let i = c.self.invariant in
-    let a = admitted c.self.inside.rows.items c.args.row c.args.figures _ (subst (λ b. Admits b.limits c.args.row c.args.figures) (sym c.self.view_is) c.requires.admitted) c.index_mut-kept.ensures.value in
+    let a = admitted c.self.inside.rows.items c.args.row c.args.figures
+    _ (subst (λ b. Admits b.limits c.args.row c.args.figures) (sym c.self.view_is) c.requires.admitted)
+    c.index_mut-kept.ensures.value in
     part-at_most _ _ _ (totals-part _ c.args.row _ _ c.args.figures i.totals_are (i.rows_are.figures c.args.row _ a.0))
 
 pub announce-requires-clause-totals : goal.announce-requires-clause-totals
 announce-requires-clause-totals g c =
     let i = c.self.invariant in
-    let a = admitted c.self.inside.rows.items c.args.row c.args.figures _ (subst (λ b. Admits b.limits c.args.row c.args.figures) (sym c.self.view_is) c.requires.admitted) c.index_mut-kept.ensures.value in
+    let a = admitted c.self.inside.rows.items c.args.row c.args.figures
+    _ (subst (λ b. Admits b.limits c.args.row c.args.figures) (sym c.self.view_is) c.requires.admitted)
+    c.index_mut-kept.ensures.value in
     ap numbers_of (totals-posted _ c.args.row _ _ c.args.figures _ i.totals_are (i.rows_are.figures c.args.row _ a.0) c.replaced-totals.ensures)
 
 pub invariant_of-self : goal.invariant_of-self
@@ -34,7 +40,9 @@ invariant_of-self g c =
     let i = c.self.invariant in
     let log = c.self.inside.seat.me.0.log in
     let now = log ++ (c.args.row, c.args.figures) ∷ [] in
-    let a = admitted c.self.inside.rows.items c.args.row c.args.figures _ (subst (λ b. Admits b.limits c.args.row c.args.figures) (sym c.self.view_is) c.requires.admitted) c.index_mut-kept.ensures.value in
+    let a = admitted c.self.inside.rows.items c.args.row c.args.figures
+    _ (subst (λ b. Admits b.limits c.args.row c.args.figures) (sym c.self.view_is) c.requires.admitted)
+    c.index_mut-kept.ensures.value in
     let me = c.share.ensures.same ∙ c.announce.ensures.posted in
     let grown : c.share.new.seat.me.0.log ≡ now = ap (λ m. m.0.log) me in
     record {
@@ -51,7 +59,9 @@ invariant_of-result g c =
     let i = c.self.invariant in
     let log = c.self.inside.seat.me.0.log in
     let now = log ++ (c.args.row, c.args.figures) ∷ [] in
-    let a = admitted c.self.inside.rows.items c.args.row c.args.figures _ (subst (λ b. Admits b.limits c.args.row c.args.figures) (sym c.self.view_is) c.requires.admitted) c.index_mut-kept.ensures.value in
+    let a = admitted c.self.inside.rows.items c.args.row c.args.figures
+    _ (subst (λ b. Admits b.limits c.args.row c.args.figures) (sym c.self.view_is) c.requires.admitted)
+    c.index_mut-kept.ensures.value in
     let grown : c.announce.new.seat.me.0.log ≡ now = ap (λ m. m.0.log) c.announce.ensures.posted in
     let told : c.share.result.me.0.log ≡ c.announce.new.seat.me.0.log = ap (λ m. m.0.log) c.share.ensures.known in
     let all = told ∙ grown in

@@ -31,5 +31,9 @@ returns g c =
     let t = tied_at c.self.inside.cells.items c.self.inside.books.items c.args.station c.index-cell.result.now c.self.invariant less c.index-cell.ensures in
     let same = book_at c.self.inside.books.items c.index-cell.result.now c.index.result.now t (c.index.ensures ∙ ap (λ n. get_or c.self.inside.books.items n c.index.result.now) c.site.ensures) in
     λ d at.
-    let cell : c.index-cell.result.now ≡ d = c.index-cell.ensures ∙ get_or_from_slice_get c.self.inside.cells.items c.args.station d c.index-cell.result.now (ap (λ (e : Ended). slice_get e.cells c.args.station) c.self.view_is ∙ at) in
-    c.row-2.ensures ∙ ap (λ n. row_after n c.index.result.now.posts) c.row.ensures ∙ ap (λ (b : Book). row_after c.index-cell.result.now.row b.posts) same ∙ t.tied ∙ ap (λ (x : Cell). figures_by x.order (entries x.content)) cell
+    let cell : c.index-cell.result.now ≡ d =
+    c.index-cell.ensures ∙ get_or_from_slice_get c.self.inside.cells.items c.args.station d c.index-cell.result.now
+    (ap (λ (e : Ended). slice_get e.cells c.args.station) c.self.view_is ∙ at) in
+    c.row-2.ensures ∙ ap (λ n. row_after n c.index.result.now.posts) c.row.ensures
+    ∙ ap (λ (b : Book). row_after c.index-cell.result.now.row b.posts) same ∙ t.tied
+    ∙ ap (λ (x : Cell). figures_by x.order (entries x.content)) cell

@@ -29,6 +29,7 @@ returns g c =
       (refl, λ w. shown_set a.places.row id (Some (Held w)) ∙ ap (λ slots. set slots id (Some w)) c.self.view_is ∙ ap (λ i. set old i (Some w)) c.number.ensures),
       record {
         writes_back = tt;
-        value = ap (value_at old) (sym c.number.ensures) ∙ ap (λ slots. value_at slots id) (sym c.self.view_is) ∙ shown_at a.places.row id ∙ ap value_in (c.lent.ensures.value ∙ ap Some c.value_mut.ensures.value);
+        value = ap (value_at old) (sym c.number.ensures) ∙ ap (λ slots. value_at slots id) (sym c.self.view_is) ∙ shown_at a.places.row id
+            ∙ ap value_in (c.lent.ensures.value ∙ ap Some c.value_mut.ensures.value);
       },
     )

@@ -15,7 +15,8 @@ none_free row slots first spare shows t =
     (λ none. omega (arith, shown_length row), λ full. omega (arith, shown_length row))
 
 -- The id of a free slot has no value.
-free_shows_none : {X : Type 0} (row : List (Option (Slot X))) (slots : List (Option X)) (first id next : ℕ) → values_in row ≡ slots → id ≡ first → get_or row first None ≡ Some (Free next) → (id < length slots) × (value_at slots id ≡ None)
+free_shows_none : {X : Type 0} (row : List (Option (Slot X))) (slots : List (Option X)) (first id next : ℕ)
+    → values_in row ≡ slots → id ≡ first → get_or row first None ≡ Some (Free next) → (id < length slots) × (value_at slots id ≡ None)
 free_shows_none row slots first id next shows same links =
     let as_long = ap length shows in (
       omega (arith, holding_within row first (Free next) links, shown_length row),
@@ -42,7 +43,8 @@ invariant_of-self g c =
       lease_len = was.lease_len;
       lease_alloc = was.lease_alloc;
       count = ap length held.ensures.row.1 ∙ length-set a.places.row a.first place ∙ was.count;
-      threaded = subst (λ row. IsThreaded row held.result (a.spare - 1)) (sym held.ensures.row.1) (threaded-take a.places.row a.first a.spare held.result c.args.value was.threaded some held.ensures.next);
+      threaded = subst (λ row. IsThreaded row held.result (a.spare - 1)) (sym held.ensures.row.1)
+          (threaded-take a.places.row a.first a.spare held.result c.args.value was.threaded some held.ensures.next);
     }
 
 pub returns-clause-was_free : goal.returns-clause-was_free

@@ -71,7 +71,8 @@ lent_spec 𝓤 𝓛 𝓜 𝓡 wired T laws =
     let borrowed = RefMutOf {n = 2} (0 ∷ []) tt (plain (λ _. Row E)) (λ _. tt) in let by_value = plain {n = 2} (λ _. First E) in let number = plain {n = 2} (λ _. usize) in
     let stays : Stays params ended.kept = (stay_dropped borrowed ended.kept.0, (stay_dropped by_value ended.kept.1.0, (stay_dropped number ended.kept.1.1.0, tt))) in
     let C = (tables 𝓤 𝓛.H 𝓜 𝓡 𝓡.env).C in let Λ = (tables 𝓤 𝓛.H 𝓜 𝓡 𝓡.env).Λ in
-    proved_at 𝓛 ended stays c 𝓜 𝓡 (Goes-spent_ref 𝓛 2 (0 ∷ []) tt (plain (λ _. Row E)), (Goes-dropped 𝓛 2 by_value ended.kept.1.0 (λ κs x w. refl), (Goes-dropped 𝓛 2 number ended.kept.1.1.0 (λ κs x w. refl), tt)))
+    proved_at 𝓛 ended stays c 𝓜 𝓡
+    (Goes-spent_ref 𝓛 2 (0 ∷ []) tt (plain (λ _. Row E)), (Goes-dropped 𝓛 2 by_value ended.kept.1.0 (λ κs x w. refl), (Goes-dropped 𝓛 2 number ended.kept.1.1.0 (λ κs x w. refl), tt)))
     (f.Key.name (args E)) fn (code.unfolded 𝓤 𝓛.H 𝓜 𝓡 wired (T, tt)) (λ y are.
     let Post = (walk_of 𝓛 ended stays c).post y in
     let κ : Lft = y.0.0.0 in let κ₁ : Lft = y.0.0.1.0 in let q = y.0.1.0 in let q₁ = y.0.1.1.0 in let a = y.0.3 in let vss = y.0.4 in

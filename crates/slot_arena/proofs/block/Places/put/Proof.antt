@@ -44,7 +44,8 @@ put_spec 𝓤 𝓛 𝓜 𝓡 wired T laws =
     let E : El = record { row = T; laws = laws } in let fn : Fn = inst_fn (args E) code.function in
     let ended = f.ended T in let params = ended.signature.params in let c = f.clauses T 𝓛 𝓜.mem 𝓡.returns in
     let by_value = plain {n = 2} (λ _. First E) in let number = plain {n = 2} (λ _. usize) in let item = plain {n = 2} (λ _. R E) in
-    let stays : Stays params ended.kept = (stay_ref (0 ∷ []) tt (plain (λ _. Row E)), (stay_dropped by_value ended.kept.1.0, (stay_dropped number ended.kept.1.1.0, (stay_dropped item ended.kept.1.1.1.0, tt)))) in
+    let stays : Stays params ended.kept =
+    (stay_ref (0 ∷ []) tt (plain (λ _. Row E)), (stay_dropped by_value ended.kept.1.0, (stay_dropped number ended.kept.1.1.0, (stay_dropped item ended.kept.1.1.1.0, tt)))) in
     let C = (tables 𝓤 𝓛.H 𝓜 𝓡 𝓡.env).C in let Λ = (tables 𝓤 𝓛.H 𝓜 𝓡 𝓡.env).Λ in
     proved_at 𝓛 ended stays c 𝓜 𝓡 (
       Goes-ref 𝓛 2 0 tt (plain (λ _. Row E)),
@@ -62,7 +63,9 @@ put_spec 𝓤 𝓛 𝓜 𝓡 wired T laws =
     let self = a.0 in let start = a.1.0 in let index = a.1.1.0 in let value = a.1.1.1.0 in let p = self.now in let s = step_of E in
     let tokens = ‵ (flft κ₁ q₁) ⊛ ‵ ftrue in let rb = self.ref_ptr.0 in let ro = self.ref_ptr.1 in
     let filled = set p.row index (Some value) in let new : (Row E).Denot = record { mark = p.mark; at = p.at; row = filled } in
-    qed 𝓛 (((‵ (flft κ q) ⊛ tokens) ⊛ ‵ (owns (types_at params y.0.0) a vss)) ∷ (raw (fact 𝓤 (κ₁ ⊑ T.lives)) ⊛ raw (fact 𝓤 ((start.ptr ≡ p.at) × (index < length p.row) × (get_or p.row index None ≡ None)))) ∷ []) ∵
+    qed 𝓛 (((‵ (flft κ q) ⊛ tokens) ⊛ ‵ (owns (types_at params y.0.0) a vss))
+    ∷ (raw (fact 𝓤 (κ₁ ⊑ T.lives)) ⊛ raw (fact 𝓤 ((start.ptr ≡ p.at) × (index < length p.row) × (get_or p.row index None ≡ None))))
+    ∷ []) ∵
     move ! (1 ∷ []) $ split ! $ drop ! $ heard ! _ (λ asked. split ! $ split ! $ move ! (2 ∷ []) $
     -- [what the parameters own; the borrow's token; the other tokens]
     fsplit ! $ fsplit3 ! $ feq_l ! (λ e0. move ! (2 ∷ []) $ fsplit ! $ word_told ! start.ptr vss.1.0 (λ e1. fsplit ! $ fsplit ! $ feq_l ! (λ e2. flt_l ! (λ index_fits.

@@ -34,5 +34,17 @@ pub returns-in-Accepted-clause-cell : goal.returns-in-Accepted-clause-cell
 returns-in-Accepted-clause-cell c =
     let at = count_at _ _ _ _ c.self.view_is c.pass.view_is c.requires.known in
     let read = count_read c.self.inside.counts.items c.pass.inside.slot c.pass.inside.changes at _ c.index_mut.ensures.value in
-    cell_changed (record { station = c.self.inside.station; site = c.self.inside.site; row = c.self.inside.row; limits = c.self.inside.ledger.limits; period = c.self.inside.ledger.period; order = c.self.inside.ledger.order; content = c.self.inside.ledger.content; counts = c.self.inside.counts.items }) (record { station = c.pass.inside.station; slot = c.pass.inside.slot; changes = c.pass.inside.changes; work = c.pass.inside.work }) c.args.command c.apply_judged-answer.new.self c.in-Accepted.field-0 _ c.apply_judged-answer.ensures.content (sym c.apply_judged-answer.ensures.answer ∙ c.in-Accepted.is) read
+    cell_changed (record {
+      station = c.self.inside.station;
+      site = c.self.inside.site;
+      row = c.self.inside.row;
+      limits = c.self.inside.ledger.limits;
+      period = c.self.inside.ledger.period;
+      order = c.self.inside.ledger.order;
+      content = c.self.inside.ledger.content;
+      counts = c.self.inside.counts.items;
+    })
+    (record { station = c.pass.inside.station; slot = c.pass.inside.slot; changes = c.pass.inside.changes; work = c.pass.inside.work })
+    c.args.command c.apply_judged-answer.new.self c.in-Accepted.field-0 _ c.apply_judged-answer.ensures.content
+    (sym c.apply_judged-answer.ensures.answer ∙ c.in-Accepted.is) read
     ∙ (λ i. cell_after (c.self.view_is i) (c.pass.view_is i) c.args.command)

@@ -16,8 +16,11 @@ carry_out-requires c =
     let reached = reached_next l.limits (content_in l.chains l.changes) l.changes m c.args.command refl c.requires.admissible k.reached a in
     record {
       ready = search rules;
-      before = subst (λ (b : Bounds). AreAllowed (order_in l.sums) b (stored l.chains)) (sym k.limits_are) (allowed (order_in l.sums) l.limits k.few_transactions k.few_events k.few_readings l.changes (content_in l.chains l.changes) k.reached);
-      after = subst (λ (b : Bounds). AreAllowed (order_in l.sums) b (finite.entries (events_after l.chains.events c.args.command))) (sym k.limits_are) (allowed (order_in l.sums) l.limits k.few_transactions k.few_events k.few_readings m (record { events = events_after l.chains.events c.args.command; changes = m }) reached);
+      before = subst (λ (b : Bounds). AreAllowed (order_in l.sums) b (stored l.chains)) (sym k.limits_are)
+          (allowed (order_in l.sums) l.limits k.few_transactions k.few_events k.few_readings l.changes (content_in l.chains l.changes) k.reached);
+      after = subst (λ (b : Bounds). AreAllowed (order_in l.sums) b (finite.entries (events_after l.chains.events c.args.command)))
+          (sym k.limits_are)
+          (allowed (order_in l.sums) l.limits k.few_transactions k.few_events k.few_readings m (record { events = events_after l.chains.events c.args.command; changes = m }) reached);
       summed = subst (λ (b : Bounds). AreSummed b (stored l.chains) l.sums) (sym k.limits_are) k.summed;
       voided = k.voided_are;
     }

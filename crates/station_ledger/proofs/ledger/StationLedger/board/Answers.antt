@@ -14,7 +14,8 @@ use Rattle.station_ledger.proofs.ledger.StationLedger.board.Goals as goal
 pub board_of-requires-clause-within : goal.board_of-requires-clause-within
 board_of-requires-clause-within c =
     let l = c.self.inside in let k = c.self.invariant in
-    subst (λ (b : Bounds). AreAllowed (order_in l.sums) b (stored l.chains)) (sym k.limits_are) (allowed (order_in l.sums) l.limits k.few_transactions k.few_events k.few_readings l.changes (content_in l.chains l.changes) k.reached)
+    subst (λ (b : Bounds). AreAllowed (order_in l.sums) b (stored l.chains)) (sym k.limits_are)
+    (allowed (order_in l.sums) l.limits k.few_transactions k.few_events k.few_readings l.changes (content_in l.chains l.changes) k.reached)
 
 pub board_of-requires-clause-numbered : goal.board_of-requires-clause-numbered
 board_of-requires-clause-numbered c =

@@ -19,7 +19,17 @@ returns-clause-value c =
     let down = c.down.ensures ∙ ap (λ (e : Energy). e.down) (s.energies_are Import) in
     let export_up = c.up-2.ensures ∙ ap (λ (e : Energy). e.up) (s.energies_are Export) in
     let export_down = c.down-2.ensures ∙ ap (λ (e : Energy). e.down) (s.energies_are Export) in
-    (λ i. record { events = s.counts.events i; voided = k.voided_are i; transactions = s.counts.transactions i; complete = s.counts.complete i; missing = s.counts.missing_are i; up = up i; down = down i; export_up = export_up i; export_down = export_down i })
+    (λ i. record {
+      events = s.counts.events i;
+      voided = k.voided_are i;
+      transactions = s.counts.transactions i;
+      complete = s.counts.complete i;
+      missing = s.counts.missing_are i;
+      up = up i;
+      down = down i;
+      export_up = export_up i;
+      export_down = export_down i;
+    })
     ∙ ap (λ (l : Ledger). figures_by l.order (entries l.content)) c.self.view_is
 
 pub returns-clause-within : goal.returns-clause-within
@@ -29,5 +39,18 @@ returns-clause-within c =
     let down = c.down.ensures ∙ ap (λ (e : Energy). e.down) (s.energies_are Import) in
     let export_up = c.up-2.ensures ∙ ap (λ (e : Energy). e.up) (s.energies_are Export) in
     let export_down = c.down-2.ensures ∙ ap (λ (e : Energy). e.down) (s.energies_are Export) in
-    subst (AreWithin c.args.self.now.limits) (sym (λ i. record { events = s.counts.events i; voided = k.voided_are i; transactions = s.counts.transactions i; complete = s.counts.complete i; missing = s.counts.missing_are i; up = up i; down = down i; export_up = export_up i; export_down = export_down i }))
-    (subst (λ (b : Bounds). AreWithin b (figures_by (order_in c.self.inside.sums) (stored c.self.inside.chains))) (ap (λ (l : Ledger). l.limits) c.self.view_is) (figures_within (order_in c.self.inside.sums) c.self.inside.limits c.self.inside.changes (content_in c.self.inside.chains c.self.inside.changes) k.reached))
+    subst (AreWithin c.args.self.now.limits)
+    (sym (λ i. record {
+      events = s.counts.events i;
+      voided = k.voided_are i;
+      transactions = s.counts.transactions i;
+      complete = s.counts.complete i;
+      missing = s.counts.missing_are i;
+      up = up i;
+      down = down i;
+      export_up = export_up i;
+      export_down = export_down i;
+    }))
+    (subst (λ (b : Bounds). AreWithin b (figures_by (order_in c.self.inside.sums) (stored c.self.inside.chains)))
+    (ap (λ (l : Ledger). l.limits) c.self.view_is)
+    (figures_within (order_in c.self.inside.sums) c.self.inside.limits c.self.inside.changes (content_in c.self.inside.chains c.self.inside.changes) k.reached))

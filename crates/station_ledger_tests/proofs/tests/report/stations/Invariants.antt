@@ -8,4 +8,5 @@ use Rattle.station_ledger_tests.proofs.tests.report.stations.Given as goal
 
 -- the boards so far are those of a plan of default limits, by the default period
 abbrev pub invariant-loop-name : goal.invariant-loop-name
-invariant-loop-name l = (plan : List Bounds) × ((sum_by (λ (limits : Bounds). limits.readings) plan ≡ 16_384 * l.name-index) × AreBoardsWithin plan l.boards.items × AreOfPeriod default_periods l.boards.items)
+invariant-loop-name l = (plan : List Bounds)
+    × ((sum_by (λ (limits : Bounds). limits.readings) plan ≡ 16_384 * l.name-index) × AreBoardsWithin plan l.boards.items × AreOfPeriod default_periods l.boards.items)
