@@ -86,7 +86,8 @@ pub(crate) fn run_restored<R: Host, I: Input, W: Output, T: Output, L: Output>(
     requires empty { writer_buffer ends.journal ≡ [] }
     ensures { IfOk result (λ s. (front : List ℕ) → Leaves front restored.draft.sites restored.draft.stations restored.cells.items
         → IsItsScript front restored.draft.sites restored.draft.stations restored.cells.items (W.contents (writer_inner ends.journal)) (left_of W.contents s)
-        (TellsNew s.ended restored.draft.stations (operator_input journalling.live.connections (I.remaining input.old)) (T.contents ends.console) (T.contents s.console) restored.draft.sites restored.cells.items)) }
+        (TellsNew s.ended restored.draft.stations (operator_input journalling.live.connections (I.remaining input.old))
+        (T.contents ends.console) (T.contents s.console) restored.draft.sites restored.cells.items)) }
 {
     let Restored {
         draft,
@@ -142,7 +143,8 @@ fn run_over<
     requires passes { AreTheirPasses desk_parts.cells.items passes.items }
     ensures { IfOk result (λ s. IsEnded (names_of plan.now.stations.items) (contents_of desk_parts.cells.items) (W.contents (writer_inner ends.journal))
         plan.now.sites.items plan.now.stations.items (left_of W.contents s)
-        (TellsNew s.ended plan.now.stations.items (operator_input journalling.live.connections (I.remaining input.old)) (T.contents ends.console) (T.contents s.console) plan.now.sites.items desk_parts.cells.items)) }
+        (TellsNew s.ended plan.now.stations.items (operator_input journalling.live.connections (I.remaining input.old))
+        (T.contents ends.console) (T.contents s.console) plan.now.sites.items desk_parts.cells.items)) }
 {
     let alloc = rt.alloc();
     let live = journalling.live;

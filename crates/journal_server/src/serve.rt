@@ -158,7 +158,8 @@ pub fn serve_restored<R: Host, I: Input, W: Output, T: Output, L: Output>(
     ensures serves { IfOk result (λ s. IsRestoredRun restoring.allows_left_out (I.remaining input.old) (writer_contents W.contents journal) (left_of W.contents s)
         (TellsRestored s.ended restoring.journalling.live.connections (T.contents console) (T.contents s.console))) }
     ensures unmarked { IfErr result (λ e. e ≡ JournalFault.Restore RestoreFault.NotMarked → IsRefused (I.remaining input.old) (λ read. IsUnmarked read)) }
-    ensures left_out { IfErr result (λ e. e ≡ JournalFault.LeftOut → (restoring.allows_left_out ≡ false) × IsRefused (I.remaining input.old) (λ read. loses start (lines_of longest_line read) ≡ true)) }
+    ensures left_out { IfErr result
+        (λ e. e ≡ JournalFault.LeftOut → (restoring.allows_left_out ≡ false) × IsRefused (I.remaining input.old) (λ read. loses start (lines_of longest_line read) ≡ true)) }
 {
     let restored = match restore(rt, input, &mut console) {
         Ok(restored) => restored,

@@ -174,7 +174,8 @@ fn play_all<R: Host + RandomSource>(
         rt,
         |scope| -> Run
             requires { (length streams.items ≡ connections) × (connections ≤ 64) × (2 ≤ events) × (events ≤ 64) × (vec_len played ≡ 0) × (connections ≤ vec_capacity played) }
-            ensures { IfOk result.0 (λ s. IsNewRun plan.entry.now.sites.items plan.entry.now.stations.items None (left_of (λ _. None) s) (TellsNew s.ended plan.entry.now.stations.items (Some []) None None)) }
+            ensures { IfOk result.0
+                (λ s. IsNewRun plan.entry.now.sites.items plan.entry.now.stations.items None (left_of (λ _. None) s) (TellsNew s.ended plan.entry.now.stations.items (Some []) None None)) }
         {
             let (played, refused) = start_all(scope, rt, rt.alloc(), streams, events, played);
             let live = Live {

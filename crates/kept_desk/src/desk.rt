@@ -159,7 +159,8 @@ impl<J: Naming, K: Opening, W: Write + Drop> KeptDesk<J, K, W> {
         requires note { IsNote note.now }
         requires speaks { (at : StationPlace) → slice_get self.now.stations pass.old.station ≡ Some at → SpeaksOf at.name line.now command }
         ensures settled { (at : StationPlace) → slice_get self.now.stations pass.old.station ≡ Some at → Submitted at pass.old command result.0 pass.new result.1 }
-        ensures received { (at : StationPlace) → slice_get self.now.stations pass.old.station ≡ Some at → IsReceived at (K.first pass.old.station) result.0 (entry pass.old.station note.now line.now command) result.1 result.2 }
+        ensures received { (at : StationPlace) → slice_get self.now.stations pass.old.station ≡ Some at
+            → IsReceived at (K.first pass.old.station) result.0 (entry pass.old.station note.now line.now command) result.1 result.2 }
         ensures stranger { slice_get self.now.stations pass.old.station ≡ None → (result.0 ≡ Answer.Refused Refusal.ChangesExhausted) × IsUnchanged pass.old pass.new result.1 }
     {
         let way = Journalled {

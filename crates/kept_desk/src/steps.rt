@@ -45,7 +45,12 @@ pub(crate) fn append<E: TheEntries>(
     requires sits { Sits words.now.table_id seat.old.table_id }
     requires joined { seat.old.me ≡ (joined seat.old.me.0.log seat.old.me.0.made station seat.old.me.0.mine, []) }
     ensures sits { Sits words.now.table_id seat.new.table_id }
-    ensures added { seat.new.me ≡ (joined (seat.old.me.0.log ++ entry station note.now line.now command.now ∷ []) seat.old.me.0.made station (seat.old.me.0.mine ++ entry station note.now line.now command.now ∷ []), []) }
+    ensures added { seat.new.me
+        ≡ (
+          joined (seat.old.me.0.log ++ entry station note.now line.now command.now ∷ []) seat.old.me.0.made station
+              (seat.old.me.0.mine ++ entry station note.now line.now command.now ∷ []),
+          [],
+        ) }
 {
     words.load::<Adds<E>>(seat, 0);
 }

@@ -7,8 +7,8 @@ use Rattle.clap.specs.declared.parser.matches.Found.{Found}
 use Rattle.std.specs.declared.result.Result.{Result}
 use Rattle.std.specs.declared.result.Result.TheVariants.{Err}
 use Rattle.site_desk.specs.declared.plan.Plan.{Plan}
-use Rattle.ocpp_board.specs.declared.asked.Asked.{Asked}
-use Rattle.ocpp_board.specs.declared.asked.Asked.TheVariants.{Replay, Serve, ServeRestored, Simulate}
+use Rattle.ocpp_board.specs.declared.asked.Task.{Task}
+use Rattle.ocpp_board.specs.declared.asked.Task.TheVariants.{Replay, Serve, ServeRestored, Simulate}
 use Rattle.journal_server.specs.declared.serve.Journalling.{Journalling}
 use Rattle.live_server.specs.declared.service.Live.{Live}
 use Rattle.ledger_model.specs.declared.order.Order.{Order}
@@ -32,7 +32,7 @@ IsCounted (Some connections) = (1 ≤ connections) × (connections ≤ 64)
 
 -- A server is asked for 1 to 64 connections, if for a number of them; a simulation for 1 to 64 stations and 2 to 64
 -- events.
-abbrev pub IsAskable : Asked → Type 0
+abbrev pub IsAskable : Task → Type 0
 IsAskable Replay = ⊤
 IsAskable (Serve plan journalling journalled) = IsCounted journalling.live.connections
 IsAskable (ServeRestored restoring journalled) = IsCounted restoring.journalling.live.connections
@@ -135,14 +135,14 @@ pub record AsksKept (found : Found) (journal restore : Bool) : Type 0 where
   pub restores : IsFlag found (codes "restore") restore
 
 -- The words ask for a server with these options, and with the plan of its words or of a script.
-abbrev pub AsksServe : Found → Asked → Type 0
+abbrev pub AsksServe : Found → Task → Type 0
 AsksServe found Replay = ⊥
 AsksServe found (Serve plan journalling journalled) = AsksJournalling found journalling × AsksPlan found journalling.live.glances plan × AsksKept found journalled false
 AsksServe found (ServeRestored restoring journalled) = AsksJournalling found restoring.journalling × AsksKept found journalled true × IsFlag found (codes "allow-left-out") restoring.allows_left_out
 AsksServe found (Simulate stations events) = ⊥
 
 -- The words ask for a simulation.
-abbrev pub AsksSimulate : Found → Asked → Type 0
+abbrev pub AsksSimulate : Found → Task → Type 0
 AsksSimulate found Replay = ⊥
 AsksSimulate found (Serve plan journalling journalled) = ⊥
 AsksSimulate found (ServeRestored restoring journalled) = ⊥
@@ -153,7 +153,7 @@ pub record IsFound (rows : List Row) (found : Found) : Type 0 where
   pub same : rows_of found ≡ rows
 
 -- The words ask for the command that they name: `serve` or `sim` by the rows of their options, else a replay.
-pub record IsAskedBy (named : Option (List ℕ × List Row)) (asked : Asked) : Type 0 where
+pub record IsAskedBy (named : Option (List ℕ × List Row)) (asked : Task) : Type 0 where
   pub serves : (rows : List Row) → named ≡ Some (codes "serve", rows) → (found : Found) × IsFound rows found × AsksServe found asked
   pub simulates : (rows : List Row) → named ≡ Some (codes "sim", rows) → (found : Found) × IsFound rows found × AsksSimulate found asked
   pub replays : option_map (λ p. p.0) named ≢ Some (codes "serve") → option_map (λ p. p.0) named ≢ Some (codes "sim") → asked ≡ Replay

@@ -27,8 +27,8 @@ use Rattle.site_desk.specs.declared.fault.CloseFault.TheVariants as close
 use Rattle.site_desk.specs.declared.fault.DeskFault.TheVariants as desk
 use Rattle.station_link.specs.declared.sim.SimFault.TheVariants as sim
 use Rattle.journal_server.specs.Simulated.{IsSimulatedRun}
-use Rattle.ocpp_board.specs.declared.asked.Asked.{Asked}
-use Rattle.ocpp_board.specs.declared.asked.Asked.TheVariants.{Replay, Serve, ServeRestored, Simulate}
+use Rattle.ocpp_board.specs.declared.asked.Task.{Task}
+use Rattle.ocpp_board.specs.declared.asked.Task.TheVariants.{Replay, Serve, ServeRestored, Simulate}
 use Rattle.ocpp_board.specs.declared.station_words.WordFault.{WordFault}
 use Rattle.ocpp_board.specs.declared.station_words.WordFault.TheVariants.{BadLimits, BadStation, PlanLimit}
 use Rattle.ocpp_board.specs.declared.run.Ran.{Ran}
@@ -139,7 +139,7 @@ abbrev pub IsWordMistake : {W E : Type 0} → (E → Option (List ℕ)) → Word
 IsWordMistake reports fault output errors run = (cause : List ℕ) × IsMistake reports (fault_report (word_name fault) ++ cause) output errors run
 
 -- A run of what the words ask for, with this input, output, console and standard error.
-abbrev pub Runs : {W C E : Type 0} → (W → Option (List ℕ)) → (C → Option (List ℕ)) → (E → Option (List ℕ)) → Asked → Option (List ℕ) → W → C → E → Ran W C E → Type 0
+abbrev pub Runs : {W C E : Type 0} → (W → Option (List ℕ)) → (C → Option (List ℕ)) → (E → Option (List ℕ)) → Task → Option (List ℕ) → W → C → E → Ran W C E → Type 0
 Runs contents consoles reports Replay input output console errors ran = IsReplayRun contents reports input output errors ran.ended
 Runs contents consoles reports (Serve (Err fault) journalling journalled) input output console errors ran = IsWordMistake reports fault output errors ran.ended
 Runs contents consoles reports (Serve (Ok plan) journalling true) input output console errors ran =
@@ -175,7 +175,7 @@ IsRefusal contents reports kind output errors run =
 -- refusal.
 abbrev pub IsRun : {W C E : Type 0} → (W → Option (List ℕ)) → (C → Option (List ℕ)) → (E → Option (List ℕ)) → App → List (List ℕ) → Option (List ℕ) → W → C → E → Ran W C E → Type 0
 IsRun contents consoles reports app words input output console errors ran =
-    ((asked : Asked) × IsAskedBy (subcommand_of app words) asked × Runs contents consoles reports asked input output console errors ran)
+    ((asked : Task) × IsAskedBy (subcommand_of app words) asked × Runs contents consoles reports asked input output console errors ran)
     ⊎ ((kind : ErrorKind) × IsRefusal contents reports kind output errors ran.ended × (takes app words ≡ true → IsReported reports errors ran.ended (Err replay.OutOfMemory)))
 
 -- A run of the program: there was no memory for its commands and options, or it is a run by some definition of

@@ -6,15 +6,12 @@ ghost use Rattle.clap.specs.Values.{kind_of};
 ghost use Rattle.clap.specs.declared.error.kind.ErrorKind.TheVariants.{OutOfMemory};
 ghost use Rattle.ocpp_board.specs.Arguments.{IsAskable, IsAskedBy};
 
-use crate::asked::{Asked, serve_asked, sim_asked};
+use crate::asked::{Task, serve_asked, sim_asked};
 use clap::{ArgMatches, Command, Error};
 use std::convert::AsStr;
 
 /// What these words ask for, if they fit the [`program`] that is handed in. The first word is the program's name.
-pub fn read_arguments<'a, S: AsStr>(
-    program: Command<'a>,
-    words: &'a [S],
-) -> Result<Asked<'a>, Error>
+pub fn read_arguments<'a, S: AsStr>(program: Command<'a>, words: &'a [S]) -> Result<Task<'a>, Error>
     requires { is_simple (app_of program) ≡ true }
     ensures range { IfOk result IsAskable }
     ensures asked { IfOk result (IsAskedBy (subcommand_of (app_of program.entry) (map S.text words.entry.now))) }
@@ -27,13 +24,13 @@ pub fn read_arguments<'a, S: AsStr>(
 }
 
 /// What the matches of the program's words ask for, by the command that they name; without one, to replay.
-pub fn asked_of<'a>(matches: &ArgMatches<'a>) -> Asked<'a>
+pub fn asked_of<'a>(matches: &ArgMatches<'a>) -> Task<'a>
     ensures range { IsAskable result }
     ensures command { IsAskedBy (subcommand_rows_of matches.now) result }
 {
     match matches.subcommand() {
         Some(("serve", matches)) => serve_asked(matches),
         Some(("sim", matches)) => sim_asked(matches),
-        _ => Asked::Replay,
+        _ => Task::Replay,
     }
 }

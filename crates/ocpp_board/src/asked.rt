@@ -19,7 +19,7 @@ pub const MAX_SIMULATED_STATIONS: u16 = MAX_STATIONS as u16;
 pub const MAX_CONNECTIONS: u8 = 64;
 
 /// What the program is asked to do.
-pub enum Asked<'a> {
+pub enum Task<'a> {
     /// To answer a script.
     Replay,
     /// To serve the stations of a plan, and whether with a journal on standard output; or what is wrong with their
@@ -32,7 +32,7 @@ pub enum Asked<'a> {
 }
 
 /// What the words of `serve` ask for.
-pub fn serve_asked<'a>(matches: &ArgMatches<'a>) -> Asked<'a>
+pub fn serve_asked<'a>(matches: &ArgMatches<'a>) -> Task<'a>
     ensures range { IsAskable result }
     ensures asked { AsksServe (found_of matches.now) result }
 {
@@ -47,10 +47,10 @@ pub fn serve_asked<'a>(matches: &ArgMatches<'a>) -> Asked<'a>
             journalling,
             allows_left_out,
         };
-        Asked::ServeRestored(restoring, is_journalled)
+        Task::ServeRestored(restoring, is_journalled)
     } else {
         let plan = plan_asked(matches, journalling.live.glances);
-        Asked::Serve(plan, journalling, is_journalled)
+        Task::Serve(plan, journalling, is_journalled)
     }
 }
 
@@ -134,13 +134,13 @@ pub fn order_asked(matches: &ArgMatches<'_>) -> Order
 
 /// What the words of `sim` ask for. The numbers are in range already; the clamps show it to the
 /// checker.
-pub fn sim_asked<'a>(matches: &ArgMatches<'a>) -> Asked<'a>
+pub fn sim_asked<'a>(matches: &ArgMatches<'a>) -> Task<'a>
     ensures range { IsAskable result }
     ensures asked { AsksSimulate (found_of matches.now) result }
 {
     let stations = matches.get_one::<u16>("stations").unwrap_or(2);
     let events = matches.get_one::<u32>("events").unwrap_or(3);
-    Asked::Simulate(
+    Task::Simulate(
         stations.clamp(1, MAX_SIMULATED_STATIONS),
         events.clamp(2, MAX_SIMULATED_EVENTS),
     )

@@ -9,7 +9,7 @@ ghost use Rattle.script_lines.specs.declared.fault.ReplayFault.{ReplayFault};
 ghost use Rattle.script_replay.specs.Whole.{IsMistake, IsReported};
 
 use crate::arguments::read_arguments;
-use crate::asked::Asked;
+use crate::asked::Task;
 use crate::options::program;
 use crate::process::Process;
 use crate::report::refuse_plan;
@@ -84,24 +84,24 @@ pub fn run<P: Process, S: AsStr>(rt: &P::Runtime, words: &[S], streams: StreamsO
 }
 
 // Does what the words ask for.
-fn run_asked<P: Process>(rt: &P::Runtime, asked: Asked<'_>, streams: StreamsOf<P>) -> RanOf<P>
+fn run_asked<P: Process>(rt: &P::Runtime, asked: Task<'_>, streams: StreamsOf<P>) -> RanOf<P>
     requires { IsAskable asked }
     ensures { Runs P.Output.contents P.Console.contents P.Errors.contents asked.entry (P.Input.remaining streams.input) streams.output streams.console streams.errors result }
 {
     let alloc = rt.alloc();
     match asked {
-        Asked::Replay => {
+        Task::Replay => {
             let ended = run_replay(rt, streams.input, streams.output, streams.errors);
             unserved(alloc, ended)
         }
-        Asked::Serve(plan, asked, is_journalled) => match plan {
+        Task::Serve(plan, asked, is_journalled) => match plan {
             Ok(plan) if is_journalled => journalled::<P>(rt, &plan, asked, streams),
             Ok(plan) => live::<P>(rt, &plan, asked, streams),
             Err(fault) => refuse_plan(alloc, fault, streams.output, streams.errors),
         },
-        Asked::ServeRestored(restoring, true) => restored::<P>(rt, restoring, streams),
-        Asked::ServeRestored(restoring, false) => restored_live::<P>(rt, restoring, streams),
-        Asked::Simulate(stations, events) => simulated::<P>(rt, stations, events, streams),
+        Task::ServeRestored(restoring, true) => restored::<P>(rt, restoring, streams),
+        Task::ServeRestored(restoring, false) => restored_live::<P>(rt, restoring, streams),
+        Task::Simulate(stations, events) => simulated::<P>(rt, stations, events, streams),
     }
 }
 

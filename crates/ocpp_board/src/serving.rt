@@ -1,7 +1,7 @@
 //! Servers, as the program runs them: each reads and writes through buffers.
 ghost use Rattle.std.specs.Prelude.{◌≡◌, Ok, OnOk, false, true};
 ghost use Rattle.std.specs.Io.Buffered.{writer_contents};
-ghost use Rattle.ocpp_board.specs.declared.asked.Asked.{Asked};
+ghost use Rattle.ocpp_board.specs.declared.asked.Task.{Task};
 ghost use Rattle.ocpp_board.specs.Run.{Runs};
 ghost use Rattle.ocpp_board.specs.Serving.{EndsJournalled, EndsUnwritten};
 ghost use Rattle.station_link.specs.Sim.{IsSimulated};
@@ -36,7 +36,8 @@ pub fn live<P: Process>(
     asked: Journalling,
     streams: StreamsOf<P>,
 ) -> RanOf<P>
-    ensures { Runs P.Output.contents P.Console.contents P.Errors.contents (Asked.Serve (Ok plan.now) asked false) (P.Input.remaining streams.input) streams.output streams.console streams.errors result }
+    ensures { Runs P.Output.contents P.Console.contents P.Errors.contents (Task.Serve (Ok plan.now) asked false)
+        (P.Input.remaining streams.input) streams.output streams.console streams.errors result }
 {
     let Ok((mut reader, writer)) = buffered(rt, streams.input, streams.output) else {
         return end_unwritten(rt.alloc(), Err(NO_MEMORY), None, None, streams.errors);
@@ -54,7 +55,8 @@ pub fn journalled<P: Process>(
     journalling: Journalling,
     streams: StreamsOf<P>,
 ) -> RanOf<P>
-    ensures { Runs P.Output.contents P.Console.contents P.Errors.contents (Asked.Serve (Ok plan.now) journalling true) (P.Input.remaining streams.input) streams.output streams.console streams.errors result }
+    ensures { Runs P.Output.contents P.Console.contents P.Errors.contents (Task.Serve (Ok plan.now) journalling true)
+        (P.Input.remaining streams.input) streams.output streams.console streams.errors result }
 {
     let Ok((mut reader, journal)) = buffered(rt, streams.input, streams.output) else {
         return end_journalled(rt.alloc(), Err(NO_MEMORY), None, None, streams.errors);
@@ -71,7 +73,7 @@ pub fn restored<P: Process>(
     restoring: Restoring,
     streams: StreamsOf<P>,
 ) -> RanOf<P>
-    ensures { Runs P.Output.contents P.Console.contents P.Errors.contents (Asked.ServeRestored restoring true) (P.Input.remaining streams.input) streams.output streams.console streams.errors result }
+    ensures { Runs P.Output.contents P.Console.contents P.Errors.contents (Task.ServeRestored restoring true) (P.Input.remaining streams.input) streams.output streams.console streams.errors result }
 {
     let Ok((mut reader, journal)) = buffered(rt, streams.input, streams.output) else {
         return end_journalled(rt.alloc(), Err(NO_MEMORY), None, None, streams.errors);
@@ -89,7 +91,7 @@ pub fn restored_live<P: Process>(
     restoring: Restoring,
     streams: StreamsOf<P>,
 ) -> RanOf<P>
-    ensures { Runs P.Output.contents P.Console.contents P.Errors.contents (Asked.ServeRestored restoring false) (P.Input.remaining streams.input) streams.output streams.console streams.errors result }
+    ensures { Runs P.Output.contents P.Console.contents P.Errors.contents (Task.ServeRestored restoring false) (P.Input.remaining streams.input) streams.output streams.console streams.errors result }
 {
     let Ok((mut reader, writer)) = buffered(rt, streams.input, streams.output) else {
         return end_unwritten(rt.alloc(), Err(NO_MEMORY), None, None, streams.errors);
@@ -110,7 +112,7 @@ pub fn simulated<P: Process>(
     streams: StreamsOf<P>,
 ) -> RanOf<P>
     requires { IsSimulated stations events }
-    ensures { Runs P.Output.contents P.Console.contents P.Errors.contents (Asked.Simulate stations events) (P.Input.remaining streams.input) streams.output streams.console streams.errors result }
+    ensures { Runs P.Output.contents P.Console.contents P.Errors.contents (Task.Simulate stations events) (P.Input.remaining streams.input) streams.output streams.console streams.errors result }
 {
     let Ok((_reader, writer)) = buffered(rt, streams.input, streams.output) else {
         return end_unwritten(rt.alloc(), Err(NO_MEMORY), None, None, streams.errors);

@@ -62,7 +62,8 @@ fn declare_words<'a>(
     limits: Limits,
 ) -> Option<&'a str>
     requires good { first_bad (map (λ w. w.now) words.now) ≡ None }
-    ensures { declared_by viewers period order limits (map (λ w. w.now) words.now) plan.old.sites.items plan.old.stations.items ≡ (option_map (λ w. w.now) result, (plan.new.sites.items, plan.new.stations.items)) }
+    ensures { declared_by viewers period order limits (map (λ w. w.now) words.now) plan.old.sites.items plan.old.stations.items
+        ≡ (option_map (λ w. w.now) result, (plan.new.sites.items, plan.new.stations.items)) }
 {
     let [word, rest @ ..] = words else {
         return None;

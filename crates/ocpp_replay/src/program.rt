@@ -6,7 +6,7 @@ ghost use Rattle.ocpp_replay.specs.Words.{words_meaning};
 ghost use Rattle.script_lines.specs.declared.fault.ReplayFault.{ReplayFault};
 ghost use Rattle.script_replay.specs.Whole.{IsMistake, IsReported, Shows};
 
-use crate::words::{Asked, HELP, USAGE, VERSION, read_words};
+use crate::words::{Action, HELP, USAGE, VERSION, read_words};
 use script_replay::{Ended, ReplayFault, end_run, refuse, run_replay, show};
 use std::convert::AsStr;
 use std::io::{ErrorKind, Read, Write};
@@ -24,10 +24,10 @@ pub fn run<X: AllocGlobal + Threads, S: AsStr, R: Read + Drop, W: Write + Drop, 
     ensures run { IsRun W.contents E.contents (words_meaning (map S.text words.now)) (R.remaining input) output errors result }
 {
     match read_words(words) {
-        Asked::Replay => run_replay(rt, input, output, errors),
-        Asked::Help => show_text(output, errors, HELP),
-        Asked::Version => show_text(output, errors, VERSION),
-        Asked::Unknown => refuse_with(output, errors, USAGE),
+        Action::Replay => run_replay(rt, input, output, errors),
+        Action::Help => show_text(output, errors, HELP),
+        Action::Version => show_text(output, errors, VERSION),
+        Action::Unknown => refuse_with(output, errors, USAGE),
     }
 }
 

@@ -5,7 +5,7 @@ ghost use Rattle.ocpp_replay.specs.Words.{asks_help, two_meaning, word_meaning, 
 use std::convert::AsStr;
 
 /// What the program's words ask for.
-pub enum Asked {
+pub enum Action {
     /// The answers to a script.
     Replay,
     /// The text of `HELP`.
@@ -68,40 +68,40 @@ end (ReadFault, WriteFault, TooMuchInput, OutOfMemory); 2 for a fault of the arg
 ";
 
 /// What these words ask for. The first word is the program's name.
-pub fn read_words<S: AsStr>(words: &[S]) -> Asked
+pub fn read_words<S: AsStr>(words: &[S]) -> Action
     ensures { result ≡ words_meaning (map S.text words.now) }
 {
     match words {
-        [] | [_] => Asked::Replay,
+        [] | [_] => Action::Replay,
         [_, word] => read_word(word.as_str()),
         [_, word, other] => read_two(word.as_str(), other.as_str()),
-        _ => Asked::Unknown,
+        _ => Action::Unknown,
     }
 }
 
 // What one word asks for.
-fn read_word(word: &str) -> Asked
+fn read_word(word: &str) -> Action
     ensures { result ≡ word_meaning word.now }
 {
     if word == "replay" {
-        Asked::Replay
+        Action::Replay
     } else if is_help(word) {
-        Asked::Help
+        Action::Help
     } else if word == "--version" || word == "-V" {
-        Asked::Version
+        Action::Version
     } else {
-        Asked::Unknown
+        Action::Unknown
     }
 }
 
 // What two words ask for.
-fn read_two(word: &str, other: &str) -> Asked
+fn read_two(word: &str, other: &str) -> Action
     ensures { result ≡ two_meaning word.now other.now }
 {
     if word == "replay" && is_help(other) {
-        Asked::Help
+        Action::Help
     } else {
-        Asked::Unknown
+        Action::Unknown
     }
 }
 

@@ -29,8 +29,10 @@ pub fn rows_follow_pairs()
 /// energy if it has no pair.
 pub fn each_row_is_of_its_pairs()
     ensures row { (quarter : ℕ) (flows : List Flowed) → row_at quarter (rows_of flows) ≡ row_of quarter flows }
-    ensures same_quarter { (front : List Flowed) (quarter : ℕ) (flow : ByDirection Energy) (back : List Flowed) → row_of quarter (front ++ (quarter, flow) ∷ back) ≡ with_pair flow (row_of quarter (front ++ back)) }
-    ensures other_quarter { (front : List Flowed) (quarter other : ℕ) (flow : ByDirection Energy) (back : List Flowed) → quarter ≢ other → row_of quarter (front ++ (other, flow) ∷ back) ≡ row_of quarter (front ++ back) }
+    ensures same_quarter { (front : List Flowed) (quarter : ℕ) (flow : ByDirection Energy) (back : List Flowed)
+        → row_of quarter (front ++ (quarter, flow) ∷ back) ≡ with_pair flow (row_of quarter (front ++ back)) }
+    ensures other_quarter { (front : List Flowed) (quarter other : ℕ) (flow : ByDirection Energy) (back : List Flowed) → quarter ≢ other
+        → row_of quarter (front ++ (other, flow) ∷ back) ≡ row_of quarter (front ++ back) }
     ensures none { (quarter : ℕ) (flows : List Flowed) → (row_of quarter flows).pairs ≡ 0 → row_of quarter flows ≡ no_row quarter }
 {}
 

@@ -140,7 +140,9 @@ fn answer_line<S: Serves, R: Threads + Wait + Clock>(
     reply: &mut Vec<u8>,
 ) -> Result<Option<S::Seen>, AllocError>
     requires { reply.old.items ≡ [] }
-    ensures { IfOk result (λ seen. IsReply S.gives (S.shows running.now.serves.now) running.now.plan.now.sites.items running.now.desk.now.stations (line_meaning (line_bytes line.entry)) reply.new.items seen) }
+    ensures { IfOk result
+        (λ seen. IsReply S.gives (S.shows running.now.serves.now) running.now.plan.now.sites.items running.now.desk.now.stations
+        (line_meaning (line_bytes line.entry)) reply.new.items seen) }
 {
     match read_line(line) {
         ScriptLine::Sends(name, text) => return receive(rt, alloc, running, &name, text, reply),

@@ -25,8 +25,10 @@ use Rattle.script_lines.specs.declared.script_line.TxList.{TxList}
 use Rattle.script_lines.specs.declared.script_line.TxList.TheVariants.{Events, Readings}
 use Rattle.script_lines.specs.Lines.{Line}
 
--- what a line says: nothing, a fault, the limits of the stations that follow, a station's declaration, the length of a site's settlement periods, the order of its readings, the rule by which differences count in
--- those periods, a moment, a message of a station, a command on a station, a question for a station's imported or exported energy or its figures, for a site's board or for a list of a transaction, or a mark
+-- what a line says: nothing, a fault, the limits of the stations that follow, a station's declaration, the length of
+-- a site's settlement periods, the order of its readings, the rule by which differences count in those periods, a
+-- moment, a message of a station, a command on a station, a question for a station's imported or exported energy or
+-- its figures, for a site's board or for a list of a transaction, or a mark
 pub data LineMeaning : Type 0 where
   nothing : LineMeaning
   fails : LineFault → LineMeaning

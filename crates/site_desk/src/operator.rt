@@ -89,7 +89,10 @@ fn add_board<C: HasCell>(
     ensures known { result ≢ Err BoardFault.UnknownStation }
     ensures other { OnOk result (place.now.site ≢ site → boards.new.items ≡ boards.old.items) }
     ensures own { OnOk result (place.now.site ≡ site → (b : List ℕ × Board) × IsBoardAt place.now b × (boards.new.items ≡ boards.old.items ++ b ∷ [])) }
-    ensures held { OnOk result (place.now.site ≡ site → (c : Cell) × IsAmong (map (λ g. C.cell (mutex_guard_value g)) held.now) c × ((b : List ℕ × Board) × IsBoardOfCell number place.now c b × (boards.new.items ≡ boards.old.items ++ b ∷ []))) }
+    ensures held { OnOk result
+        (place.now.site ≡ site
+        → (c : Cell) × IsAmong (map (λ g. C.cell (mutex_guard_value g)) held.now) c
+        × ((b : List ℕ × Board) × IsBoardOfCell number place.now c b × (boards.new.items ≡ boards.old.items ++ b ∷ []))) }
 {
     if place.site != site {
         return Ok(());

@@ -33,7 +33,14 @@ impl<T> Model for SlotArena<T> {
 
     ghost view = { λ a. values_in a.places.row };
 
-    ghost invariant = { λ a. record { places_at : a.places.at ≡ a.start.ptr; lease_at : a.lease.at ≡ a.start.ptr; lease_len : a.lease.len ≡ a.capacity; lease_alloc : a.lease.alloc ≡ a.alloc; count : length a.places.row ≡ a.capacity; threaded : IsThreaded a.places.row a.first a.spare } };
+    ghost invariant = { λ a. record {
+      places_at : a.places.at ≡ a.start.ptr;
+      lease_at : a.lease.at ≡ a.start.ptr;
+      lease_len : a.lease.len ≡ a.capacity;
+      lease_alloc : a.lease.alloc ≡ a.alloc;
+      count : length a.places.row ≡ a.capacity;
+      threaded : IsThreaded a.places.row a.first a.spare;
+    } };
 }
 
 impl<T> SlotArena<T> {

@@ -39,7 +39,16 @@ impl Model for StationCell {
 
     ghost coded = { cell_code };
 
-    ghost view = { λ c. record { station = c.station; site = c.site; row = c.row; limits = c.ledger.limits; period = c.ledger.period; order = c.ledger.order; content = c.ledger.content; counts = c.counts.items } };
+    ghost view = { λ c. record {
+      station = c.station;
+      site = c.site;
+      row = c.row;
+      limits = c.ledger.limits;
+      period = c.ledger.period;
+      order = c.ledger.order;
+      content = c.ledger.content;
+      counts = c.counts.items;
+    } };
 
     ghost invariant = { λ c. IsCell c.ledger.limits c.ledger.content c.counts.items (vec_capacity c.counts) };
 }

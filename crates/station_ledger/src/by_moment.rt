@@ -386,7 +386,8 @@ pub(crate) fn move_event(
     work: &mut Work,
 ) -> Exchange
     requires { (less : List Entry) × (more : List Entry) × IsMove way less more chains.now key.now by_moment.old period quarters.old }
-    ensures exchanged { (less more : List Entry) → IsMove way less more chains.now key.now by_moment.old period quarters.old → IsExchanged Moment key.now.tx (by_way way less more) (stored chains.now) result.less result.more }
+    ensures exchanged { (less more : List Entry) → IsMove way less more chains.now key.now by_moment.old period quarters.old
+        → IsExchanged Moment key.now.tx (by_way way less more) (stored chains.now) result.less result.more }
     ensures rows { AreQuarterRows Moment chains.now.limits (stored chains.now) period quarters.new }
     ensures timed { AreByMoment chains.now.limits (stored chains.now) by_moment.new }
     ensures work { (less more : List Entry) → IsMove way less more chains.now key.now by_moment.old period quarters.old → IsWork (most_in_runs key.now more) work.old work.new }

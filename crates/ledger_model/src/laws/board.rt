@@ -40,7 +40,8 @@ pub fn complete_is_four_conditions()
 /// The energy of a station in a direction is the sum over its settlement periods, whatever their length and
 /// their rule: so each rule shows the same energy in all.
 pub fn energy_by_quarter()
-    ensures { (order : Order) (d : Direction) (period : Periods) (es : List Entry) → energy_by order d es ≡ sum_of_energies (map (λ quarter. energy_in_by order d period quarter es) (quarters_by order period es)) }
+    ensures { (order : Order) (d : Direction) (period : Periods) (es : List Entry)
+        → energy_by order d es ≡ sum_of_energies (map (λ quarter. energy_in_by order d period quarter es) (quarters_by order period es)) }
 {}
 
 /// The energy of a station in a direction is the sum over its EVSEs, with 0 for transactions that name

@@ -60,7 +60,8 @@ pub fn energies_with_one_event_more()
 /// The number of voided events changes as the command says.
 pub fn figures_with_one_event_more()
     ensures counts { (es more front : List Entry) (e : Entry) (back : List Entry) → IsOneMore es more front e back → CountsMove e.0.tx es more }
-    ensures voided_by_delivery { (es : List Entry) (key : KeyName) (event : EventContent) → IsRising es → find key_cmp key es ≡ None → count_voided (entries_after es (Deliver key event)) ≡ count_voided es }
+    ensures voided_by_delivery { (es : List Entry) (key : KeyName) (event : EventContent) → IsRising es → find key_cmp key es ≡ None
+        → count_voided (entries_after es (Deliver key event)) ≡ count_voided es }
     ensures voided_by_restoration { (es : List Entry) (key : KeyName) (s : Stored) → Holds es key s → s.voided ≡ true → count_voided (entries_after es (Restore key)) + 1 ≡ count_voided es }
     ensures voided_by_void { (es : List Entry) (key : KeyName) (s : Stored) → Holds es key s → s.voided ≡ false → count_voided (entries_after es (Void key)) ≡ count_voided es + 1 }
     ensures voided_by_erasure { (es : List Entry) (key : KeyName) (s : Stored) → Holds es key s → s.voided ≡ true → count_voided (entries_after es (Erase key)) + 1 ≡ count_voided es }

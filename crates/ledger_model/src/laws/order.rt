@@ -34,7 +34,9 @@ pub fn order_examples()
 pub fn readings_by_moment()
     ensures rises { (rs : List MeterReading) → AreInTime taken_when (in_order Moment taken_when rs) }
     ensures stable { (moment : ℕ) (rs : List MeterReading) → filter (λ r. r.moment == moment) (in_order Moment taken_when rs) ≡ filter (λ r. r.moment == moment) rs }
-    ensures only { (xs rs : List MeterReading) → AreInTime taken_when xs → ((moment : ℕ) → filter (λ r. r.moment == moment) xs ≡ filter (λ r. r.moment == moment) rs) → xs ≡ in_order Moment taken_when rs }
+    ensures only { (xs rs : List MeterReading) → AreInTime taken_when xs
+        → ((moment : ℕ) → filter (λ r. r.moment == moment) xs ≡ filter (λ r. r.moment == moment) rs)
+        → xs ≡ in_order Moment taken_when rs }
     ensures all { (f : MeterReading → ℕ) (rs : List MeterReading) → sum_by f (in_order Moment taken_when rs) ≡ sum_by f rs }
     ensures same { (rs : List MeterReading) → AreInTime taken_when rs → in_order Moment taken_when rs ≡ rs }
     ensures passed { (p : MeterReading → Bool) (rs : List MeterReading) → in_order Moment taken_when (filter p rs) ≡ filter p (in_order Moment taken_when rs) }
@@ -51,7 +53,8 @@ pub fn orders_agree()
 /// not that of a transaction, of an EVSE, of a period or of the station. A board may come to show a
 /// period of zero energy.
 pub fn repeats_change_no_sum()
-    ensures { (d : Direction) (es more : List Entry) (key : KeyName) (r : MeterReading) → IsOneReadingMore es more key r → IsRepeat r (readings_by Moment r.direction key.tx es) → HaveSameEnergies d es more }
+    ensures { (d : Direction) (es more : List Entry) (key : KeyName) (r : MeterReading) → IsOneReadingMore es more key r
+        → IsRepeat r (readings_by Moment r.direction key.tx es) → HaveSameEnergies d es more }
 {}
 
 /// In either order, the readings of a transaction without one of its events are its readings with that
