@@ -31,7 +31,7 @@ from tests.fleet.page_client import (
     operator,
     start_page,
 )
-from tests.fleet.trials import Trial, event, parsed, parser_of, tried
+from tests.fleet.trials import Trial, event, status_of
 
 PLACES = (
     *((0, "north", "CS-00"), (0, "north", "CS-01"), (1, "north", "CS-04")),
@@ -82,6 +82,7 @@ def quarters(day: str, hour: int, count: int) -> list[str]:
 
 
 class Demo(Trial):
+    NAME = "api"
     client: Client
     token = south = ""
 
@@ -799,10 +800,5 @@ def differences(value: Any, schema: Any, schemas: Any, where: str) -> Any:
                 yield f"{where}.{name} is not there"
 
 
-def main() -> int:
-    """Tries it, and gives the exit status."""
-    return tried("api", lambda: Demo(parsed(parser_of(__doc__))))
-
-
 if __name__ == "__main__":
-    sys.exit(main())
+    sys.exit(status_of(Demo, __doc__))

@@ -63,4 +63,5 @@ def picture(browser: Any, path: Path, pixels: int, most: int = 1 << 15) -> None:
     clip = {"x": 0, "y": 0, "width": pixels, "height": min(height, most), "scale": 1}
     words = {"captureBeyondViewport": True, "clip": clip}
     made = browser.execute_cdp_cmd("Page.captureScreenshot", words)
+    path.parent.mkdir(parents=True, exist_ok=True)
     path.write_bytes(base64.b64decode(made["data"]))

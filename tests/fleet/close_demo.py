@@ -21,7 +21,7 @@ import asyncpg
 
 from tests.fleet.closings import ZONE, ClosingTrial, line, local, session
 from tests.fleet.fleet import PATIENCE, ended
-from tests.fleet.trials import parsed, parser_of, tried
+from tests.fleet.trials import status_of
 
 # Ends the session of a closing, once it has begun to read. One that is just ending is there for a while.
 END = """
@@ -32,6 +32,7 @@ LOST = "the session with the database was lost: "
 
 
 class Demo(ClosingTrial):
+    NAME = "closing days"
     STATIONS = ((0, "north", "A"), (0, "north", "B"), (0, "south", "C"), (1, "north", "D"))
 
     # What is tried ----------------------------------------------------------------------------------------------------
@@ -282,12 +283,5 @@ class Demo(ClosingTrial):
         await self.owner.close()
 
 
-def main() -> int:
-    """Tries it, and gives the exit status."""
-    parser = parser_of(__doc__)
-    words = parsed(parser)
-    return tried("closing days", lambda: Demo(words))
-
-
 if __name__ == "__main__":
-    sys.exit(main())
+    sys.exit(status_of(Demo, __doc__))

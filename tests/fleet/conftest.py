@@ -1,5 +1,7 @@
 """What the tests of a fleet take."""
 
+import signal
+import sys
 from pathlib import Path
 
 import pytest
@@ -15,5 +17,6 @@ def pytest_addoption(parser: pytest.Parser) -> None:
 
 @pytest.fixture(name="program")
 def built_program(request: pytest.FixtureRequest) -> str:
-    """The path of the program."""
+    """The path of the program. A signal ends all that a test started."""
+    signal.signal(signal.SIGTERM, lambda *_: sys.exit(143))
     return str(request.config.getoption("--program"))

@@ -22,7 +22,7 @@ from urllib.parse import urlencode
 from tests.fleet import chromium
 from tests.fleet.dashboard import Panel, fill, greatest, page, panels_of
 from tests.fleet.page_client import Client
-from tests.fleet.trials import event, parsed, parser_of, skipped, tried
+from tests.fleet.trials import event, status_of
 from tests.fleet.fleet import PATIENCE
 from tests.fleet.watching import FOLDER, PROMETHEUS, WatchedTrial, asked
 
@@ -88,6 +88,17 @@ return found;
 
 class Demo(WatchedTrial):
     """A fleet with faults, and its dashboard."""
+
+    NAME = "dashboard"
+
+    @staticmethod
+    def add_words(parser: argparse.ArgumentParser) -> None:
+        parser.add_argument("--shots", type=Path, metavar="FOLDER", help="where pictures are kept")
+
+    @staticmethod
+    def lacking(words: argparse.Namespace) -> str:
+        is_there = chromium.is_installed() and os.access(PROMETHEUS, os.X_OK)
+        return "" if is_there else f"prometheus {chromium.PACKAGES}"
 
     async def fleet_with_faults(self) -> None:
         """What a quarter of an hour of a bad day has, in two minutes."""
@@ -181,17 +192,5 @@ class Demo(WatchedTrial):
         await self.owner.close()
 
 
-def main() -> int:
-    """Tries it, and gives the exit status."""
-    parser = parser_of(__doc__)
-    parser.add_argument("--shots", type=Path, metavar="FOLDER", help="where pictures are kept")
-    words: argparse.Namespace = parsed(parser)
-    if not chromium.is_installed() or not os.access(PROMETHEUS, os.X_OK):
-        return skipped(f"prometheus {chromium.PACKAGES}")
-    if words.shots:
-        words.shots.mkdir(parents=True, exist_ok=True)
-    return tried("dashboard", lambda: Demo(words))
-
-
 if __name__ == "__main__":
-    sys.exit(main())
+    sys.exit(status_of(Demo, __doc__))

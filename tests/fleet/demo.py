@@ -56,7 +56,7 @@ from tests.fleet.fleet import (
     part,
     tool,
 )
-from tests.fleet.trials import MISTAKEN, RIGHT, Trial, messages, parsed, parser_of, tried
+from tests.fleet.trials import Trial, messages, status_of
 
 # Faults of one fleet, and the two that need one of their own.
 COMMON = ["server", "worker", "gateway", "replay", "order", "open", "stopped", "twice", "hang"]
@@ -96,6 +96,49 @@ select count(*) from (
 
 
 class Demo(Trial):
+    NAME = "faults"
+
+    @staticmethod
+    def add_words(parser: argparse.ArgumentParser) -> None:
+        parser.add_argument(
+            "--faults",
+            nargs="+",
+            choices=COMMON + OWN,
+            default=COMMON,
+            help=f"which (default: all but {' and '.join(OWN)})",
+        )
+        parser.add_argument(
+            "--stations", type=int, default=120, help="how many for each fault (default: 120)"
+        )
+        parser.add_argument(
+            "--rate", type=float, default=600, help="messages a second in all (default: 600)"
+        )
+        parser.add_argument(
+            "--events", type=int, default=10, help="of each station, before repeats (default: 10)"
+        )
+        parser.add_argument(
+            "--cut", type=float, default=2, help="seconds without a network (default: 2)"
+        )
+        parser.add_argument(
+            "--stop", type=float, default=3, help="seconds without a gateway (default: 3)"
+        )
+        parser.add_argument(
+            "--open", type=float, default=20, help="seconds of open transactions (default: 20)"
+        )
+
+    @staticmethod
+    def fleets(words: argparse.Namespace) -> dict[str, argparse.Namespace]:
+        """The faults that share a fleet in two halves, then each that needs one of its own."""
+        shared = [name for name in words.faults if name in COMMON]
+        middle = len(shared) // 2 if shared == COMMON else 0
+        groups = [shared[:middle], shared[middle:]]
+        groups += [[name] for name in words.faults if name in OWN]
+        return {
+            faults[0]: argparse.Namespace(**vars(words) | {"faults": faults})
+            for faults in groups
+            if faults
+        }
+
     def __init__(self, words: argparse.Namespace) -> None:
         super().__init__(words)
         self.workers: list[subprocess.Popen[bytes]] = []
@@ -679,50 +722,5 @@ class Demo(Trial):
         await self.owner.close()
 
 
-def main() -> int:
-    """Tries it, and gives the exit status."""
-    parser = parser_of(__doc__)
-    parser.add_argument(
-        "--faults",
-        nargs="+",
-        choices=COMMON + OWN,
-        default=COMMON,
-        help=f"which (default: all but {' and '.join(OWN)})",
-    )
-    parser.add_argument(
-        "--stations", type=int, default=120, help="how many for each fault (default: 120)"
-    )
-    parser.add_argument(
-        "--rate", type=float, default=600, help="messages a second in all (default: 600)"
-    )
-    parser.add_argument(
-        "--events", type=int, default=10, help="of each station, before repeats (default: 10)"
-    )
-    parser.add_argument(
-        "--cut", type=float, default=2, help="seconds for which the network is stopped (default: 2)"
-    )
-    parser.add_argument(
-        "--stop", type=float, default=3, help="seconds for which a gateway is stopped (default: 3)"
-    )
-    parser.add_argument(
-        "--open", type=float, default=20, help="seconds of open transactions (default: 20)"
-    )
-    parser.add_argument(
-        "--half", type=int, choices=(1, 2), help="one half of the faults that share a fleet"
-    )
-    words = parsed(parser)
-    shared = [name for name in words.faults if name in COMMON]
-    if words.half:
-        middle = len(shared) // 2
-        shared = shared[:middle] if words.half == 1 else shared[middle:]
-    status = RIGHT
-    for faults in [shared] * bool(shared) + [[name] for name in words.faults if name in OWN]:
-        some = argparse.Namespace(**vars(words) | {"faults": faults})
-        status = max(status, tried(" ".join(faults), lambda: Demo(some)))
-        if status == MISTAKEN:
-            break
-    return status
-
-
 if __name__ == "__main__":
-    sys.exit(main())
+    sys.exit(status_of(Demo, __doc__))

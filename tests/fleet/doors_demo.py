@@ -20,7 +20,7 @@ import asyncpg
 from ocpp_board.fleet.database.connections import Fault, Unreachable, connect
 from tests.fleet.client import Client
 from tests.fleet.fleet import PATIENCE
-from tests.fleet.trials import Trial, event, parsed, parser_of, tried
+from tests.fleet.trials import Trial, event, status_of
 
 # What each role does, and who may do it: nobody else. A move carries all that a shard has.
 WORK: dict[str, str] = {
@@ -151,6 +151,8 @@ GUESSED, AT_ONCE = 2_000, 200
 
 
 class Demo(Trial):
+    NAME = "doors"
+
     def __init__(self, words: argparse.Namespace) -> None:
         super().__init__(words)
         self.log = self.fleet.folder / "parts.log"
@@ -298,11 +300,5 @@ class Demo(Trial):
         await self.owner.close()
 
 
-def main() -> int:
-    """Tries it, and gives the exit status."""
-    words = parsed(parser_of(__doc__))
-    return tried("doors", lambda: Demo(words))
-
-
 if __name__ == "__main__":
-    sys.exit(main())
+    sys.exit(status_of(Demo, __doc__))

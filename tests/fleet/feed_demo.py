@@ -32,7 +32,7 @@ import asyncpg
 
 from ocpp_board.fleet.database.connections import Fault, connect
 from tests.fleet.fleet import Fleet, children, ended, free_port, tool
-from tests.fleet.trials import Trial, messages, parsed, parser_of, skipped, tried
+from tests.fleet.trials import Trial, messages, status_of
 
 try:
     import aio_pika
@@ -43,6 +43,7 @@ except ImportError:
     HAS_CLIENTS = False
 
 SOURCES = ("file", "rabbitmq", "mqtt")
+PACKAGES = "--no-install-recommends rabbitmq-server python3-aio-pika mosquitto python3-paho-mqtt"
 RABBIT, MOSQUITTO, EPMD = (
     "/usr/lib/rabbitmq/bin/rabbitmq-server",
     "/usr/sbin/mosquitto",
@@ -50,6 +51,7 @@ RABBIT, MOSQUITTO, EPMD = (
 )
 PASSWORD = "a broker's password"
 EACH = 8
+NEEDED: dict[str, list[str]] = {"file": [], "rabbitmq": [RABBIT, EPMD], "mqtt": [MOSQUITTO]}
 # What is no event, and what is no message: left, whatever it is.
 OTHERS = (
     '[2,"h","Heartbeat",{}]',
@@ -159,6 +161,29 @@ class Mosquitto(Broker):
 
 
 class Demo(Trial):
+    NAME = "feed"
+
+    @staticmethod
+    def add_words(parser: argparse.ArgumentParser) -> None:
+        parser.add_argument(
+            "--sources", nargs="+", choices=SOURCES, default=SOURCES, help="which (default: all)"
+        )
+        parser.add_argument(
+            "--stations", type=int, default=24, help="how many for each source (default: 24)"
+        )
+        parser.add_argument(
+            "--events", type=int, default=60, help="of each station, before repeats (default: 60)"
+        )
+        parser.add_argument(
+            "--seed", type=int, default=1, help="of what is chosen at random (default: 1)"
+        )
+
+    @staticmethod
+    def lacking(words: argparse.Namespace) -> str:
+        needed = [program for name in words.sources for program in NEEDED[name]]
+        is_there = HAS_CLIENTS and all(Path(program).exists() for program in needed)
+        return "" if is_there else PACKAGES
+
     def __init__(self, words: argparse.Namespace) -> None:
         super().__init__(words)
         self.chance = random.Random(words.seed)
@@ -678,31 +703,5 @@ def is_event(text: str) -> bool:
     return text.startswith('[2,"') and '"TransactionEvent",{"eventType"' in text
 
 
-def main() -> int:
-    """Tries it, and gives the exit status."""
-    parser = parser_of(__doc__)
-    parser.add_argument(
-        "--sources", nargs="+", choices=SOURCES, default=SOURCES, help="which (default: all)"
-    )
-    parser.add_argument(
-        "--stations", type=int, default=24, help="how many for each source (default: 24)"
-    )
-    parser.add_argument(
-        "--events", type=int, default=60, help="of each station, before repeats (default: 60)"
-    )
-    parser.add_argument(
-        "--seed", type=int, default=1, help="of what is chosen at random (default: 1)"
-    )
-    words = parsed(parser)
-    needed: dict[str, list[str]] = {"rabbitmq": [RABBIT, EPMD], "mqtt": [MOSQUITTO], "file": []}
-    if not HAS_CLIENTS or any(
-        not Path(one).exists() for name in words.sources for one in needed[name]
-    ):
-        return skipped(
-            "--no-install-recommends rabbitmq-server python3-aio-pika mosquitto python3-paho-mqtt"
-        )
-    return tried("feed", lambda: Demo(words))
-
-
 if __name__ == "__main__":
-    sys.exit(main())
+    sys.exit(status_of(Demo, __doc__))

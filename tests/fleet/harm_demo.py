@@ -30,7 +30,7 @@ from ocpp_board.fleet.database.connections import connect
 from ocpp_board.fleet.gateway.gateway import BURST, BYTES
 from tests.fleet.client import Client
 from tests.fleet.fleet import BIN, FILL, PATIENCE, Database, children, ended, tool
-from tests.fleet.trials import Trial, event, parsed, parser_of, tried
+from tests.fleet.trials import Trial, event, status_of
 
 STATIONS = 40
 # Seconds that a database, a replay or a handshake has.
@@ -65,6 +65,14 @@ OF_WORKER = "select count(*) from pg_stat_activity where application_name like '
 
 
 class Demo(Trial):
+    NAME = "harm"
+
+    @staticmethod
+    def add_words(parser: argparse.ArgumentParser) -> None:
+        parser.add_argument(
+            "--big", action="store_true", help="tries a log of more than 1 GiB, too"
+        )
+
     def __init__(self, words: argparse.Namespace) -> None:
         super().__init__(words)
         self.answers: dict[int, str] = {}
@@ -659,13 +667,5 @@ class Demo(Trial):
         await self.owner.close()
 
 
-def main() -> int:
-    """Tries it, and gives the exit status."""
-    parser = parser_of(__doc__)
-    parser.add_argument("--big", action="store_true", help="tries a log of more than 1 GiB, too")
-    words = parsed(parser)
-    return tried("harm", lambda: Demo(words))
-
-
 if __name__ == "__main__":
-    sys.exit(main())
+    sys.exit(status_of(Demo, __doc__))

@@ -7,6 +7,7 @@ closed for which nothing came, and one with a session; old years leave, also bes
 shard moves to another cell. The status is 1 if something is not as it must be, or takes too long.
 """
 
+import argparse
 import asyncio
 import gzip
 import os
@@ -21,7 +22,7 @@ from ocpp_board.fleet.database.archives import packed
 from ocpp_board.fleet.database.connections import connect
 from tests.fleet.closings import ClosingTrial, local, session
 from tests.fleet.fleet import FILL, UNSUMMED, ended
-from tests.fleet.trials import parsed, parser_of, tried
+from tests.fleet.trials import status_of
 
 STATIONS = 64
 # Rows of periods that a closing reads at most, the bytes that it takes, seconds for which a shard that moves takes no
@@ -92,6 +93,12 @@ HISTORY = (
 
 
 class Demo(ClosingTrial):
+    NAME = "history"
+
+    @staticmethod
+    def add_words(parser: argparse.ArgumentParser) -> None:
+        parser.add_argument("--days", type=int, default=40, help="closed days (default: 40)")
+
     STATIONS = tuple((0, "north", f"S-{number:02}") for number in range(STATIONS))
 
     async def fill(self) -> None:
@@ -225,13 +232,5 @@ class Demo(ClosingTrial):
         await self.owner.close()
 
 
-def main() -> int:
-    """Tries it, and gives the exit status."""
-    parser = parser_of(__doc__)
-    parser.add_argument("--days", type=int, default=40, help="closed days (default: 40)")
-    words: Any = parsed(parser)
-    return tried("history", lambda: Demo(words))
-
-
 if __name__ == "__main__":
-    sys.exit(main())
+    sys.exit(status_of(Demo, __doc__))

@@ -11,7 +11,6 @@ new server, where boards and a closing have to be as if nothing had happened. Th
 it must be.
 """
 
-import argparse
 import asyncio
 import os
 import shutil
@@ -24,7 +23,7 @@ from typing import Any
 from ocpp_board.fleet.database.archives import unpacked
 from tests.fleet.closings import ClosingTrial, local, session
 from tests.fleet.fleet import ended, tool
-from tests.fleet.trials import parsed, parser_of, tried
+from tests.fleet.trials import status_of
 
 OLD, OTHER, FRESH, STRAY = "04A2F7C1", "04B3F8D2", "04C4F9E3", "04D5FAF4"
 ENERGY = """
@@ -48,6 +47,7 @@ def with_token(line: str, token: str) -> str:
 
 
 class Demo(ClosingTrial):
+    NAME = "keeping"
     STATIONS = ((0, "north", "A"), (0, "north", "B"))
 
     def tool(self, name: str, *words: object, role: str = "") -> subprocess.Popen[bytes]:
@@ -275,11 +275,5 @@ class Demo(ClosingTrial):
         await self.owner.close()
 
 
-def main() -> int:
-    """Tries it, and gives the exit status."""
-    words: argparse.Namespace = parsed(parser_of(__doc__))
-    return tried("keeping", lambda: Demo(words))
-
-
 if __name__ == "__main__":
-    sys.exit(main())
+    sys.exit(status_of(Demo, __doc__))

@@ -26,7 +26,7 @@ from ocpp_board.fleet.database.connections import VERSION
 from ocpp_board.fleet.database.plans import NEW_SITE
 from tests.fleet.closings import ClosingTrial, local, session
 from tests.fleet.fleet import BIN, FILL, SCHEMA, ended, tool
-from tests.fleet.trials import parsed, parser_of, tried
+from tests.fleet.trials import status_of
 
 TABLES = """
 select relname from pg_class where relkind in ('r', 'p') and relnamespace = 'public'::regnamespace
@@ -61,6 +61,7 @@ RULES = "select site, reading_order, settle from own_site order by 1"
 
 
 class Demo(ClosingTrial):
+    NAME = "migration"
     STATIONS = ((0, "north", "A"), (0, "north", "B"))
 
     async def one_cell(self) -> None:
@@ -222,10 +223,5 @@ class Demo(ClosingTrial):
         await self.owner.close()
 
 
-def main() -> int:
-    words = parsed(parser_of(__doc__))
-    return tried("migration", lambda: Demo(words))
-
-
 if __name__ == "__main__":
-    sys.exit(main())
+    sys.exit(status_of(Demo, __doc__))

@@ -9,7 +9,6 @@ month for billing has the tokens, remote starts and signed values of a session o
 The status is 1 if something is not as it must be.
 """
 
-import argparse
 import asyncio
 import base64
 import csv
@@ -28,7 +27,7 @@ from tests.traffic.troubles import FIRST, messages, signed_differs
 from tests.fleet.client import Client
 from tests.fleet.closings import ClosingTrial, line, local, session
 from tests.fleet.fleet import ended, tool
-from tests.fleet.trials import parsed, parser_of, tried
+from tests.fleet.trials import status_of
 
 ENERGY = "select coalesce(sum(up_kwh - down_kwh), 0) from energy where site = $1"
 ALL_SETTLED = "select coalesce(sum(up - down), 0)::bigint from settled_period where site = $1"
@@ -74,6 +73,7 @@ def values_in(path: Path) -> list[tuple[str, str]]:
 
 
 class Demo(ClosingTrial):
+    NAME = "money"
     STATIONS = (
         (0, "leaving", "L1"),
         (0, "leaving", "L2"),
@@ -473,12 +473,5 @@ class Demo(ClosingTrial):
         await self.owner.close()
 
 
-def main() -> int:
-    """Tries it, and gives the exit status."""
-    parser = parser_of(__doc__)
-    words: argparse.Namespace = parsed(parser)
-    return tried("money", lambda: Demo(words))
-
-
 if __name__ == "__main__":
-    sys.exit(main())
+    sys.exit(status_of(Demo, __doc__))

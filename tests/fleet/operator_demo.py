@@ -29,7 +29,7 @@ from tests.fleet.page_client import (
     operator,
     start_page,
 )
-from tests.fleet.trials import Trial, event, parsed, parser_of, tried
+from tests.fleet.trials import Trial, event, status_of
 
 PLACES = ((0, "north", "CS-00"), (0, "north", "CS-01"), (1, "south", "CS-02"))
 # Connections of clients that say nothing, which are more than a page keeps.
@@ -46,6 +46,8 @@ def session(transaction: str, day: str, count: int) -> list[str]:
 
 
 class Demo(Trial):
+    NAME = "operators"
+
     async def open(self) -> None:
         await self.one_cell()
         await self.usual_sites()
@@ -814,10 +816,5 @@ def is_open(line: socket.socket) -> bool:
         return False
 
 
-def main() -> int:
-    """Tries it, and gives the exit status."""
-    return tried("operators", lambda: Demo(parsed(parser_of(__doc__))))
-
-
 if __name__ == "__main__":
-    sys.exit(main())
+    sys.exit(status_of(Demo, __doc__))

@@ -21,7 +21,7 @@ from ocpp_board.fleet.closing.findings import REMEDY
 from ocpp_board.fleet.database.plans import Reckoning
 from tests.fleet.closings import HEAD, ClosingTrial, local, session
 from tests.fleet.fleet import ended, tool
-from tests.fleet.trials import parsed, parser_of, tried
+from tests.fleet.trials import status_of
 
 # What a station has in each period: on the board, and settled.
 BOARD = "select starts, up, down from own_board_period where station = $1 order by 1"
@@ -46,6 +46,8 @@ values (1, 7, 'jo', '192.0.2.1', 'a reason', 'void', 'north', 'D', 'tx-9', 2)
 
 
 class Demo(ClosingTrial):
+    NAME = "orders"
+
     # The second station of each shard sends what the first one does, and lists nothing again.
     STATIONS = (
         (0, "north", "A"),
@@ -244,17 +246,5 @@ class Demo(ClosingTrial):
         await self.owner.close()
 
 
-def main() -> int:
-    """Tries it, and gives the exit status."""
-    parser = parser_of(__doc__)
-    words = parsed(parser)
-    demo = Demo(words)
-    if "order" not in demo.fleet.known:
-        demo.close()
-        print("orders: not tried, since the program knows none")
-        return 0
-    return tried("orders", lambda: demo)
-
-
 if __name__ == "__main__":
-    sys.exit(main())
+    sys.exit(status_of(Demo, __doc__))

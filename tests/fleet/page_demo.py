@@ -26,7 +26,7 @@ from ocpp_board.fleet.database.plans import Reckoning
 from tests.fleet import chromium
 from tests.fleet.fleet import ended
 from tests.fleet.page_client import PASSWORD, Client, make_operator, start_page
-from tests.fleet.trials import Trial, event, parsed, parser_of, skipped, tried
+from tests.fleet.trials import Trial, event, status_of
 
 try:
     from selenium.common.exceptions import WebDriverException
@@ -71,6 +71,16 @@ def session(transaction: str, day: str, numbers: list[int], last: int) -> list[s
 
 
 class Demo(Trial):
+    NAME = "page"
+
+    @staticmethod
+    def add_words(parser: argparse.ArgumentParser) -> None:
+        parser.add_argument("--shots", type=Path, metavar="FOLDER", help="where pictures are kept")
+
+    @staticmethod
+    def lacking(words: argparse.Namespace) -> str:
+        return "" if chromium.is_installed() else chromium.PACKAGES
+
     def __init__(self, words: argparse.Namespace) -> None:
         super().__init__(words)
         self.url = ""
@@ -532,17 +542,5 @@ class Demo(Trial):
         super().close()
 
 
-def main() -> int:
-    """Tries it, and gives the exit status."""
-    parser = parser_of(__doc__)
-    parser.add_argument("--shots", type=Path, metavar="FOLDER", help="where pictures are kept")
-    words = parsed(parser)
-    if not chromium.is_installed():
-        return skipped(chromium.PACKAGES)
-    if words.shots:
-        words.shots.mkdir(parents=True, exist_ok=True)
-    return tried("page", lambda: Demo(words))
-
-
 if __name__ == "__main__":
-    sys.exit(main())
+    sys.exit(status_of(Demo, __doc__))

@@ -25,7 +25,7 @@ from ocpp_board.fleet.database.connections import connect
 from ocpp_board.fleet.gateway.passwords import FREE, PAUSE, SALT, hashed
 from tests.fleet.client import Client, handshake
 from tests.fleet.fleet import REASON, tool
-from tests.fleet.trials import Trial, event, parsed, parser_of, tried
+from tests.fleet.trials import Trial, event, status_of
 
 A, B, C, D, E, UNKNOWN = "CS-00000", "CS-00001", "CS-00002", "CS-00003", "CS-00004", "CS-99999"
 # What each station has at first, and what some have later.
@@ -50,6 +50,8 @@ class Asking(Client):
 
 
 class Demo(Trial):
+    NAME = "passwords"
+
     def __init__(self, words: argparse.Namespace) -> None:
         super().__init__(words)
         self.url = ""
@@ -360,11 +362,5 @@ class Demo(Trial):
             await session.close()
 
 
-def main() -> int:
-    """Tries it, and gives the exit status."""
-    words = parsed(parser_of(__doc__))
-    return tried("passwords", lambda: Demo(words))
-
-
 if __name__ == "__main__":
-    sys.exit(main())
+    sys.exit(status_of(Demo, __doc__))

@@ -15,7 +15,7 @@ from ocpp_board.fleet.database.connections import connect
 from ocpp_board.fleet.admin.place import FILLED
 from ocpp_board.fleet.database.plans import NEW_SITE
 from tests.fleet.fleet import FILL, REASON, ended, tool
-from tests.fleet.trials import Trial, messages, parsed, parser_of, tried
+from tests.fleet.trials import Trial, messages, status_of
 
 PLAN = """
 select shard, site, count(*) as stations, min(zone) as zone, min(period) as period, min(reading_order), min(settle)
@@ -26,6 +26,8 @@ RULES = NEW_SITE[1:]
 
 
 class Demo(Trial):
+    NAME = "placing"
+
     async def place(self, *more: object) -> tuple[int, str]:
         """Runs the tool for both cells."""
         cells = [
@@ -126,11 +128,5 @@ class Demo(Trial):
         await self.owner.close()
 
 
-def main() -> int:
-    """Tries it, and gives the exit status."""
-    words = parsed(parser_of(__doc__))
-    return tried("placing", lambda: Demo(words))
-
-
 if __name__ == "__main__":
-    sys.exit(main())
+    sys.exit(status_of(Demo, __doc__))

@@ -18,7 +18,7 @@ import asyncpg
 from ocpp_board.fleet.database.connections import connect
 from tests.fleet.fleet import ended, tool
 from tests.fleet.page_client import Client, make_operator, operator, start_page
-from tests.fleet.trials import Trial, parsed, parser_of, tried
+from tests.fleet.trials import Trial, status_of
 
 PLACES = ((0, "north", "CS-00"), (0, "north", "CS-01"), (1, "south", "CS-02"))
 TABLES = ("own_shard", "own_site", "own_station", "station_password", "operator", "api_token")
@@ -48,6 +48,8 @@ CHANGES = (
 
 class Demo(Trial):
     """Changes of the plan."""
+
+    NAME = "the plan"
 
     async def last(self, *keys: str) -> list[Any]:
         """The newest change, by these columns."""
@@ -253,10 +255,5 @@ class Demo(Trial):
     url = ""
 
 
-def main() -> int:
-    """Tries it, and gives the exit status."""
-    return tried("the plan", lambda: Demo(parsed(parser_of(__doc__))))
-
-
 if __name__ == "__main__":
-    sys.exit(main())
+    sys.exit(status_of(Demo, __doc__))

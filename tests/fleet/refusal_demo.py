@@ -17,7 +17,7 @@ import asyncpg
 from ocpp_board.fleet.database.connections import connect
 from tests.fleet.closings import ClosingTrial, line, local, session
 from tests.fleet.fleet import PATIENCE, ended
-from tests.fleet.trials import parsed, parser_of, tried
+from tests.fleet.trials import status_of
 
 ROWS = """
 select station, transaction, number, cause, times from own_refusal order by station, cause, transaction, number
@@ -26,6 +26,7 @@ NEAR = "station C sent 9 events, repeats included, and keeps 10 at most"
 
 
 class Demo(ClosingTrial):
+    NAME = "refusals"
     STATIONS = ((0, "north", "A"), (0, "north", "B"), (0, "north", "C"))
 
     async def rows(self, text: str, *wanted: tuple[str, str, str, str, int]) -> None:
@@ -129,11 +130,5 @@ class Demo(ClosingTrial):
         await there.close()
 
 
-def main() -> int:
-    """Tries it, and gives the exit status."""
-    words = parsed(parser_of(__doc__))
-    return tried("refusals", lambda: Demo(words))
-
-
 if __name__ == "__main__":
-    sys.exit(main())
+    sys.exit(status_of(Demo, __doc__))

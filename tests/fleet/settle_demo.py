@@ -18,7 +18,7 @@ from ocpp_board.fleet.database.connections import connect
 from ocpp_board.fleet.database.figures import joined
 from ocpp_board.fleet.database.plans import Reckoning
 from tests.fleet.closings import HEAD, ClosingTrial, line, local, session
-from tests.fleet.trials import parsed, parser_of, tried
+from tests.fleet.trials import status_of
 
 # The quarters in which a station has energy, in the zone, with how much: on the board, with archives, and settled.
 QUARTERS = (
@@ -59,6 +59,7 @@ def night(station: str, *numbers: int) -> list[str]:
 
 
 class Demo(ClosingTrial):
+    NAME = "settling"
     STATIONS = tuple((*place, station) for station, place in STATIONS.items())
 
     async def has(
@@ -169,15 +170,5 @@ class Demo(ClosingTrial):
         await self.owner.close()
 
 
-def main() -> int:
-    """Tries it, and gives the exit status."""
-    demo = Demo(parsed(parser_of(__doc__)))
-    if "settle" not in demo.fleet.known:
-        demo.close()
-        print("settling: not tried, since the program lacks the rule even")
-        return 0
-    return tried("settling", lambda: demo)
-
-
 if __name__ == "__main__":
-    sys.exit(main())
+    sys.exit(status_of(Demo, __doc__))

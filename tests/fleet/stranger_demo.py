@@ -25,7 +25,7 @@ from ocpp_board.fleet.gateway.passwords import FREE, SALT, hashed
 from tests.fleet.client import Client, handshake
 from tests.fleet.crowd import WRONG, address_of
 from tests.fleet.fleet import ended, part
-from tests.fleet.trials import Trial, event, parsed, parser_of, tried
+from tests.fleet.trials import Trial, event, status_of
 
 # The station that is looked at, one that does harm, and one with a password that strangers guess.
 TRUE, ODD, GUESSED = "CS-00000", "CS-00001", "CS-00002"
@@ -81,6 +81,8 @@ def password_of(station: str) -> str:
 
 
 class Demo(Trial):
+    NAME = "strangers"
+
     def __init__(self, words: argparse.Namespace) -> None:
         super().__init__(words)
         self.url = ""
@@ -347,11 +349,5 @@ class Demo(Trial):
         await self.owner.close()
 
 
-def main() -> int:
-    """Tries it, and gives the exit status."""
-    words = parsed(parser_of(__doc__))
-    return tried("strangers", lambda: Demo(words))
-
-
 if __name__ == "__main__":
-    sys.exit(main())
+    sys.exit(status_of(Demo, __doc__))

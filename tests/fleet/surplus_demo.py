@@ -9,16 +9,16 @@ station without room; two events of an archived session by turns. Days are close
 something is not as it must be.
 """
 
+import argparse
 import asyncio
 import sys
 import time
 from datetime import timedelta
-from typing import Any
 
 from tests.fleet.closings import ClosingTrial, line, local, session
 from tests.fleet.fleet import FILL, children, ended
 from tests.fleet.measure import resident
-from tests.fleet.trials import parsed, parser_of, tried
+from tests.fleet.trials import status_of
 
 BYTES = "select coalesce(sum(octet_length(line)), 0) from own_log where shard = $1"
 REFUSED = (
@@ -70,6 +70,12 @@ class Memory:
 
 
 class Demo(ClosingTrial):
+    NAME = "surplus"
+
+    @staticmethod
+    def add_words(parser: argparse.ArgumentParser) -> None:
+        parser.add_argument("--big", action="store_true", help="tries a log of 1 GiB, too")
+
     STATIONS = (
         (0, "north", "A"),
         (0, "north", "B"),
@@ -270,13 +276,5 @@ class Demo(ClosingTrial):
         await self.owner.close()
 
 
-def main() -> int:
-    """Tries it, and gives the exit status."""
-    parser = parser_of(__doc__)
-    parser.add_argument("--big", action="store_true", help="tries a log of 1 GiB, too")
-    words: Any = parsed(parser)
-    return tried("surplus", lambda: Demo(words))
-
-
 if __name__ == "__main__":
-    sys.exit(main())
+    sys.exit(status_of(Demo, __doc__))

@@ -1,4 +1,4 @@
-"""The programs that try a fleet, each as a test.
+"""The programs that try a fleet, each as a test: its first check that is not so fails it.
 
     PYTHONPATH=python:. pytest tests/fleet -k money --program crates/ocpp_board/out/ocpp_board
 
@@ -6,27 +6,31 @@ Each starts PostgreSQL and parts of a fleet of its own, and takes up to five min
 skipped.
 """
 
-import subprocess
-import sys
+import importlib
+from collections.abc import Iterator
 from pathlib import Path
 
 import pytest
 
-from tests.fleet.trials import RIGHT, SKIPPED
+pytest.importorskip("asyncpg")
+
+from tests.fleet.trials import Trial, try_all, words_of  # noqa: E402
 
 HERE = Path(__file__).resolve().parent
-TRIALS = sorted(path.stem for path in HERE.glob("*demo.py"))
 
 
-@pytest.mark.parametrize("name", TRIALS)
-def test_a_trial_finds_nothing_wrong(name: str, program: str) -> None:
-    made = subprocess.run(
-        [sys.executable, "-m", f"tests.fleet.{name}", program],
-        stdout=subprocess.PIPE,
-        stderr=subprocess.STDOUT,
-        check=False,
-    )
-    said = made.stdout.decode("utf-8", "replace")
-    if made.returncode == SKIPPED:
-        pytest.skip(said.strip().rpartition("\n")[2])
-    assert made.returncode == RIGHT, said
+def trials() -> Iterator[object]:
+    """Each trial with each of its fleets, by the names of its module and of the fleet."""
+    for path in sorted(HERE.glob("*demo.py")):
+        kind = importlib.import_module(f"tests.fleet.{path.stem}").Demo
+        for fleet in kind.fleets(words_of(kind, None).parse_args(["program"])):
+            name = f"{path.stem.removesuffix('_demo')}-{fleet}".removesuffix("-")
+            yield pytest.param(kind, fleet, id=name)
+
+
+@pytest.mark.parametrize("kind,fleet", trials())
+def test_nothing_is_wrong(kind: type[Trial], fleet: str, program: str) -> None:
+    words = words_of(kind, None).parse_args([program])
+    if packages := kind.lacking(words):
+        pytest.skip(f"apt-get install {packages}")
+    try_all(kind(kind.fleets(words)[fleet]))

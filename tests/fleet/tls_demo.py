@@ -26,7 +26,7 @@ from ocpp_board.fleet.database.connections import Fault
 from ocpp_board.fleet.gateway.passwords import SALT, hashed
 from tests.fleet.client import Client
 from tests.fleet.fleet import TOP, children, free_port, is_alive, tool
-from tests.fleet.trials import Trial, parsed, parser_of, tried
+from tests.fleet.trials import Trial, status_of
 
 A, B = "CS-00000", "CS-00001"
 PASSWORD = "secret-of-CS-00000"
@@ -63,6 +63,8 @@ ENDS = (OSError, asyncio.TimeoutError, EOFError)
 
 
 class Demo(Trial):
+    NAME = "TLS"
+
     def __init__(self, words: argparse.Namespace) -> None:
         super().__init__(words)
         self.url = ""
@@ -436,11 +438,5 @@ class Demo(Trial):
         await self.owner.close()
 
 
-def main() -> int:
-    """Tries it, and gives the exit status."""
-    words = parsed(parser_of(__doc__))
-    return tried("TLS", lambda: Demo(words))
-
-
 if __name__ == "__main__":
-    sys.exit(main())
+    sys.exit(status_of(Demo, __doc__))

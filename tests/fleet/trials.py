@@ -2,6 +2,7 @@
 
 import argparse
 import asyncio
+import functools
 import json
 import logging
 import random
@@ -78,16 +79,34 @@ def unseen(text: str) -> list[str]:
 class Trial:
     """What is tried on a fleet of its own, and what of it was wrong."""
 
+    # What the last line of its command calls it.
+    NAME = ""
+
+    @staticmethod
+    def add_words(parser: argparse.ArgumentParser) -> None:
+        """Adds the words of its own."""
+
+    @staticmethod
+    def lacking(words: argparse.Namespace) -> str:
+        """The packages without which it can't be tried here, if some are missing."""
+        return ""
+
+    @staticmethod
+    def fleets(words: argparse.Namespace) -> dict[str, argparse.Namespace]:
+        """The words for each fleet on which it is tried, by the fleet's name."""
+        return {"": words}
+
     def __init__(self, words: argparse.Namespace) -> None:
         self.words, self.fleet = words, Fleet(words.program, words.user)
         self.wrong: list[str] = []
         self.owner: Any = None
 
     def check(self, is_right: object, text: str) -> None:
-        """Prints what was tried, and keeps it if it is wrong."""
+        """Asserts that it is right, and prints what was tried. It is kept, since a task may be awaited by nobody."""
         print(("ok    " if is_right else "WRONG ") + text, flush=True)
         if not is_right:
             self.wrong.append(text)
+        assert is_right, text
 
     async def run(self) -> None:
         """Tries all of it."""
@@ -151,20 +170,50 @@ def skipped(packages: str) -> int:
     return SKIPPED
 
 
+def try_all(trial: Trial) -> None:
+    """Tries it to its end; what is wrong is raised."""
+    try:
+        asyncio.run(trial.run())
+        trial.check_tasks()
+    except (*FAULTS, AssertionError) as fault:
+        if said(fault) not in trial.wrong:
+            trial.wrong.append(said(fault))
+        raise
+    finally:
+        trial.close()
+    assert not trial.wrong, trial.wrong
+
+
 def tried(name: str, begin: Callable[[], Trial]) -> int:
     """Tries it to its end, and gives the exit status."""
     trial, began = None, time.monotonic()
     try:
         trial = begin()
-        asyncio.run(trial.run())
-        trial.check_tasks()
+        try_all(trial)
     except (*FAULTS, AssertionError) as fault:
         log.error("%s", said(fault))
         if trial is None:
             return MISTAKEN
-        trial.wrong.append(said(fault))
-    finally:
-        if trial:
-            trial.close()
     print(f"{name}: {time.monotonic() - began:.0f} s, wrong: {len(trial.wrong)}", flush=True)
     return WRONG if trial.wrong else RIGHT
+
+
+def words_of(kind: type[Trial], about: str | None) -> argparse.ArgumentParser:
+    """The words of a trial's command."""
+    parser = parser_of(about)
+    kind.add_words(parser)
+    return parser
+
+
+def status_of(kind: type[Trial], about: str | None) -> int:
+    """A trial's command: tries it on each of its fleets, and gives the greatest exit status."""
+    words = parsed(words_of(kind, about))
+    if packages := kind.lacking(words):
+        return skipped(packages)
+    status = RIGHT
+    for fleet, own in kind.fleets(words).items():
+        name = f"{kind.NAME} {fleet}".strip()
+        status = max(status, tried(name, functools.partial(kind, own)))
+        if status == MISTAKEN:
+            break
+    return status

@@ -30,7 +30,7 @@ from pathlib import Path
 from ocpp_board.fleet.database.connections import Fault
 from tests.fleet.fleet import BIN, TOP, ended, free_port
 from tests.fleet.page_client import Client, make_operator
-from tests.fleet.trials import Trial, messages, parsed, parser_of, skipped, tried
+from tests.fleet.trials import Trial, messages, status_of
 
 UNITS = TOP / "packaging/ocpp-board-fleet"
 # The files that units take their variables from.
@@ -106,6 +106,12 @@ def shut_in(calls: set[str]) -> None:
 
 
 class Demo(Trial):
+    NAME = "units"
+
+    @staticmethod
+    def lacking(words: argparse.Namespace) -> str:
+        return "" if os.access(ANALYZE, os.X_OK) else "systemd"
+
     def __init__(self, words: argparse.Namespace) -> None:
         super().__init__(words)
         self.root = self.fleet.folder / "root"
@@ -373,14 +379,5 @@ class Demo(Trial):
         await self.owner.close()
 
 
-def main() -> int:
-    """Tries it, and gives the exit status."""
-    parser = parser_of(__doc__)
-    words = parsed(parser)
-    if not os.access(ANALYZE, os.X_OK):
-        return skipped("systemd")
-    return tried("units", lambda: Demo(words))
-
-
 if __name__ == "__main__":
-    sys.exit(main())
+    sys.exit(status_of(Demo, __doc__))

@@ -22,7 +22,7 @@ import time
 
 from ocpp_board.fleet.database.metrics import FRONT, HELP
 from tests.fleet.fleet import SCHEMA
-from tests.fleet.trials import MISTAKEN, RIGHT, parsed, parser_of, skipped, tried
+from tests.fleet.trials import status_of
 from tests.fleet.watching import PROMETHEUS, WatchedTrial, asked
 
 # Seconds in which an alert fires, and in which one ends.
@@ -69,8 +69,34 @@ COMMON = {
 OWN = {"standby": "OcppBoardStandbyWaits", "primary": "OcppBoardSessionsLost"}
 
 
+def fault_of(word: str) -> str:
+    """A fault that is known."""
+    if word not in COMMON | OWN:
+        raise argparse.ArgumentTypeError(f"no fault {word}")
+    return word
+
+
 class Demo(WatchedTrial):
     """Faults, and the alerts that fire for them."""
+
+    NAME = "watched"
+
+    @staticmethod
+    def add_words(parser: argparse.ArgumentParser) -> None:
+        known = ", ".join(COMMON | OWN)
+        parser.add_argument("faults", nargs="*", type=fault_of, metavar="FAULT", help=f"of {known}")
+
+    @staticmethod
+    def lacking(words: argparse.Namespace) -> str:
+        return "" if os.access(PROMETHEUS, os.X_OK) else "prometheus"
+
+    @staticmethod
+    def fleets(words: argparse.Namespace) -> dict[str, argparse.Namespace]:
+        asked, parts = words.faults or [*COMMON, *OWN], dict[str, argparse.Namespace]()
+        for name, group in (("demo", COMMON), ("own", OWN)):
+            if faults := [fault for fault in asked if fault in group]:
+                parts[name] = argparse.Namespace(**vars(words) | {"faults": faults})
+        return parts
 
     async def tried(self, name: str, alert: str) -> None:
         """A fault, whether its alert fires, and whether that ends once all is as it was."""
@@ -174,25 +200,5 @@ class Demo(WatchedTrial):
             self.sending.cancel()
 
 
-def main() -> int:
-    """Tries it, and gives the exit status."""
-    parser = parser_of(__doc__)
-    parser.add_argument("faults", nargs="*", metavar="FAULT", help=f"of {', '.join(COMMON | OWN)}")
-    words = parsed(parser)
-    if unknown := set(words.faults) - (COMMON | OWN).keys():
-        parser.error(f"no fault {', '.join(unknown)}")
-    if not os.access(PROMETHEUS, os.X_OK):
-        return skipped("prometheus")
-    faults = words.faults or [*COMMON, *OWN]
-    status = RIGHT
-    for group in (COMMON, OWN):
-        if own := [name for name in faults if name in group]:
-            some = argparse.Namespace(**vars(words) | {"faults": own})
-            status = max(status, tried(f"watched: {' '.join(own)}", lambda: Demo(some)))
-        if status == MISTAKEN:
-            break
-    return status
-
-
 if __name__ == "__main__":
-    sys.exit(main())
+    sys.exit(status_of(Demo, __doc__))
