@@ -2,6 +2,7 @@ pub mod Growing
 pub mod Steps
 pub mod Whole
 mod Notes
+mod Feeds
 mod LastByte
 pub mod LinesRead
 pub mod UpToListen

@@ -10,6 +10,7 @@ ghost use Rattle.kept_desk.specs.Speaking.{AsksFor, Says, Speaks};
 ghost use Rattle.journal_script.specs.Speaking.{StandsAsItIs, message_text};
 
 use ledger_model::{Event, Key, Moment, Name};
+use memchr::memchr;
 use script_lines::{MAX_LINE_BYTES, ScriptLine, read_line, without_return};
 use std::alloc::{AllocError, Global};
 use transaction_event::{Message, message_of};
@@ -77,7 +78,7 @@ pub fn is_script_line(line: &[u8]) -> bool
 fn is_line(bytes: &[u8]) -> bool
     ensures { IsTrue result ↔ HasNoFeed bytes.now }
 {
-    bytes.iter().all(|byte| *byte != b'\n')
+    memchr(b'\n', bytes).is_none()
 }
 
 // Returns whether no carriage return ends the bytes.
