@@ -8,6 +8,7 @@ archive, whose replay has to show the same board and the same answers; a month f
 hand; the description of the API against its answers. The status is 1 if one of these is not as it must be.
 """
 
+import argparse
 import asyncio
 import csv
 import io
@@ -31,7 +32,7 @@ from tests.fleet.page_client import (
     operator,
     start_page,
 )
-from tests.fleet.trials import Trial, event, status_of
+from tests.fleet.trials import Trial, event, missing, status_of
 
 PLACES = (
     *((0, "north", "CS-00"), (0, "north", "CS-01"), (1, "north", "CS-04")),
@@ -83,6 +84,11 @@ def quarters(day: str, hour: int, count: int) -> list[str]:
 
 class Demo(Trial):
     NAME = "api"
+
+    @staticmethod
+    def lacking(words: argparse.Namespace) -> str:
+        return missing("starlette", "uvicorn", "yaml")
+
     client: Client
     token = south = ""
 

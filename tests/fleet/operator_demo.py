@@ -8,6 +8,7 @@ huge, clients that are slow; who did what, from where and why; closings that are
 may not. The status is 1 if one of these is not as it must be.
 """
 
+import argparse
 import asyncio
 import socket
 import subprocess
@@ -29,7 +30,7 @@ from tests.fleet.page_client import (
     operator,
     start_page,
 )
-from tests.fleet.trials import Trial, event, status_of
+from tests.fleet.trials import Trial, event, missing, status_of
 
 PLACES = ((0, "north", "CS-00"), (0, "north", "CS-01"), (1, "south", "CS-02"))
 # Connections of clients that say nothing, which are more than a page keeps.
@@ -47,6 +48,10 @@ def session(transaction: str, day: str, count: int) -> list[str]:
 
 class Demo(Trial):
     NAME = "operators"
+
+    @staticmethod
+    def lacking(words: argparse.Namespace) -> str:
+        return missing("starlette", "uvicorn", "yaml", "prometheus_client")
 
     async def open(self) -> None:
         await self.one_cell()

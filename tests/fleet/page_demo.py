@@ -26,7 +26,7 @@ from ocpp_board.fleet.database.plans import Reckoning
 from tests.fleet import chromium
 from tests.fleet.fleet import ended
 from tests.fleet.page_client import PASSWORD, Client, make_operator, start_page
-from tests.fleet.trials import Trial, event, status_of
+from tests.fleet.trials import Trial, event, missing, status_of
 
 try:
     from selenium.common.exceptions import WebDriverException
@@ -79,7 +79,11 @@ class Demo(Trial):
 
     @staticmethod
     def lacking(words: argparse.Namespace) -> str:
-        return "" if chromium.is_installed() else chromium.PACKAGES
+        return (
+            missing("starlette", "uvicorn", "yaml")
+            if chromium.is_installed()
+            else chromium.PACKAGES
+        )
 
     def __init__(self, words: argparse.Namespace) -> None:
         super().__init__(words)

@@ -22,7 +22,12 @@ HERE = Path(__file__).resolve().parent
 def trials() -> Iterator[object]:
     """Each trial with each of its fleets, by the names of its module and of the fleet."""
     for path in sorted(HERE.glob("*demo.py")):
-        kind = importlib.import_module(f"tests.fleet.{path.stem}").Demo
+        try:
+            kind = importlib.import_module(f"tests.fleet.{path.stem}").Demo
+        except ModuleNotFoundError as fault:
+            mark = pytest.mark.skip(reason=f"{fault.name} is not installed")
+            yield pytest.param(Trial, "", id=path.stem.removesuffix("_demo"), marks=mark)
+            continue
         for fleet in kind.fleets(words_of(kind, None).parse_args(["program"])):
             name = f"{path.stem.removesuffix('_demo')}-{fleet}".removesuffix("-")
             yield pytest.param(kind, fleet, id=name)

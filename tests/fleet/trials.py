@@ -11,6 +11,7 @@ import subprocess
 import sys
 import time
 from collections.abc import Callable
+from importlib.util import find_spec
 from typing import Any
 
 import asyncpg
@@ -162,6 +163,12 @@ def parsed(parser: argparse.ArgumentParser) -> argparse.Namespace:
     reporting.set_up(parser.prog, named_from=logging.DEBUG)
     signal.signal(signal.SIGTERM, lambda *_: sys.exit(143))
     return words
+
+
+def missing(*modules: str) -> str:
+    """The packages of those of these modules that are not installed."""
+    names = [f"python3-{name.replace('_', '-')}" for name in modules if find_spec(name) is None]
+    return " ".join(names)
 
 
 def skipped(packages: str) -> int:

@@ -30,7 +30,7 @@ from pathlib import Path
 from ocpp_board.fleet.database.connections import Fault
 from tests.fleet.fleet import BIN, TOP, ended, free_port
 from tests.fleet.page_client import Client, make_operator
-from tests.fleet.trials import Trial, messages, status_of
+from tests.fleet.trials import Trial, messages, missing, status_of
 
 UNITS = TOP / "packaging/ocpp-board-fleet"
 # The files that units take their variables from.
@@ -110,7 +110,7 @@ class Demo(Trial):
 
     @staticmethod
     def lacking(words: argparse.Namespace) -> str:
-        return "" if os.access(ANALYZE, os.X_OK) else "systemd"
+        return missing("prometheus_client") if os.access(ANALYZE, os.X_OK) else "systemd"
 
     def __init__(self, words: argparse.Namespace) -> None:
         super().__init__(words)
