@@ -68,8 +68,10 @@ def sessions_in_turn(program: str) -> None:
 def third_session_ends_the_first(program: str) -> None:
     """Two sessions of a station are open; a third ends the oldest, and after one of them left no other ends."""
     with Live(program) as server:
-        first, second = Station(server, "A"), Station(server, "A")
+        first = Station(server, "A")
+        # Its session has begun once it is answered: before that the second may begin first.
         first.reports(0)
+        second = Station(server, "A")
         second.reports(0)
         third = Station(server, "A")
         first.receives(dismissed("Replaced"))
@@ -92,9 +94,11 @@ def silent_station_comes_again(program: str) -> None:
     """All 64 stations are connected; one falls silent and connects again, and is answered within two seconds."""
     stations = tuple(f"north/S{number}" for number in range(64))
     with Live(program, stations=stations) as server:
-        found = [Station(server, f"S{number}") for number in range(64) for _ in range(2)]
-        for station in found[::2]:
-            station.reports(0)
+        found = list[Station]()
+        for number in range(64):
+            found.append(Station(server, f"S{number}"))
+            found[-1].reports(0)
+            found.append(Station(server, f"S{number}"))
         began = time.monotonic()
         again = Station(server, "S7")
         again.reports(0, 1)
