@@ -27,12 +27,12 @@ written=$(mktemp -d) || exit 1
 trap 'rm -rf "$written"' EXIT
 # Those of one line are tried one after the other.
 trials=(demo-server demo-stopped order "surplus or settle")
-export PYTHONDONTWRITEBYTECODE=1 PYTHONPATH=$top/python:$top
+export PYTHONDONTWRITEBYTECODE=1
 cd "$top" || exit
 beside=()
 for number in "${!trials[@]}"; do
-    /usr/bin/python3 -m pytest -v -p no:cacheprovider -c python/pyproject.toml --rootdir . tests/fleet \
-        --program "$program" -k "${trials[number]}" > "$written/$number" 2>&1 &
+    /usr/bin/python3 -m pytest -v -p no:cacheprovider tests/fleet --program "$program" -k "${trials[number]}" \
+        > "$written/$number" 2>&1 &
     beside+=($!)
 done
 status=0

@@ -1,5 +1,6 @@
 """What the tests of a fleet take."""
 
+import os
 import signal
 import sys
 from pathlib import Path
@@ -7,6 +8,10 @@ from pathlib import Path
 import pytest
 
 TOP = Path(__file__).resolve().parent.parent.parent
+# Where modules are, for these tests and for the programs that they start.
+MODULES = [str(TOP / "python"), str(TOP)]
+sys.path[:0] = MODULES
+os.environ["PYTHONPATH"] = os.pathsep.join(MODULES)
 
 
 def pytest_addoption(parser: pytest.Parser) -> None:

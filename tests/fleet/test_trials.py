@@ -1,6 +1,6 @@
 """The programs that try a fleet, each as a test: its first check that is not so fails it.
 
-    PYTHONPATH=python:. pytest tests/fleet -k money --program crates/ocpp_board/out/ocpp_board
+    pytest tests/fleet -k money --program crates/ocpp_board/out/ocpp_board
 
 Each starts PostgreSQL and parts of a fleet of its own, and takes up to five minutes. One whose packages are missing is
 skipped.
