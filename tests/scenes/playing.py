@@ -1,6 +1,7 @@
 """The scenes of a program of this folder, one after the other."""
 
 import argparse
+import signal
 import subprocess
 import sys
 import threading
@@ -16,6 +17,8 @@ def play(name: str, about: str | None, scenes: tuple[Callable[[str], None], ...]
     )
     parser.add_argument("program", metavar="PROGRAM", help="the built ocpp_board")
     words = parser.parse_args()
+    # A shell has what it starts in the background ignore an interrupt, and so would a server, which a scene interrupts.
+    signal.signal(signal.SIGINT, signal.default_int_handler)
     differing = 0
     try:
         subprocess.run([words.program, "--help"], stdout=subprocess.DEVNULL, check=True)
