@@ -17,6 +17,8 @@ pytest.importorskip("asyncpg")
 from tests.fleet.trials import Trial, try_all, words_of  # noqa: E402
 
 HERE = Path(__file__).resolve().parent
+# Packages of the repository: that one of their modules is missing is a fault, and no reason to skip a trial.
+OWN = ("tests", "ocpp_board")
 
 
 def trials() -> Iterator[object]:
@@ -25,6 +27,8 @@ def trials() -> Iterator[object]:
         try:
             kind = importlib.import_module(f"tests.fleet.{path.stem}").Demo
         except ModuleNotFoundError as fault:
+            if (fault.name or "").partition(".")[0] in OWN:
+                raise
             mark = pytest.mark.skip(reason=f"{fault.name} is not installed")
             yield pytest.param(Trial, "", id=path.stem.removesuffix("_demo"), marks=mark)
             continue
