@@ -1,12 +1,9 @@
 -- Bytes that are written behind others.
-use Rattle.std.proofs.Common.{ℕ, List, [], ◌++◌, Option, Result}
+use Rattle.std.proofs.Common.{ℕ, List, ◌++◌, Option, Result}
 use Rattle.std.specs.Io.KnownBytes.{Appends}
-use Rattle.std.proofs.KnownBytes.{Appends-nil, Appends-trans}
+use Rattle.std.proofs.KnownBytes.{Appends-trans}
 use Rattle.script_lines.specs.Writing.{WritesFront}
 use Rattle.journal_script.specs.Restoring.{Grows}
-
-pub grows_not : (a : Option (List ℕ)) → Grows a a
-grows_not a = ([], Appends-nil a)
 
 pub grows_on : (a b c : Option (List ℕ)) → Grows a b → Grows b c → Grows a c
 grows_on a b c first then = (first.0 ++ then.0, Appends-trans a b c first.0 then.0 first.1 then.1)

@@ -1,7 +1,6 @@
 -- The last byte of a text, and the carriage return that the end of a line drops.
 use Rattle.std.proofs.Common.{◌≡◌, ℕ, ◌-◌, Bool, true, false, cond, ◌&&◌, ◌==◌, ltb, List, [], ◌∷◌, ◌++◌, length, get_or, take, refl, sym, ap, ◌∙◌, arith, length-append, length-take}
 use Rattle.std.specs.Io.BufRead.{ends_with_byte, strip_last}
-use Rattle.std.proofs.lemmas.Bool.{eqb-true, false≢true}
 use Rattle.std.proofs.lemmas.Bool.Decides.{nat_tests}
 use Rattle.std.proofs.Math.Seq.{get_or-append_seam}
 
@@ -42,10 +41,3 @@ kept_last x xs same = at (last x xs == 13) (sym (ap (λ b. cond b (take (length 
     at : (b : Bool) → cond b (take (length (x ∷ xs) - 1) (x ∷ xs)) (x ∷ xs) ≡ x ∷ xs → b ≡ false
     at true e = absurd (omega (arith, ap length e, length-take (length (x ∷ xs) - 1) (x ∷ xs)))
     at false e = refl
-
--- what is before the last byte of a text
-pub before_last : (c : ℕ) (bytes : List ℕ) → ends_with_byte c bytes ≡ true → (front : List ℕ) × (bytes ≡ front ++ c ∷ [])
-before_last c [] ends = absurd (false≢true ends)
-before_last c (x ∷ xs) ends =
-    let apart = last_apart x xs in
-    (apart.0, apart.1 ∙ ap (λ b. apart.0 ++ b ∷ []) (eqb-true (last x xs) c (sym (ends_so c x xs) ∙ ends)))

@@ -3,7 +3,7 @@ use Rattle.std.proofs.Common.{◌≡◌, ◌≢◌, ℕ, ◌+◌, ◌≤◌, ◌
 use Rattle.std.specs.Prelude.{codes}
 use Rattle.std.specs.Io.BufRead.{strip_last}
 use Rattle.std.specs.Io.KnownBytes.{Consumes, Keeps}
-use Rattle.std.proofs.KnownBytes.{Consumes-kept, Consumes-nil, Consumes-trans}
+use Rattle.std.proofs.KnownBytes.{Consumes-kept, Consumes-trans}
 use Rattle.std.proofs.lemmas.Bool.{false≢true}
 use Rattle.std.proofs.lemmas.Bool.Decides.{nat_tests}
 use Rattle.std.proofs.lemmas.List.Elements.{All-append, All-cons, All-nil}
@@ -92,14 +92,6 @@ pub record Goes (most room left : ℕ) (old now : Standing) (r0 r1 : Option (Lis
   pub runs : Runs most old now read
   pub counted : length read + left ≡ room
   pub consumed : Consumes r0 r1 read
-
-pub goes_first : (most room : ℕ) (s : Standing) (r : Option (List ℕ)) → Goes most room room s s r r
-goes_first most room s r = record {
-  read = [];
-  runs = record { whole = inl refl; ran = refl; no_listen = All-nil (λ line. line ≢ Some (codes "listen")) };
-  counted = omega arith;
-  consumed = Consumes-nil r;
-}
 
 module _ (most room left : ℕ) (old now : Standing) (r0 r1 : Option (List ℕ)) (goes : Goes most room left old now r0 r1) where
   pub goes_same : (r2 : Option (List ℕ)) → Keeps r1 r2 → Goes most room left old now r0 r2

@@ -43,8 +43,8 @@ impl<J: Naming> RestoredScript<J> {
         }
     }
 
-    // Takes all lines up to `listen`.
-    pub(crate) fn take_lines<X: AllocGlobal + Threads, R: BufRead, T: Write>(
+    // Reads and answers all lines up to `listen`.
+    pub(crate) fn read_lines<X: AllocGlobal + Threads, R: BufRead, T: Write>(
         &mut self,
         rt: &X,
         reader: &mut R,
@@ -61,7 +61,7 @@ impl<J: Naming> RestoredScript<J> {
             if !self.next(reader)? {
                 return Ok(());
             }
-            self.take(rt, told)?;
+            self.answer(rt, told)?;
             continue 'lines;
         }
     }
@@ -91,8 +91,8 @@ impl<J: Naming> RestoredScript<J> {
         self.source.next(reader)
     }
 
-    // Takes the line that was read last.
-    fn take<X: AllocGlobal + Threads, T: Write>(
+    // Answers the line that was read last.
+    fn answer<X: AllocGlobal + Threads, T: Write>(
         &mut self,
         rt: &X,
         told: &mut T,

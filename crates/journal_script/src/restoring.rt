@@ -58,6 +58,6 @@ fn restore_script<J: Naming, X: AllocGlobal + Threads, R: BufRead, T: Write>(
     ensures fails { IfErr result (λ e. e ≢ RestoreFault.NotMarked) }
 {
     let mut script = RestoredScript::<J>::begin(rt.alloc(), tables);
-    script.take_lines(rt, reader, told)?;
+    script.read_lines(rt, reader, told)?;
     script.into_restored(rt)
 }

@@ -5,9 +5,8 @@ use Rattle.std.proofs.lemmas.Option.{slice_get_within, get_or_from_slice_get}
 use Rattle.site_desk.specs.declared.plan.SitePlan.{SitePlan}
 use Rattle.site_desk.specs.declared.plan.StationPlan.{StationPlan}
 use Rattle.site_desk.specs.declared.roster.StationPlace.{StationPlace}
-use Rattle.station_cell.specs.Cell.{Cell}
 use Rattle.site_desk.specs.Roster.{AreNewPlaces, new_place}
-use Rattle.kept_desk.specs.Opened.{AreFirst, AreNames, contents_of, content_or_empty, names_of, name_or_none}
+use Rattle.kept_desk.specs.Opened.{AreNames}
 
 -- the names of places
 pub named_places : (name : ℕ → List ℕ) (sites : List SitePlan) (stations : List StationPlan) (places : List StationPlace) → AreNames name stations → AreNewPlaces sites stations places
@@ -30,11 +29,3 @@ named_places name sites stations places names new k p at =
 -- what holds of all elements holds of the one that is here
 pub all_at : {A : Type 0} (P : A → Type 0) (xs : List A) (k : ℕ) (x : A) → All P xs → slice_get xs k ≡ Some x → P x
 all_at P xs k x all at = subst P (get_or_from_slice_get xs k x x at) (all k x (slice_get_within xs k x at))
-
--- the names of a plan's stations are those
-pub names_of_plan : (stations : List StationPlan) → AreNames (names_of stations) stations
-names_of_plan stations k s at = ap name_or_none at ∙ refl
-
--- cells in their order hold what they hold
-pub first_of_cells : (cells : List Cell) → ((k : ℕ) (c : Cell) → slice_get cells k ≡ Some c → c.station ≡ k) → AreFirst (contents_of cells) cells
-first_of_cells cells order k c at = (order k c at, sym (ap content_or_empty at))

@@ -94,9 +94,9 @@ impl<K: Opening> KeptCell<K> {
         (cell, share)
     }
 
-    // Takes a command of a pass. If the ledger would accept it, its line is written first. A line that
+    // Submits a command of a pass. If the ledger would accept it, its line is written first. A line that
     // can't be written changes nothing.
-    pub(crate) fn take<J: Naming, W: Write + Drop, R: Wait>(
+    pub(crate) fn submit<J: Naming, W: Write + Drop, R: Wait>(
         &mut self,
         rt: &R,
         book: &Mutex<SiteBook<J>>,
@@ -115,7 +115,7 @@ impl<K: Opening> KeptCell<K> {
         match judgement.answer {
             Answer::Accepted(_) => {
                 let judged = Judged { command, judgement };
-                self.take_written(rt, book, at, pass, judged, way)
+                self.submit_written(rt, book, at, pass, judged, way)
             }
             Answer::Repeat => (Answer::Repeat, None, None),
             Answer::Refused(why) => (Answer::Refused(why), None, None),
@@ -123,7 +123,7 @@ impl<K: Opening> KeptCell<K> {
     }
 
     // Writes the line of a command that the ledger will accept, and then settles it.
-    fn take_written<J: Naming, W: Write + Drop, R: Wait>(
+    fn submit_written<J: Naming, W: Write + Drop, R: Wait>(
         &mut self,
         rt: &R,
         book: &Mutex<SiteBook<J>>,

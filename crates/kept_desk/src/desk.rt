@@ -193,7 +193,7 @@ impl<J: Naming, K: Opening, W: Write + Drop> KeptDesk<J, K, W> {
         ensures moments { IfErr result (λ r. r.moments.items ≡ moments.items) }
     {
         let KeptDesk { desk, log, spare } = self;
-        match desk.take_apart(passes, viewers) {
+        match desk.dismantle(passes, viewers) {
             Ok((kept, books, passes)) => {
                 let (mut log, mut cells) = (log.into_inner(), spare);
                 free_cells(kept, &mut log, &mut cells);

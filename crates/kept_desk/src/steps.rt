@@ -22,7 +22,7 @@ pub(crate) fn leave(words: &Words, share: &mut TableSeat) -> TableSeat
 }
 
 // The journal takes in what a share left.
-pub(crate) fn take_in(words: &Words, seat: &mut TableSeat, other: TableSeat)
+pub(crate) fn absorb(words: &Words, seat: &mut TableSeat, other: TableSeat)
     requires sits { Sits words.now.table_id seat.old.table_id × Sits words.now.table_id other.table_id }
     requires keeps { seat.old.me ≡ (keeping seat.old.me.0.log seat.old.me.0.made, []) }
     requires holds { other.me ≡ (holding other.me.0.station other.me.0.mine, []) }
@@ -111,7 +111,7 @@ pub(crate) fn note_entry<E: TheEntries>(
     ensures holds { share.new.me ≡ (holding station (share.old.me.0.mine ++ entry station note.now line.now command.now ∷ []), []) }
 {
     let left = leave(words, share);
-    take_in(words, seat, left);
+    absorb(words, seat, left);
     compare(words, seat);
     append::<E>(words, seat, station, note, line, command);
     *share = give(words, seat);
@@ -127,7 +127,7 @@ pub(crate) fn agree(words: &Words, seat: &mut TableSeat, share: &mut TableSeat)
     ensures own { share.old.me.0.mine ≡ of_station share.old.me.0.station seat.old.me.0.log }
 {
     let left = leave(words, share);
-    take_in(words, seat, left);
+    absorb(words, seat, left);
     compare(words, seat);
     *share = give(words, seat);
 }

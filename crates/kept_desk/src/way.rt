@@ -67,7 +67,7 @@ impl<'a, J: Naming, K: Opening, W: Write + Drop> Settles<J, KeptCell<K>, Moment<
         command: Command,
     ) -> (Answer, Option<Told<J>>, Option<Moment<K>>) {
         if can_judge(held.cell(), at.number, at.place, pass) {
-            held.take(rt, book, at, pass, command, self)
+            held.submit(rt, book, at, pass, command, self)
         } else {
             (Answer::Refused(Refusal::ChangesExhausted), None, None)
         }

@@ -37,7 +37,7 @@ impl<S: Serves, R: Threads + Wait + Clock, L: Write + Drop> Shared<'_, S, R, L> 
                 acceptor.leave();
                 return;
             };
-            if !self.workers.takes_one() {
+            if !self.workers.admits_one() {
                 acceptor.leave();
                 return;
             }

@@ -57,7 +57,7 @@ impl Workers {
     }
 
     // Counts a connection that came, and returns whether to serve it.
-    pub(crate) fn takes_one(&self) -> bool {
+    pub(crate) fn admits_one(&self) -> bool {
         self.came.fetch_add(1, Ordering::SeqCst) < self.most
     }
 

@@ -25,11 +25,6 @@ use Rattle.script_ledgers.proofs.Places.{is_station, unnamed}
 use Rattle.script_ledgers.proofs.SettledBy.{order_found, period_found}
 use Rattle.script_ledgers.proofs.Settling.{alike_running, planned_at, site_within, station_at}
 
--- what follows for a value from what is known of it
-pub some_told : {X : Type 0} (o : Option X) (P Q : X → Type 0) → ((x : X) → P x → Q x) → IfSome o P → IfSome o Q
-some_told (Some x) P Q f p = f x p
-some_told None P Q f p = p
-
 pub some_of : {X : Type 0} (o : Option X) (x : X) (P : X → Type 0) → o ≡ Some x → IfSome o P → P x
 some_of o x P e h = subst (λ p. IfSome p P) e h
 

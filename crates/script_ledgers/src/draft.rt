@@ -106,7 +106,7 @@ impl Draft {
     // Puts the answer to a line of this meaning into the reply.
     //
     // Condition: it needs no ledgers.
-    pub(crate) fn take(
+    pub(crate) fn answer_asked(
         &mut self,
         asked: ScriptLine<'_>,
         reply: &mut Vec<u8>,

@@ -71,11 +71,11 @@ impl<J: Naming> OpenedScript<J> {
                 return self.receive_ahead(sent, reply);
             }
         }
-        self.take(read_line(line), reply)
+        self.answer_asked(read_line(line), reply)
     }
 
     // Puts the answer to a line of this meaning into the reply.
-    pub(crate) fn take(
+    pub(crate) fn answer_asked(
         &mut self,
         asked: ScriptLine<'_>,
         reply: &mut Vec<u8>,
@@ -137,7 +137,7 @@ impl<J: Naming> OpenedScript<J> {
             Some(number) => {
                 self.hints.keep(name, number);
                 let asked = read_message(self.alloc, text, self.draft.moment(), &mut self.text);
-                self.take_asked(number, asked, reply)
+                self.answer_message(number, asked, reply)
             }
             None => put_fault(reply, LineFault::UnknownStation),
         }
@@ -174,7 +174,7 @@ impl<J: Naming> OpenedScript<J> {
 
     // Delivers the event of a message to the station of this number, if the message has one, and puts the answer into
     // the reply. A message that found no memory delivers nothing.
-    fn take_asked(
+    fn answer_message(
         &mut self,
         number: usize,
         asked: Asked,

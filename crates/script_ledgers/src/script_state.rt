@@ -87,7 +87,7 @@ impl<J: Naming> ScriptState<J> {
         ensures posts { OnOk result (self.new.posts ≤ self.old.posts + 1) }
     {
         match &self.declared {
-            Some(_) => self.take(rt, read_line(line), reply),
+            Some(_) => self.answer_asked(rt, read_line(line), reply),
             None => match &mut self.opened {
                 Some(opened) => opened.answer(line, reply),
                 None => Err(AllocError),
@@ -97,7 +97,7 @@ impl<J: Naming> ScriptState<J> {
 
     // Puts the answer to a line of this meaning into the reply; before, it opens the ledgers if the line
     // needs them.
-    fn take<X: AllocGlobal + Threads>(
+    fn answer_asked<X: AllocGlobal + Threads>(
         &mut self,
         rt: &X,
         asked: ScriptLine<'_>,
@@ -110,9 +110,9 @@ impl<J: Naming> ScriptState<J> {
     {
         self.open_for(rt, &asked)?;
         match &mut self.declared {
-            Some(declared) => declared.draft.take(asked, reply),
+            Some(declared) => declared.draft.answer_asked(asked, reply),
             None => match &mut self.opened {
-                Some(opened) => opened.take(asked, reply),
+                Some(opened) => opened.answer_asked(asked, reply),
                 None => Err(AllocError),
             },
         }

@@ -10,7 +10,7 @@ ghost use Rattle.site_book.specs.Tables.{HasTable, NamedBy};
 use crate::naming::Naming;
 use crate::rounds::announce;
 use crate::row::BookRow;
-use crate::steps::{recall, share, take_in};
+use crate::steps::{absorb, recall, share};
 use crate::sums::replaced;
 use crate::table::{SiteTable, TableSeat};
 use crate::tables::Tables;
@@ -181,13 +181,13 @@ impl<J: Naming> SiteBook<J> {
     }
 
     /// Takes a viewer back. The posts that it knew are the first of the book's.
-    pub fn take_viewer(&mut self, viewer: Viewer<J>)
+    pub fn absorb_viewer(&mut self, viewer: Viewer<J>)
         requires { viewer.site ≡ self.old.site }
         ensures same { self.new ≡ self.old }
         ensures known { IsPrefix viewer.posts self.old.posts }
     {
         let words = &self.table.shared;
-        take_in(words, &mut self.seat, viewer.into_seat());
+        absorb(words, &mut self.seat, viewer.into_seat());
         recall(words, &mut self.seat);
     }
 }

@@ -130,7 +130,7 @@ pub(crate) fn grow(words: &Words, seat: &mut TableSeat, other: TableSeat)
 }
 
 // The book joins a viewer's seat.
-pub(crate) fn take_in(words: &Words, seat: &mut TableSeat, other: TableSeat)
+pub(crate) fn absorb(words: &Words, seat: &mut TableSeat, other: TableSeat)
     requires sits { Sits words.now.table_id seat.old.table_id × Sits words.now.table_id other.table_id }
     requires no_slots { other.me.1 ≡ [] }
     requires rests { seat.old.me ≡ (writing seat.old.me.0.log [] [] 0, []) }

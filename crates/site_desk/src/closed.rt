@@ -39,7 +39,7 @@ impl<J: Naming> Model for Closed<J> {
 impl<J: Naming> Closed<J> {
     /// The closed desk of what was under a desk's locks, and its passes.
     ///
-    /// Condition: each cell's row is tied, as [`Desk::take_apart`] ensures.
+    /// Condition: each cell's row is tied, as [`Desk::dismantle`] ensures.
     pub fn of(cells: Vec<StationCell>, books: Vec<SiteBook<J>>, passes: Vec<Pass>) -> Self
         requires { AreTied cells.items books.items }
         ensures { result ≡ record { cells = cells.items; books = books.items; passes = passes.items } }

@@ -22,7 +22,7 @@ use crate::closed::{CloseRefused, Closed};
 use crate::fault::{BoardFault, DeskFault, EnlistFault};
 use crate::gate::Gate;
 use crate::has_cell::HasCell;
-use crate::locks::{Locked, Spare, lock_up, take_viewers, unlock};
+use crate::locks::{Locked, Spare, give_back_viewers, lock_up, unlock};
 use crate::notes::Notes;
 use crate::operator::{
     hold_stations, listing_of, noted_boards_of, site_boards_of, sum_of, totals_of,
@@ -135,7 +135,7 @@ impl<J: Naming> Desk<J, StationCell> {
         ensures passes { IfErr result (λ r. r.passes ≡ passes.items) }
         ensures viewers { IfErr result (λ r. r.viewers ≡ viewers.items) }
     {
-        match self.take_apart(passes, viewers) {
+        match self.dismantle(passes, viewers) {
             Ok((cells, books, passes)) => Ok(Closed::of(cells, books, passes)),
             Err(refused) => Err(refused),
         }
@@ -400,7 +400,7 @@ impl<J: Naming, C: HasCell> Desk<J, C> {
     /// Moves all values out of their locks and compares them as [`Desk::close`] does, and only then gives
     /// anything up. It returns what was behind the stations' locks and the books, both in the plan's order, and
     /// the passes. The error gives all back as it was, with the fault.
-    pub fn take_apart(
+    pub fn dismantle(
         self,
         passes: Vec<Pass>,
         viewers: Vec<Viewer<J>>,
@@ -431,7 +431,7 @@ impl<J: Naming, C: HasCell> Desk<J, C> {
         unlock(&mut locked_books, &mut books);
         match fault_of(&places, given, &cells, &books, &passes, &viewers) {
             None => {
-                take_viewers(&mut books, viewers);
+                give_back_viewers(&mut books, viewers);
                 Ok((cells, books, passes))
             }
             Some(fault) => {

@@ -11,7 +11,7 @@
 //! [`Desk::station_board`] and `site_boards` take memory.
 //!
 //! A desk may keep more than a cell behind a station's lock, as one with a journal does: any type that [`HasCell`]
-//! ([`Desk::over`], [`Desk::take_apart`]). It then takes commands in a way of its own that [`Settles`]
+//! ([`Desk::over`], [`Desk::dismantle`]). It then takes commands in a way of its own that [`Settles`]
 //! ([`Desk::submit_by`]; its parts are [`can_judge`] and [`settle_at`]). If a change that was already written can't be
 //! settled, the cell leaves service ([`StationCell::retire`]).
 //!

@@ -33,26 +33,26 @@ impl<J: Naming, C: Drop> Spare<J, C> {
 }
 
 // Gives each viewer back to its site's book.
-pub(crate) fn take_viewers<J: Naming>(books: &mut Vec<SiteBook<J>>, viewers: Vec<Viewer<J>>)
+pub(crate) fn give_back_viewers<J: Naming>(books: &mut Vec<SiteBook<J>>, viewers: Vec<Viewer<J>>)
     requires numbers { (site : ℕ) (b : Book) → slice_get books.old.items site ≡ Some b → b.site ≡ site }
     requires viewed { AreViewed (length books.old.items) viewers.items }
     ensures same { books.new.items ≡ books.old.items }
     ensures seen { All (Saw books.old.items) viewers.items }
 {
     for viewer in viewers {
-        take_viewer(books, viewer);
+        give_back_viewer(books, viewer);
     }
 }
 
 // Gives a viewer back to its site's book.
-fn take_viewer<J: Naming>(books: &mut Vec<SiteBook<J>>, viewer: Viewer<J>)
+fn give_back_viewer<J: Naming>(books: &mut Vec<SiteBook<J>>, viewer: Viewer<J>)
     requires numbers { (site : ℕ) (b : Book) → slice_get books.old.items site ≡ Some b → b.site ≡ site }
     requires viewed { viewer.site < length books.old.items }
     ensures same { books.new.items ≡ books.old.items }
     ensures seen { Saw books.old.items viewer }
 {
     let book = &mut books[viewer.site() as usize];
-    book.take_viewer(viewer);
+    book.absorb_viewer(viewer);
 }
 
 // Puts each value behind a lock of its own, in order.

@@ -40,7 +40,7 @@ fn add_at_evse(evses: &mut Vec<EvseSum>, s: Standing)
 }
 
 // Takes a transaction out of the sums of its EVSE.
-fn take_at_evse(evses: &mut Vec<EvseSum>, s: Standing)
+fn subtract_at_evse(evses: &mut Vec<EvseSum>, s: Standing)
     requires all { length evses.old.items ≡ greatest_evse + 1 }
     requires counts { CountsAt s.evse (Some s) (sum_at evses.old.items s.evse) }
     ensures all { length evses.new.items ≡ greatest_evse + 1 }
@@ -68,7 +68,7 @@ pub(crate) fn move_at_evses(evses: &mut Vec<EvseSum>, change: &Change)
         add_at_evse(evses, s);
     }
     if let Some(s) = was {
-        take_at_evse(evses, s);
+        subtract_at_evse(evses, s);
     }
 }
 

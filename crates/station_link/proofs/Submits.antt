@@ -1,7 +1,6 @@
 -- What a desk answers to the delivery of an event.
-use Rattle.std.proofs.Common.{◌≡◌, ℕ, ◌≤◌, List, Option, None, Some, Result, Ok, Err, true, length, refl, sym, subst, cond, ltb, Bool, false, inl, ap, ◌∙◌, arith, slice_get}
-use Rattle.std.specs.Prelude.{IfOk, OnErr, codes}
-use Rattle.std.proofs.lemmas.Bool.Decides.{nat_tests}
+use Rattle.std.proofs.Common.{◌≡◌, List, Option, None, Some, Result, Ok, Err, true, refl, sym, subst, arith, slice_get}
+use Rattle.std.specs.Prelude.{IfOk, OnErr}
 use Rattle.ledger_model.specs.declared.answer.Answer.{Answer}
 use Rattle.ledger_model.specs.declared.answer.Answer.TheVariants.{Accepted, Repeat, Refused}
 use Rattle.ledger_model.specs.declared.answer.Refusal.TheVariants.{ConflictingEvent, TooManyTransactions, EventsFull, ReadingsFull, NoSuchEvent, AlreadyVoided, NotVoided, ChangesExhausted}
@@ -9,19 +8,13 @@ use Rattle.ledger_model.specs.declared.command.Command.{Command}
 use Rattle.ledger_model.specs.declared.command.Command.TheVariants.{Deliver}
 use Rattle.ledger_model.specs.Event.{EventContent}
 use Rattle.ledger_model.specs.Key.{KeyName}
-use Rattle.ocppj_frame.specs.declared.action.Action.TheVariants.{BootNotification, Heartbeat, StatusNotification, MeterValues, TransactionEvent}
-use Rattle.ocppj_frame.specs.Frame.{Frame, Called, Ready, Silence, frame}
-use Rattle.ocppj_frame.specs.Ranges.{longest_message}
 use Rattle.site_book.specs.Book.{Known}
 use Rattle.site_desk.specs.declared.roster.StationPlace.{StationPlace}
 use Rattle.station_cell.specs.Cell.{Held}
 use Rattle.site_desk.specs.Submit.{IsAnswered, IsUnchanged, Submitted}
 use Rattle.transaction_event.specs.Laws.{EachDeliveryIsAnswered}
-use Rattle.transaction_event.specs.Message.{Event, meaning_of, message}
-use Rattle.transaction_event.specs.MessageMeaning.{IsMemoryReply}
-use Rattle.transaction_event.specs.Request.{Request}
-use Rattle.transaction_event.specs.Reply.{answers_delivery, memory_reply}
-use Rattle.station_link.specs.Answer.{IsNextPass, IsSubmitted, TellsMemory}
+use Rattle.transaction_event.specs.Reply.{answers_delivery}
+use Rattle.station_link.specs.Answer.{IsNextPass, IsSubmitted}
 
 -- an answer of the step to a delivery has a reply
 by_step : (at : StationPlace) (p : Held) (key : KeyName) (event : EventContent) (a : Answer) (p' : Held) (told : Option Known)
@@ -102,30 +95,3 @@ delivered_pass stations p command (Ok r) p' h same = submitted_pass stations p c
 delivered_pass stations p command (Err e) p' h same =
     let P : Held → Type 0 = λ q. IsNextPass p q in
     subst P (sym same) (record { station = refl; changes = omega arith })
-
--- the reply that reports OutOfMemory
-memory_at : (f : Frame) → IsMemoryReply f (memory_reply (codes "-1"))
-memory_at (Called id TransactionEvent payload) = inl refl
-memory_at (Called id BootNotification payload) = refl
-memory_at (Called id Heartbeat payload) = refl
-memory_at (Called id StatusNotification payload) = refl
-memory_at (Called id MeterValues payload) = refl
-memory_at Silence = refl
-memory_at (Ready reply) = refl
-
-pub memory_told : {M : Type 0} (words reply : List ℕ) (p p' : Held) → reply ≡ memory_reply (codes "-1") → p' ≡ p → TellsMemory {M = M} words p (Some reply) p' None None
-memory_told words reply p p' is same = record {
-  reply = reply;
-  tells = subst (IsMemoryReply (frame words)) (sym is) (memory_at (frame words));
-  ready = record { same = refl; unchanged = record { pass = same; untold = refl }; nothing = refl };
-}
-
-too_long : (b : Bool) (reply : List ℕ) (rest : Frame) (now : ℕ) (id : List ℕ) (request : Request) → meaning_of now (cond b (Ready reply) rest) ≡ Event id request → b ≡ false
-too_long true reply rest now id request e = cc e
-too_long false reply rest now id request e = refl
-
--- a text that asks for an event is no longer than a message may be
-pub event_is_short : (words : List ℕ) (now : ℕ) (id : List ℕ) (request : Request) → message words now ≡ Event id request → length words ≤ longest_message
-event_is_short words now id request e =
-    let fits : ltb longest_message (length words) ≡ false = too_long (ltb longest_message (length words)) _ _ now id request e in
-    grind (arith, nat_tests, fits)

@@ -58,7 +58,7 @@ fn learnt<J: Naming>(viewer: &mut Viewer<J>, told: Told<J>) -> bool {
 fn is_taken<J: Naming>(book: &mut SiteBook<J>, viewer: Viewer<J>) -> bool {
     let is_mine = viewer.site() == book.site();
     if is_mine {
-        book.take_viewer(viewer);
+        book.absorb_viewer(viewer);
     }
     is_mine
 }

@@ -2,5 +2,5 @@ use Rattle.std.proofs.Common.{subst}
 use Rattle.site_desk.specs.Submit.{CanJudge}
 use Rattle.kept_desk.proofs.way.JournalledSettlesKeptCellMoment.settle.Goals as goal
 
-pub take-requires-clause-can : goal.take-requires-clause-can
-take-requires-clause-can g c = subst (λ d. CanJudge c.args.at.number c.args.at.place.now d c.args.pass.now) c.cell.ensures (c.can_judge.ensures c.if-can_judge.true)
+pub submit-requires-clause-can : goal.submit-requires-clause-can
+submit-requires-clause-can g c = subst (λ d. CanJudge c.args.at.number c.args.at.place.now d c.args.pass.now) c.cell.ensures (c.can_judge.ensures c.if-can_judge.true)

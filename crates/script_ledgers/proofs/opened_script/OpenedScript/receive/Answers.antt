@@ -12,15 +12,15 @@ returns-in-Some-clause-step g c =
     let s = c.args.self.now in
     let of = is_of s.draft s.cells.items s.books.items s.passes.items s.running c.args.name.now c.in-Some.number c.station_number.result c.station_number.ensures c.in-Some.is in
     let old = script_of s in
-    let new = script_of c.take_asked.new.self in
+    let new = script_of c.answer_message.new.self in
     let m = with_reply c.read_message-asked.result c.read_message-asked.new.reply in
-    let reply = c.take_asked.new.reply.items in
+    let reply = c.answer_message.new.reply.items in
     let means = subst (λ n. IsMeaningOf c.args.text.now n m) c.moment.ensures c.read_message-asked.ensures.meaning in
-    ok_told c.take_asked.result _ _
+    ok_told c.answer_message.result _ _
     (λ h.
     let took = some_of _ of.at.station (λ t. TakesMessage old new t m reply) of.at.there h in
     received old new _ of.at.station m reply c.args.text.now refl of.named means took)
-    c.take_asked.ensures.takes
+    c.answer_message.ensures.takes
 
 pub returns-in-None-clause-step : goal.returns-in-None-clause-step
 returns-in-None-clause-step g c =

@@ -1,7 +1,7 @@
 use Rattle.std.proofs.Common.{refl, ap, rules}
 use Rattle.site_book.specs.Rule.{shown}
 use Rattle.site_book.proofs.Moves.{takes_in_as}
-use Rattle.site_book.proofs.steps.take_in.Goals as goal
+use Rattle.site_book.proofs.steps.absorb.Goals as goal
 
 pub join_seat-requires : goal.join_seat-requires
 join_seat-requires c = (search rules, search rules, search rules, search rules, takes_in_as shown 9 (λ _. refl) _ _ _ _ (ap (λ m. m.0) c.requires.rests))

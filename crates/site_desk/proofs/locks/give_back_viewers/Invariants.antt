@@ -1,7 +1,7 @@
 use Rattle.std.proofs.Common.{◌≡◌}
 use Rattle.std.specs.Prelude.{All}
 use Rattle.site_desk.specs.Close.{Saw}
-use Rattle.site_desk.proofs.locks.take_viewers.Given as goal
+use Rattle.site_desk.proofs.locks.give_back_viewers.Given as goal
 
 -- the books stay, and what the viewers so far knew begins their posts
 abbrev pub invariant-loop-viewer : goal.invariant-loop-viewer

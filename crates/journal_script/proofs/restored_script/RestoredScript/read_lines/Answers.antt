@@ -5,7 +5,7 @@ use Rattle.journal_script.specs.Place.{place_of}
 use Rattle.journal_script.specs.Reading.{Place, ReadsLine, held_line, read_line, read_on}
 use Rattle.journal_script.proofs.LinesRead.{Goes, goes_on, goes_same, goes_until, one_less}
 use Rattle.journal_script.proofs.Growing.{grows_on}
-use Rattle.journal_script.proofs.restored_script.RestoredScript.take_lines.Goals as goal
+use Rattle.journal_script.proofs.restored_script.RestoredScript.read_lines.Goals as goal
 
 pub lines-preserved : goal.lines-preserved
 lines-preserved g c =
@@ -16,7 +16,7 @@ lines-preserved g c =
     let before = c.lines.self in
     let here = c.look.new.self in
     let next = c.next.new.self in
-    let new = c.take.new.self in
+    let new = c.answer.new.self in
     let held = next.source.lines.held.items in
     let r0 = g.R.Read.remaining c.args.reader.now in
     let r1 = g.R.Read.remaining c.lines.reader in
@@ -31,14 +31,14 @@ lines-preserved g c =
     let reads = subst (λ k. ReadsLine k here.source.lines.room next.source.lines.room more r.0 held) kept r.2 in
     let same = c.next.ensures.most ∙ kept in
     let line = ap (λ s. read_line s (held_line next.source.lines)) c.next.ensures.standing ∙ ap (λ k. read_line (place_of here).standing (line_of Feed k held)) same in
-    let step = c.in_ok-take.ensures.step in
+    let step = c.in_ok-answer.ensures.step in
     let on = goes_on most room here.source.lines.room first (place_of here).standing r0 r2 goes more next.source.lines.room r.0 held
     r3 reads r.1 (read_on (place_of next)).standing line c.if-not-branch.false in
     let less = one_less most here.source.lines.room next.source.lines.room more r.0 held reads in (
       subst (λ (p : Place). Goes most room p.lines.room first p.standing r0 r3) (sym step) on,
       ap (λ (p : Place). p.lines.max_line_bytes) step ∙ same,
-      omega (arith, c.in_ok-take.ensures.posts, c.next.ensures.posts, c.look.ensures.posts, c.lines.invariant.2, ap (λ (p : Place). p.lines.room) looked, ap (λ (p : Place). p.lines.room) step, less),
-      grows_on _ _ _ c.lines.invariant.3 c.in_ok-take.ensures.grows,
+      omega (arith, c.in_ok-answer.ensures.posts, c.next.ensures.posts, c.look.ensures.posts, c.lines.invariant.2, ap (λ (p : Place). p.lines.room) looked, ap (λ (p : Place). p.lines.room) step, less),
+      grows_on _ _ _ c.lines.invariant.3 c.in_ok-answer.ensures.grows,
     )
 
 pub returns-then-not-branch-clause-reads : goal.returns-then-not-branch-clause-reads

@@ -12,7 +12,7 @@ use Rattle.kept_desk.specs.Kept.{IsReceived}
 use Rattle.kept_desk.specs.Speaking.{SpeaksOf}
 use Rattle.kept_desk.proofs.Left.{kept_more}
 use Rattle.kept_desk.proofs.Received.{received}
-use Rattle.kept_desk.proofs.cell.KeptCell.take_written.Goals as goal
+use Rattle.kept_desk.proofs.cell.KeptCell.submit_written.Goals as goal
 
 pub write-requires-clause-speaks : goal.write-requires-clause-speaks
 write-requires-clause-speaks g c =

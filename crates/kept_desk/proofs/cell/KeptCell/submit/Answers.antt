@@ -6,16 +6,16 @@ use Rattle.site_book.specs.Book.{Book}
 use Rattle.station_cell.specs.Settle.{cell_after}
 use Rattle.station_cell.proofs.Settled.{judged_here}
 use Rattle.site_desk.proofs.Submits.{submitted}
-use Rattle.kept_desk.proofs.cell.KeptCell.take.Goals as goal
+use Rattle.kept_desk.proofs.cell.KeptCell.submit.Goals as goal
 
-pub take_written-requires-clause-judged : goal.take_written-requires-clause-judged
-take_written-requires-clause-judged g c =
+pub submit_written-requires-clause-judged : goal.submit_written-requires-clause-judged
+submit_written-requires-clause-judged g c =
     judged_here _ _ _ _ c.args.command c.judgement-judgement.result.answer
     (c.ledger.ensures.limits ∙ ap (λ d. d.limits) c.self.view_is) (c.ledger.ensures.content ∙ ap (λ d. d.content) c.self.view_is)
     c.judgement-judgement.ensures
 
-pub take_written-requires-clause-accepted : goal.take_written-requires-clause-accepted
-take_written-requires-clause-accepted g c = subst IsAccepted (sym c.in-Accepted.is) tt
+pub submit_written-requires-clause-accepted : goal.submit_written-requires-clause-accepted
+submit_written-requires-clause-accepted g c = subst IsAccepted (sym c.in-Accepted.is) tt
 
 pub returns-in-Repeat-clause-submitted : goal.returns-in-Repeat-clause-submitted
 returns-in-Repeat-clause-submitted g c =

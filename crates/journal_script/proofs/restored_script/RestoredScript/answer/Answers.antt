@@ -1,7 +1,7 @@
 use Rattle.std.proofs.Common.{◌≡◌, ◌∙◌, ℕ, List, ap, sym, rules}
 use Rattle.script_ledgers.specs.Script.{line_step}
 use Rattle.journal_script.specs.Reading.{held_line}
-use Rattle.journal_script.proofs.restored_script.RestoredScript.take.Goals as goal
+use Rattle.journal_script.proofs.restored_script.RestoredScript.answer.Goals as goal
 
 pub returns-clause-step : goal.returns-clause-step
 returns-clause-step g c =
