@@ -43,4 +43,3 @@ module _ {M : Type 0} (shows : ℕ → List (List ℕ × Board) → M → Type 0
   of_browsed request.NotAllowed h = nothing_seen h.1
   of_browsed request.Malformed h = nothing_seen h.1
   of_browsed request.Unfinished h = nothing_seen h.1
-  of_browsed request.NoRoom h = nothing_seen h.1

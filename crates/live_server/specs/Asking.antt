@@ -4,7 +4,7 @@ use Rattle.httparse.specs.Grammar.{HasNoRequest, MayBecomeRequest, ReadsRequest,
 use Rattle.httparse.specs.Spans.{RequestOverflows}
 use Rattle.ledger_model.specs.Name.{is_name}
 use Rattle.live_server.specs.declared.request.Request.{Request}
-use Rattle.live_server.specs.declared.request.Request.TheVariants.{Unfinished, Malformed, NoRoom, NotAllowed, Sites, Board, Elsewhere}
+use Rattle.live_server.specs.declared.request.Request.TheVariants.{Unfinished, Malformed, NotAllowed, Sites, Board, Elsewhere}
 
 -- The path of the board of a site of this name.
 abbrev pub board_path : List ℕ → List ℕ
@@ -14,7 +14,6 @@ board_path name = codes "/board/" ++ name
 abbrev pub AsksAt : List ℕ → Request → Type 0
 AsksAt path Unfinished = ⊥
 AsksAt path Malformed = ⊥
-AsksAt path NoRoom = ⊥
 AsksAt path NotAllowed = ⊥
 AsksAt path Sites = path ≡ codes "/"
 AsksAt path (Board name) = path ≡ board_path name
@@ -36,7 +35,6 @@ IsGet request head = (head.method ≡ codes "GET") × AsksAt head.target request
 abbrev pub IsAskedBy : List ℕ → Request → Type 0
 IsAskedBy bytes Unfinished = HasNoRequest bytes × MayBecomeRequest bytes
 IsAskedBy bytes Malformed = RequestOverflows 64 bytes
-IsAskedBy bytes NoRoom = ⊥
 IsAskedBy bytes NotAllowed = HasHead bytes (λ head. head.method ≢ codes "GET")
 IsAskedBy bytes Sites = HasHead bytes (IsGet Sites)
 IsAskedBy bytes (Board name) = HasHead bytes (IsGet (Board name))

@@ -49,7 +49,6 @@ IsBrowsed shows sites places request.Elsewhere bytes seen = IsStatus NotFound by
 IsBrowsed shows sites places request.NotAllowed bytes seen = IsStatus NotAllowed bytes seen
 IsBrowsed shows sites places request.Malformed bytes seen = IsStatus Malformed bytes seen
 IsBrowsed shows sites places request.Unfinished bytes seen = IsStatus Malformed bytes seen
-IsBrowsed shows sites places request.NoRoom bytes seen = IsStatus NoMemory bytes seen
 
 -- An answer to a request, and what was seen with it was put behind what was seen before.
 abbrev pub IsNoted : {M : Type 0} → (ℕ → List (List ℕ × Board) → M → Type 0) → List SitePlan → List StationPlace → Request → List ℕ → List M → List M → Type 0

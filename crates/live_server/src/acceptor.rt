@@ -36,7 +36,7 @@ impl Acceptors {
 // A listener, and how many threads came to it, wait there, and have left it for good.
 #[derive(Drop)]
 pub(crate) struct Acceptor {
-    listener: TcpListener,
+    pub(crate) listener: TcpListener,
     entered: AtomicU64,
     waiting: AtomicU64,
     left: AtomicU64,

@@ -76,7 +76,8 @@ impl<S: Serves, R: Wait + Clock, L: Write + Drop> Shared<'_, S, R, L> {
         let Ok(mut stream) = ConnectionStream::open(&connection, stream) else {
             return;
         };
-        let Ok(request) = request_of(self.alloc, &mut stream) else {
+        let mut head = [0; MAX_HEAD];
+        let Ok(request) = read_head(&mut stream, &mut head) else {
             return;
         };
         connection.serves();
@@ -142,22 +143,7 @@ fn write_answer<R: Wait + Clock>(
     Ok(())
 }
 
-// The request of a stream, read until its head has come.
-fn request_of<S: Read>(alloc: Global, stream: &mut S) -> io::Result<Request> {
-    match room_of(alloc) {
-        Ok(mut head) => read_head(stream, &mut head),
-        Err(_) => Ok(Request::NoRoom),
-    }
-}
-
-// A buffer for a head.
-fn room_of(alloc: Global) -> Result<Vec<u8>, AllocError> {
-    let mut head = Vec::new(alloc);
-    head.resize(MAX_HEAD, 0)?;
-    Ok(head)
-}
-
-// Reads a head into this buffer, and no more than it needs.
+// The request of a stream, whose head is read into this buffer; it reads no more than it needs.
 fn read_head<S: Read>(stream: &mut S, head: &mut [u8]) -> io::Result<Request> {
     let mut held = 0;
     for _ in 0..head.len() {
@@ -207,7 +193,6 @@ fn answer<S: Serves, R: Wait>(
         Request::Elsewhere => told(alloc, Status::NotFound),
         Request::NotAllowed => told(alloc, Status::NotAllowed),
         Request::Malformed | Request::Unfinished => told(alloc, Status::Malformed),
-        Request::NoRoom => told(alloc, Status::NoMemory),
     }
 }
 

@@ -24,40 +24,24 @@ impl Acceptors {
             Some(listener) => listener,
             None => listen(rt, live.port)?,
         };
-        let browsers = listen_for_browsers(rt, live.board_port)?;
-        tell(&stations, browsers.as_ref(), output)?;
-        Ok(Acceptors {
-            stations: Acceptor::new(stations),
-            browsers: match browsers {
-                Some(listener) => Some(Acceptor::new(listener)),
-                None => None,
-            },
-        })
+        let browsers = match live.board_port {
+            Some(port) => Some(Acceptor::new(listen(rt, port)?)),
+            None => None,
+        };
+        let stations = Acceptor::new(stations);
+        let acceptors = Acceptors { stations, browsers };
+        acceptors.tell(output)?;
+        Ok(acceptors)
     }
-}
 
-// The listener of browsers, if a port is asked for.
-fn listen_for_browsers<R: Sockets>(
-    rt: &R,
-    port: Option<u16>,
-) -> Result<Option<TcpListener>, ServiceFault> {
-    match port {
-        Some(port) => Ok(Some(listen(rt, port)?)),
-        None => Ok(None),
-    }
-}
-
-// Writes the lines of the ports.
-fn tell<W: Write>(
-    stations: &TcpListener,
-    browsers: Option<&TcpListener>,
-    output: &mut W,
-) -> Result<(), ServiceFault>
-    ensures { OnOk result ((port : ℕ) × (browsers : Option ℕ) × Appends (W.contents output.old) (W.contents output.new) (ports port browsers)) }
-{
-    tell_port(stations, "listening", output)?;
-    match browsers {
-        Some(listener) => tell_port(listener, "boards", output),
-        None => Ok(()),
+    // Writes the lines of the ports.
+    fn tell<W: Write>(&self, output: &mut W) -> Result<(), ServiceFault>
+        ensures { OnOk result ((port : ℕ) × (browsers : Option ℕ) × Appends (W.contents output.old) (W.contents output.new) (ports port browsers)) }
+    {
+        tell_port(&self.stations.listener, "listening", output)?;
+        match &self.browsers {
+            Some(acceptor) => tell_port(&acceptor.listener, "boards", output),
+            None => Ok(()),
+        }
     }
 }

@@ -18,8 +18,6 @@ pub(crate) enum Request {
     Unfinished,
     // No request, whatever bytes follow.
     Malformed,
-    // There was no room for its head.
-    NoRoom,
     // Another method than GET.
     NotAllowed,
     // The list of sites.

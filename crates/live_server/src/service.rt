@@ -111,35 +111,18 @@ pub fn serve_plan_at<S: Serves + Sync, R: Host, I: Input, W: Output, L: Output>(
     let acceptors = Acceptors::open(rt, listener, live, &mut output)?;
     let running = Running::open(plan, serves, passes);
     let shared = Shared::open(rt, rt.alloc(), running, live, lines)?;
-    Ok(serve_all(shared, &acceptors, live.glances, viewers, input, output))
-}
-
-// Serves to the end, and takes the passes from the pool.
-fn serve_all<S: Serves + Sync, R: Host, I: Input, W: Output, L: Output>(
-    shared: Shared<'_, S, R, L>,
-    acceptors: &Acceptors,
-    glances: u16,
-    viewers: Viewers<S>,
-    input: &mut I,
-    output: W,
-) -> Ran<S, W>
-    ensures answered { All (IsAnswered S.gives) result.answers.items }
-    ensures boards { All (IsSeenWithBoards (S.shows shared.entry.running.serves.now)) result.boards.items }
-    ensures tells { IfOk result.ended (λ seen. AddsReplies S.gives (S.shows shared.entry.running.serves.now) shared.entry.running.plan.now.sites.items shared.entry.running.desk.now.stations
-        (lines_in (operator_input shared.entry.connections (I.remaining input.old))) (W.contents output) (W.contents result.output) seen.items) }
-{
     let (ended, boards, viewers, output) = serve_beside(
-        &shared, acceptors, glances, viewers, input, output,
+        &shared, &acceptors, viewers, input, output,
     );
     let (passes, answers) = shared.into_parts();
-    Ran {
+    Ok(Ran {
         passes,
         viewers,
         answers,
         boards,
         ended,
         output,
-    }
+    })
 }
 
 // The result at the end of the threads: how the operator's lines ended, what was seen with boards in browsers, the
@@ -155,13 +138,12 @@ type Ended<S, W> = (
 fn serve_beside<S: Serves + Sync, R: Host, I: Input, W: Output, L: Output>(
     shared: &Shared<'_, S, R, L>,
     acceptors: &Acceptors,
-    glances: u16,
     viewers: Viewers<S>,
     input: &mut I,
     output: W,
 ) -> Ended<S, W>
     ensures tells { IfOk result.0 (λ seen. AddsReplies S.gives (S.shows shared.now.running.serves.now) shared.now.running.plan.now.sites.items shared.now.running.desk.now.stations
-        (lines_in (operator_input shared.now.connections (I.remaining input.old))) (W.contents output) (W.contents result.3) seen.items) }
+        (lines_in (operator_input shared.now.live.connections (I.remaining input.old))) (W.contents output) (W.contents result.3) seen.items) }
     ensures boards { All (IsSeenWithBoards (S.shows shared.now.running.serves.now)) result.1.items }
 {
     thread::scope(
@@ -170,14 +152,18 @@ fn serve_beside<S: Serves + Sync, R: Host, I: Input, W: Output, L: Output>(
         |scope| -> Ended<S, W>
             requires { IsSync R.row × IsSend S.Names.row × IsSync S.Names.row × IsSend S.Cell.row × IsSend S.Seen.row × IsSync S.row × IsSend L.row }
             ensures { IfOk result.0 (λ seen. AddsReplies S.gives (S.shows shared.entry.now.running.serves.now) shared.entry.now.running.plan.now.sites.items shared.entry.now.running.desk.now.stations
-                (lines_in (operator_input shared.entry.now.connections (I.remaining input.entry.now))) (W.contents output) (W.contents result.3) seen.items)
+                (lines_in (operator_input shared.entry.now.live.connections (I.remaining input.entry.now))) (W.contents output) (W.contents result.3) seen.items)
                 × All (IsSeenWithBoards (S.shows shared.entry.now.running.serves.now)) result.1.items }
         {
             let mut own = output;
             let watching = Stack::new()
                 .stack_size(SMALL_STACK)
-                .spawn_scoped_with(scope, Anything, move || shared.watch(glances, viewers));
-            let (ended, boards) = serve_until_end(scope, shared, acceptors, input, &mut own);
+                .spawn_scoped_with(scope, Anything, move || shared.watch(viewers));
+            let (is_started, browsing) = start_all(scope, shared, acceptors);
+            let ended = answer_lines(shared, is_started, input, &mut own);
+            shared.workers.closing.store(true, Ordering::SeqCst);
+            acceptors.call_away(shared.rt);
+            let boards = seen_with_boards(shared.rt, shared.alloc, shared.running.serves, browsing);
             let viewers = match watching {
                 Ok(watching) => watching.join(shared.rt),
                 Err(refused) => (refused.value)(),
@@ -185,38 +171,6 @@ fn serve_beside<S: Serves + Sync, R: Host, I: Input, W: Output, L: Output>(
             (ended, boards, viewers, own)
         },
     )
-}
-
-// How the operator's lines ended, with what was seen of the desk's journal with their answers, and what was seen with
-// boards in browsers.
-type Seen<S> = (
-    Result<Vec<<S as Delivers>::Seen>, ServiceFault>,
-    Vec<<S as Delivers>::Seen>,
-);
-
-// Starts the threads at both acceptors, answers the operator's lines or waits until as many connections have ended as
-// it serves, and then waits until the threads have left.
-fn serve_until_end<'s, E: 's, S: Serves + Sync, R: Host, I: Input, W: Output, L: Output>(
-    scope: &'s Scope<'s, E>,
-    shared: &'s Shared<'_, S, R, L>,
-    acceptors: &'s Acceptors,
-    input: &mut I,
-    output: &mut W,
-) -> Seen<S>
-    ensures tells { IfOk result.0 (λ seen. AddsReplies S.gives (S.shows shared.now.running.serves.now) shared.now.running.plan.now.sites.items shared.now.running.desk.now.stations
-        (lines_in (operator_input shared.now.connections (I.remaining input.old))) (W.contents output.old) (W.contents output.new) seen.items) }
-    ensures boards { All (IsSeenWithBoards (S.shows shared.now.running.serves.now)) result.1.items }
-{
-    let (is_started, browsing) = start_all(scope, shared, acceptors);
-    let ended = if is_started {
-        answer_lines(shared, input, output)
-    } else {
-        Err(ServiceFault::OutOfMemory)
-    };
-    shared.workers.closing.store(true, Ordering::SeqCst);
-    acceptors.call_away(shared.rt);
-    let boards = seen_with_boards(shared.rt, shared.alloc, shared.running.serves, browsing);
-    (ended, boards)
 }
 
 // What was seen with boards in browsers, once their thread has ended.
@@ -235,16 +189,19 @@ fn seen_with_boards<S: Serves, R: Threads>(
     }
 }
 
-// Answers the operator's lines to their end, or waits until as many connections have ended as it serves.
+// Answers the operator's lines to their end, or waits until as many connections have ended as it serves. Without all
+// its threads it serves nobody.
 fn answer_lines<S: Serves, R: Host, I: Input, W: Output, L: Output>(
     shared: &Shared<'_, S, R, L>,
+    is_started: bool,
     input: &mut I,
     output: &mut W,
 ) -> Result<Vec<S::Seen>, ServiceFault>
     ensures { IfOk result (λ seen. AddsReplies S.gives (S.shows shared.now.running.serves.now) shared.now.running.plan.now.sites.items shared.now.running.desk.now.stations
-        (lines_in (operator_input shared.now.connections (I.remaining input.old))) (W.contents output.old) (W.contents output.new) seen.items) }
+        (lines_in (operator_input shared.now.live.connections (I.remaining input.old))) (W.contents output.old) (W.contents output.new) seen.items) }
 {
-    match shared.connections {
+    match shared.live.connections {
+        _ if !is_started => Err(ServiceFault::OutOfMemory),
         None => operate(shared.rt, shared.alloc, &shared.running, input, output),
         Some(_) => {
             shared.workers.wait_for_all(shared.rt);

@@ -24,8 +24,7 @@ pub(crate) struct Shared<'a, S: Serves, R, L: Write + Drop> {
     pub(crate) rt: &'a R,
     pub(crate) alloc: Global,
     pub(crate) running: Running<'a, S>,
-    // After how many connections the server ends; `None` if its operator's lines end it.
-    pub(crate) connections: Option<u8>,
+    pub(crate) live: Live,
     pub(crate) workers: Workers,
     pub(crate) log: Log<L>,
     pub(crate) near: NearLimits,
@@ -45,7 +44,7 @@ impl<'a, S: Serves, R, L: Write + Drop> Shared<'a, S, R, L> {
         ensures plan { IfOk result (λ s. s.running.plan.now ≡ running.entry.plan.now) }
         ensures serves { IfOk result (λ s. s.running.serves.now ≡ running.entry.serves.now) }
         ensures desk { IfOk result (λ s. s.running.desk.now ≡ running.entry.desk.now) }
-        ensures connections { IfOk result (λ s. s.connections ≡ live.connections) }
+        ensures live { IfOk result (λ s. s.live ≡ live) }
     {
         let near = NearLimits::open(alloc, running.plan)?;
         let workers = Workers::open(alloc, running.plan, live.connections)?;
@@ -53,7 +52,7 @@ impl<'a, S: Serves, R, L: Write + Drop> Shared<'a, S, R, L> {
             rt,
             alloc,
             running,
-            connections: live.connections,
+            live,
             workers,
             log: Log::open(lines, live.is_logged),
             near,

@@ -12,14 +12,14 @@ use std::time::{Clock, Duration};
 const SECONDS_BETWEEN: u64 = 1;
 
 impl<S: Serves, R: Wait + Clock, L: Write + Drop> Shared<'_, S, R, L> {
-    // Glances `glances` times at the totals of each viewer's site, a second apart, and reports them. If an operator
-    // ends the server, it glances until then.
-    pub(crate) fn watch(&self, glances: u16, mut viewers: Viewers<S>) -> Viewers<S> {
-        for glance in 0..glances {
+    // Glances at the totals of each viewer's site as often as is asked for, a second apart, and reports them. If an
+    // operator ends the server, it glances until then.
+    pub(crate) fn watch(&self, mut viewers: Viewers<S>) -> Viewers<S> {
+        for glance in 0..self.live.glances {
             if glance > 0 {
                 thread::sleep(self.rt, Duration::from_secs(SECONDS_BETWEEN));
             }
-            if self.connections.is_none() && self.workers.closing.load(Ordering::SeqCst) {
+            if self.live.connections.is_none() && self.workers.closing.load(Ordering::SeqCst) {
                 break;
             }
             let mut lines = self.log.lines.lock(self.rt);

@@ -36,7 +36,7 @@ use Rattle.ocpp_board.specs.Arguments.{IsAskedBy}
 
 -- The name of a fault of a server.
 abbrev pub service_name : ServiceFault → List ℕ
-service_name (service.ListenFailed code) = codes "ListenFailed"
+service_name (service.ListenFailed port code) = codes "ListenFailed"
 service_name (service.Desk desk.PlanLimit) = codes "PlanLimit"
 service_name (service.Desk desk.StationTwice) = codes "StationTwice"
 service_name (service.Desk desk.OutOfMemory) = codes "OutOfMemory"
@@ -77,7 +77,7 @@ word_name (PlanLimit word) = codes "PlanLimit"
 
 -- The exit status after a fault of a server: 2 if its plan has a fault, else 1.
 abbrev pub fault_status : JournalFault → ℕ
-fault_status (Service (service.ListenFailed code)) = 1
+fault_status (Service (service.ListenFailed port code)) = 1
 fault_status (Service (service.Desk desk.PlanLimit)) = 2
 fault_status (Service (service.Desk desk.StationTwice)) = 2
 fault_status (Service (service.Desk desk.OutOfMemory)) = 1

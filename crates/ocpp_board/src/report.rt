@@ -31,12 +31,11 @@ pub fn end_server<W, E: Write>(
     mut errors: E,
     ended: Result<(), JournalFault>,
     plan: Option<&Plan>,
-    port: Option<u16>,
 ) -> Ended<W, E>
     ensures output { result.output ≡ output }
     ensures end { IsServerEnd E.contents errors result ended }
 {
-    let cause = cause_of(alloc, ended, plan, port);
+    let cause = cause_of(alloc, ended, plan);
     let reported = report_server(&mut errors, ended, &cause);
     Ended {
         output,
@@ -105,7 +104,7 @@ fn service_line(fault: ServiceFault) -> &'static [u8]
     ensures { result.now ≡ fault_report (service_name fault) }
 {
     match fault {
-        ServiceFault::ListenFailed(_) => b"fault ListenFailed\n",
+        ServiceFault::ListenFailed(_, _) => b"fault ListenFailed\n",
         ServiceFault::Desk(DeskFault::PlanLimit) => b"fault PlanLimit\n",
         ServiceFault::Desk(DeskFault::StationTwice) => b"fault StationTwice\n",
         ServiceFault::Sim(SimFault::HandshakeFailed) => b"fault HandshakeFailed\n",
@@ -127,25 +126,20 @@ fn service_line(fault: ServiceFault) -> &'static [u8]
     }
 }
 
-// The line that gives the cause of a fault of a server with this plan at this port: which station is there twice, or
-// the system's words for the port. It is empty if there is nothing more to say, or no memory for it.
-fn cause_of(
-    alloc: Global,
-    ended: Result<(), JournalFault>,
-    plan: Option<&Plan>,
-    port: Option<u16>,
-) -> Vec<u8> {
+// The line that gives the cause of a fault of a server with this plan: which station is there twice, or the system's
+// words for the port. It is empty if there is nothing more to say, or no memory for it.
+fn cause_of(alloc: Global, ended: Result<(), JournalFault>, plan: Option<&Plan>) -> Vec<u8> {
     let mut cause = Vec::new(alloc);
     let Err(JournalFault::Service(fault)) = ended else {
         return cause;
     };
-    match (fault, plan, port) {
-        (ServiceFault::Desk(DeskFault::StationTwice), Some(plan), _) => {
+    match (fault, plan) {
+        (ServiceFault::Desk(DeskFault::StationTwice), Some(plan)) => {
             if let Some(name) = plan.station_twice() {
                 let _ = writeln!(cause, "the station {} is there twice", name.text());
             }
         }
-        (ServiceFault::ListenFailed(Some(code)), _, Some(port)) => {
+        (ServiceFault::ListenFailed(port, Some(code)), _) => {
             let error = io::Error::from_raw_os_error(code);
             let _ = writeln!(cause, "127.0.0.1:{port}: {error}");
         }

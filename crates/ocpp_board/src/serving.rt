@@ -40,12 +40,11 @@ pub fn live<P: Process>(
         (P.Input.remaining streams.input) streams.output streams.console streams.errors result }
 {
     let Ok((mut reader, writer)) = buffered(rt, streams.input, streams.output) else {
-        return end_unwritten(rt.alloc(), Err(NO_MEMORY), None, None, streams.errors);
+        return end_unwritten(rt.alloc(), Err(NO_MEMORY), None, streams.errors);
     };
     let live = asked.live;
     let served = serve_live(rt, plan, live, None, &mut reader, writer, streams.lines);
-    let port = Some(live.port);
-    end_unwritten(rt.alloc(), served, Some(plan), port, streams.errors)
+    end_unwritten(rt.alloc(), served, Some(plan), streams.errors)
 }
 
 /// Serves a plan until its operator's lines end; its output is a journal.
@@ -59,12 +58,11 @@ pub fn journalled<P: Process>(
         (P.Input.remaining streams.input) streams.output streams.console streams.errors result }
 {
     let Ok((mut reader, journal)) = buffered(rt, streams.input, streams.output) else {
-        return end_journalled(rt.alloc(), Err(NO_MEMORY), None, None, streams.errors);
+        return end_journalled(rt.alloc(), Err(NO_MEMORY), None, streams.errors);
     };
     let (console, lines) = (streams.console, streams.lines);
     let served = serve_journalled(rt, plan, journalling, &mut reader, journal, console, lines);
-    let port = Some(journalling.live.port);
-    end_journalled(rt.alloc(), served, Some(plan), port, streams.errors)
+    end_journalled(rt.alloc(), served, Some(plan), streams.errors)
 }
 
 /// Serves the stations of the script that the input begins with; its output goes on with the journal.
@@ -76,12 +74,11 @@ pub fn restored<P: Process>(
     ensures { Runs P.Output.contents P.Console.contents P.Errors.contents (Task.ServeRestored restoring true) (P.Input.remaining streams.input) streams.output streams.console streams.errors result }
 {
     let Ok((mut reader, journal)) = buffered(rt, streams.input, streams.output) else {
-        return end_journalled(rt.alloc(), Err(NO_MEMORY), None, None, streams.errors);
+        return end_journalled(rt.alloc(), Err(NO_MEMORY), None, streams.errors);
     };
     let (console, lines) = (streams.console, streams.lines);
     let served = serve_restored(rt, restoring, &mut reader, journal, console, lines);
-    let port = Some(restoring.journalling.live.port);
-    end_journalled(rt.alloc(), served, None, port, streams.errors)
+    end_journalled(rt.alloc(), served, None, streams.errors)
 }
 
 /// Serves the stations of the script that the input begins with, without a journal. Its output takes what the console
@@ -94,14 +91,13 @@ pub fn restored_live<P: Process>(
     ensures { Runs P.Output.contents P.Console.contents P.Errors.contents (Task.ServeRestored restoring false) (P.Input.remaining streams.input) streams.output streams.console streams.errors result }
 {
     let Ok((mut reader, writer)) = buffered(rt, streams.input, streams.output) else {
-        return end_unwritten(rt.alloc(), Err(NO_MEMORY), None, None, streams.errors);
+        return end_unwritten(rt.alloc(), Err(NO_MEMORY), None, streams.errors);
     };
     let Ok(nowhere) = BufWriter::with_capacity(rt.alloc(), 0, io::sink()) else {
-        return end_unwritten(rt.alloc(), Err(NO_MEMORY), None, None, streams.errors);
+        return end_unwritten(rt.alloc(), Err(NO_MEMORY), None, streams.errors);
     };
     let served = serve_restored(rt, restoring, &mut reader, nowhere, writer, streams.lines);
-    let port = Some(restoring.journalling.live.port);
-    end_unwritten(rt.alloc(), served, None, port, streams.errors)
+    end_unwritten(rt.alloc(), served, None, streams.errors)
 }
 
 /// Plays simulated stations against a server of their own.
@@ -115,10 +111,10 @@ pub fn simulated<P: Process>(
     ensures { Runs P.Output.contents P.Console.contents P.Errors.contents (Task.Simulate stations events) (P.Input.remaining streams.input) streams.output streams.console streams.errors result }
 {
     let Ok((_reader, writer)) = buffered(rt, streams.input, streams.output) else {
-        return end_unwritten(rt.alloc(), Err(NO_MEMORY), None, None, streams.errors);
+        return end_unwritten(rt.alloc(), Err(NO_MEMORY), None, streams.errors);
     };
     let served = simulate(rt, stations, events, writer);
-    end_unwritten(rt.alloc(), served, None, None, streams.errors)
+    end_unwritten(rt.alloc(), served, None, streams.errors)
 }
 
 // Ends a server without a journal: its output takes the boards.
@@ -126,7 +122,6 @@ fn end_unwritten<W: Write + Drop, C, E: Write>(
     alloc: Global,
     served: Result<Served<Sink, BufWriter<W>>, JournalFault>,
     plan: Option<&Plan>,
-    port: Option<u16>,
     errors: E,
 ) -> Ran<W, C, E>
     ensures { EndsUnwritten W.contents (writer_contents W.contents) E.contents errors served result }
@@ -138,13 +133,13 @@ fn end_unwritten<W: Write + Drop, C, E: Write>(
             let ended = end_of(is_shown, served.ended);
             let (output, _kept) = writer.into_parts();
             Ran {
-                ended: end_server(alloc, Some(output), errors, ended, plan, port),
+                ended: end_server(alloc, Some(output), errors, ended, plan),
                 console: None,
                 passes: served.passes,
             }
         }
         Err(fault) => {
-            let ended = end_server(alloc, None, errors, Err(fault), plan, port);
+            let ended = end_server(alloc, None, errors, Err(fault), plan);
             unserved(alloc, ended)
         }
     }
@@ -156,7 +151,6 @@ fn end_journalled<W, C: Write, E: Write>(
     alloc: Global,
     served: Result<Served<W, C>, JournalFault>,
     plan: Option<&Plan>,
-    port: Option<u16>,
     errors: E,
 ) -> Ran<W, C, E>
     ensures { EndsJournalled C.contents E.contents errors served result }
@@ -167,13 +161,13 @@ fn end_journalled<W, C: Write, E: Write>(
             let is_shown = write_out(&mut console, &served.boards).is_ok();
             let ended = end_of(is_shown, served.ended);
             Ran {
-                ended: end_server(alloc, Some(served.journal), errors, ended, plan, port),
+                ended: end_server(alloc, Some(served.journal), errors, ended, plan),
                 console: Some(console),
                 passes: served.passes,
             }
         }
         Err(fault) => {
-            let ended = end_server(alloc, None, errors, Err(fault), plan, port);
+            let ended = end_server(alloc, None, errors, Err(fault), plan);
             unserved(alloc, ended)
         }
     }

@@ -10,7 +10,7 @@ ghost use Rattle.site_desk.specs.declared.roster.StationPlace.{StationPlace};
 ghost use Rattle.site_desk.specs.Roster.{IsNamed};
 ghost use Rattle.running_desk.specs.declared.running.PassFault.{PassFault};
 ghost use Rattle.running_desk.specs.Replied.{IsBoard, IsCommandLine, IsCommanded, IsList, IsMessageLine, IsMessaged, IsReply, IsSent, IsSubmitted, IsTotals, totals_line};
-ghost use Rattle.running_desk.specs.Ordered.{ends, is_close, lines_in};
+ghost use Rattle.running_desk.specs.Ordered.{ends, lines_in};
 ghost use Rattle.running_desk.specs.Replies.{AddsReplies, AddsReply};
 ghost use Rattle.station_link.specs.Attended.{if_seen};
 
@@ -96,17 +96,10 @@ fn is_last(came: Came, line: Option<&[u8]>) -> bool
 {
     match came {
         Came::End => true,
-        Came::Line | Came::LastLine => says_close(line),
-    }
-}
-
-// Returns whether a line says `close`.
-fn says_close(line: Option<&[u8]>) -> bool
-    ensures { result ≡ is_close (line_bytes line.entry) }
-{
-    match line {
-        Some(bytes) => bytes == CLOSE,
-        None => false,
+        Came::Line | Came::LastLine => match line {
+            Some(bytes) => bytes == CLOSE,
+            None => false,
+        },
     }
 }
 

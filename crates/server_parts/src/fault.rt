@@ -8,9 +8,10 @@ use thiserror::Error;
 /// Why a server or a simulation ended without its boards.
 #[derive(Clone, Copy, Debug, PartialEq, Eq, Error)]
 pub enum ServiceFault {
-    /// The server can't listen on the port; with the system's error number, if there is one.
+    /// The server can't listen on this port, 0 if the system was to choose one; with the system's error number, if
+    /// there is one.
     #[error("ListenFailed")]
-    ListenFailed(Option<i32>),
+    ListenFailed(u16, Option<i32>),
     /// No desk is opened for the plan.
     #[error("{0:?}")]
     Desk(#[from] DeskFault),

@@ -15,7 +15,7 @@ use std::net::{Ipv4Addr, SocketAddr, TcpListener};
 pub fn listen<R: Sockets>(rt: &R, port: u16) -> Result<TcpListener, ServiceFault> {
     match TcpListener::bind(rt, (Ipv4Addr::LOCALHOST, port)) {
         Ok(listener) => Ok(listener),
-        Err(error) => Err(ServiceFault::ListenFailed(error.raw_os_error())),
+        Err(error) => Err(ServiceFault::ListenFailed(port, error.raw_os_error())),
     }
 }
 
@@ -23,7 +23,7 @@ pub fn listen<R: Sockets>(rt: &R, port: u16) -> Result<TcpListener, ServiceFault
 pub fn address_of(listener: &TcpListener) -> Result<SocketAddr, ServiceFault> {
     match listener.local_addr() {
         Ok(address) => Ok(address),
-        Err(error) => Err(ServiceFault::ListenFailed(error.raw_os_error())),
+        Err(error) => Err(ServiceFault::ListenFailed(0, error.raw_os_error())),
     }
 }
 
