@@ -155,17 +155,6 @@ are_first sites stations cells parts first of_plan named same k c at = (own (sli
     own None e = absurd (omega (arith, none_past stations k e, slice_get_within cells k c there, of_plan.count))
     own (Some s) e = (of_plan.each k s c e there).station
 
--- the same, where the sites and stations are those of a plan
-pub script_of_plan : (front : List ℕ) (sites planned : List SitePlan) (stations plan : List StationPlan) (firsts : List Cell)
-    (before : Option (List ℕ)) (left : Left) (tells : List StationPlan → List SitePlan → List Entry → Type 0)
-    → planned ≡ sites → plan ≡ stations → plan_fault sites stations ≡ None → AreCellsOf sites stations firsts → Leaves front sites stations firsts
-    → IsEnded (names_of plan) (contents_of firsts) before planned plan left (tells plan planned)
-    → IsItsScript front sites stations firsts before left (tells stations sites)
-script_of_plan front sites planned stations plan firsts before left tells s t none of_plan restored e =
-    its_script front sites stations firsts before left (tells stations sites) none of_plan restored
-    (subst (λ x. IsEnded (names_of stations) (contents_of firsts) before x stations left (tells stations x)) s
-    (subst (λ x. IsEnded (names_of x) (contents_of firsts) before planned x left (tells x planned)) t e))
-
 -- what was written behind a head was written behind what was before it
 written_behind : (broken : Bool) (before begun now : Option (List ℕ)) (buffer head : List ℕ) (log : List Entry)
     → Appends before begun head → IsWritten broken begun now buffer log → IsWritten broken (append_known before head) now buffer log

@@ -1,4 +1,7 @@
 pub mod Comments
-pub mod Cuts
+pub mod Declaring
 pub mod Ends
+pub mod HeadLaw
+pub mod HeadLines
 pub mod SimulatedPlan
+pub mod Words

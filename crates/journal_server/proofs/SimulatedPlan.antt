@@ -1,5 +1,5 @@
 -- The plan of a simulation keeps within what a plan may have.
-use Rattle.std.proofs.Common.{◌≡◌, ◌+◌, ◌*◌, ◌<◌, ◌≤◌, ℕ, zero, suc, Bool, true, false, cond, eqb, List, [], ◌∷◌, ◌++◌, length, length-append, codes, eqb-true, refl, ap, sym, subst, ◌∙◌, arith}
+use Rattle.std.proofs.Common.{◌≡◌, ◌+◌, ◌*◌, ◌<◌, ◌≤◌, ℕ, zero, suc, Bool, true, false, cond, eqb, List, length, length-append, codes, eqb-true, refl, sym, subst, ◌∙◌, arith}
 use Rattle.std.specs.Prelude.{◌||◌, not, nat_le, nat_lt, sum_by}
 use Rattle.std.specs.List.{position}
 use Rattle.std.specs.Fmt.{digits}
@@ -7,7 +7,7 @@ use Rattle.std.specs.Str.{bytes_eq}
 use Rattle.std.specs.Option.{is_some}
 use Rattle.std.proofs.lemmas.Bool.{and_right}
 use Rattle.std.proofs.lemmas.Bool.Decides.{nat_tests}
-use Rattle.std.proofs.lemmas.List.Sums.{sum_by-append, sum_by-cons}
+use Rattle.std.proofs.lemmas.List.Sums.{sum_by-append}
 use Rattle.ledger_model.specs.declared.order.Order.TheVariants.{Sequence}
 use Rattle.ledger_model.specs.Limits.{default_limits}
 use Rattle.ledger_model.specs.Settling.{default_periods}

@@ -1,3 +1,4 @@
+pub mod Head
 pub mod Left
 pub mod Served
 pub mod Simulated

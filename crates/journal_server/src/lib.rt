@@ -26,7 +26,6 @@ mod declared;
 mod fault;
 mod receipt_time;
 mod run;
-mod same;
 mod serve;
 mod serving;
 mod simulation;

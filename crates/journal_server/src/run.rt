@@ -3,6 +3,7 @@ ghost use Rattle.std.specs.Prelude.{◌≡◌, ◌<◌, ◌++◌, ℕ, List, [],
 ghost use Rattle.std.specs.Io.Buffered.{writer_buffer, writer_inner};
 ghost use Rattle.kept_desk.specs.Opened.{contents_of, names_of};
 ghost use Rattle.site_book.specs.Tables.{HasTable, NamedBy};
+ghost use Rattle.site_desk.specs.Parts.{AreNewCells};
 ghost use Rattle.site_desk.specs.Plan.{plan_fault};
 ghost use Rattle.site_desk.specs.Roster.{AreCellsOf, AreNewPlaces};
 ghost use Rattle.kept_desk.specs.Kept.{AreBoardsBehind};
@@ -12,12 +13,10 @@ ghost use Rattle.live_server.specs.Told.{operator_input};
 ghost use Rattle.journal_server.specs.Served.{IsEnded, IsItsScript, IsKeptAnswer, Leaves, TellsNew};
 ghost use Rattle.station_link.specs.Attended.{IsAnswered};
 ghost use Rattle.site_book.specs.Prefix.{IsPrefix};
-ghost use Rattle.script_ledgers.specs.Running.{AreTheirPasses};
 
 use crate::serve::Journalling;
 use crate::serving::Serving;
 use board_report::write_boards;
-use journal_script::Restored;
 use kept_desk::{JournalTable, KeptDesk, Moment, Opening};
 use live_server::{Ran, Run, serve_plan_at};
 use server_parts::{Host, Input, Output, ServiceFault};
@@ -71,49 +70,58 @@ struct DeskParts {
     cells: Vec<StationCell>,
 }
 
-// Serves the stations of a restored script until the operator's lines, which come from the input, end, or until as many
-// connections have ended as are asked for.
-pub(crate) fn run_restored<R: Host, I: Input, W: Output, T: Output, L: Output>(
+// The cells of a plan's stations, without events.
+pub(crate) fn new_cells(alloc: Global, plan: &Plan) -> Result<Vec<StationCell>, ServiceFault>
+    ensures { IfOk result (λ cells. AreNewCells plan.now.sites.items plan.now.stations.items cells.items) }
+{
+    let tables = Tables::make(alloc, plan.sites.len() as u16)?;
+    cells_over::<Brand>(alloc, tables, plan)
+}
+
+// The same, over tables that J names.
+fn cells_over<J: Naming>(
+    alloc: Global,
+    tables: Tables,
+    plan: &Plan,
+) -> Result<Vec<StationCell>, ServiceFault>
+    requires named { NamedBy J.table tables }
+    requires there { (site : ℕ) → site < length plan.now.sites.items → HasTable tables site }
+    ensures { IfOk result (λ cells. AreNewCells plan.now.sites.items plan.now.stations.items cells.items) }
+{
+    let parts = Parts::<J>::open(alloc, tables, plan)?;
+    Ok(parts.cells.into_vec())
+}
+
+// Serves the stations of a plan over these cells until the operator's lines, which come from the input, end, or until
+// as many connections have ended as are asked for.
+pub(crate) fn run_plan<R: Host, I: Input, W: Output, T: Output, L: Output>(
     rt: &R,
-    restored: Restored,
+    plan: &Plan,
+    cells: Vec<StationCell>,
+    passes: Vec<Pass>,
     journalling: Journalling,
     input: &mut I,
     ends: Ends<W, T, L>,
 ) -> Result<Served<W, T>, ServiceFault>
-    requires faultless { plan_fault restored.draft.sites restored.draft.stations ≡ None }
-    requires cells { AreCellsOf restored.draft.sites restored.draft.stations restored.cells.items }
-    requires passes { AreTheirPasses restored.cells.items restored.passes.items }
+    requires faultless { plan_fault plan.now.sites.items plan.now.stations.items ≡ None }
+    requires cells { AreCellsOf plan.now.sites.items plan.now.stations.items cells.items }
     requires empty { writer_buffer ends.journal ≡ [] }
-    ensures { IfOk result (λ s. (front : List ℕ) → Leaves front restored.draft.sites restored.draft.stations restored.cells.items
-        → IsItsScript front restored.draft.sites restored.draft.stations restored.cells.items (W.contents (writer_inner ends.journal)) (left_of W.contents s)
-        (TellsNew s.ended restored.draft.stations (operator_input journalling.live.connections (I.remaining input.old))
-        (T.contents ends.console) (T.contents s.console) restored.draft.sites restored.cells.items)) }
+    ensures { IfOk result (λ s. (front : List ℕ) → Leaves front plan.now.sites.items plan.now.stations.items cells.items
+        → IsItsScript front plan.now.sites.items plan.now.stations.items cells.items (W.contents (writer_inner ends.journal)) (left_of W.contents s)
+        (TellsNew s.ended plan.now.stations.items (operator_input journalling.live.connections (I.remaining input.old))
+        (T.contents ends.console) (T.contents s.console) plan.now.sites.items cells.items)) }
 {
-    let Restored {
-        draft,
-        cells,
-        passes,
-        has_lost: _,
-    } = restored;
-    let tables = Tables::make(rt.alloc(), draft.plan().sites.len() as u16)?;
+    let tables = Tables::make(rt.alloc(), plan.sites.len() as u16)?;
     let table = JournalTable::new(rt.alloc())?;
     let desk_parts = DeskParts {
         tables,
         table,
         cells,
     };
-    run_over::<Brand, Brand, R, I, W, T, L>(
-        rt,
-        draft.plan(),
-        desk_parts,
-        passes,
-        journalling,
-        input,
-        ends,
-    )
+    run_over::<Brand, Brand, R, I, W, T, L>(rt, plan, desk_parts, passes, journalling, input, ends)
 }
 
-// Serves the restored stations, under the naming of the desk's tables and of its journal.
+// The same, under the naming of the desk's tables and of its journal.
 fn run_over<
     J: Naming + Send + Sync,
     K: Opening + Send + Sync,
@@ -140,7 +148,6 @@ fn run_over<
     requires names { K.name ≡ names_of plan.now.stations.items }
     requires faultless { plan_fault plan.now.sites.items plan.now.stations.items ≡ None }
     requires cells { AreCellsOf plan.now.sites.items plan.now.stations.items desk_parts.cells.items }
-    requires passes { AreTheirPasses desk_parts.cells.items passes.items }
     ensures { IfOk result (λ s. IsEnded (names_of plan.now.stations.items) (contents_of desk_parts.cells.items) (W.contents (writer_inner ends.journal))
         plan.now.sites.items plan.now.stations.items (left_of W.contents s)
         (TellsNew s.ended plan.now.stations.items (operator_input journalling.live.connections (I.remaining input.old))

@@ -2,21 +2,17 @@
 ghost use Rattle.std.specs.Prelude.{◌≡◌, ◌&&◌, [], false, true, not, None, IfErr, IfOk, OnOk};
 ghost use Rattle.std.specs.Io.Buffered.{writer_buffer, writer_contents, writer_inner};
 ghost use Rattle.std.specs.Io.KnownBytes.{Appends};
-ghost use Rattle.journal_script.specs.Restoring.{Grows, IsRestored, IsUnmarked, loses};
-ghost use Rattle.script_ledgers.specs.Running.{AreTheirPasses};
+ghost use Rattle.journal_script.specs.Restoring.{Grows, IsUnmarked, loses};
 ghost use Rattle.script_ledgers.specs.Script.{start};
 ghost use Rattle.script_lines.specs.Lines.{lines_of};
 ghost use Rattle.script_lines.specs.Ranges.{longest_line};
-ghost use Rattle.site_desk.specs.Plan.{plan_fault};
-ghost use Rattle.site_desk.specs.Roster.{AreCellsOf};
 ghost use Rattle.journal_server.specs.Left.{left_of};
 ghost use Rattle.live_server.specs.Told.{operator_input};
 ghost use Rattle.journal_server.specs.Served.{IsNewRun, IsRefused, IsRestoredRun, TellsNew, TellsRestored};
 
-use crate::declared::{journal_head, run_head};
+use crate::declared::{are_in_order, journal_head, run_head};
 use crate::fault::JournalFault;
-use crate::run::{Ends, Served, run_restored};
-use crate::same::is_declared;
+use crate::run::{Ends, Served, new_cells, run_plan};
 use board_report::BoardsFault;
 use itoa::Buffer;
 use journal_script::{RestoreFault, Restored, restore};
@@ -28,12 +24,8 @@ use station_cell::StationCell;
 use std::io;
 use std::io::{BufWriter, Sink, Write};
 use std::net::TcpListener;
-use std::thread::Threads;
 
-// The end of a script to restore.
-const LISTEN: &[u8] = b"listen\n";
-
-// The fault of a head that declares another plan than its own, which no run meets.
+// The fault of a plan whose sites a script can't declare in their order, which no run meets.
 const TORN: ServiceFault = ServiceFault::Close(CloseFault::Torn);
 
 /// The options of a server with a journal.
@@ -129,13 +121,14 @@ fn serve_plan<R: Host, I: Input, W: Output, T: Output, L: Output>(
     if let Some(fault) = plan.fault() {
         return Err(JournalFault::Service(ServiceFault::from(fault)));
     }
-    let head = journal_head(rt.alloc(), plan)?;
-    let restored = restore_declared(rt, head.as_slice())?;
-    if !is_declared(plan, restored.draft.plan(), restored.cells.as_slice()) {
+    if !are_in_order(plan.stations.as_slice(), 0, plan.sites.len() as u16) {
         return Err(JournalFault::Service(TORN));
     }
+    let head = journal_head(rt.alloc(), plan)?;
+    let cells = new_cells(rt.alloc(), plan)?;
     write_head(&mut ends.journal, head.as_slice())?;
-    let served = run_restored(rt, restored, journalling, input, ends)?;
+    let passes = Vec::new(rt.alloc());
+    let served = run_plan(rt, plan, cells, passes, journalling, input, ends)?;
     Ok(served)
 }
 
@@ -181,7 +174,14 @@ pub fn serve_restored<R: Host, I: Input, W: Output, T: Output, L: Output>(
         console,
         lines,
     };
-    match run_restored(rt, restored, restoring.journalling, input, ends) {
+    let Restored {
+        draft,
+        cells,
+        passes,
+        has_lost: _,
+    } = restored;
+    let journalling = restoring.journalling;
+    match run_plan(rt, draft.plan(), cells, passes, journalling, input, ends) {
         Ok(served) => Ok(served),
         Err(fault) => Err(JournalFault::Service(fault)),
     }
@@ -225,21 +225,4 @@ fn tell_changes<T: Write>(console: &mut T, changes: u64)
     let _ = write_bytes(console, b"restored ");
     let _ = write_bytes(console, digits.format(changes).as_bytes());
     let _ = write_bytes(console, b"\n");
-}
-
-// The result of a journal's head: the stations that it declares, without events.
-fn restore_declared<R: AllocGlobal + Threads>(rt: &R, head: &[u8]) -> Result<Restored, JournalFault>
-    ensures restored { IfOk result (λ r. IsRestored head.now r) }
-    ensures makes_desk { IfOk result (λ r. (plan_fault r.draft.sites r.draft.stations ≡ None) × AreCellsOf r.draft.sites r.draft.stations r.cells.items) }
-    ensures passes { IfOk result (λ r. AreTheirPasses r.cells.items r.passes.items) }
-{
-    let mut text = Vec::with_capacity(rt.alloc(), head.len().saturating_add(LISTEN.len()))?;
-    text.extend_from_slice(head)?;
-    text.extend_from_slice(LISTEN)?;
-    let mut reader = text.as_slice();
-    let restored = restore(rt, &mut reader, &mut io::sink())?;
-    if !reader.is_empty() {
-        return Err(JournalFault::Service(TORN));
-    }
-    Ok(restored)
 }

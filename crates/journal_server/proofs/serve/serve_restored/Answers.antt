@@ -3,17 +3,24 @@ use Rattle.std.specs.Io.Buffered.{writer_contents}
 use Rattle.std.specs.Io.KnownBytes.{Appends}
 use Rattle.journal_script.specs.Cuts.{run_begins}
 use Rattle.journal_server.proofs.Comments.{kept_unless, restored_after}
+use Rattle.journal_server.specs.Served.{Leaves}
 use Rattle.journal_script.proofs.Growing.{grows_on}
 use Rattle.journal_server.proofs.Ends.{reported, script_behind, telling}
 use Rattle.journal_server.proofs.serve.serve_restored.Goals as goal
 
-pub returns-in-Ok-run_restored-clause-serves : goal.returns-in-Ok-run_restored-clause-serves
-returns-in-Ok-run_restored-clause-serves g c =
+pub returns-in-Ok-run_plan-clause-serves : goal.returns-in-Ok-run_plan-clause-serves
+returns-in-Ok-run_plan-clause-serves g c =
     let restored = c.in-Ok.restored in
     let told = c.in-Ok.ensures.restored in
     let begun = g.W.Write.contents c.write_head.new.journal.inner in
     let begins = subst (Appends (writer_contents g.W.Write.contents c.args.journal) begun) (c.as_slice-2.ensures.value ∙ c.in-Ok-run_head.ensures) c.in_default-write_head.ensures.begins in
-    let ran = c.in-Ok-run_restored.ensures (told.0 ++ run_begins) (restored_after told.0 restored told.4) in
+    let sites = c.plan.result.now.sites.items in
+    let stations = c.plan.result.now.stations.items in
+    let cells = restored.cells.items in
+    let leaves : Leaves (told.0 ++ run_begins) sites stations cells =
+    subst (λ x. Leaves (told.0 ++ run_begins) x stations cells) (sym c.plan.ensures.sites)
+    (subst (λ x. Leaves (told.0 ++ run_begins) restored.draft.sites x cells) (sym c.plan.ensures.stations) (restored_after told.0 restored told.4)) in
+    let ran = c.in-Ok-run_plan.ensures (told.0 ++ run_begins) leaves in
     record {
       read = told.0;
       last = told.1;
@@ -24,12 +31,12 @@ returns-in-Ok-run_restored-clause-serves g c =
       marked = told.4.marked;
       kept = λ e. sym told.4.loses ∙ kept_unless restored.has_lost c.args.restoring.allows_left_out (sym c.is_refused.ensures ∙ c.if-is_refused.false) e;
       no_listen = told.4.no_listen;
-      sites = restored.draft.sites;
-      stations = restored.draft.stations;
-      firsts = restored.cells.items;
+      sites = sites;
+      stations = stations;
+      firsts = cells;
       script = script_behind _ _ _ _ _ begun run_begins _ _ begins
           (telling _ _ _ _ _ _ _ _
-          (reported c.in-Ok-run_restored.served.ended restored.draft.sites restored.draft.stations restored.cells.items
+          (reported c.in-Ok-run_plan.served.ended sites stations cells
           c.args.restoring.journalling.live.connections _ _ _ _ (grows_on _ _ _ c.in-Ok.ensures.grows c.tell_restored.ensures))
           ran);
     }

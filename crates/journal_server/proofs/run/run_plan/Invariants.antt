@@ -1,6 +1,6 @@
 use Rattle.site_book.specs.Tables as tables
 use Rattle.kept_desk.specs.Opened.{contents_of, names_of}
-use Rattle.journal_server.proofs.run.run_restored.Given as goal
+use Rattle.journal_server.proofs.run.run_plan.Given as goal
 
 -- the tables that were just made
 abbrev pub ghosts-run_over-J-Naming : goal.ghosts-run_over-J-Naming
