@@ -34,10 +34,11 @@ lines-preserved g c =
     let step = c.in_ok-answer.ensures.step in
     let on = goes_on most room here.source.lines.room first (place_of here).standing r0 r2 goes more next.source.lines.room r.0 held
     r3 reads r.1 (read_on (place_of next)).standing line c.if-not-branch.false in
-    let less = one_less most here.source.lines.room next.source.lines.room more r.0 held reads in (
+    let less = one_less most here.source.lines.room next.source.lines.room more r.0 held reads in
+    let seen = ap (λ (p : Place). p.lines.room) looked in (
       subst (λ (p : Place). Goes most room p.lines.room first p.standing r0 r3) (sym step) on,
       ap (λ (p : Place). p.lines.max_line_bytes) step ∙ same,
-      omega (arith, c.in_ok-answer.ensures.posts, c.next.ensures.posts, c.look.ensures.posts, c.lines.invariant.2, ap (λ (p : Place). p.lines.room) looked, ap (λ (p : Place). p.lines.room) step, less),
+      omega (arith, c.in_ok-answer.ensures.posts, c.next.ensures.posts, c.look.ensures.posts, c.lines.invariant.2, seen, ap (λ (p : Place). p.lines.room) step, less),
       grows_on _ _ _ c.lines.invariant.3 c.in_ok-answer.ensures.grows,
     )
 
