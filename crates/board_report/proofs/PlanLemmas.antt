@@ -1,26 +1,8 @@
 -- The periods of a plan's boards have no more energy than its readings can show.
-use Rattle.std.proofs.Common.{◌≡◌, ℕ, ◌+◌, ◌*◌, ◌<◌, ◌≤◌, inl, inr, Bool, true, false, cond, List, [], ◌∷◌, ◌++◌, map, sym, ap, ◌∙◌, arith, eqb, ⊎_elim}
-use Rattle.std.specs.List.{sum_by, filter}
-use Rattle.std.proofs.lemmas.Bool.{cases_eq}
-use Rattle.std.proofs.lemmas.List.Sums.{sum_by-cons}
+use Rattle.std.{proofs.Common.{◌≡◌, ℕ, ◌+◌, ◌*◌, ◌<◌, ◌≤◌, inl, inr, Bool, true, false, cond, List, [], ◌∷◌, ◌++◌, map, sym, ap, ◌∙◌, arith, eqb, ⊎_elim}, specs.List.{sum_by, filter}, proofs.lemmas.Bool.cases_eq, proofs.lemmas.List.Sums.sum_by-cons}
 use Rattle.energy_flow.specs.Flow.{Energy}
-use Rattle.ledger_model.specs.Periods.{Periods}
-use Rattle.ledger_model.specs.declared.order.Order.{Order}
-use Rattle.ledger_model.specs.declared.reading.Direction.{Direction}
-use Rattle.ledger_model.specs.declared.reading.Direction.TheVariants.{Import, Export}
-use Rattle.ledger_model.specs.Board.{Board, Flowed, board_by, flows_under}
-use Rattle.ledger_model.specs.BoardLaws.{AreRising, IsIn}
-use Rattle.ledger_model.specs.Content.{Entry}
-use Rattle.ledger_model.specs.declared.by_direction.ByDirection.{ByDirection}
-use Rattle.ledger_model.specs.Energy.{flows_in_by, all_pairs_by, parts_of_both, parts_over, quarters_by, energy_by, energy_in_by}
-use Rattle.ledger_model.specs.Limits.{Bounds}
-use Rattle.ledger_model.specs.Ranges.{most_plan_readings, greatest_reading}
-use Rattle.ledger_model.proofs.Callers.{sum_by-filter_cons, rising-AreRising}
-use Rattle.board_report.specs.Plans.{IsBoardWithin, AreBoardsWithin}
-use Rattle.ledger_model.specs.Parts.{Part as Share}
-use Rattle.ledger_model.proofs.PartLemmas.{parts_down, parts_up}
-use Rattle.board_report.specs.Sums.{station_quarters, QuartersFit}
-use Rattle.board_report.proofs.SumLemmas.{Part, up, down, export_up, export_down, part_none, under-own, under-other, above_first}
+use Rattle.ledger_model.{specs.Periods.Periods, specs.declared.order.Order.Order, specs.declared.reading.Direction.Direction, specs.declared.reading.Direction.TheVariants.{Import, Export}, specs.Board.{Board, Flowed, board_by, flows_under}, specs.BoardLaws.{AreRising, IsIn}, specs.Content.Entry, specs.declared.by_direction.ByDirection.ByDirection, specs.Energy.{flows_in_by, all_pairs_by, parts_of_both, parts_over, quarters_by, energy_by, energy_in_by}, specs.Limits.Bounds, specs.Ranges.{most_plan_readings, greatest_reading}, proofs.Callers.{sum_by-filter_cons, rising-AreRising}, specs.Parts.Part as Share, proofs.PartLemmas.{parts_down, parts_up}}
+use Rattle.board_report.{specs.Plans.{IsBoardWithin, AreBoardsWithin}, specs.Sums.{station_quarters, QuartersFit}, proofs.SumLemmas.{Part, up, down, export_up, export_down, part_none, under-own, under-other, above_first}}
 
 tail_rises : (m : ℕ) (ms : List ℕ) → AreRising (m ∷ ms) → AreRising ms
 tail_rises m [] rise = tt

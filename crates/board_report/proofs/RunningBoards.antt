@@ -1,20 +1,8 @@
 -- The boards of a desk that runs keep within the limits of its plan, and are by its sites' settlement periods.
-use Rattle.std.proofs.Common.{◌≡◌, ℕ, zero, suc, Bool, true, false, cond, eqb, eqb-true, List, [], ◌∷◌, Some, length, map, refl, subst, ap, sym, ◌∙◌, arith}
-use Rattle.std.specs.Prelude.{filter, slice_get}
-use Rattle.std.proofs.lemmas.List.Elements.{All-nil, All-cons}
-use Rattle.ledger_model.specs.Board.{Board}
-use Rattle.ledger_model.specs.Content.{entries}
-use Rattle.ledger_model.specs.Figures.{AreWithin}
-use Rattle.board_report.specs.Plans.{AreBoardsWithin}
-use Rattle.board_report.specs.Sums.{AreOfPeriod}
-use Rattle.site_desk.specs.declared.plan.SitePlan.{SitePlan}
-use Rattle.site_desk.specs.declared.plan.StationPlan.{StationPlan}
-use Rattle.site_desk.specs.declared.roster.StationPlace.{StationPlace}
-use Rattle.site_desk.specs.Operator.{AreBoardsOf}
-use Rattle.site_desk.specs.Parts.{limits_at}
-use Rattle.site_desk.specs.Plan.{period_at}
-use Rattle.site_desk.specs.Roster.{AreNewPlaces, new_place}
-use Rattle.board_report.proofs.SiteBoards.{by_own, some_same}
+use Rattle.std.{proofs.Common.{◌≡◌, ℕ, zero, suc, Bool, true, false, cond, eqb, eqb-true, List, [], ◌∷◌, Some, length, map, refl, subst, ap, sym, ◌∙◌, arith}, specs.Prelude.{filter, slice_get}, proofs.lemmas.List.Elements.{All-nil, All-cons}}
+use Rattle.ledger_model.{specs.Board.Board, specs.Content.entries, specs.Figures.AreWithin}
+use Rattle.board_report.{specs.Plans.AreBoardsWithin, specs.Sums.AreOfPeriod, proofs.SiteBoards.{by_own, some_same}}
+use Rattle.site_desk.{specs.declared.plan.SitePlan.SitePlan, specs.declared.plan.StationPlan.StationPlan, specs.declared.roster.StationPlace.StationPlace, specs.Operator.AreBoardsOf, specs.Parts.limits_at, specs.Plan.period_at, specs.Roster.{AreNewPlaces, new_place}}
 
 -- the place is at the station's site, with its limits and by its site's settlement period
 pub record IsLike (sites : List SitePlan) (s : StationPlan) (p : StationPlace) : Type 0 where

@@ -1,22 +1,9 @@
 -- The boards of a site's stations, one station after the other.
-use Rattle.std.proofs.Common.{◌≡◌, ◌≢◌, ℕ, zero, suc, ◌+◌, ◌<◌, ◌≤◌, true, false, Bool, cond, eqb, List, [], ◌∷◌, ◌++◌, Some, append-nil, length, map, take, refl, ap, sym, ◌∙◌, arith}
-use Rattle.std.specs.Prelude.{filter, slice_get, sum_by}
-use Rattle.std.proofs.lemmas.Bool.{eq-eqb, ne_eqb}
-use Rattle.std.proofs.lemmas.List.Elements.{All-nil, All-cons}
-use Rattle.std.proofs.lemmas.List.Sums.{sum_by-cons}
-use Rattle.ledger_model.specs.Periods.{Periods}
-use Rattle.ledger_model.specs.declared.figures.Figures.{Figures}
-use Rattle.ledger_model.specs.declared.order.Order.{Order}
-use Rattle.ledger_model.specs.Board.{Board, board_by, site_board}
-use Rattle.ledger_model.specs.Content.{Entry, entries}
-use Rattle.ledger_model.specs.Limits.{Bounds}
-use Rattle.board_report.specs.Named.{NamedBoard}
-use Rattle.board_report.specs.Sums.{AreOfPeriod}
-use Rattle.board_report.specs.Plans.{AreBoardsWithin, IsBoardWithin}
-use Rattle.site_desk.specs.declared.plan.StationPlan.{StationPlan}
+use Rattle.std.{proofs.Common.{◌≡◌, ◌≢◌, ℕ, zero, suc, ◌+◌, ◌<◌, ◌≤◌, true, false, Bool, cond, eqb, List, [], ◌∷◌, ◌++◌, Some, append-nil, length, map, take, refl, ap, sym, ◌∙◌, arith}, specs.Prelude.{filter, slice_get, sum_by}, proofs.lemmas.Bool.{eq-eqb, ne_eqb}, proofs.lemmas.List.Elements.{All-nil, All-cons}, proofs.lemmas.List.Sums.sum_by-cons}
+use Rattle.ledger_model.{specs.Periods.Periods, specs.declared.figures.Figures.Figures, specs.declared.order.Order.Order, specs.Board.{Board, board_by, site_board}, specs.Content.{Entry, entries}, specs.Limits.Bounds}
+use Rattle.board_report.{specs.Named.NamedBoard, specs.Sums.AreOfPeriod, specs.Plans.{AreBoardsWithin, IsBoardWithin}, specs.Boards.{boards_at, site_named}}
+use Rattle.site_desk.{specs.declared.plan.StationPlan.StationPlan, specs.Parts.limits_at}
 use Rattle.station_cell.specs.Cell.{Cell}
-use Rattle.site_desk.specs.Parts.{limits_at}
-use Rattle.board_report.specs.Boards.{boards_at, site_named}
 
 -- what is read twice is one value
 pub some_same : {X : Type 0} (x y : X) → Some x ≡ Some y → x ≡ y

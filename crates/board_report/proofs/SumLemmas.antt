@@ -1,24 +1,8 @@
 -- The sums of lines by period.
-use Rattle.std.proofs.Common.{◌≡◌, ℕ, zero, suc, ◌+◌, ◌-◌, ◌<◌, ◌≤◌, ◌^◌, ◌⊎◌, inl, inr, cond, eqb, List, [], ◌∷◌, ◌++◌, map, length, take, get_or, append-nil, refl, sym, ap, subst, ◌∙◌, arith, ⊎_elim}
-use Rattle.std.specs.List.{sum_by}
-use Rattle.std.proofs.lemmas.List.Elements.{All-nil, All-cons}
-use Rattle.std.specs.List.Sorted.{IsPermutation, IsNonDecreasingBy}
-use Rattle.std.proofs.lemmas.Bool.{eq-eqb, ne_eqb, lt-ltb, le-ltb, cases_order, cases_eq}
-use Rattle.std.proofs.lemmas.List.{take_more}
-use Rattle.std.proofs.lemmas.Grind.{flat_map-append}
-use Rattle.std.proofs.lemmas.List.Sums.{sum_by-cons}
-use Rattle.std.proofs.lemmas.List.Sorted.{sum_by-IsPermutation, IsPermutation-sym}
+use Rattle.std.{proofs.Common.{◌≡◌, ℕ, zero, suc, ◌+◌, ◌-◌, ◌<◌, ◌≤◌, ◌^◌, ◌⊎◌, inl, inr, cond, eqb, List, [], ◌∷◌, ◌++◌, map, length, take, get_or, append-nil, refl, sym, ap, subst, ◌∙◌, arith, ⊎_elim}, specs.List.sum_by, proofs.lemmas.List.Elements.{All-nil, All-cons}, specs.List.Sorted.{IsPermutation, IsNonDecreasingBy}, proofs.lemmas.Bool.{eq-eqb, ne_eqb, lt-ltb, le-ltb, cases_order, cases_eq}, proofs.lemmas.List.take_more, proofs.lemmas.Grind.flat_map-append, proofs.lemmas.List.Sums.sum_by-cons, proofs.lemmas.List.Sorted.{sum_by-IsPermutation, IsPermutation-sym}}
 use Rattle.energy_flow.specs.Flow.{Energy}
-use Rattle.ledger_model.specs.Periods.{Periods}
-use Rattle.ledger_model.specs.Board.{Board, Flowed, flows_under}
-use Rattle.ledger_model.specs.ByDirection.{no_flows, plus_flows, CanPlusFlows}
-use Rattle.ledger_model.specs.declared.by_direction.ByDirection.{ByDirection}
-use Rattle.ledger_model.specs.Energy.{put_in, rising}
-use Rattle.ledger_model.specs.Quarter.{IsQuarterOf}
-use Rattle.ledger_model.specs.BoardLaws.{AreRising, IsIn}
-use Rattle.ledger_model.proofs.Callers.{put_in-same, put_in-below, put_in-above, rising-AreRising, rising-IsIn}
-use Rattle.board_report.specs.Lines.{quarter_sums, AreInOrder, put_line, CanLead}
-use Rattle.board_report.specs.Sums.{AreQuartersOf, QuartersFit, station_quarters}
+use Rattle.ledger_model.{specs.Periods.Periods, specs.Board.{Board, Flowed, flows_under}, specs.ByDirection.{no_flows, plus_flows, CanPlusFlows}, specs.declared.by_direction.ByDirection.ByDirection, specs.Energy.{put_in, rising}, specs.Quarter.IsQuarterOf, specs.BoardLaws.{AreRising, IsIn}, proofs.Callers.{put_in-same, put_in-below, put_in-above, rising-AreRising, rising-IsIn}}
+use Rattle.board_report.{specs.Lines.{quarter_sums, AreInOrder, put_line, CanLead}, specs.Sums.{AreQuartersOf, QuartersFit, station_quarters}}
 
 -- one of the four sums of energies of both directions: it adds up by itself
 pub record Part : Type 0 where

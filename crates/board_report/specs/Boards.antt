@@ -1,15 +1,9 @@
 -- The stations of a site, by a plan and its cells, and the board that they make.
 use Rattle.std.specs.Prelude.{◌≡◌, ◌==◌, ℕ, List, [], ◌∷◌, if◌then◌else◌, length, Some, slice_get}
-use Rattle.ledger_model.specs.Periods.{Periods}
-use Rattle.ledger_model.specs.declared.figures.Figures.{Figures}
-use Rattle.ledger_model.specs.declared.order.Order.{Order}
-use Rattle.ledger_model.specs.Board.{Board, board_by, site_board}
-use Rattle.ledger_model.specs.Content.{entries}
+use Rattle.ledger_model.{specs.Periods.Periods, specs.declared.figures.Figures.Figures, specs.declared.order.Order.Order, specs.Board.{Board, board_by, site_board}, specs.Content.entries}
 use Rattle.board_report.specs.Named.{NamedBoard}
-use Rattle.site_desk.specs.declared.plan.SitePlan.{SitePlan}
-use Rattle.site_desk.specs.declared.plan.StationPlan.{StationPlan}
+use Rattle.site_desk.{specs.declared.plan.SitePlan.SitePlan, specs.declared.plan.StationPlan.StationPlan, specs.Plan.{order_at, period_at}}
 use Rattle.station_cell.specs.Cell.{Cell}
-use Rattle.site_desk.specs.Plan.{order_at, period_at}
 
 -- Each station has its cell, opened with its limits and with its site's length of periods and order of
 -- readings.

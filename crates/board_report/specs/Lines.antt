@@ -1,8 +1,6 @@
 -- How lines of settlement periods are added up.
 use Rattle.std.specs.Prelude.{◌≤◌, ◌≡◌, ◌==◌, nat_lt, if◌then◌else◌, List, [], ◌∷◌, map}
-use Rattle.ledger_model.specs.Board.{Flowed, flows_under}
-use Rattle.ledger_model.specs.ByDirection.{plus_flows, CanPlusFlows}
-use Rattle.ledger_model.specs.Energy.{rising}
+use Rattle.ledger_model.{specs.Board.{Flowed, flows_under}, specs.ByDirection.{plus_flows, CanPlusFlows}, specs.Energy.rising}
 
 -- Each period of these lines once, in rising order, with the sums of its energies.
 abbrev pub quarter_sums : List Flowed → List Flowed

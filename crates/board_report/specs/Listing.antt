@@ -1,14 +1,7 @@
 -- The texts of a transaction's events and readings (this product's profile). Energies and levels are milliwatt-hours.
-use Rattle.std.specs.Prelude.{ℕ, Bool, not, ◌+◌, ◌%◌, ◌==◌, List, [], ◌∷◌, ◌++◌, Option, None, Some, codes, drop, take, if◌then◌else◌}
-use Rattle.std.specs.List.{count_by, flat_map}
-use Rattle.std.specs.Fmt.{decimal}
+use Rattle.std.{specs.Prelude.{ℕ, Bool, not, ◌+◌, ◌%◌, ◌==◌, List, [], ◌∷◌, ◌++◌, Option, None, Some, codes, drop, take, if◌then◌else◌}, specs.List.{count_by, flat_map}, specs.Fmt.decimal}
 use Rattle.event_chain.specs.declared.event_lines.EventLine.{EventLine}
-use Rattle.ledger_model.specs.Energy.{difference, parts_of}
-use Rattle.ledger_model.specs.Event.{MeterReading}
-use Rattle.ledger_model.specs.Parts.{Part}
-use Rattle.ledger_model.specs.Periods.{Periods}
-use Rattle.ledger_model.specs.declared.kind.Kind.{Kind}
-use Rattle.ledger_model.specs.declared.kind.Kind.TheVariants.{Started, Updated, Ended}
+use Rattle.ledger_model.{specs.Energy.{difference, parts_of}, specs.Event.MeterReading, specs.Parts.Part, specs.Periods.Periods, specs.declared.kind.Kind.Kind, specs.declared.kind.Kind.TheVariants.{Started, Updated, Ended}}
 use Rattle.reading_decimal.specs.MomentText.{text_of}
 use Rattle.reading_index.specs.declared.placed.PlacedReading.{PlacedReading}
 use Rattle.station_ledger.specs.declared.listing.TxListing.{TxListing}

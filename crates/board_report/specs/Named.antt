@@ -1,8 +1,5 @@
 use Rattle.std.specs.Prelude.{ℕ, List}
-use Rattle.ledger_model.specs.Periods.{Periods}
-use Rattle.ledger_model.specs.declared.figures.Figures.{Figures}
-use Rattle.ledger_model.specs.declared.order.Order.{Order}
-use Rattle.ledger_model.specs.Board.{Board, Flowed}
+use Rattle.ledger_model.{specs.Periods.Periods, specs.declared.figures.Figures.Figures, specs.declared.order.Order.Order, specs.Board.{Board, Flowed}}
 
 -- A site's board under the site's name: its settlement periods, the order of its readings, its
 -- figures, its periods with their energies, and its stations' boards by name.

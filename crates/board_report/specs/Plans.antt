@@ -1,11 +1,6 @@
 -- The boards of one plan: the sums of their settlement periods.
 use Rattle.std.specs.Prelude.{◌≡◌, ◌≤◌, ℕ, List, [], ◌∷◌, sum_by}
-use Rattle.ledger_model.specs.declared.order.Order.{Order}
-use Rattle.ledger_model.specs.Board.{Board, board_by}
-use Rattle.ledger_model.specs.Content.{Entry}
-use Rattle.ledger_model.specs.Figures.{AreWithin}
-use Rattle.ledger_model.specs.Limits.{Bounds}
-use Rattle.ledger_model.specs.Ranges.{most_plan_readings}
+use Rattle.ledger_model.{specs.declared.order.Order.Order, specs.Board.{Board, board_by}, specs.Content.Entry, specs.Figures.AreWithin, specs.Limits.Bounds, specs.Ranges.most_plan_readings}
 use Rattle.board_report.specs.Sums.{station_quarters, QuartersFit}
 
 -- A board is that of a station's events, by its own length of periods and in one of the orders of

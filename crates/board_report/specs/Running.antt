@@ -1,14 +1,8 @@
 -- The board of a site of a running desk.
 use Rattle.std.specs.Prelude.{◌≡◌, ℕ, List, [], map, get_or}
 use Rattle.ledger_model.specs.Board.{Board, site_board}
-use Rattle.board_report.specs.Named.{NamedBoard}
-use Rattle.board_report.specs.Texts.{board_text}
-use Rattle.site_desk.specs.declared.plan.SitePlan.{SitePlan}
-use Rattle.site_desk.specs.declared.plan.StationPlan.{StationPlan}
-use Rattle.site_desk.specs.declared.roster.StationPlace.{StationPlace}
-use Rattle.site_desk.specs.Operator.{AreBoardsAt}
-use Rattle.site_desk.specs.Plan.{order_at, period_at}
-use Rattle.site_desk.specs.Roster.{AreNewPlaces}
+use Rattle.board_report.{specs.Named.NamedBoard, specs.Texts.board_text}
+use Rattle.site_desk.{specs.declared.plan.SitePlan.SitePlan, specs.declared.plan.StationPlan.StationPlan, specs.declared.roster.StationPlace.StationPlace, specs.Operator.AreBoardsAt, specs.Plan.{order_at, period_at}, specs.Roster.AreNewPlaces}
 
 -- The board of a site over these stations' boards, by the site's name, length of periods and order
 -- of readings: the sums of their figures, and of their periods.

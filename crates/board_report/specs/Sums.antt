@@ -1,9 +1,6 @@
 -- The settlement periods that the stations of a site show, and the condition on their sums.
-use Rattle.std.specs.Prelude.{◌≡◌, ℕ, ◌<◌, List, All, ◌^◌}
-use Rattle.std.specs.List.{flat_map}
-use Rattle.ledger_model.specs.Periods.{Periods}
-use Rattle.ledger_model.specs.Board.{Board, Flowed, flows_under}
-use Rattle.ledger_model.specs.Quarter.{IsQuarterOf}
+use Rattle.std.{specs.Prelude.{◌≡◌, ℕ, ◌<◌, List, All, ◌^◌}, specs.List.flat_map}
+use Rattle.ledger_model.{specs.Periods.Periods, specs.Board.{Board, Flowed, flows_under}, specs.Quarter.IsQuarterOf}
 
 -- The lines of the periods that stations show, station after station.
 abbrev pub station_quarters : List (List ℕ × Board) → List Flowed

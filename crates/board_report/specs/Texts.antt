@@ -1,19 +1,8 @@
 -- The text of a board (this product's profile). Numbers are plain decimals, and energies are milliwatt-hours.
-use Rattle.std.specs.Prelude.{ℕ, Bool, List, [], ◌∷◌, ◌++◌, codes, if◌then◌else◌}
-use Rattle.std.specs.List.{flat_map}
-use Rattle.std.specs.Fmt.{decimal}
+use Rattle.std.{specs.Prelude.{ℕ, Bool, List, [], ◌∷◌, ◌++◌, codes, if◌then◌else◌}, specs.List.flat_map, specs.Fmt.decimal}
 use Rattle.energy_flow.specs.Flow.{Energy}
-use Rattle.ledger_model.specs.Periods.{Periods}
-use Rattle.ledger_model.specs.declared.settle.Settle.{Settle}
-use Rattle.ledger_model.specs.declared.settle.Settle.TheVariants.{Later, Closing, Even}
-use Rattle.ledger_model.specs.declared.figures.Figures.{Figures}
-use Rattle.ledger_model.specs.declared.order.Order.{Order}
-use Rattle.ledger_model.specs.declared.order.Order.TheVariants.{Sequence, Moment}
-use Rattle.ledger_model.specs.declared.by_direction.ByDirection.{ByDirection}
-use Rattle.ledger_model.specs.Board.{Board, Flowed, Shown}
-use Rattle.ledger_model.specs.Gaps.{Gap}
-use Rattle.reading_decimal.specs.MomentText.{text_of}
-use Rattle.reading_decimal.specs.Quarter.{quarter_start}
+use Rattle.ledger_model.{specs.Periods.Periods, specs.declared.settle.Settle.Settle, specs.declared.settle.Settle.TheVariants.{Later, Closing, Even}, specs.declared.figures.Figures.Figures, specs.declared.order.Order.Order, specs.declared.order.Order.TheVariants.{Sequence, Moment}, specs.declared.by_direction.ByDirection.ByDirection, specs.Board.{Board, Flowed, Shown}, specs.Gaps.Gap}
+use Rattle.reading_decimal.{specs.MomentText.text_of, specs.Quarter.quarter_start}
 use Rattle.board_report.specs.Named.{NamedBoard}
 
 -- A label, and a number behind it.

@@ -21,8 +21,7 @@ pub struct SiteBoard {
 }
 
 impl Model for SiteBoard {
-    ghost use Rattle.board_report.specs.Named.{NamedBoard};
-    ghost use Rattle.board_report.specs.Sums.{AreQuartersOf};
+    ghost use Rattle.board_report.{specs.Named.NamedBoard, specs.Sums.AreQuartersOf};
 
     ghost Value = { NamedBoard };
 

@@ -1,9 +1,7 @@
 ghost use Rattle.std.specs.Prelude.{◌≡◌, ◌+◌, ◌<◌, ◌≤◌, IfOk, OnOk, length, sum_by, take};
 ghost use Rattle.ledger_model.specs.Ranges.{most_plan_readings};
-ghost use Rattle.board_report.specs.Plans.{AreBoardsWithin};
-ghost use Rattle.board_report.specs.Texts.{board_text};
+ghost use Rattle.board_report.{specs.Plans.AreBoardsWithin, specs.Texts.board_text, specs.Boards.{AreOpenedFor, site_boards, site_under}};
 ghost use Rattle.site_desk.specs.Parts.{limits_at};
-ghost use Rattle.board_report.specs.Boards.{AreOpenedFor, site_boards, site_under};
 
 use crate::board::site_board;
 use crate::write::write_board;

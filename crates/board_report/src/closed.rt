@@ -1,9 +1,7 @@
 //! The boards of a desk that was closed.
-ghost use Rattle.std.specs.Prelude.{◌≡◌, ◌<◌, ◌≤◌, IfOk, OnOk, length, sum_by};
-ghost use Rattle.std.specs.Io.KnownBytes.{Appends};
+ghost use Rattle.std.{specs.Prelude.{◌≡◌, ◌<◌, ◌≤◌, IfOk, OnOk, length, sum_by}, specs.Io.KnownBytes.Appends};
 ghost use Rattle.ledger_model.specs.Ranges.{most_plan_readings};
-ghost use Rattle.board_report.specs.Texts.{board_text};
-ghost use Rattle.board_report.specs.Closed.{IsClosedOf, boards_text, closed_site};
+ghost use Rattle.board_report.{specs.Texts.board_text, specs.Closed.{IsClosedOf, boards_text, closed_site}};
 
 use crate::boards::site_text;
 use site_book::Naming;

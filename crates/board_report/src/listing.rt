@@ -1,9 +1,7 @@
 //! The texts of a transaction's events and readings, line by line.
-ghost use Rattle.std.specs.Prelude.{◌≡◌, ◌++◌, All, None, codes, not, OnOk, IfOk};
-ghost use Rattle.std.specs.List.{count_by, flat_map};
+ghost use Rattle.std.{specs.Prelude.{◌≡◌, ◌++◌, All, None, codes, not, OnOk, IfOk}, specs.List.{count_by, flat_map}};
 ghost use Rattle.ledger_model.specs.Quarter.{IsQuarterOf};
-ghost use Rattle.board_report.specs.Listing.{event_line, events_heading, events_text, exact_text, kind_text, part_line, reading_fields, reading_text, readings_behind, readings_heading, readings_text, voided_text};
-ghost use Rattle.board_report.specs.Texts.{flow_fields};
+ghost use Rattle.board_report.{specs.Listing.{event_line, events_heading, events_text, exact_text, kind_text, part_line, reading_fields, reading_text, readings_behind, readings_heading, readings_text, voided_text}, specs.Texts.flow_fields};
 
 use crate::write::{order_field, put_field, put_fields, settle_field, start_text};
 use energy_flow::Flow;

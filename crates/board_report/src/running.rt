@@ -1,10 +1,8 @@
 //! The board of a site of a running desk.
 ghost use Rattle.std.specs.Prelude.{◌≡◌, ◌<◌, ◌≤◌, IfOk, length, map, sum_by};
-ghost use Rattle.ledger_model.specs.Board.{sum_of_figures};
-ghost use Rattle.ledger_model.specs.Ranges.{most_plan_readings};
+ghost use Rattle.ledger_model.{specs.Board.sum_of_figures, specs.Ranges.most_plan_readings};
 ghost use Rattle.site_desk.specs.Roster.{AreNewPlaces};
-ghost use Rattle.board_report.specs.Running.{AreBoardsOfPlan, IsRunningBoard, running_site};
-ghost use Rattle.board_report.specs.Texts.{board_text};
+ghost use Rattle.board_report.{specs.Running.{AreBoardsOfPlan, IsRunningBoard, running_site}, specs.Texts.board_text};
 
 use crate::board::site_board;
 use crate::write::write_board;

@@ -1,9 +1,7 @@
 // The sums of a site by settlement period.
-ghost use Rattle.std.specs.Prelude.{◌≡◌, ℕ, reverse, IfOk, OnOk};
-ghost use Rattle.std.specs.List.Sorted.{IsPermutation};
+ghost use Rattle.std.{specs.Prelude.{◌≡◌, ℕ, reverse, IfOk, OnOk}, specs.List.Sorted.IsPermutation};
 ghost use Rattle.ledger_model.specs.Periods.{Periods};
-ghost use Rattle.board_report.specs.Lines.{quarter_sums, AreInOrder, put_line, CanLead};
-ghost use Rattle.board_report.specs.Sums.{station_quarters, AreOfPeriod, AreQuartersOf, QuartersFit};
+ghost use Rattle.board_report.{specs.Lines.{quarter_sums, AreInOrder, put_line, CanLead}, specs.Sums.{station_quarters, AreOfPeriod, AreQuartersOf, QuartersFit}};
 
 use ledger_model::Name;
 use station_ledger::{QuarterLine, StationBoard};

@@ -1,9 +1,7 @@
 // The text of a board, line by line.
-ghost use Rattle.std.specs.Prelude.{◌≡◌, ◌++◌, OnOk, IfOk};
-ghost use Rattle.std.specs.List.{flat_map};
+ghost use Rattle.std.{specs.Prelude.{◌≡◌, ◌++◌, OnOk, IfOk}, specs.List.flat_map};
 ghost use Rattle.ledger_model.specs.Quarter.{IsQuarterOf};
-ghost use Rattle.board_report.specs.Sums.{AreQuartersOf};
-ghost use Rattle.board_report.specs.Texts.{field, line, energy_fields, start_text, events_fields, completeness_fields, total_text as total_text_of, quarter_line, evse_line, yes_or_no, transaction_line, gap_line, transaction_text, station_text, heading, order_field, settle_field, board_text};
+ghost use Rattle.board_report.{specs.Sums.AreQuartersOf, specs.Texts.{field, line, energy_fields, start_text, events_fields, completeness_fields, total_text as total_text_of, quarter_line, evse_line, yes_or_no, transaction_line, gap_line, transaction_text, station_text, heading, order_field, settle_field, board_text}};
 
 use crate::board::SiteBoard;
 use crate::fixed::total_text;

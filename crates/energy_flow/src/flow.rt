@@ -1,6 +1,5 @@
 ghost use Rattle.std.specs.Prelude.{◌≡◌, ◌≤◌, ◌↔◌, IsTrue};
-ghost use Rattle.energy_flow.specs.Flow.{no_energy, plus, minus, net, difference_of, CanPlus, CanMinus};
-ghost use Rattle.energy_flow.specs.Work.{counted};
+ghost use Rattle.energy_flow.{specs.Flow.{no_energy, plus, minus, net, difference_of, CanPlus, CanMinus}, specs.Work.counted};
 
 use crate::Work;
 use std::alloc::Global;

@@ -1,13 +1,7 @@
 -- The places of a transaction, cut at a rank.
-use Rattle.std.proofs.Common.{◌≡◌, ℕ, ◌+◌, ◌<◌, ◌≤◌, ◌/◌, ◌%◌, ◌^◌, nat_lt, ◌==◌, Bool, true, false, cond, List, [], ◌∷◌, Some, None, map, slice_get, refl, sym, ap, ◌∙◌, arith}
-use Rattle.std.proofs.lemmas.Bool.Decides.{Decides-ltb, Decides-eqb}
-use Rattle.std.specs.List.{filter}
-use Rattle.key_index.specs.Entries.{below, from, first_of, last_of, AreAbove, AreRising, AreBelow}
-use Rattle.key_index.specs.Key.{rank}
-use Rattle.event_chain.specs.Flat.{EventPlace, segment}
-use Rattle.event_chain.specs.Edits.{at_home, places_before, places_behind}
-use Rattle.event_chain.proofs.Decided.{denied, not_so, same_test}
-use Rattle.event_chain.proofs.Places.{not_less, seg_above, last_under_seg, below_under, below_rising}
+use Rattle.std.{proofs.Common.{◌≡◌, ℕ, ◌+◌, ◌<◌, ◌≤◌, ◌/◌, ◌%◌, ◌^◌, nat_lt, ◌==◌, Bool, true, false, cond, List, [], ◌∷◌, Some, None, map, slice_get, refl, sym, ap, ◌∙◌, arith}, proofs.lemmas.Bool.Decides.{Decides-ltb, Decides-eqb}, specs.List.filter}
+use Rattle.key_index.{specs.Entries.{below, from, first_of, last_of, AreAbove, AreRising, AreBelow}, specs.Key.rank}
+use Rattle.event_chain.{specs.Flat.{EventPlace, segment}, specs.Edits.{at_home, places_before, places_behind}, proofs.Decided.{denied, not_so, same_test}, proofs.Places.{not_less, seg_above, last_under_seg, below_under, below_rising}}
 
 -- Of greater ranks none is in front.
 none_under : (t r n : ℕ) (es : List EventPlace) → AreAbove n es → r ≤ n → filter (λ e. nat_lt e.0 r) (segment t es) ≡ []

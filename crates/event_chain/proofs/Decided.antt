@@ -1,14 +1,6 @@
 -- Tests of keys and ranks, and what they decide.
-use Rattle.std.proofs.Common.{◌≡◌, ℕ, Bool, true, false, List, refl, sym, ap, ◌∙◌}
-use Rattle.std.specs.Bool.{Decides}
-use Rattle.std.specs.Ordering.{is_eq, eq_by_cmp, nat_cmp}
-use Rattle.std.specs.Cmp.{IsTotalOrder, eq_by_cmp_equiv, nat_cmp_total}
-use Rattle.std.specs.Cmp.Lexicographic.{nat_list_cmp_total}
-use Rattle.std.specs.FinMap.{IsAntisymmetric, nat_cmp-IsAntisymmetric, slice_cmp-IsAntisymmetric}
-use Rattle.std.specs.declared.cmp.Ordering.{Ordering}
-use Rattle.std.specs.declared.cmp.Ordering.TheVariants.{Less, Equal, Greater}
-use Rattle.ledger_model.specs.Key.{KeyName, key_cmp}
-use Rattle.ledger_model.proofs.Callers.{key_total, exact_keys}
+use Rattle.std.{proofs.Common.{◌≡◌, ℕ, Bool, true, false, List, refl, sym, ap, ◌∙◌}, specs.Bool.Decides, specs.Ordering.{is_eq, eq_by_cmp, nat_cmp}, specs.Cmp.{IsTotalOrder, eq_by_cmp_equiv, nat_cmp_total}, specs.Cmp.Lexicographic.nat_list_cmp_total, specs.FinMap.{IsAntisymmetric, nat_cmp-IsAntisymmetric, slice_cmp-IsAntisymmetric}, specs.declared.cmp.Ordering.Ordering, specs.declared.cmp.Ordering.TheVariants.{Less, Equal, Greater}}
+use Rattle.ledger_model.{specs.Key.{KeyName, key_cmp}, proofs.Callers.{key_total, exact_keys}}
 use Rattle.event_chain.specs.Table.{id_cmp}
 
 -- A test by an order decides equality if its ties are equal.

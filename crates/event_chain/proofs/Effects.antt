@@ -1,23 +1,10 @@
 -- All events after a move: one put in, written or taken out.
-use Rattle.std.proofs.Common.{◌≡◌, ℕ, ◌^◌, Bool, true, false, not, cond, List, Option, Some, None, refl, sym, ap, ◌∙◌}
-use Rattle.std.specs.Ordering.{is_eq, eq_by_cmp}
-use Rattle.std.specs.Cmp.{eq_by_cmp_equiv, alike_right}
+use Rattle.std.{proofs.Common.{◌≡◌, ℕ, ◌^◌, Bool, true, false, not, cond, List, Option, Some, None, refl, sym, ap, ◌∙◌}, specs.Ordering.{is_eq, eq_by_cmp}, specs.Cmp.{eq_by_cmp_equiv, alike_right}, specs.FinMap.{find, put}, specs.FinMap.Entries.{find-put, find-where_key, is_sorted-put, is_sorted-where_key}, proofs.lemmas.Bool.Decides.Decides-ltb}
 use Rattle.std.specs.FinMap as finite
-use Rattle.std.specs.FinMap.{find, put}
-use Rattle.std.specs.FinMap.Entries.{find-put, find-where_key, is_sorted-put, is_sorted-where_key}
-use Rattle.std.proofs.lemmas.Bool.Decides.{Decides-ltb}
 use Rattle.key_index.specs.Key.{rank}
-use Rattle.ledger_model.specs.Key.{KeyName, key_cmp}
-use Rattle.ledger_model.specs.Content.{Entry, Stored}
-use Rattle.ledger_model.specs.Entries.{IsRising, entries_without}
-use Rattle.ledger_model.proofs.Callers.{key_total, exact_keys}
+use Rattle.ledger_model.{specs.Key.{KeyName, key_cmp}, specs.Content.{Entry, Stored}, specs.Entries.{IsRising, entries_without}, proofs.Callers.{key_total, exact_keys}}
 use Rattle.event_store.specs.Slots.{Held}
-use Rattle.event_chain.specs.Table.{TxRow, AreRising}
-use Rattle.event_chain.specs.Flat.{EventPlace, place_of, flat, event_at, look}
-use Rattle.event_chain.specs.Kept.{AreRanks}
-use Rattle.event_chain.proofs.Decided.{key_test, denied}
-use Rattle.event_chain.proofs.Flats.{find_flat, flat_rising, same_flat}
-use Rattle.event_chain.proofs.Looks.{IsMove, look_other, look_here}
+use Rattle.event_chain.{specs.Table.{TxRow, AreRising}, specs.Flat.{EventPlace, place_of, flat, event_at, look}, specs.Kept.AreRanks, proofs.Decided.{key_test, denied}, proofs.Flats.{find_flat, flat_rising, same_flat}, proofs.Looks.{IsMove, look_other, look_here}}
 
 turned : {A : Type 0} (b : Bool) (x y : A) → cond (not b) x y ≡ cond b y x
 turned true x y = refl

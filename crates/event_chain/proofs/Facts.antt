@@ -1,37 +1,11 @@
 -- What chains know before an operation.
-use Rattle.std.proofs.Common.{◌≡◌, ℕ, zero, suc, ◌+◌, ◌<◌, ◌≤◌, ◌^◌, nat_lt, nat_le, Bool, true, false, not, cond, ◌&&◌, List, [], ◌∷◌, Option, Some, None, is_some, length, sum_by, replicate, refl, sym, ap, ◌∙◌, subst, arith, inl, inr, le-leb, leb-true}
-use Rattle.std.specs.Str.{bytes_eq}
-use Rattle.std.proofs.lemmas.List.Sums.{count_by-le-length}
+use Rattle.std.{proofs.Common.{◌≡◌, ℕ, zero, suc, ◌+◌, ◌<◌, ◌≤◌, ◌^◌, nat_lt, nat_le, Bool, true, false, not, cond, ◌&&◌, List, [], ◌∷◌, Option, Some, None, is_some, length, sum_by, replicate, refl, sym, ap, ◌∙◌, subst, arith, inl, inr, le-leb, leb-true}, specs.Str.bytes_eq, proofs.lemmas.List.Sums.{count_by-le-length, sum_by-cons}, specs.FinMap.FinMap, proofs.lemmas.Bool.cases_lt, proofs.lemmas.List.{length-map, length-replicate}, proofs.lemmas.Bool.Decides.Decides-ltb}
 use Rattle.std.specs.FinMap as finite
-use Rattle.std.specs.FinMap.{FinMap}
-use Rattle.std.proofs.lemmas.Bool.{cases_lt}
-use Rattle.std.proofs.lemmas.List.{length-map, length-replicate}
-use Rattle.std.proofs.lemmas.Bool.Decides.{Decides-ltb}
-use Rattle.std.proofs.lemmas.List.Sums.{sum_by-cons}
-use Rattle.ledger_model.specs.declared.reading.Direction.{Direction}
+use Rattle.ledger_model.{specs.declared.reading.Direction.Direction, specs.Key.{KeyName, key_cmp}, specs.Limits.Bounds, specs.Content.{Entry, Stored, has_transaction, transactions_of}, specs.Step.readings_stored, specs.Entries.IsRising}
 use Rattle.slot_arena.specs.Arena.{held_count}
 use Rattle.key_index.specs.Key.{rank}
-use Rattle.event_chain.specs.Placed.{Index, index}
-use Rattle.ledger_model.specs.Key.{KeyName, key_cmp}
-use Rattle.ledger_model.specs.Limits.{Bounds}
-use Rattle.ledger_model.specs.Content.{Entry, Stored, has_transaction, transactions_of}
-use Rattle.ledger_model.specs.Step.{readings_stored}
-use Rattle.ledger_model.specs.Entries.{IsRising}
+use Rattle.event_chain.{specs.Placed.{Index, index}, specs.declared.row.TableRow.TableRow, specs.Table.{Table, TxRow, row_of}, specs.declared.answers.Room.TheVariants.{Fits, NoTransaction, NoEvent, NoReading}, specs.declared.answers.Found.TheVariants.{Live, Voided}, specs.Room.{room_of, found_of}, specs.Flat.{EventPlace, place_of, event_at, flat, look_in, look}, specs.Edits.{place_in, place_at}, specs.Kept.{live_one, end_one, is_end, IsChains, IsNamed, IsEntered, events_of}, proofs.Decided.not_so, proofs.Flats.{find_flat, flat_rising}, proofs.Moves.before_named, proofs.Named.{row_here, row_other}, proofs.Figures.known_figures, proofs.Ids.{ids_flat, has_flat}}
 use Rattle.event_store.specs.Slots.{Held, Slots}
-use Rattle.event_chain.specs.declared.row.TableRow.{TableRow}
-use Rattle.event_chain.specs.Table.{Table, TxRow, row_of}
-use Rattle.event_chain.specs.declared.answers.Room.TheVariants.{Fits, NoTransaction, NoEvent, NoReading}
-use Rattle.event_chain.specs.declared.answers.Found.TheVariants.{Live, Voided}
-use Rattle.event_chain.specs.Room.{room_of, found_of}
-use Rattle.event_chain.specs.Flat.{EventPlace, place_of, event_at, flat, look_in, look}
-use Rattle.event_chain.specs.Edits.{place_in, place_at}
-use Rattle.event_chain.specs.Kept.{live_one, end_one, is_end, IsChains, IsNamed, IsEntered, events_of}
-use Rattle.event_chain.proofs.Decided.{not_so}
-use Rattle.event_chain.proofs.Flats.{find_flat, flat_rising}
-use Rattle.event_chain.proofs.Moves.{before_named}
-use Rattle.event_chain.proofs.Named.{row_here, row_other}
-use Rattle.event_chain.proofs.Figures.{known_figures}
-use Rattle.event_chain.proofs.Ids.{ids_flat, has_flat}
 
 -- Chains of equal parts.
 pub seal : (limits : Bounds) (t : Table) (s : Slots) (st l : Index) (c : Direction → Index) (n : Index) (rows : List TxRow)

@@ -1,20 +1,8 @@
 -- What is counted of each transaction, under the edits of its events.
-use Rattle.std.proofs.Common.{◌≡◌, ℕ, ◌+◌, true, false, not, cond, ◌&&◌, List, [], ◌∷◌, Option, Some, None, map, sum_by, refl, sym, ap, ◌∙◌, subst, arith, inl, inr}
-use Rattle.std.specs.Str.{bytes_eq}
-use Rattle.std.proofs.lemmas.Slice.Eq.{bytes_eq-Decides}
-use Rattle.std.specs.Ordering.{eq_by_cmp}
-use Rattle.std.specs.FinMap.{find, put}
-use Rattle.std.proofs.lemmas.List.Sums.{sum_by-cons, sum_by-append}
-use Rattle.ledger_model.specs.Key.{KeyName, key_cmp}
-use Rattle.ledger_model.specs.Content.{Entry, Stored}
-use Rattle.ledger_model.specs.Entries.{IsRising, entries_without}
+use Rattle.std.{proofs.Common.{◌≡◌, ℕ, ◌+◌, true, false, not, cond, ◌&&◌, List, [], ◌∷◌, Option, Some, None, map, sum_by, refl, sym, ap, ◌∙◌, subst, arith, inl, inr}, specs.Str.bytes_eq, proofs.lemmas.Slice.Eq.bytes_eq-Decides, specs.Ordering.eq_by_cmp, specs.FinMap.{find, put}, proofs.lemmas.List.Sums.{sum_by-cons, sum_by-append}}
+use Rattle.ledger_model.{specs.Key.{KeyName, key_cmp}, specs.Content.{Entry, Stored}, specs.Entries.{IsRising, entries_without}}
 use Rattle.event_store.specs.Slots.{Held}
-use Rattle.event_chain.specs.declared.row.TableRow.{TableRow}
-use Rattle.event_chain.specs.Table.{TxRow, id_cmp, row_of}
-use Rattle.event_chain.specs.Flat.{EventPlace, entry_of, segment, entries_of, flat}
-use Rattle.event_chain.specs.Kept.{live_one, end_one, is_end, IsFigured, AreFigured, IsNamed}
-use Rattle.event_chain.proofs.Decided.{id_test, not_so, denied}
-use Rattle.event_chain.proofs.Sums.{at_key, sum_put, sum_without}
+use Rattle.event_chain.{specs.declared.row.TableRow.TableRow, specs.Table.{TxRow, id_cmp, row_of}, specs.Flat.{EventPlace, entry_of, segment, entries_of, flat}, specs.Kept.{live_one, end_one, is_end, IsFigured, AreFigured, IsNamed}, proofs.Decided.{id_test, not_so, denied}, proofs.Sums.{at_key, sum_put, sum_without}}
 
 module _ (f : Entry → ℕ) (tx : List ℕ) (zero_if : (e : Entry) → bytes_eq tx e.0.tx ≡ false → f e ≡ 0) where
   -- Events of another transaction count nothing.

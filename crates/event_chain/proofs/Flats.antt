@@ -1,25 +1,9 @@
 -- All stored events rise by key, and are found by transaction and rank.
-use Rattle.std.proofs.Common.{◌≡◌, ℕ, ◌<◌, ◌/◌, ◌%◌, ◌^◌, ◌==◌, nat_lt, true, false, cond, T, List, [], ◌∷◌, ◌++◌, Option, Some, None, map, refl, sym, ap, ◌∙◌, subst, arith}
-use Rattle.std.proofs.lemmas.Bool.Decides.{Decides-eqb, Decides-ltb}
-use Rattle.std.specs.Ordering.{is_eq, is_lt, eq_by_cmp, nat_cmp, ordering_then}
-use Rattle.std.specs.declared.cmp.Ordering.{Ordering}
-use Rattle.std.specs.declared.cmp.Ordering.TheVariants.{Less, Equal, Greater}
-use Rattle.std.specs.FinMap.{find}
-use Rattle.std.specs.FinMap.Entries.{below_all, find-where_key, same_entries}
-use Rattle.std.specs.FinMap.{nat_cmp-IsAntisymmetric}
-use Rattle.ledger_model.proofs.Callers.{first, second, less, key_total, exact_keys}
-use Rattle.ledger_model.proofs.Rising.{both}
-use Rattle.ledger_model.specs.Entries.{IsRising}
-use Rattle.std.specs.Cmp.{tied_itself}
-use Rattle.std.specs.Cmp.Lexicographic.{nat_list_cmp_total}
+use Rattle.std.{proofs.Common.{◌≡◌, ℕ, ◌<◌, ◌/◌, ◌%◌, ◌^◌, ◌==◌, nat_lt, true, false, cond, T, List, [], ◌∷◌, ◌++◌, Option, Some, None, map, refl, sym, ap, ◌∙◌, subst, arith}, proofs.lemmas.Bool.Decides.{Decides-eqb, Decides-ltb}, specs.Ordering.{is_eq, is_lt, eq_by_cmp, nat_cmp, ordering_then}, specs.declared.cmp.Ordering.Ordering, specs.declared.cmp.Ordering.TheVariants.{Less, Equal, Greater}, specs.FinMap.{find, nat_cmp-IsAntisymmetric}, specs.FinMap.Entries.{below_all, find-where_key, same_entries}, specs.Cmp.tied_itself, specs.Cmp.Lexicographic.nat_list_cmp_total}
+use Rattle.ledger_model.{proofs.Callers.{first, second, less, key_total, exact_keys}, proofs.Rising.both, specs.Entries.IsRising, specs.Key.{KeyName, key_cmp}, specs.Content.{Entry, Stored}}
 use Rattle.key_index.specs.Key.{rank}
-use Rattle.ledger_model.specs.Key.{KeyName, key_cmp}
-use Rattle.ledger_model.specs.Content.{Entry, Stored}
 use Rattle.event_store.specs.Slots.{Held}
-use Rattle.event_chain.specs.Table.{TxRow, AreRising, id_cmp, row_of}
-use Rattle.event_chain.specs.Flat.{EventPlace, place_of, stored_at, entry_of, segment, entries_of, flat, event_at, number_at, look_in, look}
-use Rattle.event_chain.specs.Kept.{AreRanks}
-use Rattle.event_chain.proofs.Decided.{key_test, id_test, rank_test, not_so, denied, same_test}
+use Rattle.event_chain.{specs.Table.{TxRow, AreRising, id_cmp, row_of}, specs.Flat.{EventPlace, place_of, stored_at, entry_of, segment, entries_of, flat, event_at, number_at, look_in, look}, specs.Kept.AreRanks, proofs.Decided.{key_test, id_test, rank_test, not_so, denied, same_test}}
 
 -- The first of two that is there.
 abbrev pub either : {X : Type 0} → Option X → Option X → Option X

@@ -1,24 +1,8 @@
 -- The transactions of all events are those of the table.
-use Rattle.std.proofs.Common.{◌≡◌, ℕ, ◌/◌, ◌^◌, ◌==◌, true, false, not, cond, T, List, [], ◌∷◌, ◌++◌, Option, Some, None, is_some, map, refl, sym, ap, ◌∙◌}
-use Rattle.std.specs.List.{filter, list_any}
-use Rattle.std.specs.Str.{bytes_eq}
-use Rattle.std.proofs.lemmas.List.{map-append}
-use Rattle.std.specs.Ordering.{is_eq, nat_cmp}
-use Rattle.std.specs.FinMap.Entries.{below_all, is_some-find, find-where_key}
-use Rattle.std.specs.FinMap.{nat_cmp-IsAntisymmetric}
-use Rattle.std.proofs.lemmas.Slice.Eq.{bytes_eq-Decides}
-use Rattle.std.proofs.lemmas.Map.Text.{is_eq-slice_cmp}
-use Rattle.std.proofs.lemmas.Bool.Decides.{Decides-eqb}
-use Rattle.ledger_model.specs.Content.{Entry, distinct, transactions_of, has_transaction}
-use Rattle.ledger_model.proofs.TransactionLemmas.{transactions-any}
-use Rattle.ledger_model.proofs.Callers.{first, second, less}
+use Rattle.std.{proofs.Common.{◌≡◌, ℕ, ◌/◌, ◌^◌, ◌==◌, true, false, not, cond, T, List, [], ◌∷◌, ◌++◌, Option, Some, None, is_some, map, refl, sym, ap, ◌∙◌}, specs.List.{filter, list_any}, specs.Str.bytes_eq, proofs.lemmas.List.map-append, specs.Ordering.{is_eq, nat_cmp}, specs.FinMap.Entries.{below_all, is_some-find, find-where_key}, specs.FinMap.nat_cmp-IsAntisymmetric, proofs.lemmas.Slice.Eq.bytes_eq-Decides, proofs.lemmas.Map.Text.is_eq-slice_cmp, proofs.lemmas.Bool.Decides.Decides-eqb}
+use Rattle.ledger_model.{specs.Content.{Entry, distinct, transactions_of, has_transaction}, proofs.TransactionLemmas.transactions-any, proofs.Callers.{first, second, less}}
 use Rattle.event_store.specs.Slots.{Held}
-use Rattle.event_chain.specs.declared.row.TableRow.{TableRow}
-use Rattle.event_chain.specs.Table.{TxRow, AreRising, id_cmp, row_of}
-use Rattle.event_chain.specs.Flat.{EventPlace, place_of, entry_of, segment, entries_of, flat}
-use Rattle.event_chain.specs.Kept.{HasPlace}
-use Rattle.event_chain.proofs.Decided.{id_test, not_so}
-use Rattle.event_chain.proofs.Flats.{missing}
+use Rattle.event_chain.{specs.declared.row.TableRow.TableRow, specs.Table.{TxRow, AreRising, id_cmp, row_of}, specs.Flat.{EventPlace, place_of, entry_of, segment, entries_of, flat}, specs.Kept.HasPlace, proofs.Decided.{id_test, not_so}, proofs.Flats.missing}
 
 -- The ids of entries.
 abbrev ids : List Entry → List (List ℕ)

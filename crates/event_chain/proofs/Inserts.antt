@@ -1,25 +1,11 @@
 -- What an insertion may rely on, and what it leaves.
-use Rattle.std.proofs.Common.{◌≡◌, ℕ, ◌+◌, ◌<◌, ◌^◌, false, Bool, cond, List, Some, None, length, set, refl, ◌∙◌}
-use Rattle.std.specs.Ordering.{nat_cmp}
+use Rattle.std.{proofs.Common.{◌≡◌, ℕ, ◌+◌, ◌<◌, ◌^◌, false, Bool, cond, List, Some, None, length, set, refl, ◌∙◌}, specs.Ordering.nat_cmp, specs.FinMap.put}
 use Rattle.std.specs.FinMap as finite
-use Rattle.std.specs.FinMap.{put}
-use Rattle.ledger_model.specs.declared.reading.Direction.{Direction}
+use Rattle.ledger_model.{specs.declared.reading.Direction.Direction, specs.Event.EventContent, specs.Key.{KeyName, key_cmp}, specs.Limits.Bounds}
 use Rattle.slot_arena.specs.Arena.{value_at}
 use Rattle.key_index.specs.Key.{rank}
-use Rattle.event_chain.specs.Placed.{Index, index}
-use Rattle.ledger_model.specs.Event.{EventContent}
-use Rattle.ledger_model.specs.Key.{KeyName, key_cmp}
-use Rattle.ledger_model.specs.Limits.{Bounds}
+use Rattle.event_chain.{specs.Placed.{Index, index}, specs.declared.row.TableRow.TableRow, specs.Table.{Table, TxRow, AreRising, AreApart, with_row}, specs.Flat.{place_of, flat}, specs.Edits.put_if, specs.Kept.{is_carrier, is_naming, is_end, IsChains, IsNamed, IsEntered, events_of}, proofs.Facts.{seal, none_at, all_rising}, proofs.Named.named_after, proofs.Ops.{put_chains, put_all}, proofs.Effects.map_put}
 use Rattle.event_store.specs.Slots.{Slots}
-use Rattle.event_chain.specs.declared.row.TableRow.{TableRow}
-use Rattle.event_chain.specs.Table.{Table, TxRow, AreRising, AreApart, with_row}
-use Rattle.event_chain.specs.Flat.{place_of, flat}
-use Rattle.event_chain.specs.Edits.{put_if}
-use Rattle.event_chain.specs.Kept.{is_carrier, is_naming, is_end, IsChains, IsNamed, IsEntered, events_of}
-use Rattle.event_chain.proofs.Facts.{seal, none_at, all_rising}
-use Rattle.event_chain.proofs.Named.{named_after}
-use Rattle.event_chain.proofs.Ops.{put_chains, put_all}
-use Rattle.event_chain.proofs.Effects.{map_put}
 
 module _ {limits : Bounds} {table : Table} {store : Slots} {stored live : Index} {carriers : Direction → Index} {naming : Index} (chains : IsChains limits table store stored live carriers naming)
     (key : KeyName) (mid : List TxRow) (row : TableRow) (r0 : ℕ) (entered : IsEntered table.rows mid key.tx row)

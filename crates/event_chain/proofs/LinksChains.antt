@@ -1,10 +1,7 @@
 -- Chains put together, cut, and left as they are.
 use Rattle.std.proofs.Common.{◌≡◌, ℕ, ◌<◌, List, [], ◌∷◌, ◌++◌, Option, Some, None, length, refl, sym, ◌∙◌, subst}
-use Rattle.event_chain.specs.Links.{Links, links, linked_in, linked_out, written}
+use Rattle.event_chain.{specs.Links.{Links, links, linked_in, linked_out, written}, specs.LinkChain.{head_or, last_or, IsChain, IsBeside, AreSlots}, proofs.LinksWritten.length-written, proofs.LinksEnds.{chain_prev_beside, chain_next_beside, chain_prev_first, chain_next_last}}
 use Rattle.slot_arena.specs.Free.{IsApart, AreApart}
-use Rattle.event_chain.specs.LinkChain.{head_or, last_or, IsChain, IsBeside, AreSlots}
-use Rattle.event_chain.proofs.LinksWritten.{length-written}
-use Rattle.event_chain.proofs.LinksEnds.{chain_prev_beside, chain_next_beside, chain_prev_first, chain_next_last}
 
 -- The first slot of two lists.
 pub head_append : (after : Option ℕ) (xs ys : List ℕ) → head_or after (xs ++ ys) ≡ head_or (head_or after ys) xs

@@ -1,9 +1,7 @@
 -- Chains whose ends are written, and those beside.
 use Rattle.std.proofs.Common.{ℕ, List, [], ◌∷◌, Option, Some, None, ◌∙◌}
-use Rattle.event_chain.specs.Links.{links, written}
+use Rattle.event_chain.{specs.Links.{links, written}, specs.LinkChain.{head_or, last_or, IsChain, IsBeside, AreSlots}, proofs.LinksWritten.{written_other, written_same, last_other, beside_parts}}
 use Rattle.slot_arena.specs.Free.{AreApart}
-use Rattle.event_chain.specs.LinkChain.{head_or, last_or, IsChain, IsBeside, AreSlots}
-use Rattle.event_chain.proofs.LinksWritten.{written_other, written_same, last_other, beside_parts}
 
 -- A link to the slot before, written beside a chain, leaves it.
 pub chain_prev_beside : (p n : List (Option ℕ)) (to link before : Option ℕ) (ss : List ℕ) (after : Option ℕ) → IsBeside to ss

@@ -1,12 +1,7 @@
 -- Whole lists: a run put in, left out, and lists beside.
 use Rattle.std.proofs.Common.{◌≡◌, ℕ, List, [], ◌∷◌, ◌++◌, Some, None, refl, sym, ◌∙◌, subst}
-use Rattle.event_chain.specs.Links.{Links, links, linked_in, linked_out, written, IsSlot}
+use Rattle.event_chain.{specs.Links.{Links, links, linked_in, linked_out, written, IsSlot}, specs.LinkChain.{head_or, last_or, IsChain, IsBeside, AreElsewhere, IsLinked, IsRun}, proofs.LinksApart.{elsewhere_back, elsewhere_parts, elsewhere_both, parts_elsewhere, apart_parts, apart_both}, proofs.LinksWritten.{last_beside, head_beside}, proofs.LinksEnds.{chain_prev_beside, chain_next_beside, chain_prev_first, chain_next_last}, proofs.LinksChains.{head_append, head_some, last_some, chain_both, chain_parts, slots_kept, slots_both, slots_parts, length-linked_in, length-linked_out, chain_beside_in, chain_beside_out, chain_front_in, chain_run_in, chain_back_in}}
 use Rattle.slot_arena.specs.Free.{IsApart}
-use Rattle.event_chain.specs.LinkChain.{head_or, last_or, IsChain, IsBeside, AreElsewhere, IsLinked, IsRun}
-use Rattle.event_chain.proofs.LinksApart.{elsewhere_back, elsewhere_parts, elsewhere_both, parts_elsewhere, apart_parts, apart_both}
-use Rattle.event_chain.proofs.LinksWritten.{last_beside, head_beside}
-use Rattle.event_chain.proofs.LinksEnds.{chain_prev_beside, chain_next_beside, chain_prev_first, chain_next_last}
-use Rattle.event_chain.proofs.LinksChains.{head_append, head_some, last_some, chain_both, chain_parts, slots_kept, slots_both, slots_parts, length-linked_in, length-linked_out, chain_beside_in, chain_beside_out, chain_front_in, chain_run_in, chain_back_in}
 
 -- The first slot of a run is absent where the run is elsewhere.
 first_absent : (mid zs : List ℕ) (first : ℕ) → head_or None mid ≡ Some first → AreElsewhere mid zs → IsApart first zs

@@ -1,8 +1,7 @@
 -- What a written link changes, and what it leaves.
 use Rattle.std.proofs.Common.{◌≡◌, ◌≢◌, ℕ, ◌<◌, List, [], ◌∷◌, Option, Some, None, length, get_or, refl, sym, get_or-set_other, get_or-set_same, length-set}
-use Rattle.event_chain.specs.Links.{written}
+use Rattle.event_chain.{specs.Links.written, specs.LinkChain.{last_or, head_or, IsBeside, AreElsewhere}}
 use Rattle.slot_arena.specs.Free.{IsApart}
-use Rattle.event_chain.specs.LinkChain.{last_or, head_or, IsBeside, AreElsewhere}
 
 -- The slot is another one than this, where this is one.
 abbrev pub IsOther : ℕ → Option ℕ → Type 0

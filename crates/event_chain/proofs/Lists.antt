@@ -1,30 +1,8 @@
 -- The linked lists of the live events, under an edit.
-use Rattle.std.proofs.Common.{◌≡◌, ◌≢◌, ℕ, ◌<◌, ◌/◌, ◌^◌, ◌==◌, Bool, true, false, cond, List, [], ◌∷◌, ◌++◌, Option, Some, None, map, slice_get, option_map, replicate, refl, sym, ap, ◌∙◌, subst, inl, inr}
-use Rattle.std.proofs.lemmas.Bool.{cases_eq}
-use Rattle.std.proofs.lemmas.Bool.Decides.{Decides-eqb}
-use Rattle.std.proofs.lemmas.List.{map-append, length-replicate}
-use Rattle.std.specs.List.{filter}
-use Rattle.std.specs.Ordering.{nat_cmp}
-use Rattle.std.specs.Cmp.{nat_cmp_total}
-use Rattle.std.specs.FinMap.{put}
-use Rattle.std.specs.FinMap.Entries.{is_sorted-put}
-use Rattle.key_index.specs.Entries.{last_of, AreRising}
-use Rattle.event_chain.specs.Placed.{Index, index}
-use Rattle.event_chain.specs.Links.{Links, links, linked_in, linked_out, prev_of, next_of, IsSlot}
+use Rattle.std.{proofs.Common.{◌≡◌, ◌≢◌, ℕ, ◌<◌, ◌/◌, ◌^◌, ◌==◌, Bool, true, false, cond, List, [], ◌∷◌, ◌++◌, Option, Some, None, map, slice_get, option_map, replicate, refl, sym, ap, ◌∙◌, subst, inl, inr}, proofs.lemmas.Bool.cases_eq, proofs.lemmas.Bool.Decides.Decides-eqb, proofs.lemmas.List.{map-append, length-replicate}, specs.List.filter, specs.Ordering.nat_cmp, specs.Cmp.nat_cmp_total, specs.FinMap.put, specs.FinMap.Entries.is_sorted-put}
+use Rattle.key_index.{specs.Entries.{last_of, AreRising}, proofs.Orders.last_cons}
+use Rattle.event_chain.{specs.Placed.{Index, index}, specs.Links.{Links, links, linked_in, linked_out, prev_of, next_of, IsSlot}, specs.LinkChain.{head_or, last_or, IsChain, AreElsewhere, AreSlots, IsLinked}, proofs.LinksChains.{chain_parts, slots_parts, length-linked_in, length-linked_out}, proofs.LinksLists.{linked_with_slot, linked_without_slot, linked_beside_in, linked_beside_out}, specs.Flat.{EventPlace, place_of}, specs.Kept.AreRanks, specs.Edits.{out, places_before, places_behind}, specs.Lists.{slot_in, slots_of, slot_before, slot_after, AreOwn, AreListed}, proofs.Members.{AllPlaces, all_found}, proofs.Moves.{put_here, put_other, out_here, out_other}, proofs.Places.ranks_of, proofs.Subs.out_if_ranks, proofs.Splits.{seg_absent, seg_put, seg_put_other, seg_present, seg_out, seg_out_other}}
 use Rattle.slot_arena.specs.Free.{IsApart}
-use Rattle.event_chain.specs.LinkChain.{head_or, last_or, IsChain, AreElsewhere, AreSlots, IsLinked}
-use Rattle.event_chain.proofs.LinksChains.{chain_parts, slots_parts, length-linked_in, length-linked_out}
-use Rattle.event_chain.proofs.LinksLists.{linked_with_slot, linked_without_slot, linked_beside_in, linked_beside_out}
-use Rattle.event_chain.specs.Flat.{EventPlace, place_of}
-use Rattle.event_chain.specs.Kept.{AreRanks}
-use Rattle.event_chain.specs.Edits.{out, places_before, places_behind}
-use Rattle.event_chain.specs.Lists.{slot_in, slots_of, slot_before, slot_after, AreOwn, AreListed}
-use Rattle.event_chain.proofs.Members.{AllPlaces, all_found}
-use Rattle.event_chain.proofs.Moves.{put_here, put_other, out_here, out_other}
-use Rattle.key_index.proofs.Orders.{last_cons}
-use Rattle.event_chain.proofs.Places.{ranks_of}
-use Rattle.event_chain.proofs.Subs.{out_if_ranks}
-use Rattle.event_chain.proofs.Splits.{seg_absent, seg_put, seg_put_other, seg_present, seg_out, seg_out_other}
 
 -- The first slot of places.
 pub first_slot : (ps : List EventPlace) → head_or None (map slot_in ps) ≡ option_map slot_in (slice_get ps 0)

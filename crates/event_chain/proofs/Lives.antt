@@ -1,35 +1,9 @@
 -- The live events of a transaction are those of its segment of an index.
-use Rattle.std.proofs.Common.{◌≡◌, ℕ, zero, suc, ◌/◌, ◌^◌, ◌==◌, nat_lt, Bool, true, false, not, cond, ◌&&◌, T, List, [], ◌∷◌, Option, Some, None, is_some, length, map, sum_by, refl, sym, ap, ◌∙◌, subst, arith, append-nil, slice_get, option_map, unwrap_or, ◌-◌}
-use Rattle.std.specs.List.{filter, count_by, filter_map, cons_option}
-use Rattle.std.proofs.lemmas.List.{length-map}
-use Rattle.std.proofs.lemmas.Bool.Decides.{Decides-eqb}
-use Rattle.key_index.specs.Entries.{last_of}
-use Rattle.ledger_model.specs.Evse.{first_or_zero, evse_of}
-use Rattle.std.specs.Str.{bytes_eq}
-use Rattle.std.specs.Ordering.{is_eq, eq_by_cmp, nat_cmp}
-use Rattle.std.specs.FinMap.{find}
-use Rattle.std.specs.FinMap.Entries.{below_all}
-use Rattle.std.proofs.lemmas.Slice.Eq.{bytes_eq-Decides}
-use Rattle.std.proofs.lemmas.List.Sums.{sum_by-cons}
-use Rattle.key_index.specs.Key.{rank}
-use Rattle.ledger_model.specs.Key.{KeyName, key_cmp}
-use Rattle.ledger_model.specs.Content.{Entry, Stored, live, live_of}
-use Rattle.ledger_model.specs.Entries.{IsRising}
-use Rattle.ledger_model.proofs.Callers.{first, second, find_below}
-use Rattle.ledger_model.proofs.Rising.{both}
+use Rattle.std.{proofs.Common.{◌≡◌, ℕ, zero, suc, ◌/◌, ◌^◌, ◌==◌, nat_lt, Bool, true, false, not, cond, ◌&&◌, T, List, [], ◌∷◌, Option, Some, None, is_some, length, map, sum_by, refl, sym, ap, ◌∙◌, subst, arith, append-nil, slice_get, option_map, unwrap_or, ◌-◌}, specs.List.{filter, count_by, filter_map, cons_option}, proofs.lemmas.List.length-map, proofs.lemmas.Bool.Decides.Decides-eqb, specs.Str.bytes_eq, specs.Ordering.{is_eq, eq_by_cmp, nat_cmp}, specs.FinMap.find, specs.FinMap.Entries.below_all, proofs.lemmas.Slice.Eq.bytes_eq-Decides, proofs.lemmas.List.Sums.sum_by-cons}
+use Rattle.key_index.{specs.Entries.last_of, specs.Key.rank}
+use Rattle.ledger_model.{specs.Evse.{first_or_zero, evse_of}, specs.Key.{KeyName, key_cmp}, specs.Content.{Entry, Stored, live, live_of}, specs.Entries.IsRising, proofs.Callers.{first, second, find_below}, proofs.Rising.both, specs.declared.kind.Kind.Kind, specs.Complete.kinds_of, specs.Gaps.numbers_of}
 use Rattle.event_store.specs.Slots.{Held}
-use Rattle.event_chain.specs.declared.row.TableRow.{TableRow}
-use Rattle.event_chain.specs.Table.{TxRow, AreRising, row_of}
-use Rattle.event_chain.specs.Flat.{EventPlace, place_of, stored_at, entry_of, segment, flat, event_at, number_at, look_in, look}
-use Rattle.event_chain.specs.Kept.{AreRanks, HasPlace, IsBare, IsSub, chosen, is_live, is_naming, is_end, live_one, end_one}
-use Rattle.event_chain.specs.Edits.{first_under, last_under, kind_in, evse_at}
-use Rattle.event_chain.specs.EventLines.{events_of, line_at, line_of}
-use Rattle.event_chain.specs.Walk.{number_in, numbers_at}
-use Rattle.ledger_model.specs.declared.kind.Kind.{Kind}
-use Rattle.ledger_model.specs.Complete.{kinds_of}
-use Rattle.ledger_model.specs.Gaps.{numbers_of}
-use Rattle.event_chain.proofs.Decided.{key_test, id_test, rank_test, denied, not_so}
-use Rattle.event_chain.proofs.Flats.{find_entries, number_is, find_flat, flat_rising, same_flat, entries_rising, nat_less, less_nat}
+use Rattle.event_chain.{specs.declared.row.TableRow.TableRow, specs.Table.{TxRow, AreRising, row_of}, specs.Flat.{EventPlace, place_of, stored_at, entry_of, segment, flat, event_at, number_at, look_in, look}, specs.Kept.{AreRanks, HasPlace, IsBare, IsSub, chosen, is_live, is_naming, is_end, live_one, end_one}, specs.Edits.{first_under, last_under, kind_in, evse_at}, specs.EventLines.{events_of, line_at, line_of}, specs.Walk.{number_in, numbers_at}, proofs.Decided.{key_test, id_test, rank_test, denied, not_so}, proofs.Flats.{find_entries, number_is, find_flat, flat_rising, same_flat, entries_rising, nat_less, less_nat}}
 
 -- An event, where it passes a test.
 abbrev pub passing : (Stored → Bool) → Option Stored → Option Stored

@@ -1,14 +1,9 @@
 -- What is found of each key after one place, one slot and one transaction changed.
-use Rattle.std.proofs.Common.{◌≡◌, ℕ, ◌<◌, ◌^◌, nat_lt, true, false, cond, List, Option, Some, None, refl, sym, ap, ◌∙◌, arith}
-use Rattle.std.proofs.lemmas.Bool.Decides.{Decides-ltb}
-use Rattle.std.specs.Ordering.{eq_by_cmp}
+use Rattle.std.{proofs.Common.{◌≡◌, ℕ, ◌<◌, ◌^◌, nat_lt, true, false, cond, List, Option, Some, None, refl, sym, ap, ◌∙◌, arith}, proofs.lemmas.Bool.Decides.Decides-ltb, specs.Ordering.eq_by_cmp}
 use Rattle.key_index.specs.Key.{rank}
 use Rattle.ledger_model.specs.Key.{KeyName}
 use Rattle.event_store.specs.Slots.{Held}
-use Rattle.event_chain.specs.declared.row.TableRow.{TableRow}
-use Rattle.event_chain.specs.Table.{TxRow, id_cmp, row_of}
-use Rattle.event_chain.specs.Flat.{EventPlace, place_of, stored_at, event_at, number_at, look_in, look}
-use Rattle.event_chain.proofs.Decided.{id_test, denied}
+use Rattle.event_chain.{specs.declared.row.TableRow.TableRow, specs.Table.{TxRow, id_cmp, row_of}, specs.Flat.{EventPlace, place_of, stored_at, event_at, number_at, look_in, look}, proofs.Decided.{id_test, denied}}
 
 -- One place, one slot and one transaction may differ.
 pub record IsMove (rows new : List TxRow) (es more : List EventPlace) (slots held : List (Option Held)) (key : KeyName) (slot r0 s0 : ℕ) : Type 0 where

@@ -1,28 +1,9 @@
 -- The places of an index that have a mark, or all: how its edits change them.
-use Rattle.std.proofs.Common.{◌≡◌, ℕ, ◌≤◌, nat_lt, ◌==◌, Bool, true, false, not, cond, List, [], ◌∷◌, ◌++◌, Option, Some, None, is_some, map, option_map, drop, refl, sym, ap, ◌∙◌, subst, arith}
-use Rattle.std.proofs.lemmas.Bool.Decides.{Decides-eqb}
-use Rattle.std.proofs.lemmas.List.{map-append}
-use Rattle.std.proofs.lemmas.List.Elements.{filter-append}
-use Rattle.std.specs.Ordering.{is_eq, nat_cmp}
-use Rattle.ledger_model.proofs.Directions.{each_way}
-use Rattle.ledger_model.specs.ByDirection.{in_direction}
-use Rattle.ledger_model.specs.declared.by_direction.ByDirection.{ByDirection}
-use Rattle.ledger_model.specs.declared.reading.Direction.{Direction}
-use Rattle.ledger_model.specs.declared.reading.Direction.TheVariants.{Import, Export}
-use Rattle.std.specs.FinMap.{put}
+use Rattle.std.{proofs.Common.{◌≡◌, ℕ, ◌≤◌, nat_lt, ◌==◌, Bool, true, false, not, cond, List, [], ◌∷◌, ◌++◌, Option, Some, None, is_some, map, option_map, drop, refl, sym, ap, ◌∙◌, subst, arith}, proofs.lemmas.Bool.Decides.Decides-eqb, proofs.lemmas.List.map-append, proofs.lemmas.List.Elements.filter-append, specs.Ordering.{is_eq, nat_cmp}, specs.FinMap.put}
+use Rattle.ledger_model.{proofs.Directions.each_way, specs.ByDirection.in_direction, specs.declared.by_direction.ByDirection.ByDirection, specs.declared.reading.Direction.Direction, specs.declared.reading.Direction.TheVariants.{Import, Export}}
 use Rattle.key_index.specs.Index as keyed
-use Rattle.key_index.specs.declared.filed.Mark.{Mark}
-use Rattle.key_index.specs.declared.filed.Mark.TheVariants.{Live, Imports, Exports, Names}
-use Rattle.key_index.specs.declared.filed.Marks.{Marks}
-use Rattle.key_index.specs.declared.filed.Filed.{Filed}
-use Rattle.key_index.specs.Entries.{Entry, below, from, filed_at, first_of, last_of, AreAbove, AreRising}
-use Rattle.key_index.proofs.Orders.{cut_none, cut_whole, last_cons}
-use Rattle.key_index.specs.Marks.{has_mark, marked, mark_at}
-use Rattle.event_chain.specs.Flat.{EventPlace, place_of}
-use Rattle.event_chain.specs.Edits.{put_if, out, IsLiveLess, IsLiveMore, IsLiveSame, IsNotLive}
-use Rattle.event_chain.specs.Placed.{carriers_of, index, marked_places, marked_index, passes, place_in, placed}
-use Rattle.event_chain.proofs.Decided.{not_so}
-use Rattle.event_chain.proofs.Places.{found_at, put_is, out_is, not_less}
+use Rattle.key_index.{specs.declared.filed.Mark.Mark, specs.declared.filed.Mark.TheVariants.{Live, Imports, Exports, Names}, specs.declared.filed.Marks.Marks, specs.declared.filed.Filed.Filed, specs.Entries.{Entry, below, from, filed_at, first_of, last_of, AreAbove, AreRising}, proofs.Orders.{cut_none, cut_whole, last_cons}, specs.Marks.{has_mark, marked, mark_at}}
+use Rattle.event_chain.{specs.Flat.{EventPlace, place_of}, specs.Edits.{put_if, out, IsLiveLess, IsLiveMore, IsLiveSame, IsNotLive}, specs.Placed.{carriers_of, index, marked_places, marked_index, passes, place_in, placed}, proofs.Decided.not_so, proofs.Places.{found_at, put_is, out_is, not_less}}
 
 -- No entries have no places.
 marked_nil : (o : Option Mark) → marked_places o [] ≡ []

@@ -1,30 +1,11 @@
 -- What a mark or a removal may rely on, and what a mark leaves.
-use Rattle.std.proofs.Common.{◌≡◌, ℕ, zero, suc, ◌+◌, ◌<◌, ◌≤◌, ◌^◌, nat_lt, Bool, true, false, not, cond, ◌&&◌, List, [], ◌∷◌, Option, Some, None, is_some, length, set, refl, sym, ap, ◌∙◌, subst, arith, inl}
+use Rattle.std.{proofs.Common.{◌≡◌, ℕ, zero, suc, ◌+◌, ◌<◌, ◌≤◌, ◌^◌, nat_lt, Bool, true, false, not, cond, ◌&&◌, List, [], ◌∷◌, Option, Some, None, is_some, length, set, refl, sym, ap, ◌∙◌, subst, arith, inl}, specs.FinMap.find}
 use Rattle.std.specs.FinMap as finite
-use Rattle.std.specs.FinMap.{find}
-use Rattle.ledger_model.specs.Deltas.{first_reading}
-use Rattle.ledger_model.specs.Event.{toward}
-use Rattle.ledger_model.specs.declared.reading.Direction.{Direction}
+use Rattle.ledger_model.{specs.Deltas.first_reading, specs.Event.toward, specs.declared.reading.Direction.Direction, specs.Key.{KeyName, key_cmp}, specs.Limits.Bounds, specs.Content.{Entry, Stored}, specs.Step.{marked, marked_at}}
 use Rattle.slot_arena.specs.Arena.{value_at}
 use Rattle.key_index.specs.Key.{rank}
-use Rattle.event_chain.specs.Placed.{Index}
-use Rattle.ledger_model.specs.Key.{KeyName, key_cmp}
-use Rattle.ledger_model.specs.Limits.{Bounds}
-use Rattle.ledger_model.specs.Content.{Entry, Stored}
-use Rattle.ledger_model.specs.Step.{marked, marked_at}
+use Rattle.event_chain.{specs.Placed.Index, specs.declared.row.TableRow.TableRow, specs.Table.{Table, TxRow, AreRising, AreApart, row_of, with_row}, specs.Flat.{EventPlace, place_of, stored_in, event_at, flat}, specs.declared.look_ups.EventLocation.EventLocation, specs.Edits.{put_if, out, place_in, place_at, IsLocation}, specs.Kept.{IsSub, chosen, is_live, is_carrier, is_naming, is_end, live_one, end_one, AreIndexed, IsChains, IsNamed, events_of}, proofs.Facts.{seal, all_rising, get_place, counts_few, places_few}, proofs.Named.named_after, proofs.Places.place_at_row, proofs.Sums.{at_key, sum_without}, proofs.Ops.{mark_in, mark_out, mark_chains, mark_all, live_mine, end_mine}, proofs.Effects.map_put}
 use Rattle.event_store.specs.Slots.{Held, Slots, voided_as, voided_at}
-use Rattle.event_chain.specs.declared.row.TableRow.{TableRow}
-use Rattle.event_chain.specs.Table.{Table, TxRow, AreRising, AreApart, row_of, with_row}
-use Rattle.event_chain.specs.Flat.{EventPlace, place_of, stored_in, event_at, flat}
-use Rattle.event_chain.specs.declared.look_ups.EventLocation.{EventLocation}
-use Rattle.event_chain.specs.Edits.{put_if, out, place_in, place_at, IsLocation}
-use Rattle.event_chain.specs.Kept.{IsSub, chosen, is_live, is_carrier, is_naming, is_end, live_one, end_one, AreIndexed, IsChains, IsNamed, events_of}
-use Rattle.event_chain.proofs.Facts.{seal, all_rising, get_place, counts_few, places_few}
-use Rattle.event_chain.proofs.Named.{named_after}
-use Rattle.event_chain.proofs.Places.{place_at_row}
-use Rattle.event_chain.proofs.Sums.{at_key, sum_without}
-use Rattle.event_chain.proofs.Ops.{mark_in, mark_out, mark_chains, mark_all, live_mine, end_mine}
-use Rattle.event_chain.proofs.Effects.{map_put}
 
 -- What is there is in range.
 there_within : (xs : List (Option Held)) (i : ℕ) (h : Held) → value_at xs i ≡ Some h → i < length xs

@@ -1,19 +1,10 @@
 -- What holds of each place of an index.
-use Rattle.std.proofs.Common.{◌≡◌, ℕ, ◌/◌, ◌^◌, ◌==◌, Bool, true, false, cond, List, [], ◌∷◌, Option, Some, None, is_some, slice_get, refl, sym, ap, ◌∙◌, subst}
-use Rattle.std.specs.List.{filter}
+use Rattle.std.{proofs.Common.{◌≡◌, ℕ, ◌/◌, ◌^◌, ◌==◌, Bool, true, false, cond, List, [], ◌∷◌, Option, Some, None, is_some, slice_get, refl, sym, ap, ◌∙◌, subst}, specs.List.filter}
 use Rattle.slot_arena.specs.Arena.{IsHeld}
-use Rattle.key_index.specs.Entries.{last_of}
-use Rattle.ledger_model.specs.Content.{Stored}
-use Rattle.ledger_model.proofs.Callers.{first, second}
+use Rattle.key_index.{specs.Entries.last_of, proofs.Orders.last_cons}
+use Rattle.ledger_model.{specs.Content.Stored, proofs.Callers.{first, second}}
 use Rattle.event_store.specs.Slots.{Held}
-use Rattle.event_chain.specs.declared.row.TableRow.{TableRow}
-use Rattle.event_chain.specs.Table.{TxRow}
-use Rattle.event_chain.specs.Flat.{EventPlace, place_of, stored_at}
-use Rattle.event_chain.specs.Kept.{AreRanks, IsSub, IsKeyed, chosen}
-use Rattle.event_chain.specs.Edits.{IsStored, first_under, last_under}
-use Rattle.event_chain.proofs.Decided.{rank_test, not_so}
-use Rattle.event_chain.proofs.Lives.{chosen_place, below_none}
-use Rattle.key_index.proofs.Orders.{last_cons}
+use Rattle.event_chain.{specs.declared.row.TableRow.TableRow, specs.Table.TxRow, specs.Flat.{EventPlace, place_of, stored_at}, specs.Kept.{AreRanks, IsSub, IsKeyed, chosen}, specs.Edits.{IsStored, first_under, last_under}, proofs.Decided.{rank_test, not_so}, proofs.Lives.{chosen_place, below_none}}
 
 -- Each place of the list is so.
 abbrev pub AllPlaces : (EventPlace → Type 0) → List EventPlace → Type 0

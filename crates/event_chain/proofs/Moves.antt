@@ -1,23 +1,10 @@
 -- An event put in, marked or taken out, as a move of one place, one slot and one transaction.
-use Rattle.std.proofs.Common.{◌≡◌, ℕ, ◌<◌, ◌/◌, ◌^◌, nat_lt, Bool, true, false, not, cond, List, Option, Some, None, length, set, refl, sym, ap, ◌∙◌, subst, arith, inl, inr, get_or-set_other, get_or-set_same}
-use Rattle.std.proofs.lemmas.Bool.{cases_eq}
-use Rattle.std.proofs.lemmas.Bool.Decides.{Decides-ltb}
-use Rattle.std.specs.Ordering.{is_eq, eq_by_cmp, nat_cmp}
-use Rattle.std.specs.Cmp.{nat_cmp_total, eq_by_cmp_equiv, alike_right}
-use Rattle.std.specs.FinMap.{put}
-use Rattle.std.specs.FinMap.Entries.{find-put, find-where_key}
+use Rattle.std.{proofs.Common.{◌≡◌, ℕ, ◌<◌, ◌/◌, ◌^◌, nat_lt, Bool, true, false, not, cond, List, Option, Some, None, length, set, refl, sym, ap, ◌∙◌, subst, arith, inl, inr, get_or-set_other, get_or-set_same}, proofs.lemmas.Bool.cases_eq, proofs.lemmas.Bool.Decides.Decides-ltb, specs.Ordering.{is_eq, eq_by_cmp, nat_cmp}, specs.Cmp.{nat_cmp_total, eq_by_cmp_equiv, alike_right}, specs.FinMap.put, specs.FinMap.Entries.{find-put, find-where_key}}
 use Rattle.slot_arena.specs.Arena.{value_at}
 use Rattle.key_index.specs.Key.{rank}
-use Rattle.ledger_model.specs.Key.{KeyName}
-use Rattle.ledger_model.specs.Content.{Stored}
+use Rattle.ledger_model.{specs.Key.KeyName, specs.Content.Stored}
 use Rattle.event_store.specs.Slots.{Held}
-use Rattle.event_chain.specs.declared.row.TableRow.{TableRow}
-use Rattle.event_chain.specs.Table.{TxRow, AreRising, AreApart, IsFresh, id_cmp, row_of}
-use Rattle.event_chain.specs.Flat.{EventPlace, place_of, stored_in, stored_at, event_at, number_at, look_in}
-use Rattle.event_chain.specs.Kept.{AreRanks, IsHome, HasPlace, IsKeyed, IsNamed, IsBare, IsLeft}
-use Rattle.event_chain.specs.Edits.{out}
-use Rattle.event_chain.proofs.Decided.{id_test, rank_test, denied, not_so}
-use Rattle.event_chain.proofs.Looks.{IsMove}
+use Rattle.event_chain.{specs.declared.row.TableRow.TableRow, specs.Table.{TxRow, AreRising, AreApart, IsFresh, id_cmp, row_of}, specs.Flat.{EventPlace, place_of, stored_in, stored_at, event_at, number_at, look_in}, specs.Kept.{AreRanks, IsHome, HasPlace, IsKeyed, IsNamed, IsBare, IsLeft}, specs.Edits.out, proofs.Decided.{id_test, rank_test, denied, not_so}, proofs.Looks.IsMove}
 
 -- What is found under a rank after one was put in.
 pub put_found : (r r0 s0 : ℕ) (es : List EventPlace) → place_of r (put nat_cmp r0 s0 es) ≡ cond (eq_by_cmp nat_cmp r r0) (Some s0) (place_of r es)

@@ -1,14 +1,6 @@
 -- Rows of transactions, after one was put in, written or taken out.
-use Rattle.std.proofs.Common.{◌≡◌, ℕ, Bool, true, false, not, cond, List, Some, None, refl, sym, ap, ◌∙◌, subst, inl, inr}
-use Rattle.std.specs.Ordering.{is_eq, eq_by_cmp}
-use Rattle.std.specs.Cmp.{eq_by_cmp_equiv, alike_right}
-use Rattle.std.specs.Cmp.Lexicographic.{nat_list_cmp_total}
-use Rattle.std.specs.FinMap.Entries.{find-put, find-where_key}
-use Rattle.event_chain.specs.declared.row.TableRow.{TableRow}
-use Rattle.event_chain.specs.Table.{TxRow, id_cmp, row_of, with_row, without_row}
-use Rattle.event_chain.specs.Flat.{EventPlace}
-use Rattle.event_chain.specs.Kept.{IsBare, IsNamed, IsEntered, IsLeft}
-use Rattle.event_chain.proofs.Decided.{id_test, not_so}
+use Rattle.std.{proofs.Common.{◌≡◌, ℕ, Bool, true, false, not, cond, List, Some, None, refl, sym, ap, ◌∙◌, subst, inl, inr}, specs.Ordering.{is_eq, eq_by_cmp}, specs.Cmp.{eq_by_cmp_equiv, alike_right}, specs.Cmp.Lexicographic.nat_list_cmp_total, specs.FinMap.Entries.{find-put, find-where_key}}
+use Rattle.event_chain.{specs.declared.row.TableRow.TableRow, specs.Table.{TxRow, id_cmp, row_of, with_row, without_row}, specs.Flat.EventPlace, specs.Kept.{IsBare, IsNamed, IsEntered, IsLeft}, proofs.Decided.{id_test, not_so}}
 
 turned : {A : Type 0} (b : Bool) (x y : A) → cond (not b) x y ≡ cond b y x
 turned true x y = refl

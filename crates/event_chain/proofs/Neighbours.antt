@@ -1,26 +1,10 @@
 -- The readings on either side of a key's place, by the places of the live events that have readings.
-use Rattle.std.proofs.Common.{◌≡◌, ℕ, suc, ◌-◌, ◌<◌, ◌/◌, ◌%◌, ◌^◌, ◌==◌, nat_lt, Bool, true, false, not, cond, ◌&&◌, List, [], ◌∷◌, ◌++◌, Option, Some, None, is_some, length, map, slice_get, refl, sym, ap, ◌∙◌, arith, append-nil, length-append}
-use Rattle.std.specs.List.{filter, flat_map}
-use Rattle.std.specs.Str.{bytes_eq}
+use Rattle.std.{proofs.Common.{◌≡◌, ℕ, suc, ◌-◌, ◌<◌, ◌/◌, ◌%◌, ◌^◌, ◌==◌, nat_lt, Bool, true, false, not, cond, ◌&&◌, List, [], ◌∷◌, ◌++◌, Option, Some, None, is_some, length, map, slice_get, refl, sym, ap, ◌∙◌, arith, append-nil, length-append}, specs.List.{filter, flat_map}, specs.Str.bytes_eq}
 use Rattle.slot_arena.specs.Arena.{IsHeld}
-use Rattle.key_index.specs.Entries.{last_of}
-use Rattle.key_index.specs.Key.{rank, slot_back}
-use Rattle.ledger_model.specs.Key.{KeyName}
-use Rattle.ledger_model.specs.declared.reading.Direction.{Direction}
-use Rattle.ledger_model.specs.Event.{MeterReading, toward}
-use Rattle.ledger_model.specs.Content.{Entry, Stored}
-use Rattle.ledger_model.specs.Deltas.{first_reading, last_reading, own_readings, before_key, behind_key}
-use Rattle.ledger_model.proofs.Callers.{own_before_key, own_behind_key}
+use Rattle.key_index.{specs.Entries.last_of, specs.Key.{rank, slot_back}, proofs.Orders.last_cons}
+use Rattle.ledger_model.{specs.Key.KeyName, specs.declared.reading.Direction.Direction, specs.Event.{MeterReading, toward}, specs.Content.{Entry, Stored}, specs.Deltas.{first_reading, last_reading, own_readings, before_key, behind_key}, proofs.Callers.{own_before_key, own_behind_key}}
 use Rattle.event_store.specs.Slots.{Held}
-use Rattle.event_chain.specs.declared.row.TableRow.{TableRow}
-use Rattle.event_chain.specs.Table.{TxRow, row_of}
-use Rattle.event_chain.specs.Flat.{EventPlace, stored_at, entry_of, segment, flat}
-use Rattle.event_chain.specs.Kept.{IsSub, IsKeyed, is_live, is_carrier}
-use Rattle.event_chain.specs.Edits.{places_before, places_behind, IsStored, first_at, last_at}
-use Rattle.event_chain.proofs.Lives.{passing_of, live_of_is, segment_passing, none_passing}
-use Rattle.key_index.proofs.Orders.{last_cons}
-use Rattle.event_chain.proofs.Members.{AllPlaces, all_left, all_chosen, all_held, stored_first, stored_last}
-use Rattle.event_chain.proofs.Cuts.{map_cut, less_rank, more_rank}
+use Rattle.event_chain.{specs.declared.row.TableRow.TableRow, specs.Table.{TxRow, row_of}, specs.Flat.{EventPlace, stored_at, entry_of, segment, flat}, specs.Kept.{IsSub, IsKeyed, is_live, is_carrier}, specs.Edits.{places_before, places_behind, IsStored, first_at, last_at}, proofs.Lives.{passing_of, live_of_is, segment_passing, none_passing}, proofs.Members.{AllPlaces, all_left, all_chosen, all_held, stored_first, stored_last}, proofs.Cuts.{map_cut, less_rank, more_rank}}
 
 module _ (d : Direction) where
   -- The readings of an entry.

@@ -1,36 +1,10 @@
 -- What chains keep after each operation.
-use Rattle.std.proofs.Common.{◌≡◌, ℕ, ◌+◌, ◌<◌, ◌/◌, ◌^◌, Bool, true, false, not, cond, ◌&&◌, List, Option, Some, None, is_some, length, set, sum_by, refl, sym, ap, ◌∙◌, subst, arith, inl, inr, length-set, get_or-set_same}
-use Rattle.std.specs.Ordering.{eq_by_cmp, nat_cmp}
-use Rattle.std.specs.Cmp.{nat_cmp_total}
-use Rattle.std.specs.FinMap.{find, put}
-use Rattle.std.specs.FinMap.Entries.{is_sorted-put, length-put, length_without}
-use Rattle.std.proofs.lemmas.Slice.Eq.{bytes_eq-Decides}
-use Rattle.std.proofs.lemmas.List.Sums.{sum_by-set}
-use Rattle.ledger_model.specs.Deltas.{first_reading}
-use Rattle.ledger_model.specs.declared.reading.Direction.{Direction}
-use Rattle.event_chain.proofs.Decided.{id_test, denied}
+use Rattle.std.{proofs.Common.{◌≡◌, ℕ, ◌+◌, ◌<◌, ◌/◌, ◌^◌, Bool, true, false, not, cond, ◌&&◌, List, Option, Some, None, is_some, length, set, sum_by, refl, sym, ap, ◌∙◌, subst, arith, inl, inr, length-set, get_or-set_same}, specs.Ordering.{eq_by_cmp, nat_cmp}, specs.Cmp.nat_cmp_total, specs.FinMap.{find, put}, specs.FinMap.Entries.{is_sorted-put, length-put, length_without}, proofs.lemmas.Slice.Eq.bytes_eq-Decides, proofs.lemmas.List.Sums.sum_by-set}
+use Rattle.ledger_model.{specs.Deltas.first_reading, specs.declared.reading.Direction.Direction, specs.Event.{EventContent, toward}, specs.Key.{KeyName, key_cmp}, specs.Limits.Bounds, specs.Content.{Entry, Stored}, specs.Entries.{IsRising, entries_without}, proofs.Callers.key_total}
+use Rattle.event_chain.{proofs.Decided.{id_test, denied}, specs.Placed.{Index, index}, specs.declared.row.TableRow.TableRow, specs.Table.{Table, TxRow, AreRising, AreApart, id_cmp, row_of}, specs.Flat.{EventPlace, place_of, stored_in, stored_at, event_at, flat}, specs.Edits.{put_if, out}, specs.Kept.{AreRanks, IsSub, is_live, is_carrier, is_naming, is_end, live_one, end_one, IsKeyed, AreIndexed, AreFigured, IsCounted, AreRoomy, IsChains, IsNamed, IsLeft, chosen}, proofs.Flats.flat_rising, proofs.Looks.IsMove, proofs.Moves.{put_move, mark_move, out_move, put_keyed, mark_keyed, out_keyed, put_here, out_here}, proofs.Subs.{sub_move, put_if_ranks, put_if_others, put_if_here, out_if_ranks, out_if_others}, proofs.Figures.{figured_put, figured_out}, proofs.Sums.{at_key, sum_put, sum_without}, proofs.Effects.{found_before, flat_put, flat_out}}
 use Rattle.slot_arena.specs.Arena.{value_at, held_count}
 use Rattle.key_index.specs.Key.{rank}
-use Rattle.event_chain.specs.Placed.{Index, index}
-use Rattle.ledger_model.specs.Event.{EventContent, toward}
-use Rattle.ledger_model.specs.Key.{KeyName, key_cmp}
-use Rattle.ledger_model.specs.Limits.{Bounds}
-use Rattle.ledger_model.specs.Content.{Entry, Stored}
-use Rattle.ledger_model.specs.Entries.{IsRising, entries_without}
-use Rattle.ledger_model.proofs.Callers.{key_total}
 use Rattle.event_store.specs.Slots.{Held, Slots}
-use Rattle.event_chain.specs.declared.row.TableRow.{TableRow}
-use Rattle.event_chain.specs.Table.{Table, TxRow, AreRising, AreApart, id_cmp, row_of}
-use Rattle.event_chain.specs.Flat.{EventPlace, place_of, stored_in, stored_at, event_at, flat}
-use Rattle.event_chain.specs.Edits.{put_if, out}
-use Rattle.event_chain.specs.Kept.{AreRanks, IsSub, is_live, is_carrier, is_naming, is_end, live_one, end_one, IsKeyed, AreIndexed, AreFigured, IsCounted, AreRoomy, IsChains, IsNamed, IsLeft, chosen}
-use Rattle.event_chain.proofs.Flats.{flat_rising}
-use Rattle.event_chain.proofs.Looks.{IsMove}
-use Rattle.event_chain.proofs.Moves.{put_move, mark_move, out_move, put_keyed, mark_keyed, out_keyed, put_here, out_here}
-use Rattle.event_chain.proofs.Subs.{sub_move, put_if_ranks, put_if_others, put_if_here, out_if_ranks, out_if_others}
-use Rattle.event_chain.proofs.Figures.{figured_put, figured_out}
-use Rattle.event_chain.proofs.Sums.{at_key, sum_put, sum_without}
-use Rattle.event_chain.proofs.Effects.{found_before, flat_put, flat_out}
 
 -- All that chains are made of.
 pub record Made : Type 0 where

@@ -1,24 +1,8 @@
 -- An index with a place put in or taken out.
-use Rattle.std.proofs.Common.{◌≡◌, ℕ, ◌+◌, ◌<◌, ◌≤◌, ◌/◌, ◌^◌, nat_lt, ◌==◌, true, false, not, cond, T, List, [], ◌∷◌, ◌++◌, Some, None, is_some, drop, slice_get, refl, sym, ap, ◌∙◌, subst, arith, inl, inr}
-use Rattle.std.proofs.lemmas.Bool.{cases_lt, cases_eq}
-use Rattle.std.proofs.lemmas.Bool.Decides.{Decides-ltb, Decides-eqb}
-use Rattle.std.specs.List.{filter}
-use Rattle.std.specs.Ordering.{is_eq, is_lt, eq_by_cmp, nat_cmp}
-use Rattle.std.specs.declared.cmp.Ordering.TheVariants.{Less, Equal, Greater}
-use Rattle.std.specs.FinMap.{put}
-use Rattle.std.specs.FinMap.Entries.{by_order, below_all}
-use Rattle.key_index.specs.Entries.{below, from, filed_at, first_of, last_of, AreAbove, AreRising, AreBelow}
-use Rattle.key_index.specs.Key.{rank}
-use Rattle.key_index.proofs.Orders.{above_less, last_cons}
-use Rattle.ledger_model.proofs.Rising.{both}
-use Rattle.event_chain.specs.Flat.{EventPlace, place_of, segment}
-use Rattle.ledger_model.specs.Key.{KeyName}
-use Rattle.event_chain.specs.declared.row.TableRow.{TableRow}
-use Rattle.event_chain.specs.Table.{TxRow, row_of}
-use Rattle.event_chain.specs.Kept.{AreRanks}
-use Rattle.event_chain.specs.Edits.{place_in, place_at, at_home}
-use Rattle.event_chain.proofs.Decided.{rank_test, not_so, denied}
-use Rattle.event_chain.proofs.Flats.{nat_less}
+use Rattle.std.{proofs.Common.{◌≡◌, ℕ, ◌+◌, ◌<◌, ◌≤◌, ◌/◌, ◌^◌, nat_lt, ◌==◌, true, false, not, cond, T, List, [], ◌∷◌, ◌++◌, Some, None, is_some, drop, slice_get, refl, sym, ap, ◌∙◌, subst, arith, inl, inr}, proofs.lemmas.Bool.{cases_lt, cases_eq}, proofs.lemmas.Bool.Decides.{Decides-ltb, Decides-eqb}, specs.List.filter, specs.Ordering.{is_eq, is_lt, eq_by_cmp, nat_cmp}, specs.declared.cmp.Ordering.TheVariants.{Less, Equal, Greater}, specs.FinMap.put, specs.FinMap.Entries.{by_order, below_all}}
+use Rattle.key_index.{specs.Entries.{below, from, filed_at, first_of, last_of, AreAbove, AreRising, AreBelow}, specs.Key.rank, proofs.Orders.{above_less, last_cons}}
+use Rattle.ledger_model.{proofs.Rising.both, specs.Key.KeyName}
+use Rattle.event_chain.{specs.Flat.{EventPlace, place_of, segment}, specs.declared.row.TableRow.TableRow, specs.Table.{TxRow, row_of}, specs.Kept.AreRanks, specs.Edits.{place_in, place_at, at_home}, proofs.Decided.{rank_test, not_so, denied}, proofs.Flats.nat_less}
 
 -- Greater ranks are behind.
 above_below : (r : ℕ) (es : List EventPlace) → AreAbove r es → T (below_all nat_cmp r es)

@@ -1,17 +1,7 @@
 -- The places of a transaction in front of a rank and behind it, before and after an edit.
-use Rattle.std.proofs.Common.{◌≡◌, ℕ, ◌+◌, ◌/◌, ◌^◌, ◌==◌, cond, List, [], ◌∷◌, ◌++◌, Some, None, is_some, drop, refl, sym, ap, ◌∙◌, subst, arith, inl, inr}
-use Rattle.std.proofs.lemmas.Bool.{cases_lt, cases_eq}
-use Rattle.std.proofs.lemmas.Bool.Decides.{Decides-eqb}
-use Rattle.std.proofs.lemmas.List.Elements.{filter-append}
-use Rattle.std.specs.Ordering.{nat_cmp}
-use Rattle.std.specs.FinMap.{put}
-use Rattle.key_index.specs.Entries.{below, from, filed_at, AreAbove, AreRising}
-use Rattle.key_index.proofs.Orders.{cut_whole, from_end, from_on}
-use Rattle.event_chain.specs.Flat.{EventPlace, place_of, segment}
-use Rattle.event_chain.specs.Edits.{out, places_before, places_behind}
-use Rattle.event_chain.proofs.Decided.{not_so}
-use Rattle.event_chain.proofs.Places.{found_at, put_is, out_is}
-use Rattle.event_chain.proofs.Cuts.{seg_below, seg_from}
+use Rattle.std.{proofs.Common.{◌≡◌, ℕ, ◌+◌, ◌/◌, ◌^◌, ◌==◌, cond, List, [], ◌∷◌, ◌++◌, Some, None, is_some, drop, refl, sym, ap, ◌∙◌, subst, arith, inl, inr}, proofs.lemmas.Bool.{cases_lt, cases_eq}, proofs.lemmas.Bool.Decides.Decides-eqb, proofs.lemmas.List.Elements.filter-append, specs.Ordering.nat_cmp, specs.FinMap.put}
+use Rattle.key_index.{specs.Entries.{below, from, filed_at, AreAbove, AreRising}, proofs.Orders.{cut_whole, from_end, from_on}}
+use Rattle.event_chain.{specs.Flat.{EventPlace, place_of, segment}, specs.Edits.{out, places_before, places_behind}, proofs.Decided.not_so, proofs.Places.{found_at, put_is, out_is}, proofs.Cuts.{seg_below, seg_from}}
 
 -- All greater ranks are from the next one on.
 from_above : (r : ℕ) (es : List EventPlace) → AreAbove r es → from (r + 1) es ≡ es

@@ -1,15 +1,8 @@
 -- The indexes of live events, under a move.
-use Rattle.std.proofs.Common.{◌≡◌, ℕ, Bool, true, false, not, cond, List, Option, Some, None, refl, sym, ap, ◌∙◌, inl, inr}
-use Rattle.std.proofs.lemmas.Bool.{cases_eq}
-use Rattle.std.specs.Ordering.{eq_by_cmp, nat_cmp}
-use Rattle.std.specs.Cmp.{nat_cmp_total}
-use Rattle.std.specs.FinMap.Entries.{is_sorted-put, is_sorted-where_key}
+use Rattle.std.{proofs.Common.{◌≡◌, ℕ, Bool, true, false, not, cond, List, Option, Some, None, refl, sym, ap, ◌∙◌, inl, inr}, proofs.lemmas.Bool.cases_eq, specs.Ordering.{eq_by_cmp, nat_cmp}, specs.Cmp.nat_cmp_total, specs.FinMap.Entries.{is_sorted-put, is_sorted-where_key}}
 use Rattle.ledger_model.specs.Content.{Stored}
 use Rattle.event_store.specs.Slots.{Held}
-use Rattle.event_chain.specs.Flat.{EventPlace, place_of, stored_at}
-use Rattle.event_chain.specs.Kept.{AreRanks, IsSub, chosen}
-use Rattle.event_chain.specs.Edits.{put_if, out_if}
-use Rattle.event_chain.proofs.Moves.{put_here, put_other, out_other}
+use Rattle.event_chain.{specs.Flat.{EventPlace, place_of, stored_at}, specs.Kept.{AreRanks, IsSub, chosen}, specs.Edits.{put_if, out_if}, proofs.Moves.{put_here, put_other, out_other}}
 
 -- Each place but one is as it was.
 abbrev pub OthersSame : ℕ → List EventPlace → List EventPlace → Type 0

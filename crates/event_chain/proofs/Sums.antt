@@ -1,15 +1,6 @@
 -- Sums over entries under their edits.
-use Rattle.std.proofs.Common.{◌≡◌, ℕ, ◌+◌, not, cond, T, List, [], ◌∷◌, Option, Some, None, sum_by, refl, sym, ap, subst, arith}
-use Rattle.std.specs.Ordering.{is_eq}
-use Rattle.std.specs.declared.cmp.Ordering.{Ordering}
-use Rattle.std.specs.declared.cmp.Ordering.TheVariants.{Less, Equal, Greater}
-use Rattle.std.specs.FinMap.{find, put}
-use Rattle.std.specs.FinMap.Entries.{by_order, below_all}
-use Rattle.std.proofs.lemmas.List.Sums.{sum_by-cons}
-use Rattle.ledger_model.specs.Key.{KeyName, key_cmp}
-use Rattle.ledger_model.specs.Content.{Entry, Stored}
-use Rattle.ledger_model.specs.Entries.{IsRising, entries_without}
-use Rattle.ledger_model.proofs.Callers.{first, second, exact_keys, find_below, below_less}
+use Rattle.std.{proofs.Common.{◌≡◌, ℕ, ◌+◌, not, cond, T, List, [], ◌∷◌, Option, Some, None, sum_by, refl, sym, ap, subst, arith}, specs.Ordering.is_eq, specs.declared.cmp.Ordering.Ordering, specs.declared.cmp.Ordering.TheVariants.{Less, Equal, Greater}, specs.FinMap.{find, put}, specs.FinMap.Entries.{by_order, below_all}, proofs.lemmas.List.Sums.sum_by-cons}
+use Rattle.ledger_model.{specs.Key.{KeyName, key_cmp}, specs.Content.{Entry, Stored}, specs.Entries.{IsRising, entries_without}, proofs.Callers.{first, second, exact_keys, find_below, below_less}}
 
 module _ (f : Entry → ℕ) where
   -- What is counted of the event of a key.

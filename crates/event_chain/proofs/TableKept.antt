@@ -1,12 +1,8 @@
 -- What a table keeps, under its edits.
-use Rattle.std.proofs.Common.{◌≡◌, ℕ, ◌+◌, ◌<◌, ◌≤◌, true, false, cond, List, [], ◌∷◌, ◌++◌, Option, Some, None, is_some, length, refl, sym, ap, ◌∙◌, subst, arith, inl, inr, length-append, option_map}
-use Rattle.std.specs.Ordering.{eq_by_cmp}
-use Rattle.transaction_map.proofs.Rising.{same_id}
-use Rattle.transaction_map.proofs.Found.{put_cases, out_cases, rising_put, rising_out, length_put, length_out}
-use Rattle.event_chain.specs.declared.row.TableRow.{TableRow}
-use Rattle.event_chain.specs.Table.{Table, TxRow, AreSlotted, IsFresh, id_cmp, row_of, with_row, without_row}
+use Rattle.std.{proofs.Common.{◌≡◌, ℕ, ◌+◌, ◌<◌, ◌≤◌, true, false, cond, List, [], ◌∷◌, ◌++◌, Option, Some, None, is_some, length, refl, sym, ap, ◌∙◌, subst, arith, inl, inr, length-append, option_map}, specs.Ordering.eq_by_cmp}
+use Rattle.transaction_map.{proofs.Rising.same_id, proofs.Found.{put_cases, out_cases, rising_put, rising_out, length_put, length_out}}
+use Rattle.event_chain.{specs.declared.row.TableRow.TableRow, specs.Table.{Table, TxRow, AreSlotted, IsFresh, id_cmp, row_of, with_row, without_row}, specs.TableKept.{AreSpare, IsTable}}
 use Rattle.slot_arena.specs.Free.{IsApart}
-use Rattle.event_chain.specs.TableKept.{AreSpare, IsTable}
 
 -- The last of the slots to spare.
 pub record IsLast (capacity slot : ℕ) (rows : List TxRow) (ss : List ℕ) : Type 0 where

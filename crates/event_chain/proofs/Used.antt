@@ -1,16 +1,9 @@
 -- The slots of the live events, and what they hold.
-use Rattle.std.proofs.Common.{◌≡◌, ℕ, true, false, not, List, Option, Some, None, refl, sym, ap, ◌∙◌}
-use Rattle.std.proofs.lemmas.Bool.Decides.{Decides-eqb}
+use Rattle.std.{proofs.Common.{◌≡◌, ℕ, true, false, not, List, Option, Some, None, refl, sym, ap, ◌∙◌}, proofs.lemmas.Bool.Decides.Decides-eqb}
 use Rattle.slot_arena.specs.Arena.{value_at}
 use Rattle.ledger_model.specs.Content.{Stored}
 use Rattle.event_store.specs.Slots.{Held}
-use Rattle.event_chain.specs.Table.{TxRow}
-use Rattle.event_chain.specs.Flat.{EventPlace, place_of, stored_in}
-use Rattle.event_chain.specs.Kept.{IsSub, IsKeyed, is_live}
-use Rattle.event_chain.specs.Walk.{is_under, are_under}
-use Rattle.event_chain.proofs.Lives.{chosen_place}
-use Rattle.event_chain.proofs.Members.{all_found, chosen_test}
-use Rattle.event_chain.proofs.Walks.{all_under}
+use Rattle.event_chain.{specs.Table.TxRow, specs.Flat.{EventPlace, place_of, stored_in}, specs.Kept.{IsSub, IsKeyed, is_live}, specs.Walk.{is_under, are_under}, proofs.Lives.chosen_place, proofs.Members.{all_found, chosen_test}, proofs.Walks.all_under}
 
 -- A free slot is not held.
 not_free : (o : Option Held) (h : Held) → o ≡ Some h → o ≡ None → ⊥

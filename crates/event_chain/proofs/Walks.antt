@@ -1,26 +1,11 @@
 -- The steps of a walk over linked places.
-use Rattle.std.proofs.Common.{◌≡◌, ℕ, ◌+◌, ◌<◌, ◌/◌, ◌%◌, ◌^◌, ◌==◌, ◌&&◌, nat_lt, Bool, true, false, cond, List, [], ◌∷◌, ◌++◌, Option, Some, None, length, map, drop, slice_get, option_map, inl, inr, refl, sym, ap, ◌∙◌, subst, arith}
-use Rattle.std.specs.Prelude.{slice_index}
-use Rattle.std.specs.List.{filter}
-use Rattle.std.proofs.lemmas.Bool.{cases_eq, and_parts}
-use Rattle.std.proofs.lemmas.Bool.Decides.{Decides-ltb, Decides-eqb}
+use Rattle.std.{proofs.Common.{◌≡◌, ℕ, ◌+◌, ◌<◌, ◌/◌, ◌%◌, ◌^◌, ◌==◌, ◌&&◌, nat_lt, Bool, true, false, cond, List, [], ◌∷◌, ◌++◌, Option, Some, None, length, map, drop, slice_get, option_map, inl, inr, refl, sym, ap, ◌∙◌, subst, arith}, specs.Prelude.slice_index, specs.List.filter, proofs.lemmas.Bool.{cases_eq, and_parts}, proofs.lemmas.Bool.Decides.{Decides-ltb, Decides-eqb}}
 use Rattle.slot_arena.specs.Arena.{value_at}
 use Rattle.key_index.specs.Entries.{AreAbove, below, AreBelow}
 use Rattle.key_index.specs.Entries as entries
-use Rattle.ledger_model.specs.BoardLaws.{AreRising}
-use Rattle.ledger_model.proofs.Callers.{first, second}
-use Rattle.ledger_model.specs.Content.{Stored}
+use Rattle.ledger_model.{specs.BoardLaws.AreRising, proofs.Callers.{first, second}, specs.Content.Stored}
 use Rattle.event_store.specs.Slots.{Held}
-use Rattle.event_chain.specs.Flat.{EventPlace, place_of, segment}
-use Rattle.event_chain.specs.Edits.{places_behind}
-use Rattle.event_chain.specs.Kept.{AreRanks}
-use Rattle.event_chain.specs.Lists.{slot_in, HasRank, AreOwn}
-use Rattle.event_chain.specs.Walk.{number_in, is_under, are_under, numbers_on, numbers_from}
-use Rattle.event_chain.proofs.Decided.{rank_test, not_so}
-use Rattle.event_chain.proofs.Lives.{below_none}
-use Rattle.event_chain.proofs.Members.{AllPlaces, all_found, never}
-use Rattle.event_chain.proofs.Places.{below_under, ranks_of}
-use Rattle.event_chain.proofs.Splits.{cut_present, behind_present}
+use Rattle.event_chain.{specs.Flat.{EventPlace, place_of, segment}, specs.Edits.places_behind, specs.Kept.AreRanks, specs.Lists.{slot_in, HasRank, AreOwn}, specs.Walk.{number_in, is_under, are_under, numbers_on, numbers_from}, proofs.Decided.{rank_test, not_so}, proofs.Lives.below_none, proofs.Members.{AllPlaces, all_found, never}, proofs.Places.{below_under, ranks_of}, proofs.Splits.{cut_present, behind_present}}
 
 -- Each number is above this one.
 abbrev AllAbove : ℕ → List ℕ → Type 0

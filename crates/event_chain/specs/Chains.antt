@@ -1,12 +1,8 @@
 -- The events of a station as the callers of `Chains` see them.
-use Rattle.std.specs.Prelude.{ℕ, List, refl}
-use Rattle.std.specs.Coded.{Coded, code_by, coded×, coded_ℕ}
+use Rattle.std.{specs.Prelude.{ℕ, List, refl}, specs.Coded.{Coded, code_by, coded×, coded_ℕ}, specs.FinMap.FinMap}
 use Rattle.std.specs.FinMap as finite
-use Rattle.std.specs.FinMap.{FinMap}
 use Rattle.event_store.specs.Slots.{stored_code}
-use Rattle.ledger_model.specs.Key.{key_cmp, key_code}
-use Rattle.ledger_model.specs.Limits.{Bounds}
-use Rattle.ledger_model.specs.Content.{Stored, Entry}
+use Rattle.ledger_model.{specs.Key.{key_cmp, key_code}, specs.Limits.Bounds, specs.Content.{Stored, Entry}}
 
 -- The limits of a station, and its stored events by their keys, each voided or not.
 pub record Chained : Type 0 where

@@ -1,24 +1,9 @@
 -- Places put into an index and taken out of it, and what a look-up finds then.
-use Rattle.std.specs.Prelude.{◌≡◌, ℕ, ◌/◌, ◌^◌, ◌==◌, ◌<◌, nat_lt, Bool, not, cond, List, Option, Some, None, length, slice_get, unwrap_or}
-use Rattle.std.specs.List.{filter}
-use Rattle.std.specs.Ordering.{eq_by_cmp, nat_cmp}
-use Rattle.std.specs.FinMap.{put}
+use Rattle.std.{specs.Prelude.{◌≡◌, ℕ, ◌/◌, ◌^◌, ◌==◌, ◌<◌, nat_lt, Bool, not, cond, List, Option, Some, None, length, slice_get, unwrap_or}, specs.List.filter, specs.Ordering.{eq_by_cmp, nat_cmp}, specs.FinMap.put}
 use Rattle.slot_arena.specs.Arena.{IsHeld}
-use Rattle.key_index.specs.Entries.{last_of}
-use Rattle.ledger_model.specs.declared.kind.Kind.{Kind}
-use Rattle.ledger_model.specs.Key.{KeyName}
-use Rattle.ledger_model.specs.ByDirection.{in_direction}
-use Rattle.ledger_model.specs.declared.by_direction.ByDirection.{ByDirection}
-use Rattle.ledger_model.specs.declared.reading.Direction.{Direction}
-use Rattle.ledger_model.specs.Event.{MeterReading, toward}
-use Rattle.ledger_model.specs.Deltas.{first_reading, last_reading}
-use Rattle.key_index.specs.Key.{rank}
-use Rattle.ledger_model.specs.Ranges.{sequence_end}
-use Rattle.event_chain.specs.declared.row.TableRow.{TableRow}
-use Rattle.event_chain.specs.declared.look_ups.EventLocation.{EventLocation}
-use Rattle.event_chain.specs.Table.{TxRow, row_of}
-use Rattle.event_chain.specs.Flat.{EventPlace, number_at, place_of, stored_at, segment}
-use Rattle.event_chain.specs.Placed.{Placed, carriers_of, index}
+use Rattle.key_index.{specs.Entries.last_of, specs.Key.rank}
+use Rattle.ledger_model.{specs.declared.kind.Kind.Kind, specs.Key.KeyName, specs.ByDirection.in_direction, specs.declared.by_direction.ByDirection.ByDirection, specs.declared.reading.Direction.Direction, specs.Event.{MeterReading, toward}, specs.Deltas.{first_reading, last_reading}, specs.Ranges.sequence_end}
+use Rattle.event_chain.{specs.declared.row.TableRow.TableRow, specs.declared.look_ups.EventLocation.EventLocation, specs.Table.{TxRow, row_of}, specs.Flat.{EventPlace, number_at, place_of, stored_at, segment}, specs.Placed.{Placed, carriers_of, index}}
 use Rattle.event_store.specs.Slots.{Held}
 
 -- Places with one put in if a test says so.

@@ -1,12 +1,8 @@
 -- The events of a transaction in a list.
-use Rattle.std.specs.Prelude.{ℕ, List, Option, length, map, unwrap_or}
-use Rattle.std.specs.List.{filter}
-use Rattle.std.specs.Str.{bytes_eq}
+use Rattle.std.{specs.Prelude.{ℕ, List, Option, length, map, unwrap_or}, specs.List.filter, specs.Str.bytes_eq}
 use Rattle.event_store.specs.Slots.{Held}
 use Rattle.ledger_model.specs.Content.{Entry, Stored}
-use Rattle.event_chain.specs.declared.event_lines.EventLine.{EventLine}
-use Rattle.event_chain.specs.Flat.{EventPlace, stored_at}
-use Rattle.event_chain.specs.Walk.{number_in}
+use Rattle.event_chain.{specs.declared.event_lines.EventLine.EventLine, specs.Flat.{EventPlace, stored_at}, specs.Walk.number_in}
 
 -- What a list shows of a stored event and its number.
 abbrev pub line_of : ℕ → Stored → EventLine

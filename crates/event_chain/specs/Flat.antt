@@ -1,16 +1,10 @@
 -- The stored events of a station, as its tables and slots hold them.
-use Rattle.std.specs.Prelude.{ℕ, ◌/◌, ◌%◌, ◌^◌, ◌==◌, nat_lt, true, cond, List, [], Option, Some, None, map}
-use Rattle.std.specs.List.{filter, flat_map}
-use Rattle.std.specs.Ordering.{nat_cmp}
-use Rattle.std.specs.FinMap.{find}
+use Rattle.std.{specs.Prelude.{ℕ, ◌/◌, ◌%◌, ◌^◌, ◌==◌, nat_lt, true, cond, List, [], Option, Some, None, map}, specs.List.{filter, flat_map}, specs.Ordering.nat_cmp, specs.FinMap.find}
 use Rattle.slot_arena.specs.Arena.{value_at}
 use Rattle.key_index.specs.Key.{rank}
-use Rattle.ledger_model.specs.declared.kind.Kind.TheVariants.{Updated}
-use Rattle.ledger_model.specs.Key.{KeyName}
-use Rattle.ledger_model.specs.Content.{Entry, Stored}
+use Rattle.ledger_model.{specs.declared.kind.Kind.TheVariants.Updated, specs.Key.KeyName, specs.Content.{Entry, Stored}}
 use Rattle.event_store.specs.Slots.{Held}
-use Rattle.event_chain.specs.declared.row.TableRow.{TableRow}
-use Rattle.event_chain.specs.Table.{TxRow, row_of}
+use Rattle.event_chain.{specs.declared.row.TableRow.TableRow, specs.Table.{TxRow, row_of}}
 
 -- A rank in an index with the slot number of its event.
 abbrev pub EventPlace : Type 0

@@ -1,28 +1,10 @@
 -- What chains keep.
-use Rattle.std.specs.Prelude.{◌≡◌, ℕ, ◌-◌, ◌/◌, ◌^◌, ◌≤◌, Bool, true, false, not, cond, ◌&&◌, List, Option, Some, None, is_some, T, length, slice_get, count_by, sum_by, ◌⊎◌}
-use Rattle.std.specs.Str.{bytes_eq}
-use Rattle.std.specs.Ordering.{nat_cmp}
+use Rattle.std.{specs.Prelude.{◌≡◌, ℕ, ◌-◌, ◌/◌, ◌^◌, ◌≤◌, Bool, true, false, not, cond, ◌&&◌, List, Option, Some, None, is_some, T, length, slice_get, count_by, sum_by, ◌⊎◌}, specs.Str.bytes_eq, specs.Ordering.nat_cmp, specs.FinMap.{FinMap, is_sorted}}
 use Rattle.std.specs.FinMap as finite
-use Rattle.std.specs.FinMap.{FinMap, is_sorted}
 use Rattle.slot_arena.specs.Arena.{value_at, held_count}
-use Rattle.ledger_model.specs.declared.kind.Kind.{Kind}
-use Rattle.ledger_model.specs.declared.kind.Kind.TheVariants.{Started, Updated, Ended}
-use Rattle.ledger_model.specs.declared.reading.Direction.{Direction}
-use Rattle.ledger_model.specs.Event.{toward}
-use Rattle.ledger_model.specs.Deltas.{first_reading}
-use Rattle.ledger_model.specs.Key.{key_cmp}
-use Rattle.ledger_model.specs.Limits.{Bounds}
-use Rattle.ledger_model.specs.Complete.{kinds_of}
-use Rattle.ledger_model.specs.Content.{Entry, Stored, live_of}
-use Rattle.ledger_model.specs.Evse.{evse_of}
-use Rattle.ledger_model.specs.Gaps.{numbers_of}
-use Rattle.ledger_model.specs.Step.{readings_stored}
+use Rattle.ledger_model.{specs.declared.kind.Kind.Kind, specs.declared.kind.Kind.TheVariants.{Started, Updated, Ended}, specs.declared.reading.Direction.Direction, specs.Event.toward, specs.Deltas.first_reading, specs.Key.key_cmp, specs.Limits.Bounds, specs.Complete.kinds_of, specs.Content.{Entry, Stored, live_of}, specs.Evse.evse_of, specs.Gaps.numbers_of, specs.Step.readings_stored}
 use Rattle.event_store.specs.Slots.{Held, Slots}
-use Rattle.event_chain.specs.Placed.{Index}
-use Rattle.event_chain.specs.declared.answers.TxStanding.{TxStanding}
-use Rattle.event_chain.specs.declared.row.TableRow.{TableRow}
-use Rattle.event_chain.specs.Table.{Table, TxRow, AreRising, AreApart, IsFresh, row_of, with_row}
-use Rattle.event_chain.specs.Flat.{EventPlace, place_of, stored_at, flat}
+use Rattle.event_chain.{specs.Placed.Index, specs.declared.answers.TxStanding.TxStanding, specs.declared.row.TableRow.TableRow, specs.Table.{Table, TxRow, AreRising, AreApart, IsFresh, row_of, with_row}, specs.Flat.{EventPlace, place_of, stored_at, flat}}
 
 -- The event is live.
 abbrev pub is_live : Stored → Bool

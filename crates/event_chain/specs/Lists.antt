@@ -1,13 +1,8 @@
 -- The live events in linked lists over their slots, one for each transaction.
 use Rattle.std.specs.Prelude.{◌≡◌, ℕ, List, Option, Some, length, map, slice_get, option_map}
-use Rattle.key_index.specs.declared.filed.Mark.TheVariants.{Live}
-use Rattle.key_index.specs.Entries.{last_of, AreRising}
+use Rattle.key_index.{specs.declared.filed.Mark.TheVariants.Live, specs.Entries.{last_of, AreRising}}
 use Rattle.key_index.specs.Index as keyed
-use Rattle.event_chain.specs.Placed.{Index, marked_index}
-use Rattle.event_chain.specs.Links.{Links}
-use Rattle.event_chain.specs.LinkChain.{IsLinked}
-use Rattle.event_chain.specs.Flat.{EventPlace, place_of, segment}
-use Rattle.event_chain.specs.Edits.{places_before, places_behind}
+use Rattle.event_chain.{specs.Placed.{Index, marked_index}, specs.Links.Links, specs.LinkChain.IsLinked, specs.Flat.{EventPlace, place_of, segment}, specs.Edits.{places_before, places_behind}}
 
 -- The slot of a place.
 abbrev pub slot_in : EventPlace → ℕ

@@ -1,13 +1,8 @@
 -- The places of events in one index, by their marks.
 use Rattle.std.specs.Prelude.{ℕ, Bool, true, List, Option, Some, None, map}
-use Rattle.ledger_model.specs.declared.reading.Direction.{Direction}
-use Rattle.ledger_model.specs.declared.reading.Direction.TheVariants.{Import, Export}
-use Rattle.key_index.specs.declared.filed.Mark.{Mark}
-use Rattle.key_index.specs.declared.filed.Mark.TheVariants.{Live, Imports, Exports, Names}
-use Rattle.key_index.specs.declared.filed.Marks.{Marks}
-use Rattle.key_index.specs.Entries.{Entry}
+use Rattle.ledger_model.{specs.declared.reading.Direction.Direction, specs.declared.reading.Direction.TheVariants.{Import, Export}}
+use Rattle.key_index.{specs.declared.filed.Mark.Mark, specs.declared.filed.Mark.TheVariants.{Live, Imports, Exports, Names}, specs.declared.filed.Marks.Marks, specs.Entries.Entry, specs.Marks.{has_mark, marked}}
 use Rattle.key_index.specs.Index as keyed
-use Rattle.key_index.specs.Marks.{has_mark, marked}
 use Rattle.event_chain.specs.Flat.{EventPlace}
 
 -- Places by rising rank, and how many there may be.

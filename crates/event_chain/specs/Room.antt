@@ -1,14 +1,7 @@
 -- Whether there is room for an event under a new key.
 use Rattle.std.specs.Prelude.{ℕ, ◌+◌, ◌&&◌, not, nat_le, nat_lt, if◌then◌else◌, List, [], Option, Some, None, length}
-use Rattle.ledger_model.specs.declared.reading.Direction.{Direction}
-use Rattle.ledger_model.specs.Event.{MeterReading, toward}
-use Rattle.ledger_model.specs.Limits.{Bounds}
-use Rattle.ledger_model.specs.Content.{Entry, Stored, transactions_of, has_transaction}
-use Rattle.ledger_model.specs.Step.{readings_stored}
-use Rattle.event_chain.specs.declared.answers.Room.{Room}
-use Rattle.event_chain.specs.declared.answers.Room.TheVariants.{Fits, NoTransaction, NoEvent, NoReading}
-use Rattle.event_chain.specs.declared.answers.Found.{Found}
-use Rattle.event_chain.specs.declared.answers.Found.TheVariants.{Live, Voided}
+use Rattle.ledger_model.{specs.declared.reading.Direction.Direction, specs.Event.{MeterReading, toward}, specs.Limits.Bounds, specs.Content.{Entry, Stored, transactions_of, has_transaction}, specs.Step.readings_stored}
+use Rattle.event_chain.{specs.declared.answers.Room.Room, specs.declared.answers.Room.TheVariants.{Fits, NoTransaction, NoEvent, NoReading}, specs.declared.answers.Found.Found, specs.declared.answers.Found.TheVariants.{Live, Voided}}
 
 -- The first limit that an event of this transaction with so many readings would pass.
 abbrev pub room_of : Bounds → List Entry → List ℕ → ℕ → Room

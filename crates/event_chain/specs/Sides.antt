@@ -1,10 +1,6 @@
 -- The readings on either side of an event's place.
 use Rattle.std.specs.Prelude.{◌≡◌, Bool, if◌then◌else◌, List, Option, None}
-use Rattle.ledger_model.specs.Content.{Entry}
-use Rattle.ledger_model.specs.Deltas.{before_key, behind_key, first_reading, last_reading, own_readings}
-use Rattle.ledger_model.specs.declared.reading.Direction.{Direction}
-use Rattle.ledger_model.specs.Event.{MeterReading}
-use Rattle.ledger_model.specs.Key.{KeyName}
+use Rattle.ledger_model.{specs.Content.Entry, specs.Deltas.{before_key, behind_key, first_reading, last_reading, own_readings}, specs.declared.reading.Direction.Direction, specs.Event.MeterReading, specs.Key.KeyName}
 use Rattle.event_chain.specs.declared.around.Sides.{Sides}
 
 -- A reading on a side, if the event has a reading of its direction.

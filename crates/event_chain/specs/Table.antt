@@ -1,10 +1,6 @@
 -- A table of transactions as its callers see it.
-use Rattle.std.specs.Prelude.{◌≡◌, ℕ, ◌<◌, ◌≤◌, List, Option, Some, not}
-use Rattle.std.specs.List.{filter}
-use Rattle.std.specs.Ordering.{eq_by_cmp}
-use Rattle.std.specs.FinMap.{find, put}
-use Rattle.transaction_map.specs.Map.{Mapped}
-use Rattle.transaction_map.specs.Places.{IsAt}
+use Rattle.std.{specs.Prelude.{◌≡◌, ℕ, ◌<◌, ◌≤◌, List, Option, Some, not}, specs.List.filter, specs.Ordering.eq_by_cmp, specs.FinMap.{find, put}}
+use Rattle.transaction_map.{specs.Map.Mapped, specs.Places.IsAt}
 use Rattle.event_chain.specs.declared.row.TableRow.{TableRow}
 -- The order of transaction ids by their bytes, and rows by rising id.
 pub use Rattle.transaction_map.specs.Map.{id_cmp, AreRising}

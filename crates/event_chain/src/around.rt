@@ -1,12 +1,7 @@
 //! The live readings on either side of an event's place.
 ghost use Rattle.std.specs.Prelude.{◌≡◌, None, true, option_map};
-ghost use Rattle.ledger_model.specs.ByDirection.{in_direction};
-ghost use Rattle.ledger_model.specs.declared.reading.Direction.{Direction};
-ghost use Rattle.event_chain.specs.Table.{row_of};
-ghost use Rattle.event_chain.specs.Flat.{flat};
-ghost use Rattle.event_chain.specs.Kept.{IsKeyed, IsSub, is_carrier};
-ghost use Rattle.event_chain.specs.Placed.{carriers_of};
-ghost use Rattle.event_chain.specs.Sides.{AreSides};
+ghost use Rattle.ledger_model.{specs.ByDirection.in_direction, specs.declared.reading.Direction.Direction};
+ghost use Rattle.event_chain.{specs.Table.row_of, specs.Flat.flat, specs.Kept.{IsKeyed, IsSub, is_carrier}, specs.Placed.carriers_of, specs.Sides.AreSides};
 
 use crate::carries::Carries;
 use crate::look_ups::{carriers_around, first_at, last_at};

@@ -1,9 +1,6 @@
 //! In which directions an event has readings.
 ghost use Rattle.std.specs.Prelude.{◌≡◌, is_some};
-ghost use Rattle.ledger_model.specs.ByDirection.{in_direction};
-ghost use Rattle.ledger_model.specs.Deltas.{first_reading};
-ghost use Rattle.ledger_model.specs.Event.{toward};
-ghost use Rattle.ledger_model.specs.declared.reading.Direction.{Direction};
+ghost use Rattle.ledger_model.{specs.ByDirection.in_direction, specs.Deltas.first_reading, specs.Event.toward, specs.declared.reading.Direction.Direction};
 
 use ledger_model::{ByDirection, Direction, Reading};
 

@@ -1,25 +1,7 @@
-ghost use Rattle.std.specs.Prelude.{◌≡◌, ◌+◌, ◌-◌, ◌≤◌, ◌&&◌, true, false, not, is_some, nat_le, length, slice_get, option_map, Some, None, IfOk};
+ghost use Rattle.std.{specs.Prelude.{◌≡◌, ◌+◌, ◌-◌, ◌≤◌, ◌&&◌, true, false, not, is_some, nat_le, length, slice_get, option_map, Some, None, IfOk}, specs.List.count_by};
 ghost use Rattle.std.specs.FinMap as finite;
-ghost use Rattle.std.specs.List.{count_by};
-ghost use Rattle.ledger_model.specs.Content.{live_of, transactions_of};
-ghost use Rattle.ledger_model.specs.Step.{marked, readings_stored};
-ghost use Rattle.ledger_model.specs.Evse.{evse_of};
-ghost use Rattle.ledger_model.specs.Complete.{kinds_of};
-ghost use Rattle.ledger_model.specs.Deltas.{own_readings, before_key, behind_key, first_reading, last_reading};
-ghost use Rattle.ledger_model.specs.Gaps.{numbers_of};
-ghost use Rattle.ledger_model.specs.Ranges.{most_events, most_readings, most_transactions};
-ghost use Rattle.event_chain.specs.declared.answers.Room.TheVariants.{Fits};
-ghost use Rattle.event_chain.specs.declared.answers.Found.TheVariants.{Live, Voided};
-ghost use Rattle.event_chain.specs.Table.{row_of};
-ghost use Rattle.event_chain.specs.Chains.{stored};
-ghost use Rattle.event_chain.specs.EventLines.{events_of};
-ghost use Rattle.event_chain.specs.Room.{room_of, found_of, readings_under};
-ghost use Rattle.event_chain.specs.Kept.{end_count, is_end, IsTxStanding};
-ghost use Rattle.ledger_model.specs.declared.reading.Direction.{Direction};
-ghost use Rattle.ledger_model.specs.Event.{toward};
-ghost use Rattle.ledger_model.specs.ByDirection.{in_direction};
-ghost use Rattle.event_chain.specs.Edits.{counts_under};
-ghost use Rattle.event_chain.specs.Sides.{AreSides};
+ghost use Rattle.ledger_model.{specs.Content.{live_of, transactions_of}, specs.Step.{marked, readings_stored}, specs.Evse.evse_of, specs.Complete.kinds_of, specs.Deltas.{own_readings, before_key, behind_key, first_reading, last_reading}, specs.Gaps.numbers_of, specs.Ranges.{most_events, most_readings, most_transactions}, specs.declared.reading.Direction.Direction, specs.Event.toward, specs.ByDirection.in_direction};
+ghost use Rattle.event_chain.{specs.declared.answers.Room.TheVariants.Fits, specs.declared.answers.Found.TheVariants.{Live, Voided}, specs.Table.row_of, specs.Chains.stored, specs.EventLines.events_of, specs.Room.{room_of, found_of, readings_under}, specs.Kept.{end_count, is_end, IsTxStanding}, specs.Edits.counts_under, specs.Sides.AreSides};
 
 use crate::answers::{Found, Room, TxStanding};
 use crate::around::{Around, NONE_AROUND, Sides, around_of, sides_of};
@@ -56,8 +38,7 @@ impl Model for Chains {
 
     ghost coded = { chained_code };
 
-    ghost use Rattle.event_chain.specs.Kept.{IsChains, events_of};
-    ghost use Rattle.event_chain.specs.Placed.{carriers_of};
+    ghost use Rattle.event_chain.{specs.Kept.{IsChains, events_of}, specs.Placed.carriers_of};
 
     ghost view = { λ c. record { limits = c.limits; events = events_of c.table c.store c.places.stored } };
 

@@ -1,8 +1,7 @@
 //! The events of a transaction, live and voided, in a list.
 ghost use Rattle.std.specs.Prelude.{◌≡◌, ℕ, IfOk, Some, map};
 ghost use Rattle.slot_arena.specs.Arena.{IsHeld};
-ghost use Rattle.event_chain.specs.EventLines.{line_at};
-ghost use Rattle.event_chain.specs.Flat.{place_of, segment};
+ghost use Rattle.event_chain.{specs.EventLines.line_at, specs.Flat.{place_of, segment}};
 ghost use Rattle.key_index.specs.Entries.{AreRising};
 
 use crate::look_ups::{first_place, place_behind};

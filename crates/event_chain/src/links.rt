@@ -1,5 +1,4 @@
-ghost use Rattle.std.specs.Prelude.{◌≡◌, None, IfOk, replicate};
-ghost use Rattle.std.specs.Option.{ForSome};
+ghost use Rattle.std.{specs.Prelude.{◌≡◌, None, IfOk, replicate}, specs.Option.ForSome};
 ghost use Rattle.event_chain.specs.Links.{links, prev_of, next_of, linked_in, linked_out, IsSlot};
 
 use std::alloc::{AllocError, Global};

@@ -1,16 +1,9 @@
 //! The places of events: their transactions, their ranks, and the slots that hold them.
-ghost use Rattle.std.specs.Prelude.{◌≡◌, ℕ, ◌<◌, true, false, length, None, Some, IsSome, IfSome, slice_get, option_map};
-ghost use Rattle.std.specs.Option.{ForSome};
-ghost use Rattle.event_chain.specs.Placed.{carriers_of};
+ghost use Rattle.std.{specs.Prelude.{◌≡◌, ℕ, ◌<◌, true, false, length, None, Some, IsSome, IfSome, slice_get, option_map}, specs.Option.ForSome};
+ghost use Rattle.event_chain.{specs.Placed.carriers_of, specs.Table.{row_of, with_row, AreApart, AreRising, AreSlotted, IsRowAt}, specs.Flat.{place_of, segment}, specs.Kept.{HasPlace, IsBare, IsEntered, IsLeft}, specs.Edits.{place_at, first_under, last_under, at_home, places_before, places_behind, first_at, last_at, kind_in, evse_at, IsLocation, IsStored}, specs.Walk.number_in};
 ghost use Rattle.key_index.specs.Entries as entries;
-ghost use Rattle.key_index.specs.Entries.{from, first_of, last_of};
-ghost use Rattle.key_index.specs.Key.{rank};
+ghost use Rattle.key_index.{specs.Entries.{from, first_of, last_of}, specs.Key.rank};
 ghost use Rattle.ledger_model.specs.Ranges.{sequence_end};
-ghost use Rattle.event_chain.specs.Table.{row_of, with_row, AreApart, AreRising, AreSlotted, IsRowAt};
-ghost use Rattle.event_chain.specs.Flat.{place_of, segment};
-ghost use Rattle.event_chain.specs.Kept.{HasPlace, IsBare, IsEntered, IsLeft};
-ghost use Rattle.event_chain.specs.Edits.{place_at, first_under, last_under, at_home, places_before, places_behind, first_at, last_at, kind_in, evse_at, IsLocation, IsStored};
-ghost use Rattle.event_chain.specs.Walk.{number_in};
 
 use crate::marked_places::MarkedPlaces;
 use crate::place_index::PlaceIndex;

@@ -1,15 +1,8 @@
 //! The places of a station's events in one ordered index, and linked lists of the live ones.
-ghost use Rattle.std.specs.Prelude.{◌≡◌, ℕ, ◌<◌, [], length, None, Some, IfOk, IsSome, slice_get, option_map};
-ghost use Rattle.std.specs.Ordering.{nat_cmp};
-ghost use Rattle.std.specs.FinMap.{put};
-ghost use Rattle.key_index.specs.Entries.{from, filed_at, first_of, last_of, AreRising};
-ghost use Rattle.event_chain.specs.Links.{linked_in};
-ghost use Rattle.key_index.specs.declared.filed.Mark.TheVariants.{Live};
+ghost use Rattle.std.{specs.Prelude.{◌≡◌, ℕ, ◌<◌, [], length, None, Some, IfOk, IsSome, slice_get, option_map}, specs.Ordering.nat_cmp, specs.FinMap.put};
+ghost use Rattle.key_index.{specs.Entries.{from, filed_at, first_of, last_of, AreRising}, specs.declared.filed.Mark.TheVariants.Live};
+ghost use Rattle.event_chain.{specs.Links.linked_in, specs.Placed.{carriers_of, index, marked_index, mark_of as placed_mark}, specs.Flat.place_of, specs.Edits.{out, places_before, places_behind, CanPutIn, CanRestore, IsLiveLess, IsLiveMore, IsLiveSame, IsNotLive}, specs.Lists.{slot_in, HasRank, AreOwn, AreListed, slot_before, slot_after}};
 ghost use Rattle.ledger_model.specs.declared.reading.Direction.{Direction};
-ghost use Rattle.event_chain.specs.Placed.{carriers_of, index, marked_index, mark_of as placed_mark};
-ghost use Rattle.event_chain.specs.Flat.{place_of};
-ghost use Rattle.event_chain.specs.Edits.{out, places_before, places_behind, CanPutIn, CanRestore, IsLiveLess, IsLiveMore, IsLiveSame, IsNotLive};
-ghost use Rattle.event_chain.specs.Lists.{slot_in, HasRank, AreOwn, AreListed, slot_before, slot_after};
 
 use crate::carries::Carries;
 use crate::links::SlotLinks;
@@ -36,8 +29,7 @@ pub(crate) struct PlaceIndex {
 }
 
 impl Model for PlaceIndex {
-    ghost use Rattle.event_chain.specs.Placed.{Placed, placed};
-    ghost use Rattle.event_chain.specs.Lists.{ArePlaced};
+    ghost use Rattle.event_chain.{specs.Placed.{Placed, placed}, specs.Lists.ArePlaced};
 
     ghost Value = { Placed };
 

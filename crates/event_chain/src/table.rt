@@ -16,8 +16,7 @@ pub struct TransactionTable {
 
 impl Model for TransactionTable {
     ghost use Rattle.std.specs.Prelude.{◌≤◌, vec_capacity};
-    ghost use Rattle.event_chain.specs.Table.{Table};
-    ghost use Rattle.event_chain.specs.TableKept.{IsTable};
+    ghost use Rattle.event_chain.{specs.Table.Table, specs.TableKept.IsTable};
 
     ghost Value = { Table };
 

@@ -1,5 +1,4 @@
-ghost use Rattle.std.specs.Prelude.{◌≡◌, map};
-ghost use Rattle.std.specs.Iterator.{YieldsFirst, item_count};
+ghost use Rattle.std.{specs.Prelude.{◌≡◌, map}, specs.Iterator.{YieldsFirst, item_count}};
 
 use crate::table::TransactionTable;
 use ledger_model::TxId;

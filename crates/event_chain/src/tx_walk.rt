@@ -1,7 +1,6 @@
 ghost use Rattle.std.specs.Prelude.{◌≡◌, true};
-ghost use Rattle.event_chain.specs.Lists.{AreOwn};
+ghost use Rattle.event_chain.{specs.Lists.AreOwn, specs.Walk.{numbers_at, are_under}};
 ghost use Rattle.key_index.specs.Entries.{AreRising, AreRising-prop};
-ghost use Rattle.event_chain.specs.Walk.{numbers_at, are_under};
 
 use crate::look_ups::first_place;
 use crate::place_index::PlaceIndex;

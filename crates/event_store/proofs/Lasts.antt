@@ -1,9 +1,6 @@
 -- The last reading of a direction.
 use Rattle.std.proofs.Common.{◌≡◌, true, false, cond, List, [], ◌∷◌, Option, Some, None, refl, sym, ap, ◌∙◌}
-use Rattle.ledger_model.specs.declared.reading.Direction.{Direction}
-use Rattle.ledger_model.specs.declared.reading.Direction.TheVariants.{Import, Export}
-use Rattle.ledger_model.specs.Deltas.{last_reading}
-use Rattle.ledger_model.specs.Event.{MeterReading, same_direction, toward}
+use Rattle.ledger_model.{specs.declared.reading.Direction.Direction, specs.declared.reading.Direction.TheVariants.{Import, Export}, specs.Deltas.last_reading, specs.Event.{MeterReading, same_direction, toward}}
 use Rattle.event_store.proofs.Runs.{last_more}
 
 -- The last of readings, or what came before if there is none.

@@ -1,11 +1,8 @@
 -- Chains of readings under edits of the arena that holds them.
-use Rattle.std.proofs.Common.{◌≡◌, ℕ, zero, suc, ◌+◌, ◌<◌, ◌≤◌, ◌++◌, Bool, false, true, List, [], ◌∷◌, Option, Some, None, is_some, cond, length, take, set, get_or, slice_get, ◌-◌, refl, sym, ap, ◌∙◌, subst, arith, length-set, get_or-set_other, get_or-set_same}
-use Rattle.std.proofs.lemmas.List.Sums.{sum_by-set}
+use Rattle.std.{proofs.Common.{◌≡◌, ℕ, zero, suc, ◌+◌, ◌<◌, ◌≤◌, ◌++◌, Bool, false, true, List, [], ◌∷◌, Option, Some, None, is_some, cond, length, take, set, get_or, slice_get, ◌-◌, refl, sym, ap, ◌∙◌, subst, arith, length-set, get_or-set_other, get_or-set_same}, proofs.lemmas.List.Sums.sum_by-set}
 use Rattle.slot_arena.specs.Arena.{value_at, held_count}
-use Rattle.ledger_model.specs.Event.{MeterReading}
-use Rattle.event_store.specs.declared.links.ReadingLink.{ReadingLink}
-use Rattle.ledger_model.specs.Deltas.{last_reading}
-use Rattle.event_store.specs.Links.{reading_of, next_of, owner_of, left_of, chain, IsLink, IsRun, IsLast, AreReadings, AreKept, AreOthersKept}
+use Rattle.ledger_model.{specs.Event.MeterReading, specs.Deltas.last_reading}
+use Rattle.event_store.{specs.declared.links.ReadingLink.ReadingLink, specs.Links.{reading_of, next_of, owner_of, left_of, chain, IsLink, IsRun, IsLast, AreReadings, AreKept, AreOthersKept}}
 
 -- The links of an arena.
 abbrev pub LinkRow : Type 0

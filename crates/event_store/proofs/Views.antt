@@ -1,13 +1,8 @@
 -- What the slots of a store show, under edits of its arenas.
-use Rattle.std.proofs.Common.{◌≡◌, ℕ, zero, suc, ◌<◌, Bool, false, List, [], ◌∷◌, Option, Some, None, length, set, replicate, refl, sym, ap, ◌∙◌, subst, set-set, get_or-set_other, get_or-set_same, inl, inr}
-use Rattle.std.proofs.lemmas.Bool.{cases_eq}
+use Rattle.std.{proofs.Common.{◌≡◌, ℕ, zero, suc, ◌<◌, Bool, false, List, [], ◌∷◌, Option, Some, None, length, set, replicate, refl, sym, ap, ◌∙◌, subst, set-set, get_or-set_other, get_or-set_same, inl, inr}, proofs.lemmas.Bool.cases_eq}
 use Rattle.slot_arena.specs.Arena.{value_at}
-use Rattle.event_store.specs.declared.event_slot.EventSlot.{EventSlot}
-use Rattle.event_store.specs.Links.{chain, AreReadings, AreKept, AreOthersKept}
-use Rattle.event_store.specs.Slots.{Held, voided_as, voided_at, readings_at, readings_in}
+use Rattle.event_store.{specs.declared.event_slot.EventSlot.EventSlot, specs.Links.{chain, AreReadings, AreKept, AreOthersKept}, specs.Slots.{Held, voided_as, voided_at, readings_at, readings_in}, specs.Store.{slot_in, slots_in, new_slot, run_set, IsChained, AreChained}, proofs.Runs.{LinkRow, readings_kept, readings_other, chain_long}}
 use Rattle.ledger_model.specs.Event.{EventContent}
-use Rattle.event_store.specs.Store.{slot_in, slots_in, new_slot, run_set, IsChained, AreChained}
-use Rattle.event_store.proofs.Runs.{LinkRow, readings_kept, readings_other, chain_long}
 
 -- The event slots of an arena.
 abbrev Events : Type 0

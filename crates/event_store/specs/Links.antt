@@ -1,9 +1,7 @@
 -- How the readings of an event are chained.
 use Rattle.std.specs.Prelude.{◌≡◌, ℕ, zero, suc, true, List, [], ◌∷◌, Option, Some, None, is_some}
 use Rattle.slot_arena.specs.Arena.{value_at}
-use Rattle.ledger_model.specs.declared.reading.Direction.TheVariants.{Import}
-use Rattle.ledger_model.specs.Event.{MeterReading}
-use Rattle.ledger_model.specs.Deltas.{last_reading}
+use Rattle.ledger_model.{specs.declared.reading.Direction.TheVariants.Import, specs.Event.MeterReading, specs.Deltas.last_reading}
 use Rattle.event_store.specs.declared.links.ReadingLink.{ReadingLink}
 
 -- A value in place of a reading that is not there.

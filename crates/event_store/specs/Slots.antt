@@ -1,10 +1,7 @@
 -- A store of events as its callers see it.
-use Rattle.std.specs.Prelude.{ℕ, Bool, List, Option, Some, None, length, slice_set, refl}
+use Rattle.std.{specs.Prelude.{ℕ, Bool, List, Option, Some, None, length, slice_set, refl}, specs.Coded.{Coded, code_by, coded×, coded_list, coded_option, coded_bool, coded_ℕ}}
 use Rattle.slot_arena.specs.Arena.{value_at}
-use Rattle.std.specs.Coded.{Coded, code_by, coded×, coded_list, coded_option, coded_bool, coded_ℕ}
-use Rattle.ledger_model.specs.contracts.event.Event.{the_row}
-use Rattle.ledger_model.specs.Event.{EventContent}
-use Rattle.ledger_model.specs.Content.{Stored}
+use Rattle.ledger_model.{specs.contracts.event.Event.the_row, specs.Event.EventContent, specs.Content.Stored}
 
 -- A stored event with the rank of its key.
 abbrev pub Held : Type 0

@@ -2,10 +2,7 @@
 use Rattle.std.specs.Prelude.{ℕ, false, List, Option, Some, None, map, length}
 use Rattle.slot_arena.specs.Arena.{value_at, held_count}
 use Rattle.ledger_model.specs.Event.{EventContent}
-use Rattle.event_store.specs.declared.links.ReadingLink.{ReadingLink}
-use Rattle.event_store.specs.declared.event_slot.EventSlot.{EventSlot}
-use Rattle.event_store.specs.Links.{chain, AreReadings}
-use Rattle.event_store.specs.Slots.{Held, Slots}
+use Rattle.event_store.{specs.declared.links.ReadingLink.ReadingLink, specs.declared.event_slot.EventSlot.EventSlot, specs.Links.{chain, AreReadings}, specs.Slots.{Held, Slots}}
 
 -- The content of the event in a slot.
 abbrev pub content_in : List (Option ReadingLink) → EventSlot → EventContent

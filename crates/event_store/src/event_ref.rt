@@ -1,6 +1,5 @@
 ghost use Rattle.std.specs.Prelude.{◌≡◌, ◌↔◌, length, IsTrue};
-ghost use Rattle.ledger_model.specs.Deltas.{first_reading, last_reading};
-ghost use Rattle.ledger_model.specs.Event.{toward};
+ghost use Rattle.ledger_model.{specs.Deltas.{first_reading, last_reading}, specs.Event.toward};
 
 use crate::event_slot::EventSlot;
 use crate::links::ReadingLink;
@@ -25,8 +24,7 @@ impl<'a> Model for EventRef<'a> {
 
     ghost coded = { held_code };
 
-    ghost use Rattle.event_store.specs.Links.{AreReadings};
-    ghost use Rattle.event_store.specs.Store.{held_in};
+    ghost use Rattle.event_store.{specs.Links.AreReadings, specs.Store.held_in};
 
     ghost view = { λ e. held_in e.links.now e.slot };
 
@@ -35,8 +33,7 @@ impl<'a> Model for EventRef<'a> {
 
 impl<'a> EventRef<'a> {
     ghost use Rattle.std.specs.Prelude.{ℕ};
-    ghost use Rattle.event_store.specs.Links.{AreReadings};
-    ghost use Rattle.event_store.specs.Store.{held_in};
+    ghost use Rattle.event_store.{specs.Links.AreReadings, specs.Store.held_in};
 
     // The event of a slot.
     pub(crate) fn of(slot: EventSlot, links: &'a SlotArena<ReadingLink>) -> Self

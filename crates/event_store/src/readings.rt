@@ -1,7 +1,6 @@
-ghost use Rattle.std.specs.Prelude.{◌≡◌, ◌↔◌, ℕ, List, [], ◌∷◌, IsTrue, IfSome, IfNone};
+ghost use Rattle.std.{specs.Prelude.{◌≡◌, ◌↔◌, ℕ, List, [], ◌∷◌, IsTrue, IfSome, IfNone}, specs.Iterator.{YieldsFirst, item_count}};
 ghost use Rattle.ledger_model.specs.Event.{toward};
 ghost use Rattle.event_store.specs.Links.{chain, IsRun};
-ghost use Rattle.std.specs.Iterator.{YieldsFirst, item_count};
 
 use crate::links::ReadingLink;
 use ledger_model::{Direction, Reading};

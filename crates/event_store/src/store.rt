@@ -1,7 +1,6 @@
 ghost use Rattle.std.specs.Prelude.{◌≡◌, ◌↔◌, ◌+◌, ◌<◌, ◌≤◌, IsTrue, false, [], length, slice_set, replicate, None, Some, IfOk};
 ghost use Rattle.slot_arena.specs.Arena.{value_at, held_count, IsHeld};
-ghost use Rattle.event_store.specs.Slots.{voided_at, readings_at};
-ghost use Rattle.event_store.specs.Store.{new_slot, run_set};
+ghost use Rattle.event_store.{specs.Slots.{voided_at, readings_at}, specs.Store.{new_slot, run_set}};
 
 use crate::event_ref::EventRef;
 use crate::event_slot::EventSlot;

@@ -1,10 +1,6 @@
 -- One step of a walk: what it does to the gaps, and to the count of what is missing.
-use Rattle.std.proofs.Common.{◌≡◌, ℕ, ◌<◌, ◌≤◌, ◌+◌, ◌-◌, List, [], ◌∷◌, length, refl, ap, sym, ◌∙◌, subst, ⊎_elim, arith, drop}
-use Rattle.std.specs.Prelude.{sum_by, slice_index}
-use Rattle.std.proofs.lemmas.Bool.{cases_lt, lt-ltb, le-ltb}
-use Rattle.std.proofs.lemmas.List.Sums.{sum_by-cons}
-use Rattle.ledger_model.specs.BoardLaws.{AreRising}
-use Rattle.ledger_model.specs.Gaps.{gaps, gap_size, missing}
+use Rattle.std.{proofs.Common.{◌≡◌, ℕ, ◌<◌, ◌≤◌, ◌+◌, ◌-◌, List, [], ◌∷◌, length, refl, ap, sym, ◌∙◌, subst, ⊎_elim, arith, drop}, specs.Prelude.{sum_by, slice_index}, proofs.lemmas.Bool.{cases_lt, lt-ltb, le-ltb}, proofs.lemmas.List.Sums.sum_by-cons}
+use Rattle.ledger_model.{specs.BoardLaws.AreRising, specs.Gaps.{gaps, gap_size, missing}}
 
 -- a gap is between the first number and the next
 pub gaps_far : (xs ys : List ℕ) → 0 < length xs → 0 < length ys → ys ≡ drop 1 xs → slice_index xs 0 + 1 < slice_index ys 0

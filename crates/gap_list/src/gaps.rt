@@ -1,7 +1,5 @@
-ghost use Rattle.std.specs.Prelude.{◌≡◌, List, ℕ};
-ghost use Rattle.std.specs.Iterator.{YieldsFirst, item_count};
-ghost use Rattle.ledger_model.specs.BoardLaws.{AreGaps};
-ghost use Rattle.ledger_model.specs.Gaps.{gaps};
+ghost use Rattle.std.{specs.Prelude.{◌≡◌, List, ℕ}, specs.Iterator.{YieldsFirst, item_count}};
+ghost use Rattle.ledger_model.{specs.BoardLaws.AreGaps, specs.Gaps.gaps};
 
 use crate::NumberWalk;
 use std::marker::Model;

@@ -1,6 +1,5 @@
 ghost use Rattle.std.specs.Prelude.{◌≡◌, ◌<◌, length};
-ghost use Rattle.ledger_model.specs.BoardLaws.{AreRising};
-ghost use Rattle.ledger_model.specs.Gaps.{missing};
+ghost use Rattle.ledger_model.{specs.BoardLaws.AreRising, specs.Gaps.missing};
 
 use crate::NumberWalk;
 

@@ -1,9 +1,5 @@
 -- One read more behind bytes that were gathered.
-use Rattle.std.proofs.Common.{◌≡◌, ◌≤◌, ◌+◌, ◌++◌, ◌∙◌, ℕ, List, Option, length, take, ap, sym, append_assoc}
-use Rattle.std.proofs.lemmas.List.{take-append-le, length-take-le}
-use Rattle.std.proofs.Math.Seq.{take-append-add}
-use Rattle.std.proofs.KnownBytes.{Consumes-trans}
-use Rattle.std.specs.Io.KnownBytes.{Consumes}
+use Rattle.std.{proofs.Common.{◌≡◌, ◌≤◌, ◌+◌, ◌++◌, ◌∙◌, ℕ, List, Option, length, take, ap, sym, append_assoc}, proofs.lemmas.List.{take-append-le, length-take-le}, proofs.Math.Seq.take-append-add, proofs.KnownBytes.Consumes-trans, specs.Io.KnownBytes.Consumes}
 use borrow.Rule.Slice.PartMut.{put_mid, post_of}
 
 pub taken : (c m k : ℕ) (buf got : List ℕ) → c ≤ length buf → m ≤ length got → take (c + m) (put_mid c k buf got) ≡ take c buf ++ take m got

@@ -1,8 +1,6 @@
 -- What a read gives in place of bytes, after those that came before.
-use Rattle.std.specs.Prelude.{List, ℕ, Option, None, Some, ⊤}
-use Rattle.std.specs.Io.KnownBytes.{IsAtEnd}
-use Rattle.gathered_input.specs.declared.input.Stop.{Stop}
-use Rattle.gathered_input.specs.declared.input.Stop.TheVariants.{End, Fault}
+use Rattle.std.{specs.Prelude.{List, ℕ, Option, None, Some, ⊤}, specs.Io.KnownBytes.IsAtEnd}
+use Rattle.gathered_input.{specs.declared.input.Stop.Stop, specs.declared.input.Stop.TheVariants.{End, Fault}}
 
 -- The end is reported only if the input is at its end.
 abbrev pub IsTruly : Option (List ℕ) → Option Stop → Type 0

@@ -1,6 +1,5 @@
 //! An input that collects everything that is ready in one read.
-ghost use Rattle.std.specs.Prelude.{◌≡◌, ◌≤◌, ◌++◌, ℕ, List, length, take};
-ghost use Rattle.std.specs.Io.KnownBytes.{Consumes};
+ghost use Rattle.std.{specs.Prelude.{◌≡◌, ◌≤◌, ◌++◌, ℕ, List, length, take}, specs.Io.KnownBytes.Consumes};
 ghost use Rattle.gathered_input.specs.Told.{IsTruly};
 
 use crate::readiness::{Readiness, StandardInput};

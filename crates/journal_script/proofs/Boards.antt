@@ -1,18 +1,9 @@
 -- A script's answer to the question for a board, over the cells that its stations have the contents of.
 use Rattle.std.proofs.Common.{◌≡◌, true, cond, refl, sym, ap, ◌∙◌}
-use Rattle.board_report.specs.Texts.{board_text}
-use Rattle.board_report.specs.Boards.{boards_at}
-use Rattle.board_report.specs.Closed.{closed_site}
-use Rattle.script_lines.specs.declared.script_line.LineFault.TheVariants.{UnknownSite}
-use Rattle.script_lines.specs.Texts.{fault_line}
-use Rattle.script_ledgers.specs.Drafts.{planned_world, site_name}
-use Rattle.script_ledgers.specs.Running.{filled}
-use Rattle.script_ledgers.specs.Script.{is_among, order_named, order_of, period_named, period_of, shown_site, site_number, stations_of, step_by}
-use Rattle.script_ledgers.proofs.Boards.{at_site, board_is, site_shown}
-use Rattle.script_ledgers.proofs.Places.{some_placed}
-use Rattle.script_ledgers.proofs.SettledBy.{order_found, period_found}
-use Rattle.site_desk.specs.declared.plan.SitePlan.{SitePlan}
-use Rattle.site_desk.specs.Plan.{order_at, period_at}
+use Rattle.board_report.{specs.Texts.board_text, specs.Boards.boards_at, specs.Closed.closed_site}
+use Rattle.script_lines.{specs.declared.script_line.LineFault.TheVariants.UnknownSite, specs.Texts.fault_line}
+use Rattle.script_ledgers.{specs.Drafts.{planned_world, site_name}, specs.Running.filled, specs.Script.{is_among, order_named, order_of, period_named, period_of, shown_site, site_number, stations_of, step_by}, proofs.Boards.{at_site, board_is, site_shown}, proofs.Places.some_placed, proofs.SettledBy.{order_found, period_found}}
+use Rattle.site_desk.{specs.declared.plan.SitePlan.SitePlan, specs.Plan.{order_at, period_at}}
 use Rattle.journal_script.specs.Journals.{BoardsAreThoseOfCells}
 
 pub boards_are_those_of_cells : BoardsAreThoseOfCells

@@ -1,29 +1,11 @@
 -- The contents that a journal's entries leave, station by station.
-use Rattle.std.proofs.Common.{◌≡◌, ◌≢◌, ℕ, suc, ◌<◌, Bool, true, false, cond, eqb, List, [], ◌∷◌, None, Some, All, map, bytes_eq, length, get_or, refl, sym, ap, ◌∙◌, arith, ⊎_elim}
-use Rattle.std.specs.List.{cons_option}
-use Rattle.std.specs.Prelude.{slice_get}
-use Rattle.std.proofs.lemmas.Bool.{cases_eq, eq-eqb, ne_eqb}
-use Rattle.std.proofs.lemmas.List.{get_or-map, length-map}
-use Rattle.std.proofs.lemmas.List.Elements.{All-head, All-tail}
-use Rattle.std.proofs.lemmas.Option.{get_or_from_slice_get, slice_get_within}
-use Rattle.std.proofs.lemmas.Slice.Eq.{bytes_eq-Decides}
-use Rattle.kept_desk.specs.declared.entry.Entry.{Entry}
-use Rattle.kept_desk.specs.Entries.{of_station}
-use Rattle.ledger_model.specs.declared.command.Command.{Command}
-use Rattle.ledger_model.specs.Laws.{left_by}
-use Rattle.ledger_model.specs.World.{Happens, run}
-use Rattle.ledger_model.specs.WorldLaws.{commands_on, station_left}
-use Rattle.ledger_model.proofs.Runs.{each_by_its_own}
-use Rattle.script_ledgers.specs.Drafts.{planned_world, site_name}
-use Rattle.script_ledgers.specs.Running.{filled}
-use Rattle.script_ledgers.specs.Script.{new_station}
-use Rattle.script_ledgers.proofs.Boards.{one_place}
-use Rattle.site_desk.specs.declared.plan.SitePlan.{SitePlan}
-use Rattle.site_desk.specs.declared.plan.StationPlan.{StationPlan}
+use Rattle.std.{proofs.Common.{◌≡◌, ◌≢◌, ℕ, suc, ◌<◌, Bool, true, false, cond, eqb, List, [], ◌∷◌, None, Some, All, map, bytes_eq, length, get_or, refl, sym, ap, ◌∙◌, arith, ⊎_elim}, specs.List.cons_option, specs.Prelude.slice_get, proofs.lemmas.Bool.{cases_eq, eq-eqb, ne_eqb}, proofs.lemmas.List.{get_or-map, length-map}, proofs.lemmas.List.Elements.{All-head, All-tail}, proofs.lemmas.Option.{get_or_from_slice_get, slice_get_within}, proofs.lemmas.Slice.Eq.bytes_eq-Decides}
+use Rattle.kept_desk.{specs.declared.entry.Entry.Entry, specs.Entries.of_station}
+use Rattle.ledger_model.{specs.declared.command.Command.Command, specs.Laws.left_by, specs.World.{Happens, run}, specs.WorldLaws.{commands_on, station_left}, proofs.Runs.each_by_its_own}
+use Rattle.script_ledgers.{specs.Drafts.{planned_world, site_name}, specs.Running.filled, specs.Script.new_station, proofs.Boards.one_place}
+use Rattle.site_desk.{specs.declared.plan.SitePlan.SitePlan, specs.declared.plan.StationPlan.StationPlan, specs.Plan.has_twice}
 use Rattle.station_cell.specs.Cell.{Cell}
-use Rattle.site_desk.specs.Plan.{has_twice}
-use Rattle.journal_script.specs.Journals.{AreLeft, IsSpoken, commands_of, station_name}
-use Rattle.journal_script.proofs.Steps.{asked_in}
+use Rattle.journal_script.{specs.Journals.{AreLeft, IsSpoken, commands_of, station_name}, proofs.Steps.asked_in}
 
 -- ---- the station of an entry
 

@@ -1,30 +1,12 @@
 -- A journal that was cut at any byte, with a mark behind it.
-use Rattle.std.proofs.Common.{◌≡◌, ◌≢◌, ℕ, zero, suc, ◌<◌, ◌≤◌, true, not, ◌==◌, List, [], ◌∷◌, ◌++◌, All, length, take, drop, get_or, ◌⊎◌, inl, inr, refl, sym, ap, subst, ◌∙◌, arith, append_assoc, append-nil, length-append, eq-eqb, zero-le}
-use Rattle.std.specs.List.{list_all}
-use Rattle.std.proofs.lemmas.Bool.{cases_lt, false≢true}
-use Rattle.std.proofs.lemmas.List.{take-append-le}
-use Rattle.std.proofs.lemmas.List.Elements.{All-append, All-head, All-tail, All-take}
-use Rattle.std.proofs.lemmas.List.Sums.{AllPass-from_list_all}
-use Rattle.std.proofs.Math.Seq.{take-append_seam}
-use Rattle.kept_desk.specs.declared.entry.Entry.{Entry}
-use Rattle.kept_desk.specs.Entries.{IsNote, entry_text, line_text, text_of}
+use Rattle.std.{proofs.Common.{◌≡◌, ◌≢◌, ℕ, zero, suc, ◌<◌, ◌≤◌, true, not, ◌==◌, List, [], ◌∷◌, ◌++◌, All, length, take, drop, get_or, ◌⊎◌, inl, inr, refl, sym, ap, subst, ◌∙◌, arith, append_assoc, append-nil, length-append, eq-eqb, zero-le}, specs.List.list_all, proofs.lemmas.Bool.{cases_lt, false≢true}, proofs.lemmas.List.take-append-le, proofs.lemmas.List.Elements.{All-append, All-head, All-tail, All-take}, proofs.lemmas.List.Sums.AllPass-from_list_all, proofs.Math.Seq.take-append_seam}
+use Rattle.kept_desk.{specs.declared.entry.Entry.Entry, specs.Entries.{IsNote, entry_text, line_text, text_of}}
 use Rattle.ledger_model.specs.declared.command.Command.{Command}
-use Rattle.script_lines.specs.Lines.{HasNoFeed, ended, lines_of, unended}
-use Rattle.script_lines.specs.Ranges.{longest_line}
-use Rattle.script_lines.proofs.Cuts.{cut-ended}
+use Rattle.script_lines.{specs.Lines.{HasNoFeed, ended, lines_of, unended}, specs.Ranges.longest_line, proofs.Cuts.cut-ended}
 use Rattle.script_ledgers.specs.Script.{Script, line_step, start, script_after}
-use Rattle.site_desk.specs.declared.plan.SitePlan.{SitePlan}
-use Rattle.site_desk.specs.declared.plan.StationPlan.{StationPlan}
+use Rattle.site_desk.{specs.declared.plan.SitePlan.SitePlan, specs.declared.plan.StationPlan.StationPlan}
 use Rattle.station_cell.specs.Cell.{Cell}
-use Rattle.journal_script.specs.Cuts.{BeginsNext, CutsAreScripts, HasWhole, IsMark}
-use Rattle.journal_script.specs.Journals.{EndsWhole, IsSpoken, Shows}
-use Rattle.journal_script.specs.Restoring.{run_line}
-use Rattle.journal_script.proofs.Journals.{journals_are_scripts}
-use Rattle.journal_script.proofs.LinesRead.{both_whole}
-use Rattle.journal_script.proofs.Notes.{comment_feedless, note_whole, noted_after}
-use Rattle.journal_script.proofs.LastByte.{last}
-use Rattle.journal_script.proofs.Spoiled.{Stays, spoiled}
-use Rattle.journal_script.proofs.Whole.{after_both, lines_apart}
+use Rattle.journal_script.{specs.Cuts.{BeginsNext, CutsAreScripts, HasWhole, IsMark}, specs.Journals.{EndsWhole, IsSpoken, Shows}, specs.Restoring.run_line, proofs.Journals.journals_are_scripts, proofs.LinesRead.both_whole, proofs.Notes.{comment_feedless, note_whole, noted_after}, proofs.LastByte.last, proofs.Spoiled.{Stays, spoiled}, proofs.Whole.{after_both, lines_apart}}
 
 -- ---- where a text is cut
 

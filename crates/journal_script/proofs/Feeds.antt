@@ -1,11 +1,7 @@
 -- What a search for a line feed says of a text.
-use Rattle.std.proofs.Common.{◌≡◌, ◌↔◌, ℕ, zero, Bool, true, false, not, List, Option, None, Some, refl, sym, ◌∙◌, eqb-true, IsTrue}
-use Rattle.std.specs.Option.{is_some}
-use Rattle.std.proofs.lemmas.Bool.{false≢true}
-use Rattle.std.proofs.lemmas.Grind.{get_or_default_zero}
+use Rattle.std.{proofs.Common.{◌≡◌, ◌↔◌, ℕ, zero, Bool, true, false, not, List, Option, None, Some, refl, sym, ◌∙◌, eqb-true, IsTrue}, specs.Option.is_some, proofs.lemmas.Bool.false≢true, proofs.lemmas.Grind.get_or_default_zero}
 use Rattle.memchr.specs.Find.{IsFirstByte, is_byte}
-use Rattle.script_lines.specs.Lines.{HasNoFeed}
-use Rattle.script_lines.proofs.Pieces.{found_none}
+use Rattle.script_lines.{specs.Lines.HasNoFeed, proofs.Pieces.found_none}
 
 -- a text has none where the search finds none
 pub is_feedless : (xs : List ℕ) (at : Option ℕ) (b : Bool) → IsFirstByte (is_byte 10) xs at → is_some at ≡ not b → IsTrue b ↔ HasNoFeed xs

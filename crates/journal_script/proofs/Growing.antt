@@ -1,7 +1,5 @@
 -- Bytes that are written behind others.
-use Rattle.std.proofs.Common.{ℕ, List, ◌++◌, Option, Result}
-use Rattle.std.specs.Io.KnownBytes.{Appends}
-use Rattle.std.proofs.KnownBytes.{Appends-trans}
+use Rattle.std.{proofs.Common.{ℕ, List, ◌++◌, Option, Result}, specs.Io.KnownBytes.Appends, proofs.KnownBytes.Appends-trans}
 use Rattle.script_lines.specs.Writing.{WritesFront}
 use Rattle.journal_script.specs.Restoring.{Grows}
 

@@ -1,22 +1,12 @@
 -- A journal's text behind a script leaves what its entries leave.
-use Rattle.std.proofs.Common.{◌≡◌, ℕ, zero, suc, ◌<◌, List, [], ◌∷◌, ◌++◌, Some, map, length, true, refl, sym, ap, subst, ◌∙◌, arith}
-use Rattle.std.proofs.lemmas.Slice.Eq.{bytes_eq-Decides}
-use Rattle.kept_desk.specs.declared.entry.Entry.{Entry}
-use Rattle.kept_desk.specs.Entries.{text_of}
-use Rattle.ledger_model.specs.declared.command.Command.{Command}
-use Rattle.ledger_model.specs.World.{run}
-use Rattle.script_lines.specs.Lines.{lines_of}
-use Rattle.script_lines.specs.Ranges.{longest_line}
-use Rattle.script_ledgers.specs.Drafts.{planned_world, site_name}
-use Rattle.script_ledgers.specs.Running.{filled}
-use Rattle.script_ledgers.specs.Script.{Script, new_station, start, script_after}
-use Rattle.site_desk.specs.declared.plan.SitePlan.{SitePlan}
-use Rattle.site_desk.specs.declared.plan.StationPlan.{StationPlan}
+use Rattle.std.{proofs.Common.{◌≡◌, ℕ, zero, suc, ◌<◌, List, [], ◌∷◌, ◌++◌, Some, map, length, true, refl, sym, ap, subst, ◌∙◌, arith}, proofs.lemmas.Slice.Eq.bytes_eq-Decides}
+use Rattle.kept_desk.{specs.declared.entry.Entry.Entry, specs.Entries.text_of}
+use Rattle.ledger_model.{specs.declared.command.Command.Command, specs.World.run}
+use Rattle.script_lines.{specs.Lines.lines_of, specs.Ranges.longest_line}
+use Rattle.script_ledgers.{specs.Drafts.{planned_world, site_name}, specs.Running.filled, specs.Script.{Script, new_station, start, script_after}}
+use Rattle.site_desk.{specs.declared.plan.SitePlan.SitePlan, specs.declared.plan.StationPlan.StationPlan}
 use Rattle.station_cell.specs.Cell.{Cell}
-use Rattle.journal_script.specs.Journals.{JournalsAreScripts, station_name}
-use Rattle.journal_script.proofs.Contents.{all_left}
-use Rattle.journal_script.proofs.Steps.{Has, asked_in, has_here, has_more, takes_lines, takes_text}
-use Rattle.journal_script.proofs.Whole.{after_both, lines_apart}
+use Rattle.journal_script.{specs.Journals.{JournalsAreScripts, station_name}, proofs.Contents.all_left, proofs.Steps.{Has, asked_in, has_here, has_more, takes_lines, takes_text}, proofs.Whole.{after_both, lines_apart}}
 
 -- each station of a plan is found by its name
 has_all : (sites : List SitePlan) (stations : List StationPlan) (cells : List Cell) → length cells ≡ length stations → (k : ℕ)

@@ -1,8 +1,5 @@
 -- The last byte of a text, and the carriage return that the end of a line drops.
-use Rattle.std.proofs.Common.{◌≡◌, ℕ, ◌-◌, Bool, true, false, cond, ◌&&◌, ◌==◌, ltb, List, [], ◌∷◌, ◌++◌, length, get_or, take, refl, sym, ap, ◌∙◌, arith, length-append, length-take}
-use Rattle.std.specs.Io.BufRead.{ends_with_byte, strip_last}
-use Rattle.std.proofs.lemmas.Bool.Decides.{nat_tests}
-use Rattle.std.proofs.Math.Seq.{get_or-append_seam}
+use Rattle.std.{proofs.Common.{◌≡◌, ℕ, ◌-◌, Bool, true, false, cond, ◌&&◌, ◌==◌, ltb, List, [], ◌∷◌, ◌++◌, length, get_or, take, refl, sym, ap, ◌∙◌, arith, length-append, length-take}, specs.Io.BufRead.{ends_with_byte, strip_last}, proofs.lemmas.Bool.Decides.nat_tests, proofs.Math.Seq.get_or-append_seam}
 
 -- the last byte, or this one if there is none
 abbrev pub last : ℕ → List ℕ → ℕ

@@ -1,22 +1,8 @@
 -- A script that is read line by line, up to where a loop stops.
-use Rattle.std.proofs.Common.{◌≡◌, ◌≢◌, ℕ, ◌+◌, ◌≤◌, ◌||◌, Bool, true, false, cond, not, leb, List, [], ◌∷◌, ◌++◌, Option, None, Some, All, length, take, inl, inr, refl, sym, ap, subst, ◌∙◌, arith, append_assoc, append-nil, length-append}
-use Rattle.std.specs.Prelude.{codes}
-use Rattle.std.specs.Io.BufRead.{strip_last}
-use Rattle.std.specs.Io.KnownBytes.{Consumes, Keeps}
-use Rattle.std.proofs.KnownBytes.{Consumes-kept, Consumes-trans}
-use Rattle.std.proofs.lemmas.Bool.{false≢true}
-use Rattle.std.proofs.lemmas.Bool.Decides.{nat_tests}
-use Rattle.std.proofs.lemmas.List.Elements.{All-append, All-cons, All-nil}
-use Rattle.script_lines.specs.declared.line_reader.LineEnd.TheVariants.{Feed}
-use Rattle.script_lines.specs.Lines.{Line, ended, lines_of, unended}
-use Rattle.script_lines.specs.Reading.{line_of}
-use Rattle.script_lines.proofs.Cuts.{all_kept, cut-ended, kept_line_of}
+use Rattle.std.{proofs.Common.{◌≡◌, ◌≢◌, ℕ, ◌+◌, ◌≤◌, ◌||◌, Bool, true, false, cond, not, leb, List, [], ◌∷◌, ◌++◌, Option, None, Some, All, length, take, inl, inr, refl, sym, ap, subst, ◌∙◌, arith, append_assoc, append-nil, length-append}, specs.Prelude.codes, specs.Io.BufRead.strip_last, specs.Io.KnownBytes.{Consumes, Keeps}, proofs.KnownBytes.{Consumes-kept, Consumes-trans}, proofs.lemmas.Bool.false≢true, proofs.lemmas.Bool.Decides.nat_tests, proofs.lemmas.List.Elements.{All-append, All-cons, All-nil}}
+use Rattle.script_lines.{specs.declared.line_reader.LineEnd.TheVariants.Feed, specs.Lines.{Line, ended, lines_of, unended}, specs.Reading.line_of, proofs.Cuts.{all_kept, cut-ended, kept_line_of}}
 use Rattle.script_ledgers.specs.Script.{Script, line_step}
-use Rattle.journal_script.specs.declared.left_out.LeftOut.{LeftOut}
-use Rattle.journal_script.specs.Journals.{EndsWhole}
-use Rattle.journal_script.specs.Reading.{ReadsLine, ReadsTo, Runs, Standing, read_line, read_lines, standing}
-use Rattle.journal_script.specs.Restoring.{is_lost, is_marked}
-use Rattle.journal_script.proofs.Whole.{lines_apart}
+use Rattle.journal_script.{specs.declared.left_out.LeftOut.LeftOut, specs.Journals.EndsWhole, specs.Reading.{ReadsLine, ReadsTo, Runs, Standing, read_line, read_lines, standing}, specs.Restoring.{is_lost, is_marked}, proofs.Whole.lines_apart}
 
 -- the line `listen`, as it was read
 pub listens : (most : ℕ) (held raw : List ℕ) → held ≡ take (most + 1) raw → ended most held ≡ Some (codes "listen") → strip_last 13 raw ≡ codes "listen"

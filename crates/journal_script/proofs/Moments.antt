@@ -1,12 +1,9 @@
 -- What a text asks for does not depend on the moment when it is read.
 use Rattle.std.proofs.Common.{◌≡◌, ℕ, List, refl}
-use Rattle.ocppj_frame.specs.declared.action.Action.{Action}
-use Rattle.ocppj_frame.specs.declared.action.Action.TheVariants.{BootNotification, Heartbeat, StatusNotification, MeterValues, TransactionEvent}
-use Rattle.ocppj_frame.specs.Frame.{Frame, frame}
+use Rattle.ocppj_frame.{specs.declared.action.Action.Action, specs.declared.action.Action.TheVariants.{BootNotification, Heartbeat, StatusNotification, MeterValues, TransactionEvent}, specs.Frame.{Frame, frame}}
 use Rattle.ocppj_frame.specs.Frame as framed
 use Rattle.serde_json.specs.Data.{Data}
-use Rattle.transaction_event.specs.Message.{Event, called, meaning_of}
-use Rattle.transaction_event.specs.Request.{Request}
+use Rattle.transaction_event.{specs.Message.{Event, called, meaning_of}, specs.Request.Request}
 use Rattle.journal_script.specs.Speaking.{EventsAskAtAnyMoment}
 
 call_any : (now later : ℕ) (id : List ℕ) (action : Action) (payload : Data) (told : List ℕ) (request : Request)

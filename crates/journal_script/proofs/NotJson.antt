@@ -1,13 +1,7 @@
 -- A text whose last byte ends nothing in JSON is not read, with its numbers marked.
-use Rattle.std.proofs.Common.{◌≡◌, ℕ, Bool, true, false, not, ◌||◌, ◌==◌, cond, List, [], ◌∷◌, ◌++◌, drop, Ok, Err, refl, sym, ap, ◌∙◌, subst, append_assoc}
-use Rattle.std.specs.Prelude.{⊤}
-use Rattle.std.specs.List.{prefix_len, take_while}
+use Rattle.std.{proofs.Common.{◌≡◌, ℕ, Bool, true, false, not, ◌||◌, ◌==◌, cond, List, [], ◌∷◌, ◌++◌, drop, Ok, Err, refl, sym, ap, ◌∙◌, subst, append_assoc}, specs.Prelude.⊤, specs.List.{prefix_len, take_while}}
 use Rattle.serde_json.specs.Read.{read}
-use Rattle.marked_json.specs.declared.fault.JsonFault.{JsonFault}
-use Rattle.marked_json.specs.declared.fault.JsonFault.TheVariants.{BadNumber, NumberAsKey, NotJson}
-use Rattle.marked_json.specs.Marking.{BytePlace, outside, in_number, in_string, after_backslash, Marks, with_front, begins_number, goes_on_number, is_before_colon, marked_token, marked_outside, marked_byte, marked}
-use Rattle.marked_json.specs.Number.{is_number}
-use Rattle.marked_json.specs.Reading.{marked_reading, tree_of, tree_or_fault}
+use Rattle.marked_json.{specs.declared.fault.JsonFault.JsonFault, specs.declared.fault.JsonFault.TheVariants.{BadNumber, NumberAsKey, NotJson}, specs.Marking.{BytePlace, outside, in_number, in_string, after_backslash, Marks, with_front, begins_number, goes_on_number, is_before_colon, marked_token, marked_outside, marked_byte, marked}, specs.Number.is_number, specs.Reading.{marked_reading, tree_of, tree_or_fault}}
 use Rattle.journal_script.proofs.NoTree.{IsStray, no_tree, stray_hash, stray_s}
 
 -- the marked text, if there is one, ends with this byte

@@ -1,16 +1,9 @@
 -- What is in front of a journal's line changes nothing of what a script leaves.
-use Rattle.std.proofs.Common.{◌≡◌, ℕ, suc, ◌+◌, ◌-◌, ◌≤◌, Bool, true, false, cond, leb, List, [], ◌∷◌, ◌++◌, Some, None, All, length, take, inl, inr, refl, sym, ap, ◌∙◌, arith, append-nil}
-use Rattle.std.specs.Io.BufRead.{ends_with_byte, strip_last}
-use Rattle.std.proofs.lemmas.Bool.Decides.{nat_tests}
-use Rattle.std.proofs.lemmas.List.Elements.{All-cons}
+use Rattle.std.{proofs.Common.{◌≡◌, ℕ, suc, ◌+◌, ◌-◌, ◌≤◌, Bool, true, false, cond, leb, List, [], ◌∷◌, ◌++◌, Some, None, All, length, take, inl, inr, refl, sym, ap, ◌∙◌, arith, append-nil}, specs.Io.BufRead.{ends_with_byte, strip_last}, proofs.lemmas.Bool.Decides.nat_tests, proofs.lemmas.List.Elements.All-cons}
 use Rattle.kept_desk.specs.Entries.{IsComment, IsNote, line_text}
-use Rattle.script_lines.specs.LineMeaning.{line_meaning, nothing}
-use Rattle.script_lines.specs.Lines.{HasNoFeed, ended, lines_of, unended}
-use Rattle.script_lines.specs.Ranges.{longest_line}
-use Rattle.script_lines.proofs.Cuts.{cut-ended}
+use Rattle.script_lines.{specs.LineMeaning.{line_meaning, nothing}, specs.Lines.{HasNoFeed, ended, lines_of, unended}, specs.Ranges.longest_line, proofs.Cuts.cut-ended}
 use Rattle.script_ledgers.specs.Script.{Script, line_step, script_after, step_by}
-use Rattle.journal_script.specs.Journals.{EndsWhole}
-use Rattle.journal_script.proofs.Whole.{after_both, lines_apart}
+use Rattle.journal_script.{specs.Journals.EndsWhole, proofs.Whole.{after_both, lines_apart}}
 
 pub note_whole : (note : List ℕ) → IsNote note → EndsWhole note
 note_whole note (inl none) = inl none

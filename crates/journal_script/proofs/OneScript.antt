@@ -1,22 +1,9 @@
 -- A comment changes nothing of what a script leaves; so with the mark of a restore and without it.
-use Rattle.std.proofs.Common.{◌≡◌, ◌≢◌, ℕ, zero, suc, true, not, ◌==◌, List, [], ◌∷◌, ◌++◌, length, take, drop, get_or, inl, inr, refl, sym, ap, subst, ◌∙◌, arith, append_assoc, length-append, eq-eqb}
-use Rattle.std.specs.List.{list_all}
-use Rattle.std.proofs.lemmas.Bool.{false≢true}
-use Rattle.std.proofs.lemmas.List.Elements.{All-nil}
-use Rattle.std.proofs.lemmas.List.Sums.{AllPass-from_list_all}
-use Rattle.kept_desk.specs.declared.entry.Entry.{Entry}
-use Rattle.kept_desk.specs.Entries.{IsComment, entry_text, text_of}
-use Rattle.script_lines.specs.Lines.{HasNoFeed, lines_of}
-use Rattle.script_lines.specs.Ranges.{longest_line}
+use Rattle.std.{proofs.Common.{◌≡◌, ◌≢◌, ℕ, zero, suc, true, not, ◌==◌, List, [], ◌∷◌, ◌++◌, length, take, drop, get_or, inl, inr, refl, sym, ap, subst, ◌∙◌, arith, append_assoc, length-append, eq-eqb}, specs.List.list_all, proofs.lemmas.Bool.false≢true, proofs.lemmas.List.Elements.All-nil, proofs.lemmas.List.Sums.AllPass-from_list_all}
+use Rattle.kept_desk.{specs.declared.entry.Entry.Entry, specs.Entries.{IsComment, entry_text, text_of}}
+use Rattle.script_lines.{specs.Lines.{HasNoFeed, lines_of}, specs.Ranges.longest_line}
 use Rattle.script_ledgers.specs.Script.{start, script_after}
-use Rattle.journal_script.specs.Cuts.{HasWhole, restore_mark, run_begins}
-use Rattle.journal_script.specs.Journals.{AreLeft, EndsWhole, Shows}
-use Rattle.journal_script.specs.Restoring.{run_line}
-use Rattle.journal_script.specs.OneScript.{CommentsChangeNothing, RestoredCutsAreScripts, RestoredFilesAreScripts, ends_in}
-use Rattle.journal_script.proofs.Cuts.{cuts_are_scripts}
-use Rattle.journal_script.proofs.LinesRead.{both_whole}
-use Rattle.journal_script.proofs.Notes.{note_whole, noted_after}
-use Rattle.journal_script.proofs.Whole.{after_both, lines_apart}
+use Rattle.journal_script.{specs.Cuts.{HasWhole, restore_mark, run_begins}, specs.Journals.{AreLeft, EndsWhole, Shows}, specs.Restoring.run_line, specs.OneScript.{CommentsChangeNothing, RestoredCutsAreScripts, RestoredFilesAreScripts, ends_in}, proofs.Cuts.cuts_are_scripts, proofs.LinesRead.both_whole, proofs.Notes.{note_whole, noted_after}, proofs.Whole.{after_both, lines_apart}}
 
 -- What is behind whole lines goes on from the state in which they end.
 goes_on : (front back : List ℕ) → EndsWhole front → ends_in (front ++ back) ≡ script_after (ends_in front) (lines_of longest_line back)

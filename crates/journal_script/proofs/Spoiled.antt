@@ -1,38 +1,12 @@
 -- A line with a mark behind it changes nothing that a script shows of its stations.
-use Rattle.std.proofs.Common.{◌≡◌, ℕ, zero, suc, ◌<◌, Bool, true, false, cond, not, ◌&&◌, ◌||◌, ◌==◌, ltb, leb, List, [], ◌∷◌, ◌++◌, Option, None, Some, bytes_eq, length, get_or, ◌⊎◌, inl, inr, refl, sym, ap, subst, ◌∙◌, arith}
-use Rattle.std.specs.Prelude.{⊤, codes, slice_index, Err, ◌^◌}
-use Rattle.std.specs.Char.{is_ascii_digit}
-use Rattle.std.specs.Io.BufRead.{strip_last}
-use Rattle.std.specs.List.{list_all, position_or_len, before_first, after_first}
-use Rattle.std.specs.Option.{option_map_or}
-use Rattle.std.specs.Str.{is_utf8}
-use Rattle.std.specs.Str.Parse.{digits_value}
-use Rattle.std.proofs.lemmas.Bool.{true≢false, false≢true, eq-eqb, eqb-true, and_parts}
-use Rattle.std.proofs.lemmas.Bool.Decides.{nat_tests}
-use Rattle.std.proofs.lemmas.List.Sums.{passes_at_first, split_at_first}
-use Rattle.std.proofs.lemmas.Slice.Eq.{bytes_eq-Decides}
-use Rattle.ledger_model.specs.declared.order.Order.{Order}
-use Rattle.ledger_model.specs.declared.order.Order.TheVariants.{Sequence, Moment}
-use Rattle.ledger_model.specs.declared.settle.Settle.{Settle}
-use Rattle.ledger_model.specs.declared.settle.Settle.TheVariants.{Later, Closing, Even}
-use Rattle.ledger_model.specs.Name.{is_name, is_name_character}
-use Rattle.ledger_model.specs.Ranges.{most_name_characters}
-use Rattle.ledger_model.specs.World.{Station}
-use Rattle.marked_json.specs.declared.fault.JsonFault.{JsonFault}
-use Rattle.marked_json.specs.Reading.{marked_reading}
-use Rattle.script_lines.specs.declared.script_line.LineFault.TheVariants.{BadLine, DeclaredLate, PlanLimit}
-use Rattle.script_lines.specs.declared.script_line.Operation.{Operation}
+use Rattle.std.{proofs.Common.{◌≡◌, ℕ, zero, suc, ◌<◌, Bool, true, false, cond, not, ◌&&◌, ◌||◌, ◌==◌, ltb, leb, List, [], ◌∷◌, ◌++◌, Option, None, Some, bytes_eq, length, get_or, ◌⊎◌, inl, inr, refl, sym, ap, subst, ◌∙◌, arith}, specs.Prelude.{⊤, codes, slice_index, Err, ◌^◌}, specs.Char.is_ascii_digit, specs.Io.BufRead.strip_last, specs.List.{list_all, position_or_len, before_first, after_first}, specs.Option.option_map_or, specs.Str.is_utf8, specs.Str.Parse.digits_value, proofs.lemmas.Bool.{true≢false, false≢true, eq-eqb, eqb-true, and_parts}, proofs.lemmas.Bool.Decides.nat_tests, proofs.lemmas.List.Sums.{passes_at_first, split_at_first}, proofs.lemmas.Slice.Eq.bytes_eq-Decides}
+use Rattle.ledger_model.{specs.declared.order.Order.Order, specs.declared.order.Order.TheVariants.{Sequence, Moment}, specs.declared.settle.Settle.Settle, specs.declared.settle.Settle.TheVariants.{Later, Closing, Even}, specs.Name.{is_name, is_name_character}, specs.Ranges.most_name_characters, specs.World.Station}
+use Rattle.marked_json.{specs.declared.fault.JsonFault.JsonFault, specs.Reading.marked_reading}
+use Rattle.script_lines.{specs.declared.script_line.LineFault.TheVariants.{BadLine, DeclaredLate, PlanLimit}, specs.declared.script_line.Operation.Operation, specs.declared.script_line.TxList.TxList, specs.declared.script_line.TxList.TheVariants.{Events, Readings}, specs.LineMeaning.{LineMeaning, ◌>>=◌, nothing, fails, sets_limits, declares, sets_period, sets_order, sets_settle, tells, sends, commands, asks_energy, asks_export, asks_total, asks_board, lists, marks, by_bytes, by_first_word, by_words, command_line, is_number, is_space, list_line, tx_id, limits_line, line_meaning, moment, msg_line, name, now_line, number, order_line, order_word, settle_line, settle_word, parted, period_line, question_line, station_line, words}, specs.Lines.ended, specs.Texts.fault_line}
 use Rattle.script_lines.specs.declared.script_line.Operation.TheVariants as operation
-use Rattle.script_lines.specs.declared.script_line.TxList.{TxList}
-use Rattle.script_lines.specs.declared.script_line.TxList.TheVariants.{Events, Readings}
-use Rattle.script_lines.specs.LineMeaning.{LineMeaning, ◌>>=◌, nothing, fails, sets_limits, declares, sets_period, sets_order, sets_settle, tells, sends, commands, asks_energy, asks_export, asks_total, asks_board, lists, marks, by_bytes, by_first_word, by_words, command_line, is_number, is_space, list_line, tx_id, limits_line, line_meaning, moment, msg_line, name, now_line, number, order_line, order_word, settle_line, settle_word, parted, period_line, question_line, station_line, words}
-use Rattle.script_lines.specs.Lines.{ended}
-use Rattle.script_lines.specs.Texts.{fault_line}
 use Rattle.script_ledgers.specs.Script.{KeepsSites, Script, are_limits, by_meaning, limited_to, line_step, sent_to, station_named, step_by}
 use Rattle.transaction_event.specs.Message.{Meaning, Ready, message}
-use Rattle.journal_script.proofs.LastByte.{keeps_last, last, last_apart, last_behind}
-use Rattle.journal_script.proofs.NotJson.{hash_not_read, s_not_read}
-use Rattle.journal_script.proofs.Unheard.{IsAnswered, answered_where_not_read}
+use Rattle.journal_script.{proofs.LastByte.{keeps_last, last, last_apart, last_behind}, proofs.NotJson.{hash_not_read, s_not_read}, proofs.Unheard.{IsAnswered, answered_where_not_read}}
 
 -- ---- a mark
 

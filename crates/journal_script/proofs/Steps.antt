@@ -1,24 +1,12 @@
 -- What a journal's lines do to a script, one by one.
-use Rattle.std.proofs.Common.{◌≡◌, ℕ, ◌<◌, Bool, true, false, cond, List, [], ◌∷◌, ◌++◌, Option, None, Some, All, map, bytes_eq, length, leb, refl, sym, ap, subst, ◌∙◌, arith, append_assoc}
-use Rattle.std.specs.Io.BufRead.{strip_last}
-use Rattle.std.proofs.lemmas.Bool.Decides.{nat_tests}
-use Rattle.std.proofs.lemmas.List.Elements.{All-head, All-tail}
-use Rattle.std.proofs.lemmas.Slice.Eq.{bytes_eq-Decides}
-use Rattle.kept_desk.specs.declared.entry.Entry.{Entry}
-use Rattle.kept_desk.specs.Entries.{line_text, text_of}
-use Rattle.ledger_model.specs.declared.command.Command.{Command}
-use Rattle.ledger_model.specs.World.{Station, World, Happens, run, station_after, world_after}
+use Rattle.std.{proofs.Common.{◌≡◌, ℕ, ◌<◌, Bool, true, false, cond, List, [], ◌∷◌, ◌++◌, Option, None, Some, All, map, bytes_eq, length, leb, refl, sym, ap, subst, ◌∙◌, arith, append_assoc}, specs.Io.BufRead.strip_last, proofs.lemmas.Bool.Decides.nat_tests, proofs.lemmas.List.Elements.{All-head, All-tail}, proofs.lemmas.Slice.Eq.bytes_eq-Decides}
+use Rattle.kept_desk.{specs.declared.entry.Entry.Entry, specs.Entries.{line_text, text_of}, specs.Speaking.{AsksFor, Says, Speaks}}
+use Rattle.ledger_model.{specs.declared.command.Command.Command, specs.World.{Station, World, Happens, run, station_after, world_after}}
 use Rattle.transaction_event.specs.Message.{Meaning, Event, message}
-use Rattle.script_lines.specs.LineMeaning.{LineMeaning, nothing, fails, sets_limits, declares, sets_period, sets_order, sets_settle, tells, sends, commands, asks_energy, asks_export, asks_total, asks_board, lists, marks, line_meaning}
-use Rattle.script_lines.specs.Lines.{Line, ended, lines_of, unended}
-use Rattle.script_lines.specs.Ranges.{longest_line}
-use Rattle.script_lines.proofs.Cuts.{cut-ended}
+use Rattle.script_lines.{specs.LineMeaning.{LineMeaning, nothing, fails, sets_limits, declares, sets_period, sets_order, sets_settle, tells, sends, commands, asks_energy, asks_export, asks_total, asks_board, lists, marks, line_meaning}, specs.Lines.{Line, ended, lines_of, unended}, specs.Ranges.longest_line, proofs.Cuts.cut-ended}
 use Rattle.script_ledgers.specs.Script.{KeepsSites, Script, by_meaning, commanded_to, line_step, sent_to, station_named, step_by, script_after}
 use Rattle.site_desk.specs.declared.plan.StationPlan.{StationPlan}
-use Rattle.kept_desk.specs.Speaking.{AsksFor, Says, Speaks}
-use Rattle.journal_script.specs.Journals.{IsSpoken, station_name}
-use Rattle.journal_script.proofs.Notes.{note_after, note_whole}
-use Rattle.journal_script.proofs.Whole.{after_both, lines_apart}
+use Rattle.journal_script.{specs.Journals.{IsSpoken, station_name}, proofs.Notes.{note_after, note_whole}, proofs.Whole.{after_both, lines_apart}}
 
 -- ---- stations of a world
 

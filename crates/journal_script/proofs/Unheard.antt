@@ -1,11 +1,8 @@
 -- A text that is not read is answered, and asks for no delivery.
-use Rattle.std.proofs.Common.{◌≡◌, ℕ, Bool, true, false, List, Err, ltb, length, refl, ap}
-use Rattle.std.specs.Prelude.{⊤}
-use Rattle.marked_json.specs.declared.fault.JsonFault.{JsonFault}
-use Rattle.marked_json.specs.Reading.{marked_reading}
-use Rattle.ocppj_frame.specs.Frame.{Frame, frame}
+use Rattle.std.{proofs.Common.{◌≡◌, ℕ, Bool, true, false, List, Err, ltb, length, refl, ap}, specs.Prelude.⊤}
+use Rattle.marked_json.{specs.declared.fault.JsonFault.JsonFault, specs.Reading.marked_reading}
+use Rattle.ocppj_frame.{specs.Frame.{Frame, frame}, specs.Ranges.longest_message}
 use Rattle.ocppj_frame.specs.Frame as framed
-use Rattle.ocppj_frame.specs.Ranges.{longest_message}
 use Rattle.transaction_event.specs.Message.{Ready, meaning_of, message}
 
 -- the text has one ready reply, at any moment

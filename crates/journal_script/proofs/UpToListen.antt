@@ -1,16 +1,9 @@
 -- A script that was read up to `listen`, and what its ledgers show then.
 use Rattle.std.proofs.Common.{◌≡◌, ℕ, ◌||◌, Bool, true, false, List, [], ◌∷◌, ◌++◌, Option, refl, sym, ap, subst, ◌∙◌}
-use Rattle.script_lines.specs.Lines.{Line, lines_of}
-use Rattle.script_lines.specs.Ranges.{longest_line}
-use Rattle.script_ledgers.specs.Drafts.{Drafted}
-use Rattle.script_ledgers.specs.Running.{running}
-use Rattle.script_ledgers.specs.Script.{Script, line_step, opened_script, script_after}
+use Rattle.script_lines.{specs.Lines.{Line, lines_of}, specs.Ranges.longest_line}
+use Rattle.script_ledgers.{specs.Drafts.Drafted, specs.Running.running, specs.Script.{Script, line_step, opened_script, script_after}}
 use Rattle.station_cell.specs.Cell.{Cell}
-use Rattle.journal_script.specs.declared.left_out.LeftOut.{LeftOut}
-use Rattle.journal_script.specs.declared.restored.Restored.{Restored}
-use Rattle.journal_script.specs.Journals.{Shows}
-use Rattle.journal_script.specs.Reading.{IsLeft, Leaves, ReadsTo, Standing, begun, read_line, read_lines, standing}
-use Rattle.journal_script.specs.Restoring.{IsRestored, IsUnmarked, ReadsToListen, is_lost, is_marked, loses, marked_by}
+use Rattle.journal_script.{specs.declared.left_out.LeftOut.LeftOut, specs.declared.restored.Restored.Restored, specs.Journals.Shows, specs.Reading.{IsLeft, Leaves, ReadsTo, Standing, begun, read_line, read_lines, standing}, specs.Restoring.{IsRestored, IsUnmarked, ReadsToListen, is_lost, is_marked, loses, marked_by}}
 
 -- ---- ledgers
 

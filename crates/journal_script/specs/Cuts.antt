@@ -1,17 +1,13 @@
 -- The contents after a journal's text that was cut at any byte, read as a script behind another
 -- one.
 use Rattle.std.specs.Prelude.{◌≡◌, ℕ, ◌<◌, ◌≤◌, List, [], ◌∷◌, ◌++◌, ◌⊎◌, All, codes, drop, length, take}
-use Rattle.kept_desk.specs.declared.entry.Entry.{Entry}
-use Rattle.kept_desk.specs.Entries.{entry_text, text_of}
+use Rattle.kept_desk.{specs.declared.entry.Entry.Entry, specs.Entries.{entry_text, text_of}}
 use Rattle.ledger_model.specs.declared.command.Command.{Command}
-use Rattle.script_lines.specs.Lines.{lines_of}
-use Rattle.script_lines.specs.Ranges.{longest_line}
+use Rattle.script_lines.{specs.Lines.lines_of, specs.Ranges.longest_line}
 use Rattle.script_ledgers.specs.Script.{start, script_after}
-use Rattle.site_desk.specs.declared.plan.SitePlan.{SitePlan}
-use Rattle.site_desk.specs.declared.plan.StationPlan.{StationPlan}
+use Rattle.site_desk.{specs.declared.plan.SitePlan.SitePlan, specs.declared.plan.StationPlan.StationPlan}
 use Rattle.station_cell.specs.Cell.{Cell}
-use Rattle.journal_script.specs.Journals.{AreLeft, EndsWhole, HasOnce, IsSpoken, Shows}
-use Rattle.journal_script.specs.Restoring.{run_line}
+use Rattle.journal_script.{specs.Journals.{AreLeft, EndsWhole, HasOnce, IsSpoken, Shows}, specs.Restoring.run_line}
 
 -- The bytes that are put behind a journal to restore it, before `listen`.
 abbrev pub restore_mark : List ℕ

@@ -1,22 +1,12 @@
 -- The contents of stations after a journal's text, read as a script behind another one.
 use Rattle.std.specs.Prelude.{◌≡◌, ℕ, ◌<◌, false, List, [], ◌∷◌, ◌++◌, ◌⊎◌, All, get_or, length, map, Some, slice_get}
-use Rattle.board_report.specs.Texts.{board_text}
-use Rattle.board_report.specs.Closed.{closed_site}
-use Rattle.kept_desk.specs.declared.entry.Entry.{Entry}
-use Rattle.kept_desk.specs.Entries.{IsNote, of_station, text_of}
-use Rattle.ledger_model.specs.declared.command.Command.{Command}
-use Rattle.ledger_model.specs.Laws.{left_by}
-use Rattle.script_lines.specs.LineMeaning.{asks_board, line_meaning}
-use Rattle.script_lines.specs.Lines.{Line, lines_of}
-use Rattle.script_lines.specs.Ranges.{longest_line}
-use Rattle.script_ledgers.specs.Drafts.{planned_world, site_name}
-use Rattle.script_ledgers.specs.Running.{filled}
-use Rattle.script_ledgers.specs.Script.{Script, line_step, start, script_after}
-use Rattle.site_desk.specs.declared.plan.SitePlan.{SitePlan}
-use Rattle.site_desk.specs.declared.plan.StationPlan.{StationPlan}
+use Rattle.board_report.{specs.Texts.board_text, specs.Closed.closed_site}
+use Rattle.kept_desk.{specs.declared.entry.Entry.Entry, specs.Entries.{IsNote, of_station, text_of}, specs.Speaking.Speaks}
+use Rattle.ledger_model.{specs.declared.command.Command.Command, specs.Laws.left_by}
+use Rattle.script_lines.{specs.LineMeaning.{asks_board, line_meaning}, specs.Lines.{Line, lines_of}, specs.Ranges.longest_line}
+use Rattle.script_ledgers.{specs.Drafts.{planned_world, site_name}, specs.Running.filled, specs.Script.{Script, line_step, start, script_after}}
+use Rattle.site_desk.{specs.declared.plan.SitePlan.SitePlan, specs.declared.plan.StationPlan.StationPlan, specs.Plan.has_twice}
 use Rattle.station_cell.specs.Cell.{Cell}
-use Rattle.site_desk.specs.Plan.{has_twice}
-use Rattle.kept_desk.specs.Speaking.{Speaks}
 
 -- The name of the station of this number.
 abbrev pub station_name : List StationPlan → ℕ → List ℕ

@@ -1,15 +1,11 @@
 -- A journal that was restored and goes on in its own file: what the server read and wrote, and what the file holds.
 use Rattle.std.specs.Prelude.{◌≡◌, ℕ, List, ◌++◌, All, take}
-use Rattle.kept_desk.specs.declared.entry.Entry.{Entry}
-use Rattle.kept_desk.specs.Entries.{IsNote, text_of}
-use Rattle.script_lines.specs.Lines.{lines_of}
-use Rattle.script_lines.specs.Ranges.{longest_line}
+use Rattle.kept_desk.{specs.declared.entry.Entry.Entry, specs.Entries.{IsNote, text_of}}
+use Rattle.script_lines.{specs.Lines.lines_of, specs.Ranges.longest_line}
 use Rattle.script_ledgers.specs.Script.{Script, start, script_after}
-use Rattle.site_desk.specs.declared.plan.SitePlan.{SitePlan}
-use Rattle.site_desk.specs.declared.plan.StationPlan.{StationPlan}
+use Rattle.site_desk.{specs.declared.plan.SitePlan.SitePlan, specs.declared.plan.StationPlan.StationPlan}
 use Rattle.station_cell.specs.Cell.{Cell}
-use Rattle.journal_script.specs.Cuts.{HasWhole, restore_mark, run_begins}
-use Rattle.journal_script.specs.Journals.{AreLeft, EndsWhole, HasOnce, IsSpoken, Shows}
+use Rattle.journal_script.{specs.Cuts.{HasWhole, restore_mark, run_begins}, specs.Journals.{AreLeft, EndsWhole, HasOnce, IsSpoken, Shows}}
 
 -- The state in which a replay of these bytes ends.
 abbrev pub ends_in : List ℕ → Script

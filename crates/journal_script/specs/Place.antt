@@ -1,7 +1,6 @@
 -- A script that is being restored, as a place in it.
 use Rattle.std.specs.Prelude.{ℕ}
-use Rattle.journal_script.specs.declared.restored_script.RestoredScript.{RestoredScript}
-use Rattle.journal_script.specs.Reading.{Place, place}
+use Rattle.journal_script.{specs.declared.restored_script.RestoredScript.RestoredScript, specs.Reading.{Place, place}}
 
 -- Its place.
 abbrev pub place_of : {J : Type 0} → RestoredScript J → Place

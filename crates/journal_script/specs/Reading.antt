@@ -1,18 +1,8 @@
 -- How a script is read line by line, up to the line `listen`.
-use Rattle.std.specs.Prelude.{◌≡◌, ◌≢◌, ◌||◌, ℕ, ◌+◌, Bool, true, false, List, [], ◌∷◌, ◌++◌, codes, length, take, Option, Some}
-use Rattle.std.specs.Io.BufRead.{strip_last}
-use Rattle.std.specs.Io.KnownBytes.{Consumes}
-use Rattle.script_lines.specs.declared.line_reader.LineEnd.TheVariants.{Feed}
-use Rattle.script_lines.specs.declared.line_reader.LineReader.{LineReader}
-use Rattle.script_lines.specs.Lines.{HasNoFeed, Line, lines_of}
-use Rattle.script_lines.specs.Ranges.{longest_line}
-use Rattle.script_lines.specs.Reading.{line_of}
+use Rattle.std.{specs.Prelude.{◌≡◌, ◌≢◌, ◌||◌, ℕ, ◌+◌, Bool, true, false, List, [], ◌∷◌, ◌++◌, codes, length, take, Option, Some}, specs.Io.BufRead.strip_last, specs.Io.KnownBytes.Consumes}
+use Rattle.script_lines.{specs.declared.line_reader.LineEnd.TheVariants.Feed, specs.declared.line_reader.LineReader.LineReader, specs.Lines.{HasNoFeed, Line, lines_of}, specs.Ranges.longest_line, specs.Reading.line_of}
 use Rattle.script_ledgers.specs.Script.{Script, line_step, start}
-use Rattle.journal_script.specs.declared.left_out.LeftOut.{LeftOut}
-use Rattle.journal_script.specs.declared.restored.Restored.{Restored}
-use Rattle.journal_script.specs.declared.source.Source.{Source}
-use Rattle.journal_script.specs.Journals.{EndsWhole, Shows}
-use Rattle.journal_script.specs.Restoring.{HasNoListen, IsListen, is_lost, is_marked}
+use Rattle.journal_script.{specs.declared.left_out.LeftOut.LeftOut, specs.declared.restored.Restored.Restored, specs.declared.source.Source.Source, specs.Journals.{EndsWhole, Shows}, specs.Restoring.{HasNoListen, IsListen, is_lost, is_marked}}
 
 -- How far a script was read: its state, whether its last line ends with `#`, and whether a line is
 -- lost.

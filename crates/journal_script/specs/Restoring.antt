@@ -1,13 +1,8 @@
 -- How far a restored script was read, and its result.
-use Rattle.std.specs.Prelude.{◌≡◌, ◌≢◌, ◌&&◌, ◌||◌, ℕ, Bool, true, false, eqb, not, List, [], ◌∷◌, ◌++◌, All, Option, None, Some, codes}
-use Rattle.std.specs.Io.BufRead.{ends_with_byte, strip_last}
-use Rattle.std.specs.Io.KnownBytes.{Appends, Consumes}
-use Rattle.std.specs.List.{ends_with, starts_with}
-use Rattle.script_lines.specs.Lines.{HasNoFeed, Line, lines_of}
-use Rattle.script_lines.specs.Ranges.{longest_line}
+use Rattle.std.{specs.Prelude.{◌≡◌, ◌≢◌, ◌&&◌, ◌||◌, ℕ, Bool, true, false, eqb, not, List, [], ◌∷◌, ◌++◌, All, Option, None, Some, codes}, specs.Io.BufRead.{ends_with_byte, strip_last}, specs.Io.KnownBytes.{Appends, Consumes}, specs.List.{ends_with, starts_with}}
+use Rattle.script_lines.{specs.Lines.{HasNoFeed, Line, lines_of}, specs.Ranges.longest_line}
 use Rattle.script_ledgers.specs.Script.{Script, line_step, start, script_after}
-use Rattle.journal_script.specs.declared.restored.Restored.{Restored}
-use Rattle.journal_script.specs.Journals.{EndsWhole, Shows}
+use Rattle.journal_script.{specs.declared.restored.Restored.Restored, specs.Journals.{EndsWhole, Shows}}
 
 -- The bytes are the line `listen`, with the line feed that ends it and perhaps a carriage return before
 -- that.

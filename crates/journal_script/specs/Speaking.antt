@@ -1,13 +1,9 @@
 -- What a message's line says, whenever it is read.
-use Rattle.std.specs.Prelude.{◌≡◌, ℕ, ◌≤◌, true, List, ◌∷◌, ◌++◌, codes, length}
-use Rattle.std.specs.Io.BufRead.{strip_last}
-use Rattle.ledger_model.specs.declared.command.Command.TheVariants.{Deliver}
-use Rattle.ledger_model.specs.Name.{is_name}
+use Rattle.std.{specs.Prelude.{◌≡◌, ℕ, ◌≤◌, true, List, ◌∷◌, ◌++◌, codes, length}, specs.Io.BufRead.strip_last}
+use Rattle.ledger_model.{specs.declared.command.Command.TheVariants.Deliver, specs.Name.is_name}
 use Rattle.kept_desk.specs.Speaking.{AsksFor}
-use Rattle.transaction_event.specs.Message.{Event, message}
-use Rattle.transaction_event.specs.Request.{Request}
-use Rattle.script_lines.specs.Lines.{HasNoFeed}
-use Rattle.script_lines.specs.Ranges.{longest_line}
+use Rattle.transaction_event.{specs.Message.{Event, message}, specs.Request.Request}
+use Rattle.script_lines.{specs.Lines.HasNoFeed, specs.Ranges.longest_line}
 
 -- A text that is an event at one moment asks for its delivery at every moment.
 abbrev pub EventsAskAtAnyMoment : Type 0

@@ -1,8 +1,5 @@
 //! Laws of a journal's text. Each function's contract is the law; the functions do nothing.
-ghost use Rattle.journal_script.specs.Cuts.{CutsAreScripts};
-ghost use Rattle.journal_script.specs.Journals.{BoardsAreThoseOfCells, JournalsAreScripts};
-ghost use Rattle.journal_script.specs.OneScript.{CommentsChangeNothing, RestoredCutsAreScripts, RestoredFilesAreScripts};
-ghost use Rattle.journal_script.specs.Speaking.{EventsAskAtAnyMoment};
+ghost use Rattle.journal_script.{specs.Cuts.CutsAreScripts, specs.Journals.{BoardsAreThoseOfCells, JournalsAreScripts}, specs.OneScript.{CommentsChangeNothing, RestoredCutsAreScripts, RestoredFilesAreScripts}, specs.Speaking.EventsAskAtAnyMoment};
 
 /// A script with a journal's text behind it ends with the contents to which the journal's entries lead, each
 /// station's own.

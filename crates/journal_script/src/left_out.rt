@@ -1,5 +1,4 @@
-ghost use Rattle.std.specs.Prelude.{◌≡◌, ◌||◌, false};
-ghost use Rattle.std.specs.Io.BufRead.{ends_with_byte};
+ghost use Rattle.std.{specs.Prelude.{◌≡◌, ◌||◌, false}, specs.Io.BufRead.ends_with_byte};
 ghost use Rattle.script_lines.specs.Lines.{line_bytes};
 ghost use Rattle.journal_script.specs.Restoring.{Grows, is_cut, is_lost, is_marked, leaves_nothing};
 

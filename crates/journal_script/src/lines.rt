@@ -1,11 +1,7 @@
 //! The lines of a journal.
-ghost use Rattle.std.specs.Prelude.{◌≡◌, ◌↔◌, ◌≤◌, true, length, IsTrue, IfOk, OnOk};
-ghost use Rattle.std.specs.Io.BufRead.{strip_last};
-ghost use Rattle.ledger_model.specs.declared.command.Command.TheVariants.{Deliver};
-ghost use Rattle.ledger_model.specs.Name.{is_name};
-ghost use Rattle.script_lines.specs.LineMeaning.{line_meaning};
-ghost use Rattle.script_lines.specs.Lines.{HasNoFeed, line_bytes};
-ghost use Rattle.script_lines.specs.Ranges.{longest_line};
+ghost use Rattle.std.{specs.Prelude.{◌≡◌, ◌↔◌, ◌≤◌, true, length, IsTrue, IfOk, OnOk}, specs.Io.BufRead.strip_last};
+ghost use Rattle.ledger_model.{specs.declared.command.Command.TheVariants.Deliver, specs.Name.is_name};
+ghost use Rattle.script_lines.{specs.LineMeaning.line_meaning, specs.Lines.{HasNoFeed, line_bytes}, specs.Ranges.longest_line};
 ghost use Rattle.kept_desk.specs.Speaking.{AsksFor, Says, Speaks};
 ghost use Rattle.journal_script.specs.Speaking.{StandsAsItIs, message_text};
 

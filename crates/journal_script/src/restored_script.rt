@@ -1,13 +1,9 @@
-ghost use Rattle.std.specs.Prelude.{◌≡◌, ◌≢◌, ℕ, ◌+◌, ◌<◌, ◌≤◌, ◌^◌, None, IfErr, IfOk, OnOk};
-ghost use Rattle.std.specs.Io.KnownBytes.{Keeps};
+ghost use Rattle.std.{specs.Prelude.{◌≡◌, ◌≢◌, ℕ, ◌+◌, ◌<◌, ◌≤◌, ◌^◌, None, IfErr, IfOk, OnOk}, specs.Io.KnownBytes.Keeps};
 ghost use Rattle.script_lines.specs.Ranges.{longest_line};
 ghost use Rattle.site_book.specs.Tables.{HasTable, NamedBy};
-ghost use Rattle.site_desk.specs.Plan.{plan_fault};
+ghost use Rattle.site_desk.{specs.Plan.plan_fault, specs.Roster.AreCellsOf};
 ghost use Rattle.script_ledgers.specs.Running.{AreTheirPasses};
-ghost use Rattle.site_desk.specs.Roster.{AreCellsOf};
-ghost use Rattle.journal_script.specs.Place.{place_of, posts_of};
-ghost use Rattle.journal_script.specs.Restoring.{Grows};
-ghost use Rattle.journal_script.specs.Reading.{IsLeft, ReadsTo, TakesLine, begun, read_on};
+ghost use Rattle.journal_script.{specs.Place.{place_of, posts_of}, specs.Restoring.Grows, specs.Reading.{IsLeft, ReadsTo, TakesLine, begun, read_on}};
 
 use crate::fault::RestoreFault;
 use crate::restored::Restored;

@@ -1,10 +1,8 @@
 ghost use Rattle.std.specs.Prelude.{◌≡◌, ◌≢◌, ℕ, ◌<◌, None, IfErr, IfOk, OnOk};
 ghost use Rattle.site_book.specs.Tables.{HasTable, NamedBy};
-ghost use Rattle.site_desk.specs.Plan.{plan_fault};
+ghost use Rattle.site_desk.{specs.Plan.plan_fault, specs.Roster.AreCellsOf};
 ghost use Rattle.script_ledgers.specs.Running.{AreTheirPasses};
-ghost use Rattle.site_desk.specs.Roster.{AreCellsOf};
-ghost use Rattle.journal_script.specs.Reading.{Leaves};
-ghost use Rattle.journal_script.specs.Restoring.{Grows, IsRestored, IsUnmarked, ReadsToListen};
+ghost use Rattle.journal_script.{specs.Reading.Leaves, specs.Restoring.{Grows, IsRestored, IsUnmarked, ReadsToListen}};
 
 use crate::fault::RestoreFault;
 use crate::restored::Restored;

@@ -1,9 +1,7 @@
 ghost use Rattle.std.specs.Prelude.{◌≡◌, ◌≢◌, ◌↔◌, ◌<◌, ◌^◌, codes, Some, IsTrue, IfErr, IfOk};
 ghost use Rattle.script_ledgers.specs.Script.{Script, line_step, start};
-ghost use Rattle.script_lines.specs.Lines.{line_bytes};
-ghost use Rattle.script_lines.specs.Ranges.{longest_line};
-ghost use Rattle.journal_script.specs.Restoring.{Grows};
-ghost use Rattle.journal_script.specs.Reading.{TakesLine, begun, held_line, read_line, standing};
+ghost use Rattle.script_lines.{specs.Lines.line_bytes, specs.Ranges.longest_line};
+ghost use Rattle.journal_script.{specs.Restoring.Grows, specs.Reading.{TakesLine, begun, held_line, read_line, standing}};
 
 use crate::fault::RestoreFault;
 use crate::left_out::LeftOut;

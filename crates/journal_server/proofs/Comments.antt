@@ -1,14 +1,8 @@
 -- A comment behind a script changes nothing of what it leaves.
 use Rattle.std.proofs.Common.{◌≡◌, ◌&&◌, ℕ, Bool, true, false, not, List, [], ◌∷◌, ◌++◌, Some, inr, refl, sym, ap, subst, ◌∙◌, append_assoc}
-use Rattle.script_lines.specs.LineMeaning.{line_meaning, nothing}
-use Rattle.script_lines.specs.Lines.{lines_of}
-use Rattle.script_lines.specs.Ranges.{longest_line}
+use Rattle.script_lines.{specs.LineMeaning.{line_meaning, nothing}, specs.Lines.lines_of, specs.Ranges.longest_line}
 use Rattle.script_ledgers.specs.Script.{start, step_by, script_after}
-use Rattle.journal_script.specs.declared.restored.Restored.{Restored}
-use Rattle.journal_script.specs.Cuts.{run_begins}
-use Rattle.journal_script.specs.Journals.{EndsWhole, Shows}
-use Rattle.journal_script.specs.Restoring.{IsRestored, run_line}
-use Rattle.journal_script.proofs.Whole.{after_both, lines_apart}
+use Rattle.journal_script.{specs.declared.restored.Restored.Restored, specs.Cuts.run_begins, specs.Journals.{EndsWhole, Shows}, specs.Restoring.{IsRestored, run_line}, proofs.Whole.{after_both, lines_apart}}
 use Rattle.journal_server.specs.Served.{Leaves, after}
 
 one_line : lines_of longest_line run_begins ≡ Some run_line ∷ []

@@ -1,30 +1,11 @@
 -- What the lines of a head make of a script.
-use Rattle.std.proofs.Common.{◌≡◌, ℕ, zero, suc, ◌+◌, ◌<◌, ◌≤◌, Bool, true, false, not, cond, ◌&&◌, ◌||◌, eqb, ltb, List, [], ◌∷◌, ◌++◌, All, None, Some, bytes_eq, is_some, length, map, refl, sym, ap, ◌∙◌, arith, append_assoc, append-nil, length-append}
-use Rattle.std.specs.Prelude.{Option, nat_le, nat_lt, sum_by}
-use Rattle.std.specs.List.{position}
-use Rattle.std.proofs.lemmas.Bool.{and_parts, eqb-true, le-leb, le-ltb, lt-leb, ltb-true, or_from}
-use Rattle.std.proofs.lemmas.List.{get_or_append_left, get_or_at, length-map, map-append}
-use Rattle.std.proofs.lemmas.List.Elements.{All-head, All-tail}
-use Rattle.std.proofs.lemmas.List.Sums.{sum_by-append, sum_by-cons}
-use Rattle.ledger_model.specs.Limits.{AreBounds, Bounds}
-use Rattle.ledger_model.specs.Ranges.{most_changes, most_events, most_plan_readings, most_readings, most_sites, most_stations, most_transactions}
-use Rattle.ledger_model.specs.Settling.{default_periods}
-use Rattle.ledger_model.specs.declared.order.Order.TheVariants.{Sequence}
-use Rattle.script_ledgers.proofs.Boards.{at_site, one_place}
-use Rattle.script_ledgers.proofs.Drafting.{declared_once, joins, past_plan}
-use Rattle.script_ledgers.proofs.Places.{some_placed}
-use Rattle.script_ledgers.specs.Drafts.{Drafted, IsPlan, planned, site_name}
-use Rattle.script_ledgers.specs.Script.{Script, are_limits, is_past_plan, script_after, step_by}
-use Rattle.script_lines.specs.LineMeaning.{LineMeaning, declares, line_meaning}
-use Rattle.script_lines.specs.Lines.{Line}
-use Rattle.script_lines.specs.declared.script_line.LineFault.TheVariants.{PlanLimit}
-use Rattle.script_lines.specs.Texts.{fault_line}
-use Rattle.site_desk.specs.declared.plan.SitePlan.{SitePlan}
-use Rattle.site_desk.specs.declared.plan.StationPlan.{StationPlan}
+use Rattle.std.{proofs.Common.{◌≡◌, ℕ, zero, suc, ◌+◌, ◌<◌, ◌≤◌, Bool, true, false, not, cond, ◌&&◌, ◌||◌, eqb, ltb, List, [], ◌∷◌, ◌++◌, All, None, Some, bytes_eq, is_some, length, map, refl, sym, ap, ◌∙◌, arith, append_assoc, append-nil, length-append}, specs.Prelude.{Option, nat_le, nat_lt, sum_by}, specs.List.position, proofs.lemmas.Bool.{and_parts, eqb-true, le-leb, le-ltb, lt-leb, ltb-true, or_from}, proofs.lemmas.List.{get_or_append_left, get_or_at, length-map, map-append}, proofs.lemmas.List.Elements.{All-head, All-tail}, proofs.lemmas.List.Sums.{sum_by-append, sum_by-cons}}
+use Rattle.ledger_model.{specs.Limits.{AreBounds, Bounds}, specs.Ranges.{most_changes, most_events, most_plan_readings, most_readings, most_sites, most_stations, most_transactions}, specs.Settling.default_periods, specs.declared.order.Order.TheVariants.Sequence}
+use Rattle.script_ledgers.{proofs.Boards.{at_site, one_place}, proofs.Drafting.{declared_once, joins, past_plan}, proofs.Places.some_placed, specs.Drafts.{Drafted, IsPlan, planned, site_name}, specs.Script.{Script, are_limits, is_past_plan, script_after, step_by}}
+use Rattle.script_lines.{specs.LineMeaning.{LineMeaning, declares, line_meaning}, specs.Lines.Line, specs.declared.script_line.LineFault.TheVariants.PlanLimit, specs.Texts.fault_line}
+use Rattle.site_desk.{specs.declared.plan.SitePlan.SitePlan, specs.declared.plan.StationPlan.StationPlan, specs.Plan.{has_twice, is_past, site_number, sites_changed}}
 use Rattle.site_desk.specs.Plan as plan
-use Rattle.site_desk.specs.Plan.{has_twice, is_past, site_number, sites_changed}
-use Rattle.journal_server.specs.Head.{HasValues, are_in_order, limits_meaning, station_meanings, stations_meanings}
-use Rattle.journal_server.proofs.Ends.{all_back}
+use Rattle.journal_server.{specs.Head.{HasValues, are_in_order, limits_meaning, station_meanings, stations_meanings}, proofs.Ends.all_back}
 
 -- the script behind lines of these meanings
 abbrev pub steps : Script → List LineMeaning → Script

@@ -1,38 +1,15 @@
 -- What a server's script and its boards are, of what its desk was when it was closed.
-use Rattle.std.proofs.Common.{◌≡◌, ℕ, zero, suc, ◌<◌, ◌≤◌, Bool, List, [], ◌∷◌, ◌++◌, Option, None, Some, Result, Ok, Err, OnOk, IfOk, All, length, slice_get, refl, sym, ap, subst, ◌∙◌, arith}
-use Rattle.std.specs.Prelude.{IsOk, ⊤}
-use Rattle.std.specs.Io.KnownBytes.{Appends, append_known}
-use Rattle.std.proofs.lemmas.List.Elements.{All-cons, All-head, All-nil, All-tail}
-use Rattle.board_report.specs.Texts.{board_text}
-use Rattle.board_report.specs.Closed.{boards_text, closed_site}
-use Rattle.kept_desk.specs.declared.entry.Entry.{Entry}
-use Rattle.kept_desk.specs.Entries.{of_station, text_of}
-use Rattle.kept_desk.specs.Journal.{IsWritten}
-use Rattle.journal_script.specs.Journals.{AreLeft, HasOnce, IsSpoken, station_name}
-use Rattle.kept_desk.specs.Entries.{IsNote}
-use Rattle.kept_desk.specs.Speaking.{AreSpoken, Speaks, SpeaksOf}
-use Rattle.journal_script.proofs.Boards.{boards_are_those_of_cells}
-use Rattle.journal_script.proofs.Journals.{journals_are_scripts}
-use Rattle.journal_script.specs.Restoring.{Grows}
+use Rattle.std.{proofs.Common.{◌≡◌, ℕ, zero, suc, ◌<◌, ◌≤◌, Bool, List, [], ◌∷◌, ◌++◌, Option, None, Some, Result, Ok, Err, OnOk, IfOk, All, length, slice_get, refl, sym, ap, subst, ◌∙◌, arith}, specs.Prelude.{IsOk, ⊤}, specs.Io.KnownBytes.{Appends, append_known}, proofs.lemmas.List.Elements.{All-cons, All-head, All-nil, All-tail}, proofs.lemmas.List.length-map, proofs.lemmas.Option.slice_get_within}
+use Rattle.board_report.{specs.Texts.board_text, specs.Closed.{boards_text, closed_site}}
+use Rattle.kept_desk.{specs.declared.entry.Entry.Entry, specs.Entries.{of_station, text_of, IsNote}, specs.Journal.IsWritten, specs.Speaking.{AreSpoken, Speaks, SpeaksOf}, proofs.Fronts.entry_accepted, specs.Kept.{AreBoardsBehind, IsLeftFrom, commands_of}, specs.Opened.{AreFirst, content_or_empty, contents_of, names_of}}
+use Rattle.journal_script.{specs.Journals.{AreLeft, HasOnce, IsSpoken, station_name}, proofs.Boards.boards_are_those_of_cells, proofs.Journals.journals_are_scripts, specs.Restoring.Grows}
 use Rattle.live_server.specs.Told.{Tells, operator_input}
 use Rattle.site_book.specs.Prefix.{IsPrefix}
-use Rattle.site_desk.specs.declared.roster.StationPlace.{StationPlace}
-use Rattle.kept_desk.proofs.Fronts.{entry_accepted}
-use Rattle.kept_desk.specs.Kept.{AreBoardsBehind, IsLeftFrom, commands_of}
-use Rattle.kept_desk.specs.Opened.{AreFirst, content_or_empty, contents_of, names_of}
-use Rattle.std.proofs.lemmas.List.{length-map}
-use Rattle.std.proofs.lemmas.Option.{slice_get_within}
-use Rattle.ledger_model.specs.Content.{Content}
-use Rattle.ledger_model.specs.Limits.{Bounds}
-use Rattle.site_desk.specs.declared.plan.SitePlan.{SitePlan}
-use Rattle.site_desk.specs.declared.plan.StationPlan.{StationPlan}
+use Rattle.site_desk.{specs.declared.roster.StationPlace.StationPlace, specs.declared.plan.SitePlan.SitePlan, specs.declared.plan.StationPlan.StationPlan, specs.Plan.plan_fault, specs.Roster.{AreCellsOf, AreNewPlaces}, proofs.NewParts.{planned_names, planned_sites}}
+use Rattle.ledger_model.{specs.Content.Content, specs.Limits.Bounds}
 use Rattle.station_cell.specs.Cell.{Cell}
-use Rattle.site_desk.specs.Plan.{plan_fault}
-use Rattle.site_desk.specs.Roster.{AreCellsOf, AreNewPlaces}
-use Rattle.site_desk.proofs.NewParts.{planned_names, planned_sites}
-use Rattle.journal_server.specs.Left.{Left}
+use Rattle.journal_server.{specs.Left.Left, specs.Served.{AreAccepted, AreLeftFrom, Declares, IsEnded, IsItsScript, IsKeptAnswer, IsNewRun, IsToldOf, Leaves, TellsNew, TellsRestored, after, joined}}
 use Rattle.script_lines.specs.Lines.{Line}
-use Rattle.journal_server.specs.Served.{AreAccepted, AreLeftFrom, Declares, IsEnded, IsItsScript, IsKeptAnswer, IsNewRun, IsToldOf, Leaves, TellsNew, TellsRestored, after, joined}
 
 all_placed : (n : ℕ) (stations : List StationPlan) → ((k : ℕ) (s : StationPlan) → slice_get stations k ≡ Some s → s.site < n) → All (λ s. s.site < n) stations
 all_placed n [] each = All-nil (λ s. s.site < n)

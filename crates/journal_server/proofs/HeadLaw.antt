@@ -1,42 +1,13 @@
 -- A head, read as a script, leaves the plan that it declares.
-use Rattle.std.proofs.Common.{◌≡◌, ℕ, ◌<◌, ◌≤◌, Bool, true, false, not, cond, List, [], ◌∷◌, ◌++◌, All, None, Some, bytes_eq, codes, get_or, length, map, refl, sym, ap, subst, ◌∙◌, inl, arith, append_assoc, length-append}
-use Rattle.std.specs.Prelude.{Option, sum_by}
-use Rattle.std.specs.List.{position}
-use Rattle.std.proofs.lemmas.Bool.{and_parts, leb-true}
-use Rattle.std.proofs.lemmas.List.Elements.{All-head, All-nil, All-tail}
-use Rattle.std.proofs.lemmas.Option.{get_or_from_slice_get}
+use Rattle.std.{proofs.Common.{◌≡◌, ℕ, ◌<◌, ◌≤◌, Bool, true, false, not, cond, List, [], ◌∷◌, ◌++◌, All, None, Some, bytes_eq, codes, get_or, length, map, refl, sym, ap, subst, ◌∙◌, inl, arith, append_assoc, length-append}, specs.Prelude.{Option, sum_by}, specs.List.position, proofs.lemmas.Bool.{and_parts, leb-true}, proofs.lemmas.List.Elements.{All-head, All-nil, All-tail}, proofs.lemmas.Option.get_or_from_slice_get}
 use Rattle.board_report.proofs.SiteBoards.{some_same, stands}
 use Rattle.journal_script.specs.Cuts.{run_begins}
-use Rattle.ledger_model.specs.Content.{empty_content}
-use Rattle.ledger_model.specs.Limits.{default_limits}
-use Rattle.ledger_model.specs.Moment.{first_moment}
-use Rattle.ledger_model.specs.Periods.{Periods}
-use Rattle.ledger_model.specs.Ranges.{most_plan_readings, most_sites, most_stations}
-use Rattle.ledger_model.specs.declared.order.Order.{Order}
-use Rattle.ledger_model.specs.declared.order.Order.TheVariants.{Sequence, Moment}
-use Rattle.ledger_model.specs.declared.settle.Settle.{Settle}
-use Rattle.ledger_model.specs.declared.settle.Settle.TheVariants.{Later, Closing, Even}
-use Rattle.script_ledgers.proofs.Boards.{at_site}
-use Rattle.script_ledgers.proofs.SettledBy.{order_known, ordered_kept, period_known, settled_kept, settled_known}
-use Rattle.script_ledgers.specs.Drafts.{Drafted, IsPlan, planned, planned_world, site_name}
-use Rattle.script_ledgers.specs.Running.{filled}
-use Rattle.script_ledgers.specs.Script.{Script, is_period, lasting, new_station, settling, start, step_by}
-use Rattle.script_lines.specs.LineMeaning.{LineMeaning, nothing, sets_order, sets_period, sets_settle}
-use Rattle.script_lines.specs.Lines.{lines_of}
-use Rattle.script_lines.specs.Ranges.{longest_line}
-use Rattle.site_desk.specs.declared.fault.DeskFault.{DeskFault}
-use Rattle.site_desk.specs.declared.fault.DeskFault.TheVariants.{PlanLimit, StationTwice}
-use Rattle.site_desk.specs.declared.plan.SitePlan.{SitePlan}
-use Rattle.site_desk.specs.declared.plan.StationPlan.{StationPlan}
-use Rattle.site_desk.specs.Parts.{AreNewCells, row_at}
-use Rattle.site_desk.specs.Plan.{has_twice, is_within_limits, order_at, period_at, plan_fault, sites_changed}
-use Rattle.site_desk.specs.Roster.{AreCellsOf, StandsAt, new_place}
+use Rattle.ledger_model.{specs.Content.empty_content, specs.Limits.default_limits, specs.Moment.first_moment, specs.Periods.Periods, specs.Ranges.{most_plan_readings, most_sites, most_stations}, specs.declared.order.Order.Order, specs.declared.order.Order.TheVariants.{Sequence, Moment}, specs.declared.settle.Settle.Settle, specs.declared.settle.Settle.TheVariants.{Later, Closing, Even}}
+use Rattle.script_ledgers.{proofs.Boards.at_site, proofs.SettledBy.{order_known, ordered_kept, period_known, settled_kept, settled_known}, specs.Drafts.{Drafted, IsPlan, planned, planned_world, site_name}, specs.Running.filled, specs.Script.{Script, is_period, lasting, new_station, settling, start, step_by}}
+use Rattle.script_lines.{specs.LineMeaning.{LineMeaning, nothing, sets_order, sets_period, sets_settle}, specs.Lines.lines_of, specs.Ranges.longest_line}
+use Rattle.site_desk.{specs.declared.fault.DeskFault.DeskFault, specs.declared.fault.DeskFault.TheVariants.{PlanLimit, StationTwice}, specs.declared.plan.SitePlan.SitePlan, specs.declared.plan.StationPlan.StationPlan, specs.Parts.{AreNewCells, row_at}, specs.Plan.{has_twice, is_within_limits, order_at, period_at, plan_fault, sites_changed}, specs.Roster.{AreCellsOf, StandsAt, new_place}}
 use Rattle.station_cell.specs.Cell.{Cell, new_cell}
-use Rattle.journal_server.specs.Head.{Adds, HasValues, IsHeadOf, are_in_order, order_meanings, settle_meanings, site_meanings, sites_meanings, stations_meanings}
-use Rattle.journal_server.specs.Served.{Leaves, after}
-use Rattle.journal_server.proofs.Declaring.{all_joined, begins, steps, steps_both, steps_of_lines}
-use Rattle.journal_server.proofs.Ends.{all_back, has_once}
-use Rattle.journal_server.proofs.HeadLines.{adds_begin, adds_both, adds_mark}
+use Rattle.journal_server.{specs.Head.{Adds, HasValues, IsHeadOf, are_in_order, order_meanings, settle_meanings, site_meanings, sites_meanings, stations_meanings}, specs.Served.{Leaves, after}, proofs.Declaring.{all_joined, begins, steps, steps_both, steps_of_lines}, proofs.Ends.{all_back, has_once}, proofs.HeadLines.{adds_begin, adds_both, adds_mark}}
 
 -- ---- the lines of a site
 

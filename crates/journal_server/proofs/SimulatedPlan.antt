@@ -1,21 +1,7 @@
 -- The plan of a simulation keeps within what a plan may have.
-use Rattle.std.proofs.Common.{◌≡◌, ◌+◌, ◌*◌, ◌<◌, ◌≤◌, ℕ, zero, suc, Bool, true, false, cond, eqb, List, length, length-append, codes, eqb-true, refl, sym, subst, ◌∙◌, arith}
-use Rattle.std.specs.Prelude.{◌||◌, not, nat_le, nat_lt, sum_by}
-use Rattle.std.specs.List.{position}
-use Rattle.std.specs.Fmt.{digits}
-use Rattle.std.specs.Str.{bytes_eq}
-use Rattle.std.specs.Option.{is_some}
-use Rattle.std.proofs.lemmas.Bool.{and_right}
-use Rattle.std.proofs.lemmas.Bool.Decides.{nat_tests}
-use Rattle.std.proofs.lemmas.List.Sums.{sum_by-append}
-use Rattle.ledger_model.specs.declared.order.Order.TheVariants.{Sequence}
-use Rattle.ledger_model.specs.Limits.{default_limits}
-use Rattle.ledger_model.specs.Settling.{default_periods}
-use Rattle.ledger_model.specs.Name.{is_name}
-use Rattle.ledger_model.specs.Ranges.{most_plan_readings, most_sites, most_stations}
-use Rattle.site_desk.specs.declared.plan.SitePlan.{SitePlan}
-use Rattle.site_desk.specs.declared.plan.StationPlan.{StationPlan}
-use Rattle.site_desk.specs.Plan.{is_past, site_number, sites_with}
+use Rattle.std.{proofs.Common.{◌≡◌, ◌+◌, ◌*◌, ◌<◌, ◌≤◌, ℕ, zero, suc, Bool, true, false, cond, eqb, List, length, length-append, codes, eqb-true, refl, sym, subst, ◌∙◌, arith}, specs.Prelude.{◌||◌, not, nat_le, nat_lt, sum_by}, specs.List.position, specs.Fmt.digits, specs.Str.bytes_eq, specs.Option.is_some, proofs.lemmas.Bool.and_right, proofs.lemmas.Bool.Decides.nat_tests, proofs.lemmas.List.Sums.sum_by-append}
+use Rattle.ledger_model.{specs.declared.order.Order.TheVariants.Sequence, specs.Limits.default_limits, specs.Settling.default_periods, specs.Name.is_name, specs.Ranges.{most_plan_readings, most_sites, most_stations}}
+use Rattle.site_desk.{specs.declared.plan.SitePlan.SitePlan, specs.declared.plan.StationPlan.StationPlan, specs.Plan.{is_past, site_number, sites_with}}
 use Rattle.journal_server.specs.Simulated.{simulated_name, simulated_sites, simulated_stations}
 
 abbrev are_names : ℕ → Bool

@@ -2,18 +2,10 @@
 use Rattle.std.specs.Prelude.{◌≡◌, ℕ, suc, Bool, true, ◌==◌, ◌&&◌, nat_lt, if◌then◌else◌, List, [], ◌∷◌, ◌++◌, All, flat_map, map}
 use Rattle.journal_script.specs.Journals.{EndsWhole}
 use Rattle.journal_server.specs.Served.{after}
-use Rattle.ledger_model.specs.declared.order.Order.{Order}
-use Rattle.ledger_model.specs.declared.order.Order.TheVariants.{Sequence, Moment}
-use Rattle.ledger_model.specs.declared.settle.Settle.{Settle}
-use Rattle.ledger_model.specs.declared.settle.Settle.TheVariants.{Later, Closing, Even}
-use Rattle.ledger_model.specs.Limits.{AreBounds, Bounds}
-use Rattle.script_ledgers.specs.Drafts.{planned_world, site_name}
-use Rattle.script_ledgers.specs.Script.{is_period}
-use Rattle.script_lines.specs.LineMeaning.{LineMeaning, sets_limits, declares, sets_period, sets_order, sets_settle, line_meaning}
-use Rattle.script_lines.specs.Lines.{lines_of}
-use Rattle.script_lines.specs.Ranges.{longest_line}
-use Rattle.site_desk.specs.declared.plan.SitePlan.{SitePlan}
-use Rattle.site_desk.specs.declared.plan.StationPlan.{StationPlan}
+use Rattle.ledger_model.{specs.declared.order.Order.Order, specs.declared.order.Order.TheVariants.{Sequence, Moment}, specs.declared.settle.Settle.Settle, specs.declared.settle.Settle.TheVariants.{Later, Closing, Even}, specs.Limits.{AreBounds, Bounds}}
+use Rattle.script_ledgers.{specs.Drafts.{planned_world, site_name}, specs.Script.is_period}
+use Rattle.script_lines.{specs.LineMeaning.{LineMeaning, sets_limits, declares, sets_period, sets_order, sets_settle, line_meaning}, specs.Lines.lines_of, specs.Ranges.longest_line}
+use Rattle.site_desk.{specs.declared.plan.SitePlan.SitePlan, specs.declared.plan.StationPlan.StationPlan}
 
 -- The text of a head, read as a script in whole lines, leaves these sites and stations, without events.
 pub record IsHeadOf (sites : List SitePlan) (stations : List StationPlan) (head : List ℕ) : Type 0 where

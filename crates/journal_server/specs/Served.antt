@@ -1,34 +1,15 @@
 -- What a server with a journal read, wrote and showed.
-use Rattle.std.specs.Prelude.{◌≡◌, ℕ, zero, suc, ◌+◌, ◌<◌, Bool, false, true, List, [], ◌∷◌, ◌++◌, length, Option, IfSome, Some, All, OnOk, map, slice_get}
-use Rattle.std.specs.declared.result.Result.{Result}
-use Rattle.std.specs.Io.KnownBytes.{Consumes, append_known}
+use Rattle.std.{specs.Prelude.{◌≡◌, ℕ, zero, suc, ◌+◌, ◌<◌, Bool, false, true, List, [], ◌∷◌, ◌++◌, length, Option, IfSome, Some, All, OnOk, map, slice_get}, specs.declared.result.Result.Result, specs.Io.KnownBytes.{Consumes, append_known}}
 use Rattle.board_report.specs.Closed.{boards_text}
-use Rattle.kept_desk.specs.declared.entry.Entry.{Entry}
-use Rattle.kept_desk.specs.Entries.{entry, of_station, text_of}
-use Rattle.kept_desk.specs.Journal.{IsWritten}
-use Rattle.journal_script.specs.Cuts.{run_begins}
-use Rattle.journal_script.specs.Journals.{EndsWhole, IsSpoken, Shows}
-use Rattle.journal_script.specs.Restoring.{Grows, HasNoListen, IsListen, loses, marked_by}
-use Rattle.kept_desk.specs.Kept.{AreBoardsBehind, IsAcceptedBehind, IsLeftFrom, IsReceived, IsWrittenDown, commands_of}
-use Rattle.kept_desk.specs.Opened.{contents_of}
-use Rattle.ledger_model.specs.declared.answer.Answer.{Answer}
-use Rattle.ledger_model.specs.declared.command.Command.{Command}
-use Rattle.site_book.specs.Book.{Known}
-use Rattle.site_book.specs.Prefix.{IsPrefix}
-use Rattle.ledger_model.specs.Content.{Content, empty_content}
-use Rattle.script_lines.specs.LineMeaning.{asks_board, line_meaning}
-use Rattle.script_lines.specs.Lines.{Line, lines_of}
-use Rattle.script_lines.specs.Ranges.{longest_line}
-use Rattle.script_ledgers.specs.Drafts.{site_name}
-use Rattle.script_ledgers.specs.Script.{Script, line_step, start, script_after}
-use Rattle.site_desk.specs.declared.plan.SitePlan.{SitePlan}
-use Rattle.site_desk.specs.declared.plan.StationPlan.{StationPlan}
-use Rattle.site_desk.specs.declared.roster.StationPlace.{StationPlace}
-use Rattle.site_desk.specs.Roster.{AreNewPlaces}
-use Rattle.live_server.specs.Browsing.{IsSeenWithBoards}
-use Rattle.live_server.specs.Told.{Tells, operator_input}
+use Rattle.kept_desk.{specs.declared.entry.Entry.Entry, specs.Entries.{entry, of_station, text_of}, specs.Journal.IsWritten, specs.Kept.{AreBoardsBehind, IsAcceptedBehind, IsLeftFrom, IsReceived, IsWrittenDown, commands_of}, specs.Opened.contents_of}
+use Rattle.journal_script.{specs.Cuts.run_begins, specs.Journals.{EndsWhole, IsSpoken, Shows}, specs.Restoring.{Grows, HasNoListen, IsListen, loses, marked_by}}
+use Rattle.ledger_model.{specs.declared.answer.Answer.Answer, specs.declared.command.Command.Command, specs.Content.{Content, empty_content}}
+use Rattle.site_book.{specs.Book.Known, specs.Prefix.IsPrefix}
+use Rattle.script_lines.{specs.LineMeaning.{asks_board, line_meaning}, specs.Lines.{Line, lines_of}, specs.Ranges.longest_line}
+use Rattle.script_ledgers.{specs.Drafts.site_name, specs.Script.{Script, line_step, start, script_after}}
+use Rattle.site_desk.{specs.declared.plan.SitePlan.SitePlan, specs.declared.plan.StationPlan.StationPlan, specs.declared.roster.StationPlace.StationPlace, specs.Roster.AreNewPlaces, specs.Close.changes_of}
+use Rattle.live_server.{specs.Browsing.IsSeenWithBoards, specs.Told.{Tells, operator_input}}
 use Rattle.running_desk.specs.Ordered.{lines_in}
-use Rattle.site_desk.specs.Close.{changes_of}
 use Rattle.station_cell.specs.Cell.{Cell, Held}
 use Rattle.station_link.specs.Attended.{IsAnswered}
 use Rattle.journal_server.specs.Left.{Left}

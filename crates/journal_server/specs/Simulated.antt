@@ -1,13 +1,8 @@
 -- The plan of a simulation, and its run (this product's profile).
-use Rattle.std.specs.Prelude.{ℕ, zero, suc, ⊤, List, [], ◌∷◌, ◌++◌, None, codes}
-use Rattle.std.specs.Fmt.{decimal}
-use Rattle.ledger_model.specs.declared.order.Order.TheVariants.{Sequence}
-use Rattle.ledger_model.specs.Limits.{default_limits}
-use Rattle.ledger_model.specs.Settling.{default_periods}
-use Rattle.site_desk.specs.declared.plan.SitePlan.{SitePlan}
-use Rattle.site_desk.specs.declared.plan.StationPlan.{StationPlan}
-use Rattle.journal_server.specs.Left.{Left}
-use Rattle.journal_server.specs.Served.{IsNewRun}
+use Rattle.std.{specs.Prelude.{ℕ, zero, suc, ⊤, List, [], ◌∷◌, ◌++◌, None, codes}, specs.Fmt.decimal}
+use Rattle.ledger_model.{specs.declared.order.Order.TheVariants.Sequence, specs.Limits.default_limits, specs.Settling.default_periods}
+use Rattle.site_desk.{specs.declared.plan.SitePlan.SitePlan, specs.declared.plan.StationPlan.StationPlan}
+use Rattle.journal_server.{specs.Left.Left, specs.Served.IsNewRun}
 
 -- The name of the simulated station of this number.
 abbrev pub simulated_name : ℕ → List ℕ

@@ -1,18 +1,11 @@
 //! A server with a journal, from its desk to its boards.
-ghost use Rattle.std.specs.Prelude.{◌≡◌, ◌<◌, ◌++◌, ℕ, List, [], None, All, IfOk, IsOk, OnOk, length};
-ghost use Rattle.std.specs.Io.Buffered.{writer_buffer, writer_inner};
-ghost use Rattle.kept_desk.specs.Opened.{contents_of, names_of};
-ghost use Rattle.site_book.specs.Tables.{HasTable, NamedBy};
-ghost use Rattle.site_desk.specs.Parts.{AreNewCells};
-ghost use Rattle.site_desk.specs.Plan.{plan_fault};
-ghost use Rattle.site_desk.specs.Roster.{AreCellsOf, AreNewPlaces};
-ghost use Rattle.kept_desk.specs.Kept.{AreBoardsBehind};
-ghost use Rattle.live_server.specs.Browsing.{IsSeenWithBoards};
-ghost use Rattle.journal_server.specs.Left.{left_of};
-ghost use Rattle.live_server.specs.Told.{operator_input};
-ghost use Rattle.journal_server.specs.Served.{IsEnded, IsItsScript, IsKeptAnswer, Leaves, TellsNew};
+ghost use Rattle.std.{specs.Prelude.{◌≡◌, ◌<◌, ◌++◌, ℕ, List, [], None, All, IfOk, IsOk, OnOk, length}, specs.Io.Buffered.{writer_buffer, writer_inner}};
+ghost use Rattle.kept_desk.{specs.Opened.{contents_of, names_of}, specs.Kept.AreBoardsBehind};
+ghost use Rattle.site_book.{specs.Tables.{HasTable, NamedBy}, specs.Prefix.IsPrefix};
+ghost use Rattle.site_desk.{specs.Parts.AreNewCells, specs.Plan.plan_fault, specs.Roster.{AreCellsOf, AreNewPlaces}};
+ghost use Rattle.live_server.{specs.Browsing.IsSeenWithBoards, specs.Told.operator_input};
+ghost use Rattle.journal_server.{specs.Left.left_of, specs.Served.{IsEnded, IsItsScript, IsKeptAnswer, Leaves, TellsNew}};
 ghost use Rattle.station_link.specs.Attended.{IsAnswered};
-ghost use Rattle.site_book.specs.Prefix.{IsPrefix};
 
 use crate::serve::Journalling;
 use crate::serving::Serving;

@@ -1,14 +1,10 @@
 //! Servers with a journal: one that begins anew, and one that is restored.
-ghost use Rattle.std.specs.Prelude.{◌≡◌, ◌&&◌, [], false, true, not, None, IfErr, IfOk, OnOk};
-ghost use Rattle.std.specs.Io.Buffered.{writer_buffer, writer_contents, writer_inner};
-ghost use Rattle.std.specs.Io.KnownBytes.{Appends};
+ghost use Rattle.std.{specs.Prelude.{◌≡◌, ◌&&◌, [], false, true, not, None, IfErr, IfOk, OnOk}, specs.Io.Buffered.{writer_buffer, writer_contents, writer_inner}, specs.Io.KnownBytes.Appends};
 ghost use Rattle.journal_script.specs.Restoring.{Grows, IsUnmarked, loses};
 ghost use Rattle.script_ledgers.specs.Script.{start};
-ghost use Rattle.script_lines.specs.Lines.{lines_of};
-ghost use Rattle.script_lines.specs.Ranges.{longest_line};
-ghost use Rattle.journal_server.specs.Left.{left_of};
+ghost use Rattle.script_lines.{specs.Lines.lines_of, specs.Ranges.longest_line};
+ghost use Rattle.journal_server.{specs.Left.left_of, specs.Served.{IsNewRun, IsRefused, IsRestoredRun, TellsNew, TellsRestored}};
 ghost use Rattle.live_server.specs.Told.{operator_input};
-ghost use Rattle.journal_server.specs.Served.{IsNewRun, IsRefused, IsRestoredRun, TellsNew, TellsRestored};
 
 use crate::declared::{are_in_order, journal_head, run_head};
 use crate::fault::JournalFault;

@@ -1,13 +1,8 @@
 //! A desk with a journal, as a live server serves it.
 ghost use Rattle.std.specs.Prelude.{◌≡◌, IfOk, None, OnErr, Some, slice_get};
-ghost use Rattle.ledger_model.specs.declared.answer.Answer.{Answer};
-ghost use Rattle.ledger_model.specs.declared.answer.Refusal.{Refusal};
-ghost use Rattle.ledger_model.specs.declared.command.Command.{Command};
-ghost use Rattle.script_lines.specs.LineMeaning.{commands, line_meaning};
-ghost use Rattle.script_lines.specs.Lines.{line_bytes};
-ghost use Rattle.site_desk.specs.declared.roster.StationPlace.{StationPlace};
-ghost use Rattle.site_desk.specs.Roster.{IsNamed};
-ghost use Rattle.site_desk.specs.Submit.{Submitted};
+ghost use Rattle.ledger_model.{specs.declared.answer.Answer.Answer, specs.declared.answer.Refusal.Refusal, specs.declared.command.Command.Command};
+ghost use Rattle.script_lines.{specs.LineMeaning.{commands, line_meaning}, specs.Lines.line_bytes};
+ghost use Rattle.site_desk.{specs.declared.roster.StationPlace.StationPlace, specs.Roster.IsNamed, specs.Submit.Submitted};
 ghost use Rattle.station_link.specs.Answer.{Asks, IsSubmitted};
 
 use crate::receipt_time::receipt_note;

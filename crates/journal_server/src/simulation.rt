@@ -1,9 +1,7 @@
 //! Simulated stations that play against a server of their own.
 ghost use Rattle.std.specs.Prelude.{◌≡◌, ◌≤◌, [], IfOk, None, Some, codes, length, vec_len, vec_capacity};
 ghost use Rattle.station_link.specs.Sim.{IsSimulated};
-ghost use Rattle.journal_server.specs.Left.{left_of};
-ghost use Rattle.journal_server.specs.Served.{IsNewRun, TellsNew};
-ghost use Rattle.journal_server.specs.Simulated.{IsSimulatedRun, simulated_name, simulated_sites, simulated_stations};
+ghost use Rattle.journal_server.{specs.Left.left_of, specs.Served.{IsNewRun, TellsNew}, specs.Simulated.{IsSimulatedRun, simulated_name, simulated_sites, simulated_stations}};
 
 use crate::fault::JournalFault;
 use crate::run::Served;

@@ -1,21 +1,8 @@
 -- What one command more leaves of a station's first content.
-use Rattle.std.proofs.Common.{◌≡◌, ℕ, ◌+◌, List, [], ◌∷◌, ◌++◌, refl, ap, sym, ◌∙◌, subst, arith, length-append}
-use Rattle.std.proofs.lemmas.List.{map-append}
-use Rattle.std.proofs.lemmas.List.Elements.{All-nil, All-push}
-use Rattle.kept_desk.specs.declared.entry.Entry.{Entry}
-use Rattle.kept_desk.specs.Entries.{entry}
-use Rattle.kept_desk.specs.Journal.{OwnEntries}
-use Rattle.ledger_model.specs.declared.command.Command.{Command}
-use Rattle.ledger_model.specs.Admissible.{IsAdmissible}
-use Rattle.ledger_model.specs.Content.{Content}
-use Rattle.ledger_model.specs.Laws.{AreAccepted, IsAccepted, left_by}
-use Rattle.ledger_model.specs.Limits.{Bounds}
-use Rattle.ledger_model.specs.Step.{answer, step}
-use Rattle.ledger_model.proofs.Callers.{is_counted}
-use Rattle.station_cell.specs.Cell.{Cell, Held}
-use Rattle.station_cell.specs.Settle.{cell_after}
-use Rattle.station_cell.proofs.Counts.{one_more}
-use Rattle.kept_desk.specs.Kept.{IsKeptCell, IsLeftFrom, commands_of}
+use Rattle.std.{proofs.Common.{◌≡◌, ℕ, ◌+◌, List, [], ◌∷◌, ◌++◌, refl, ap, sym, ◌∙◌, subst, arith, length-append}, proofs.lemmas.List.map-append, proofs.lemmas.List.Elements.{All-nil, All-push}}
+use Rattle.kept_desk.{specs.declared.entry.Entry.Entry, specs.Entries.entry, specs.Journal.OwnEntries, specs.Kept.{IsKeptCell, IsLeftFrom, commands_of}}
+use Rattle.ledger_model.{specs.declared.command.Command.Command, specs.Admissible.IsAdmissible, specs.Content.Content, specs.Laws.{AreAccepted, IsAccepted, left_by}, specs.Limits.Bounds, specs.Step.{answer, step}, proofs.Callers.is_counted}
+use Rattle.station_cell.{specs.Cell.{Cell, Held}, specs.Settle.cell_after, proofs.Counts.one_more}
 
 -- commands that are accepted, behind others
 pub accepted_append : (limits : Bounds) (c : Content) (xs ys : List Command) → AreAccepted limits c xs → AreAccepted limits (left_by limits c xs) ys → AreAccepted limits c (xs ++ ys)

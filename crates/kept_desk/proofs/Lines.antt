@@ -1,11 +1,6 @@
 -- What a line that was written, or its front, adds to the text of a journal's entries.
-use Rattle.std.proofs.Common.{◌≡◌, ◌≢◌, ℕ, Bool, true, false, true≢false, List, [], ◌∷◌, ◌++◌, Option, Some, None, inl, refl, ap, sym, ◌∙◌, subst, append_assoc, append-nil}
-use Rattle.std.specs.Io.KnownBytes.{Appends, append_known}
-use Rattle.std.proofs.lemmas.List.Elements.{All-nil, All-push}
-use Rattle.std.proofs.KnownBytes.{Appends-nil, Appends-trans}
-use Rattle.kept_desk.specs.declared.entry.Entry.{Entry}
-use Rattle.kept_desk.specs.Entries.{IsNote, entry, entry_text, line_text, text_of}
-use Rattle.kept_desk.specs.Journal.{BeginsLine, IsWritten}
+use Rattle.std.{proofs.Common.{◌≡◌, ◌≢◌, ℕ, Bool, true, false, true≢false, List, [], ◌∷◌, ◌++◌, Option, Some, None, inl, refl, ap, sym, ◌∙◌, subst, append_assoc, append-nil}, specs.Io.KnownBytes.{Appends, append_known}, proofs.lemmas.List.Elements.{All-nil, All-push}, proofs.KnownBytes.{Appends-nil, Appends-trans}}
+use Rattle.kept_desk.{specs.declared.entry.Entry.Entry, specs.Entries.{IsNote, entry, entry_text, line_text, text_of}, specs.Journal.{BeginsLine, IsWritten}}
 use Rattle.ledger_model.specs.declared.command.Command.{Command}
 use Rattle.script_lines.specs.Lines.{HasNoFeed}
 

@@ -1,14 +1,9 @@
 -- Each step keeps the rule of a journal's table.
-use Rattle.std.proofs.Common.{◌≡◌, ◌≢◌, ℕ, zero, suc, ◌+◌, ◌<◌, ◌≤◌, eqb, true, false, true≢false, List, [], ◌∷◌, ◌++◌, length, set, refl, ap, sym, ◌∙◌, subst, ◌⊎◌, inl, inr, ⊎_elim, arith, append-nil, append_assoc, length-set, eq-eqb, ne_eqb, cond}
-use Rattle.std.proofs.lemmas.List.Elements.{filter-append}
+use Rattle.std.{proofs.Common.{◌≡◌, ◌≢◌, ℕ, zero, suc, ◌+◌, ◌<◌, ◌≤◌, eqb, true, false, true≢false, List, [], ◌∷◌, ◌++◌, length, set, refl, ap, sym, ◌∙◌, subst, ◌⊎◌, inl, inr, ⊎_elim, arith, append-nil, append_assoc, length-set, eq-eqb, ne_eqb, cond}, proofs.lemmas.List.Elements.filter-append}
 use mathlib.Core.Option.{some, some-ne-none, some-injective}
 use lib.ListN.{get_elem?}
-use Rattle.atomic_table.specs.Table.{Me, keeps, Allows, Splits, Joins}
-use Rattle.atomic_table.proofs.Lists.{at_set}
-use Rattle.kept_desk.specs.declared.entry.Entry.{Entry}
-use Rattle.kept_desk.specs.declared.table.View.{View}
-use Rattle.kept_desk.specs.Entries.{of_station}
-use Rattle.kept_desk.specs.Rule.{Fits, Kept, Tied, keeping, holding, joined, nobody, knowing, reading}
+use Rattle.atomic_table.{specs.Table.{Me, keeps, Allows, Splits, Joins}, proofs.Lists.at_set}
+use Rattle.kept_desk.{specs.declared.entry.Entry.Entry, specs.declared.table.View.View, specs.Entries.of_station, specs.Rule.{Fits, Kept, Tied, keeping, holding, joined, nobody, knowing, reading}}
 use Rattle.site_book.specs.Prefix.{IsPrefix}
 
 off : false ≡ true → ⊥

@@ -1,20 +1,9 @@
 -- The receipt of an accepted command says at which content it was accepted.
-use Rattle.std.proofs.Common.{◌≡◌, ℕ, List, [], ◌∷◌, ◌++◌, Option, None, Some, Result, Ok, Err, ap, sym, ◌∙◌, subst}
-use Rattle.std.specs.Prelude.{IfOk, OnOk}
-use Rattle.kept_desk.specs.declared.broken.Broken.{Broken}
-use Rattle.kept_desk.specs.declared.entry.Entry.{Entry}
-use Rattle.kept_desk.specs.Entries.{entry, of_station}
-use Rattle.kept_desk.specs.Journal.{Ledger, OwnEntries}
-use Rattle.kept_desk.specs.Kept.{IsGiven, IsKeptCell, IsLeftFrom, IsNoted, IsReceived, commands_of, given_with}
-use Rattle.ledger_model.specs.declared.answer.Answer.{Answer}
-use Rattle.ledger_model.specs.declared.answer.Answer.TheVariants.{Accepted, Repeat, Refused}
-use Rattle.ledger_model.specs.declared.command.Command.{Command}
-use Rattle.ledger_model.specs.Content.{Content}
-use Rattle.ledger_model.specs.Limits.{Bounds}
+use Rattle.std.{proofs.Common.{◌≡◌, ℕ, List, [], ◌∷◌, ◌++◌, Option, None, Some, Result, Ok, Err, ap, sym, ◌∙◌, subst}, specs.Prelude.{IfOk, OnOk}}
+use Rattle.kept_desk.{specs.declared.broken.Broken.Broken, specs.declared.entry.Entry.Entry, specs.Entries.{entry, of_station}, specs.Journal.{Ledger, OwnEntries}, specs.Kept.{IsGiven, IsKeptCell, IsLeftFrom, IsNoted, IsReceived, commands_of, given_with}}
+use Rattle.ledger_model.{specs.declared.answer.Answer.Answer, specs.declared.answer.Answer.TheVariants.{Accepted, Repeat, Refused}, specs.declared.command.Command.Command, specs.Content.Content, specs.Limits.Bounds}
 use Rattle.site_book.specs.Book.{Known}
-use Rattle.site_desk.specs.declared.roster.StationPlace.{StationPlace}
-use Rattle.site_desk.specs.Roster.{StandsAt}
-use Rattle.site_desk.specs.Submit.{TellsOf}
+use Rattle.site_desk.{specs.declared.roster.StationPlace.StationPlace, specs.Roster.StandsAt, specs.Submit.TellsOf}
 use Rattle.station_cell.specs.Cell.{Cell}
 
 -- a share with an entry added, and its receipt

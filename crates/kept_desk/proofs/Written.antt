@@ -1,9 +1,6 @@
 -- What was written of an entry, part by part.
-use Rattle.std.proofs.Common.{◌≡◌, ℕ, List, ◌++◌, Option, Result, Ok, Err, append_assoc, append-nil, sym, ap, ◌∙◌, [], subst}
-use Rattle.std.specs.Io.KnownBytes.{Keeps, Appends}
-use Rattle.std.specs.Result.{IsErr}
+use Rattle.std.{proofs.Common.{◌≡◌, ℕ, List, ◌++◌, Option, Result, Ok, Err, append_assoc, append-nil, sym, ap, ◌∙◌, [], subst}, specs.Io.KnownBytes.{Keeps, Appends}, specs.Result.IsErr, proofs.KnownBytes.{Appends-trans, Appends-kept}}
 use Rattle.script_lines.specs.Writing.{WritesFront}
-use Rattle.std.proofs.KnownBytes.{Appends-trans, Appends-kept}
 
 -- some bytes were written, and then these or their front
 behind : {T E : Type 0} (line end two : List ℕ) (r : Result T E) → WritesFront r end two → WritesFront r (line ++ end) (line ++ two)

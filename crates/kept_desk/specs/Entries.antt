@@ -1,8 +1,7 @@
 use Rattle.std.specs.Prelude.{◌≡◌, ℕ, ◌≤◌, List, [], ◌∷◌, ◌++◌, ◌==◌, ◌⊎◌, filter, length}
 use Rattle.kept_desk.specs.declared.entry.Entry.{Entry}
 use Rattle.ledger_model.specs.declared.command.Command.{Command}
-use Rattle.script_lines.specs.Lines.{HasNoFeed}
-use Rattle.script_lines.specs.Ranges.{longest_line}
+use Rattle.script_lines.{specs.Lines.HasNoFeed, specs.Ranges.longest_line}
 
 -- The entry of a station's line, with the note in front of it and the line's command.
 abbrev pub entry : ℕ → List ℕ → List ℕ → Command → Entry

@@ -1,10 +1,6 @@
 use Rattle.std.specs.Prelude.{◌≡◌, ℕ, Bool, List, [], Option}
-use Rattle.atomic_table.specs.Table.{Me}
-use Rattle.atomic_table.specs.Seated.{TableId}
-use Rattle.kept_desk.specs.declared.table.View.{View}
-use Rattle.kept_desk.specs.Journal.{IsWritten}
-use Rattle.kept_desk.specs.Rule.{keeping, holding, knowing}
-use Rattle.kept_desk.specs.Speaking.{AreSpoken}
+use Rattle.atomic_table.{specs.Table.Me, specs.Seated.TableId}
+use Rattle.kept_desk.{specs.declared.table.View.View, specs.Journal.IsWritten, specs.Rule.{keeping, holding, knowing}, specs.Speaking.AreSpoken}
 
 -- What a seat knows, and the slots that it holds: a journal's table has none.
 abbrev pub Seated : Type 0

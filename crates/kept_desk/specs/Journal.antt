@@ -1,7 +1,5 @@
-use Rattle.std.specs.Prelude.{◌≡◌, ℕ, ◌<◌, ◌-◌, ◌^◌, Bool, false, List, [], ◌∷◌, ◌++◌, Option, All, length}
-use Rattle.std.specs.Io.KnownBytes.{Appends, append_known}
-use Rattle.kept_desk.specs.declared.entry.Entry.{Entry}
-use Rattle.kept_desk.specs.Entries.{IsNote, line_text, text_of}
+use Rattle.std.{specs.Prelude.{◌≡◌, ℕ, ◌<◌, ◌-◌, ◌^◌, Bool, false, List, [], ◌∷◌, ◌++◌, Option, All, length}, specs.Io.KnownBytes.{Appends, append_known}}
+use Rattle.kept_desk.{specs.declared.entry.Entry.Entry, specs.Entries.{IsNote, line_text, text_of}}
 use Rattle.script_lines.specs.Lines.{HasNoFeed}
 
 -- A journal: its entries, first to last; a number above those of all stations with a share; and whether a write failed.

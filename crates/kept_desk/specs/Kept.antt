@@ -1,22 +1,8 @@
 use Rattle.std.specs.Prelude.{◌≡◌, ℕ, ◌+◌, ◌≤◌, Bool, List, [], ◌∷◌, ◌++◌, Option, All, map, length, None, Some, slice_get}
-use Rattle.kept_desk.specs.declared.entry.Entry.{Entry}
-use Rattle.kept_desk.specs.Entries.{of_station}
-use Rattle.kept_desk.specs.Journal.{IsWritten, OwnEntries}
-use Rattle.kept_desk.specs.Speaking.{AreSpoken}
-use Rattle.ledger_model.specs.declared.answer.Answer.{Answer}
-use Rattle.ledger_model.specs.declared.answer.Answer.TheVariants.{Accepted, Repeat, Refused}
-use Rattle.ledger_model.specs.declared.command.Command.{Command}
-use Rattle.site_book.specs.Book.{Known}
-use Rattle.site_book.specs.Prefix.{IsPrefix}
-use Rattle.ledger_model.specs.Admissible.{IsAdmissible}
-use Rattle.ledger_model.specs.Board.{Board, board_by}
-use Rattle.ledger_model.specs.Content.{Content, entries}
-use Rattle.ledger_model.specs.Laws.{AreAccepted, left_by}
-use Rattle.ledger_model.specs.Limits.{Bounds}
-use Rattle.ledger_model.specs.Step.{answer}
-use Rattle.site_desk.specs.declared.roster.StationPlace.{StationPlace}
-use Rattle.site_desk.specs.Operator.{before_at}
-use Rattle.site_desk.specs.Submit.{IsTakenAt}
+use Rattle.kept_desk.{specs.declared.entry.Entry.Entry, specs.Entries.of_station, specs.Journal.{IsWritten, OwnEntries}, specs.Speaking.AreSpoken}
+use Rattle.ledger_model.{specs.declared.answer.Answer.Answer, specs.declared.answer.Answer.TheVariants.{Accepted, Repeat, Refused}, specs.declared.command.Command.Command, specs.Admissible.IsAdmissible, specs.Board.{Board, board_by}, specs.Content.{Content, entries}, specs.Laws.{AreAccepted, left_by}, specs.Limits.Bounds, specs.Step.answer}
+use Rattle.site_book.{specs.Book.Known, specs.Prefix.IsPrefix}
+use Rattle.site_desk.{specs.declared.roster.StationPlace.StationPlace, specs.Operator.before_at, specs.Submit.IsTakenAt}
 use Rattle.station_cell.specs.Cell.{Cell, IsInService}
 
 -- The commands of entries, in their order.

@@ -2,9 +2,7 @@ use Rattle.std.specs.Prelude.{◌≡◌, ℕ, ◌<◌, true, false, List, [], �
 use mathlib.Core.Option.{some}
 use lib.ListN.{get_elem?}
 use Rattle.atomic_table.specs.Table.{State, Step, Me}
-use Rattle.kept_desk.specs.declared.entry.Entry.{Entry}
-use Rattle.kept_desk.specs.declared.table.View.{View}
-use Rattle.kept_desk.specs.Entries.{of_station}
+use Rattle.kept_desk.{specs.declared.entry.Entry.Entry, specs.declared.table.View.View, specs.Entries.of_station}
 use Rattle.site_book.specs.Prefix.{IsPrefix}
 
 -- What a seat knows is true. The journal's seat, the first, knows all entries; each station has at

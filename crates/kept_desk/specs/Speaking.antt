@@ -1,14 +1,9 @@
 -- What a line of a journal says, at whatever moment it is read.
-use Rattle.std.specs.Prelude.{◌≡◌, ℕ, ◌<◌, ◌≤◌, List, All, length, Some}
-use Rattle.std.specs.Io.BufRead.{strip_last}
+use Rattle.std.{specs.Prelude.{◌≡◌, ℕ, ◌<◌, ◌≤◌, List, All, length, Some}, specs.Io.BufRead.strip_last}
 use Rattle.kept_desk.specs.declared.entry.Entry.{Entry}
-use Rattle.ledger_model.specs.declared.command.Command.{Command}
-use Rattle.ledger_model.specs.declared.command.Command.TheVariants.{Deliver}
-use Rattle.transaction_event.specs.Message.{Event, message}
-use Rattle.transaction_event.specs.Request.{Request}
-use Rattle.script_lines.specs.LineMeaning.{LineMeaning, nothing, fails, sets_limits, declares, sets_period, sets_order, sets_settle, tells, sends, commands, asks_energy, asks_export, asks_total, asks_board, lists, marks, line_meaning}
-use Rattle.script_lines.specs.Lines.{HasNoFeed}
-use Rattle.script_lines.specs.Ranges.{longest_line}
+use Rattle.ledger_model.{specs.declared.command.Command.Command, specs.declared.command.Command.TheVariants.Deliver}
+use Rattle.transaction_event.{specs.Message.{Event, message}, specs.Request.Request}
+use Rattle.script_lines.{specs.LineMeaning.{LineMeaning, nothing, fails, sets_limits, declares, sets_period, sets_order, sets_settle, tells, sends, commands, asks_energy, asks_export, asks_total, asks_board, lists, marks, line_meaning}, specs.Lines.HasNoFeed, specs.Ranges.longest_line}
 
 -- The text is a message that asks for this command, at any moment.
 pub record AsksFor (text : List ℕ) (command : Command) : Type 0 where

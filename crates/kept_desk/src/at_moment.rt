@@ -1,7 +1,6 @@
 //! The note of cells with shares that is made while their locks are held: the moment of the
 //! journal.
-ghost use Rattle.std.specs.Prelude.{◌≡◌, All, IfOk};
-ghost use Rattle.std.specs.Sync.Mutex.{mutex_guard_value};
+ghost use Rattle.std.{specs.Prelude.{◌≡◌, All, IfOk}, specs.Sync.Mutex.mutex_guard_value};
 ghost use Rattle.kept_desk.specs.Kept.{IsLeftOwn};
 
 use crate::cell::KeptCell;

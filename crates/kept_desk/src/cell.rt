@@ -1,12 +1,9 @@
 ghost use Rattle.std.specs.Prelude.{◌≡◌, List, [], ◌∷◌, ◌++◌, length, IfOk};
-ghost use Rattle.kept_desk.specs.Entries.{IsNote, entry, of_station};
+ghost use Rattle.kept_desk.{specs.Entries.{IsNote, entry, of_station}, specs.Kept.{IsLeftOwn, IsReceived, KeepsCell, given_with}, specs.Speaking.SpeaksOf};
 ghost use Rattle.ledger_model.specs.Laws.{IsAccepted};
-ghost use Rattle.station_cell.specs.Cell.{IsInService};
-ghost use Rattle.station_cell.specs.Settle.{cell_after};
+ghost use Rattle.station_cell.{specs.Cell.IsInService, specs.Settle.cell_after};
 ghost use Rattle.station_ledger.specs.Judged.{IsJudged};
 ghost use Rattle.site_desk.specs.Submit.{CanJudge, Submitted, TellsOf};
-ghost use Rattle.kept_desk.specs.Kept.{IsLeftOwn, IsReceived, KeepsCell, given_with};
-ghost use Rattle.kept_desk.specs.Speaking.{SpeaksOf};
 
 use crate::broken::Broken;
 use crate::journal::Journal;

@@ -1,9 +1,7 @@
 //! Cells with their shares, and without them.
 ghost use Rattle.std.specs.Prelude.{◌≡◌, ℕ, ◌+◌, ◌≤◌, [], ◌++◌, length, IfOk, OnOk, Some, All, slice_get, vec_len, vec_capacity};
-ghost use Rattle.kept_desk.specs.Entries.{of_station};
+ghost use Rattle.kept_desk.{specs.Entries.of_station, specs.Kept.{IsLeftFrom, commands_of}, specs.Opened.AreFirst};
 ghost use Rattle.station_cell.specs.Cell.{Cell, IsInService};
-ghost use Rattle.kept_desk.specs.Kept.{IsLeftFrom, commands_of};
-ghost use Rattle.kept_desk.specs.Opened.{AreFirst};
 ghost use Rattle.site_book.specs.Prefix.{IsPrefix};
 
 use crate::cell::KeptCell;

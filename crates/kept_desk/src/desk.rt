@@ -1,19 +1,7 @@
-ghost use Rattle.std.specs.Prelude.{◌≡◌, ◌≢◌, ℕ, [], All, length, map, IfOk, IfErr, None, Some, slice_get};
-ghost use Rattle.std.specs.Io.Buffered.{writer_buffer, writer_inner};
-ghost use Rattle.kept_desk.specs.Entries.{IsNote, entry};
-ghost use Rattle.ledger_model.specs.declared.answer.Answer.{Answer};
-ghost use Rattle.ledger_model.specs.declared.answer.Refusal.{Refusal};
-ghost use Rattle.site_desk.specs.declared.fault.CloseFault.{CloseFault};
-ghost use Rattle.site_desk.specs.declared.roster.StationPlace.{StationPlace};
-ghost use Rattle.site_desk.specs.Close.{IsClosable, Saw};
-ghost use Rattle.site_desk.specs.Plan.{plan_fault};
-ghost use Rattle.site_desk.specs.Roster.{AreNewPlaces};
-ghost use Rattle.site_desk.specs.Submit.{IsUnchanged, Submitted};
-ghost use Rattle.kept_desk.specs.Kept.{AreBoardsBehind, IsReceived, IsWrittenDown};
-ghost use Rattle.ledger_model.specs.Board.{sum_of_figures};
-ghost use Rattle.site_desk.specs.Operator.{AreBoardsAt};
-ghost use Rattle.kept_desk.specs.Opened.{AreFirst, AreNames};
-ghost use Rattle.kept_desk.specs.Speaking.{SpeaksOf};
+ghost use Rattle.std.{specs.Prelude.{◌≡◌, ◌≢◌, ℕ, [], All, length, map, IfOk, IfErr, None, Some, slice_get}, specs.Io.Buffered.{writer_buffer, writer_inner}};
+ghost use Rattle.kept_desk.{specs.Entries.{IsNote, entry}, specs.Kept.{AreBoardsBehind, IsReceived, IsWrittenDown}, specs.Opened.{AreFirst, AreNames}, specs.Speaking.SpeaksOf};
+ghost use Rattle.ledger_model.{specs.declared.answer.Answer.Answer, specs.declared.answer.Refusal.Refusal, specs.Board.sum_of_figures};
+ghost use Rattle.site_desk.{specs.declared.fault.CloseFault.CloseFault, specs.declared.roster.StationPlace.StationPlace, specs.Close.{IsClosable, Saw}, specs.Plan.plan_fault, specs.Roster.AreNewPlaces, specs.Submit.{IsUnchanged, Submitted}, specs.Operator.AreBoardsAt};
 
 use crate::at_moment::AtMoment;
 use crate::cell::KeptCell;

@@ -1,9 +1,6 @@
-ghost use Rattle.std.specs.Prelude.{◌≡◌, ◌+◌, ◌≤◌, Bool, true, false, [], ◌∷◌, ◌++◌, IfOk, OnOk, OnErr};
-ghost use Rattle.std.specs.Io.Buffered.{writer_buffer, writer_inner};
+ghost use Rattle.std.{specs.Prelude.{◌≡◌, ◌+◌, ◌≤◌, Bool, true, false, [], ◌∷◌, ◌++◌, IfOk, OnOk, OnErr}, specs.Io.Buffered.{writer_buffer, writer_inner}};
 ghost use Rattle.site_book.specs.Prefix.{IsPrefix};
-ghost use Rattle.kept_desk.specs.Entries.{IsNote, entry, of_station};
-ghost use Rattle.kept_desk.specs.Journal.{IsWritten};
-ghost use Rattle.kept_desk.specs.Speaking.{AreSpoken, SpeaksOf};
+ghost use Rattle.kept_desk.{specs.Entries.{IsNote, entry, of_station}, specs.Journal.IsWritten, specs.Speaking.{AreSpoken, SpeaksOf}};
 
 use crate::broken::Broken;
 use crate::journal_table::JournalTable;
@@ -31,8 +28,7 @@ pub struct Journal<K: Opening, W: Write + Drop> {
 
 impl<K: Opening, W: Write + Drop> Model for Journal<K, W> {
     ghost use Rattle.std.specs.Io.Buffered.{writer_buffer, writer_inner};
-    ghost use Rattle.kept_desk.specs.Journal.{Ledger};
-    ghost use Rattle.kept_desk.specs.Held.{IsJournal};
+    ghost use Rattle.kept_desk.{specs.Journal.Ledger, specs.Held.IsJournal};
 
     ghost Value = { Ledger };
 

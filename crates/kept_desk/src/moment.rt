@@ -12,8 +12,7 @@ pub struct Moment<K: Opening> {
 
 impl<K: Opening> Model for Moment<K> {
     ghost use Rattle.std.specs.Prelude.{List};
-    ghost use Rattle.kept_desk.specs.declared.entry.Entry.{Entry};
-    ghost use Rattle.kept_desk.specs.Held.{IsMoment};
+    ghost use Rattle.kept_desk.{specs.declared.entry.Entry.Entry, specs.Held.IsMoment};
 
     ghost Value = { List Entry };
 

@@ -14,8 +14,7 @@ pub struct Share<K: Opening> {
 }
 
 impl<K: Opening> Model for Share<K> {
-    ghost use Rattle.kept_desk.specs.Journal.{OwnEntries};
-    ghost use Rattle.kept_desk.specs.Held.{IsShare};
+    ghost use Rattle.kept_desk.{specs.Journal.OwnEntries, specs.Held.IsShare};
 
     ghost Value = { OwnEntries };
 

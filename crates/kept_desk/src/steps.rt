@@ -1,8 +1,6 @@
 //! The single steps on a journal's table. Each contract says what its seats know then.
 ghost use Rattle.std.specs.Prelude.{◌≡◌, ◌+◌, ◌≤◌, [], ◌∷◌, ◌++◌};
-ghost use Rattle.kept_desk.specs.Entries.{entry, of_station};
-ghost use Rattle.kept_desk.specs.Held.{Sits};
-ghost use Rattle.kept_desk.specs.Rule.{keeping, holding, joined, knowing, reading};
+ghost use Rattle.kept_desk.{specs.Entries.{entry, of_station}, specs.Held.Sits, specs.Rule.{keeping, holding, joined, knowing, reading}};
 ghost use Rattle.site_book.specs.Prefix.{IsPrefix};
 
 use crate::table::{

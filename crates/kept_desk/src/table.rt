@@ -128,8 +128,7 @@ pub(crate) struct Enlists<K> {
 
 impl<K: TheStation> Split<View> for Enlists<K> {
     ghost use Rattle.std.specs.Prelude.{◌+◌};
-    ghost use Rattle.kept_desk.specs.Entries.{of_station};
-    ghost use Rattle.kept_desk.specs.Rule.{keeping, holding};
+    ghost use Rattle.kept_desk.{specs.Entries.of_station, specs.Rule.{keeping, holding}};
 
     ghost left = { λ v. keeping v.log (K.station + 1) };
 

@@ -1,9 +1,6 @@
 //! How a desk with a journal takes a command.
 ghost use Rattle.std.specs.Prelude.{◌≡◌, List, ◌++◌, ◌∷◌, [], IfOk, OnOk, OnErr};
-ghost use Rattle.kept_desk.specs.declared.entry.Entry.{Entry};
-ghost use Rattle.kept_desk.specs.Entries.{IsNote, entry};
-ghost use Rattle.kept_desk.specs.Kept.{IsNoted};
-ghost use Rattle.kept_desk.specs.Speaking.{SpeaksOf};
+ghost use Rattle.kept_desk.{specs.declared.entry.Entry.Entry, specs.Entries.{IsNote, entry}, specs.Kept.IsNoted, specs.Speaking.SpeaksOf};
 ghost use Rattle.ledger_model.specs.declared.command.Command.{Command};
 
 use crate::broken::Broken;
@@ -49,9 +46,7 @@ impl<'a, K: Opening, W: Write + Drop> Journalled<'a, K, W> {
 
 impl<'a, J: Naming, K: Opening, W: Write + Drop> Settles<J, KeptCell<K>, Moment<K>>
     for Journalled<'a, K, W> {
-    ghost use Rattle.kept_desk.specs.Entries.{IsNote, entry};
-    ghost use Rattle.kept_desk.specs.Kept.{IsReceived};
-    ghost use Rattle.kept_desk.specs.Speaking.{SpeaksOf};
+    ghost use Rattle.kept_desk.{specs.Entries.{IsNote, entry}, specs.Kept.IsReceived, specs.Speaking.SpeaksOf};
 
     ghost asks = { λ w number command. IsNote w.note.now × SpeaksOf (K.name number) w.line.now command };
 

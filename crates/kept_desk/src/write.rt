@@ -1,10 +1,7 @@
 //! What may be in front of a line, and how a line is written.
-ghost use Rattle.std.specs.Prelude.{◌≡◌, ℕ, ◌↔◌, ◌++◌, List, [], ◌∷◌, IsTrue, OnOk};
-ghost use Rattle.std.specs.Io.Buffered.{writer_buffer, writer_contents};
-ghost use Rattle.std.specs.Io.KnownBytes.{Appends};
+ghost use Rattle.std.{specs.Prelude.{◌≡◌, ℕ, ◌↔◌, ◌++◌, List, [], ◌∷◌, IsTrue, OnOk}, specs.Io.Buffered.{writer_buffer, writer_contents}, specs.Io.KnownBytes.Appends};
 ghost use Rattle.kept_desk.specs.Entries.{IsComment, IsNote, line_text};
-ghost use Rattle.script_lines.specs.Writing.{WritesFront};
-ghost use Rattle.script_lines.specs.Lines.{HasNoFeed};
+ghost use Rattle.script_lines.{specs.Writing.WritesFront, specs.Lines.HasNoFeed};
 
 use script_lines::{MAX_LINE_BYTES, WriteStopped, write_bytes};
 use std::io::{BufWriter, Write};

@@ -1,12 +1,6 @@
 -- Entries in leaves: where a key belongs, and what is in front of it and behind.
-use Rattle.std.proofs.Common.{◌≡◌, ℕ, zero, suc, ◌+◌, ◌-◌, ◌*◌, ◌<◌, ◌≤◌, List, [], ◌∷◌, ◌++◌, length, take, drop, get_or, Some, slice_get, refl, sym, ap, ◌∙◌, subst, arith, inl, inr, append_assoc, length-append}
-use Rattle.std.proofs.Math.Seq.{drop-nil}
-use Rattle.std.proofs.lemmas.Bool.{cases_lt}
-use Rattle.std.proofs.lemmas.Bool.Decides.{nat_tests}
-use Rattle.std.proofs.lemmas.List.{append-nil, get_or_default}
-use Rattle.key_index.specs.Entries.{Entry, below, from, last_of, AreAbove, AreRising, AreBelow}
-use Rattle.key_index.specs.Leaves.{all_of, AreFilled, first_key, begun, Belongs, NoneFit}
-use Rattle.key_index.proofs.Orders.{below_on, below_end, from_on, from_end, above_less, cut_none, above_parts, above_both, rising_parts, below_both, below_more}
+use Rattle.std.{proofs.Common.{◌≡◌, ℕ, zero, suc, ◌+◌, ◌-◌, ◌*◌, ◌<◌, ◌≤◌, List, [], ◌∷◌, ◌++◌, length, take, drop, get_or, Some, slice_get, refl, sym, ap, ◌∙◌, subst, arith, inl, inr, append_assoc, length-append}, proofs.Math.Seq.drop-nil, proofs.lemmas.Bool.cases_lt, proofs.lemmas.Bool.Decides.nat_tests, proofs.lemmas.List.{append-nil, get_or_default}}
+use Rattle.key_index.{specs.Entries.{Entry, below, from, last_of, AreAbove, AreRising, AreBelow}, specs.Leaves.{all_of, AreFilled, first_key, begun, Belongs, NoneFit}, proofs.Orders.{below_on, below_end, from_on, from_end, above_less, cut_none, above_parts, above_both, rising_parts, below_both, below_more}}
 
 module _ {V : Type 0} where
   -- What is in front of an entry of a rising list is below it.

@@ -1,12 +1,6 @@
 -- How many entries have a mark, after an edit.
-use Rattle.std.proofs.Common.{◌≡◌, ℕ, zero, suc, ◌+◌, ◌-◌, ◌<◌, ◌≤◌, true, false, cond, List, [], ◌∷◌, ◌++◌, length, take, drop, get_or, set, refl, sym, ap, ◌∙◌, arith, length-append, length-drop, take-append-drop}
-use Rattle.std.proofs.lemmas.List.{take_all}
-use Rattle.std.specs.List.{insert, remove}
-use Rattle.std.proofs.lemmas.List.Elements.{filter-append}
-use Rattle.key_index.specs.declared.filed.Mark.{Mark}
-use Rattle.key_index.specs.declared.filed.Marks.{Marks}
-use Rattle.key_index.specs.Entries.{Entry}
-use Rattle.key_index.specs.Marks.{has_mark, weigh, marked, with_marks, mark_at}
+use Rattle.std.{proofs.Common.{◌≡◌, ℕ, zero, suc, ◌+◌, ◌-◌, ◌<◌, ◌≤◌, true, false, cond, List, [], ◌∷◌, ◌++◌, length, take, drop, get_or, set, refl, sym, ap, ◌∙◌, arith, length-append, length-drop, take-append-drop}, proofs.lemmas.List.take_all, specs.List.{insert, remove}, proofs.lemmas.List.Elements.filter-append}
+use Rattle.key_index.{specs.declared.filed.Mark.Mark, specs.declared.filed.Marks.Marks, specs.Entries.Entry, specs.Marks.{has_mark, weigh, marked, with_marks, mark_at}}
 
 module _ {V : Type 0} where
   -- The marked ones of two lists.

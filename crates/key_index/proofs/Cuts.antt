@@ -1,14 +1,6 @@
 -- The entries of an index, cut at the leaf where a key belongs; an entry put in, or taken out.
-use Rattle.std.proofs.Common.{◌≡◌, ℕ, zero, suc, ◌+◌, ◌<◌, ◌≤◌, true, List, [], ◌∷◌, ◌++◌, length, take, drop, get_or, set, Some, None, is_some, refl, sym, ap, ◌∙◌, subst, arith, inl, inr, append_assoc, length-append, length-drop}
-use Rattle.std.specs.List.{insert, remove}
-use Rattle.std.proofs.lemmas.Bool.{cases_lt}
-use Rattle.std.proofs.lemmas.Bool.Decides.{nat_tests}
-use Rattle.key_index.specs.declared.filed.Filed.{Filed}
-use Rattle.key_index.specs.Entries.{Entry, below, from, filed_at, AreAbove, AreRising}
-use Rattle.key_index.specs.Leaves.{all_of, Belongs}
-use Rattle.key_index.proofs.Orders.{below_on, below_end, from_on, from_end, take_below, drop_below, cut_whole, rising_parts}
-use Rattle.key_index.proofs.Belonging.{all_at, leaf_above, cut_front, cut_back}
-use Rattle.key_index.proofs.Edits.{all_set}
+use Rattle.std.{proofs.Common.{◌≡◌, ℕ, zero, suc, ◌+◌, ◌<◌, ◌≤◌, true, List, [], ◌∷◌, ◌++◌, length, take, drop, get_or, set, Some, None, is_some, refl, sym, ap, ◌∙◌, subst, arith, inl, inr, append_assoc, length-append, length-drop}, specs.List.{insert, remove}, proofs.lemmas.Bool.cases_lt, proofs.lemmas.Bool.Decides.nat_tests}
+use Rattle.key_index.{specs.declared.filed.Filed.Filed, specs.Entries.{Entry, below, from, filed_at, AreAbove, AreRising}, specs.Leaves.{all_of, Belongs}, proofs.Orders.{below_on, below_end, from_on, from_end, take_below, drop_below, cut_whole, rising_parts}, proofs.Belonging.{all_at, leaf_above, cut_front, cut_back}, proofs.Edits.all_set}
 
 -- One more left out is one left out of the rest.
 drop_one : {X : Type 0} (n : ℕ) (xs : List X) → drop (suc n) xs ≡ drop 1 (drop n xs)

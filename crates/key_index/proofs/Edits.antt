@@ -1,11 +1,6 @@
 -- The edits of leaves: an entry put in or taken out, a leaf split, two joined, one that is empty left out.
-use Rattle.std.proofs.Common.{◌≡◌, ℕ, zero, suc, ◌+◌, ◌-◌, ◌<◌, ◌≤◌, List, [], ◌∷◌, ◌++◌, length, take, drop, get_or, set, refl, sym, ap, ◌∙◌, subst, arith, append_assoc, length-append, length-set, length-take, length-drop, take-append-drop}
-use Rattle.std.specs.List.{copy_within, insert, remove}
-use Rattle.std.proofs.lemmas.List.Edits.{length-insert}
-use Rattle.key_index.specs.Entries.{Entry, AreAbove, AreRising, AreBelow}
-use Rattle.key_index.specs.Leaves.{all_of, AreFilled, AreEmpty, first_key, Belongs, IsReady}
-use Rattle.key_index.proofs.Orders.{rising_parts, below_both, below_more, above_both}
-use Rattle.key_index.proofs.Belonging.{read_leaf, all_at, rising_front, leaf_above}
+use Rattle.std.{proofs.Common.{◌≡◌, ℕ, zero, suc, ◌+◌, ◌-◌, ◌<◌, ◌≤◌, List, [], ◌∷◌, ◌++◌, length, take, drop, get_or, set, refl, sym, ap, ◌∙◌, subst, arith, append_assoc, length-append, length-set, length-take, length-drop, take-append-drop}, specs.List.{copy_within, insert, remove}, proofs.lemmas.List.Edits.length-insert}
+use Rattle.key_index.{specs.Entries.{Entry, AreAbove, AreRising, AreBelow}, specs.Leaves.{all_of, AreFilled, AreEmpty, first_key, Belongs, IsReady}, proofs.Orders.{rising_parts, below_both, below_more, above_both}, proofs.Belonging.{read_leaf, all_at, rising_front, leaf_above}}
 
 module _ {V : Type 0} where
   -- A leaf written over another.

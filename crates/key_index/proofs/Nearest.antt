@@ -1,14 +1,6 @@
 -- The nearest entry with a mark.
-use Rattle.std.proofs.Common.{◌≡◌, ℕ, zero, suc, ◌+◌, ◌<◌, true, cond, List, [], ◌∷◌, ◌++◌, Some, None, length, take, drop, get_or, refl, sym, ap, ◌∙◌, arith, append_assoc}
-use Rattle.std.proofs.lemmas.List.{append-nil}
-use Rattle.std.proofs.lemmas.List.Elements.{filter_more}
-use Rattle.key_index.specs.declared.filed.Mark.{Mark}
-use Rattle.key_index.specs.Entries.{Entry, first_of, last_of}
-use Rattle.key_index.specs.Marks.{has_mark, marked}
-use Rattle.key_index.specs.Leaves.{all_of}
-use Rattle.key_index.proofs.Belonging.{last_both, read_leaf}
-use Rattle.key_index.proofs.Counting.{marked_both, count_cut}
-use Rattle.key_index.proofs.Edits.{none_is}
+use Rattle.std.{proofs.Common.{◌≡◌, ℕ, zero, suc, ◌+◌, ◌<◌, true, cond, List, [], ◌∷◌, ◌++◌, Some, None, length, take, drop, get_or, refl, sym, ap, ◌∙◌, arith, append_assoc}, proofs.lemmas.List.append-nil, proofs.lemmas.List.Elements.filter_more}
+use Rattle.key_index.{specs.declared.filed.Mark.Mark, specs.Entries.{Entry, first_of, last_of}, specs.Marks.{has_mark, marked}, specs.Leaves.all_of, proofs.Belonging.{last_both, read_leaf}, proofs.Counting.{marked_both, count_cut}, proofs.Edits.none_is}
 
 module _ {V : Type 0} where
   -- The last entry that was looked at, where it has the mark.

@@ -1,18 +1,6 @@
 -- Places in an index, and edits at them.
-use Rattle.std.proofs.Common.{◌≡◌, ℕ, zero, suc, ◌<◌, ◌≤◌, List, [], ◌∷◌, ◌++◌, Some, length, take, drop, get_or, set, refl, sym, ap, ◌∙◌, subst, arith, inl, inr, append_assoc, take-append-drop}
-use Rattle.std.specs.List.{insert}
-use Rattle.std.proofs.lemmas.Bool.{cases_lt}
-use Rattle.std.proofs.lemmas.List.{append-nil}
-use Rattle.key_index.specs.declared.filed.Marks.{Marks}
-use Rattle.key_index.specs.declared.place.KeyPlace.{KeyPlace}
-use Rattle.key_index.specs.Entries.{Entry, below, from, first_of, last_of, AreAbove, AreRising, AreBelow}
-use Rattle.key_index.specs.Leaves.{all_of, Belongs}
-use Rattle.key_index.specs.Marks.{mark_at}
-use Rattle.key_index.specs.Places.{in_front, on_from, IsCutAt, IsPlace}
-use Rattle.key_index.proofs.Orders.{below_on, below_end, from_on, from_end, take_below, drop_below, rising_parts}
-use Rattle.key_index.proofs.Belonging.{all_at, last_both, cut_front}
-use Rattle.key_index.proofs.Edits.{all_set}
-use Rattle.key_index.proofs.Cuts.{below_at, from_at}
+use Rattle.std.{proofs.Common.{◌≡◌, ℕ, zero, suc, ◌<◌, ◌≤◌, List, [], ◌∷◌, ◌++◌, Some, length, take, drop, get_or, set, refl, sym, ap, ◌∙◌, subst, arith, inl, inr, append_assoc, take-append-drop}, specs.List.insert, proofs.lemmas.Bool.cases_lt, proofs.lemmas.List.append-nil}
+use Rattle.key_index.{specs.declared.filed.Marks.Marks, specs.declared.place.KeyPlace.KeyPlace, specs.Entries.{Entry, below, from, first_of, last_of, AreAbove, AreRising, AreBelow}, specs.Leaves.{all_of, Belongs}, specs.Marks.mark_at, specs.Places.{in_front, on_from, IsCutAt, IsPlace}, proofs.Orders.{below_on, below_end, from_on, from_end, take_below, drop_below, rising_parts}, proofs.Belonging.{all_at, last_both, cut_front}, proofs.Edits.all_set, proofs.Cuts.{below_at, from_at}}
 
 module _ {V : Type 0} where
   -- A place parts all entries.

@@ -1,6 +1,5 @@
 -- Lists by rising keys: numbers, each with what is filed under it.
-use Rattle.std.specs.Prelude.{ℕ, ◌<◌, List, [], ◌∷◌, Option, Some, None, length, nat_lt, nat_eq, if◌then◌else◌, slice_get, ◌-◌}
-use Rattle.std.specs.Coded.{×_prop, Unit-prop, le_prop}
+use Rattle.std.{specs.Prelude.{ℕ, ◌<◌, List, [], ◌∷◌, Option, Some, None, length, nat_lt, nat_eq, if◌then◌else◌, slice_get, ◌-◌}, specs.Coded.{×_prop, Unit-prop, le_prop}}
 use Rattle.key_index.specs.declared.filed.Filed.{Filed}
 
 -- An entry of an index: the rank of a key, and what is filed under it.

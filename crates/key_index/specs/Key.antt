@@ -1,6 +1,5 @@
 -- The order of keys.
-use Rattle.std.specs.Prelude.{◌≡◌, ℕ, ◌+◌, ◌*◌, ◌/◌, ◌%◌, ◌^◌, ◌<◌}
-use Rattle.std.proofs.lemmas.Nat.{div-mul-add, mod-mul-add}
+use Rattle.std.{specs.Prelude.{◌≡◌, ℕ, ◌+◌, ◌*◌, ◌/◌, ◌%◌, ◌^◌, ◌<◌}, proofs.lemmas.Nat.{div-mul-add, mod-mul-add}}
 
 -- A key's position among all keys: by the transaction's slot, then by the sequence number.
 abbrev pub rank : ℕ → ℕ → ℕ

@@ -1,7 +1,5 @@
 -- An index in leaves, each a run of entries.
-use Rattle.std.specs.Prelude.{◌≡◌, ℕ, suc, ◌+◌, ◌/◌, ◌<◌, ◌≤◌, List, [], ◌∷◌, ◌++◌, length, take, drop, get_or, nat_le, if◌then◌else◌}
-use Rattle.std.specs.Vec.{vec_len, vec_capacity}
-use Rattle.std.specs.declared.vec.Vec.{Vec}
+use Rattle.std.{specs.Prelude.{◌≡◌, ℕ, suc, ◌+◌, ◌/◌, ◌<◌, ◌≤◌, List, [], ◌∷◌, ◌++◌, length, take, drop, get_or, nat_le, if◌then◌else◌}, specs.Vec.{vec_len, vec_capacity}, specs.declared.vec.Vec.Vec}
 use Rattle.key_index.specs.Entries.{Entry, AreAbove, AreBelow, AreRising}
 
 -- Each of two vectors has room for the elements of both.

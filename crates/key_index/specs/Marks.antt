@@ -1,11 +1,6 @@
 -- The marks of entries, and how many entries have each.
-use Rattle.std.specs.Prelude.{◌≡◌, ℕ, zero, suc, Bool, if◌then◌else◌, List, [], ◌∷◌, length}
-use Rattle.std.specs.List.{filter}
-use Rattle.key_index.specs.declared.filed.Mark.{Mark}
-use Rattle.key_index.specs.declared.filed.Mark.TheVariants.{Live, Imports, Exports, Names}
-use Rattle.key_index.specs.declared.filed.Marks.{Marks}
-use Rattle.key_index.specs.declared.counts.Counts.{Counts}
-use Rattle.key_index.specs.Entries.{Entry}
+use Rattle.std.{specs.Prelude.{◌≡◌, ℕ, zero, suc, Bool, if◌then◌else◌, List, [], ◌∷◌, length}, specs.List.filter}
+use Rattle.key_index.{specs.declared.filed.Mark.Mark, specs.declared.filed.Mark.TheVariants.{Live, Imports, Exports, Names}, specs.declared.filed.Marks.Marks, specs.declared.counts.Counts.Counts, specs.Entries.Entry}
 
 -- The mark is set.
 abbrev pub has_mark : Mark → Marks → Bool

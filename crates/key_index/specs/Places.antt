@@ -1,8 +1,6 @@
 -- Places in an index: where a key cuts it.
 use Rattle.std.specs.Prelude.{◌≡◌, ℕ, suc, ◌<◌, ◌≤◌, List, [], ◌++◌, Some, length, take, drop, get_or}
-use Rattle.key_index.specs.declared.place.KeyPlace.{KeyPlace}
-use Rattle.key_index.specs.Entries.{Entry, below, from, first_of, last_of}
-use Rattle.key_index.specs.Leaves.{all_of}
+use Rattle.key_index.{specs.declared.place.KeyPlace.KeyPlace, specs.Entries.{Entry, below, from, first_of, last_of}, specs.Leaves.all_of}
 
 module _ {V : Type 0} where
   -- The entries in front of a place.

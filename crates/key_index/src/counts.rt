@@ -1,7 +1,6 @@
 //! How many entries of a leaf have each mark.
 ghost use Rattle.std.specs.Prelude.{◌≡◌, ◌+◌, ◌<◌, ◌≤◌, take, length};
-ghost use Rattle.key_index.specs.declared.filed.Mark.{Mark};
-ghost use Rattle.key_index.specs.Marks.{has_mark, weigh, count_of, AreCounts};
+ghost use Rattle.key_index.{specs.declared.filed.Mark.Mark, specs.Marks.{has_mark, weigh, count_of, AreCounts}};
 
 use crate::entry::Entry;
 use crate::filed::{Mark, Marks};

@@ -1,7 +1,5 @@
 ghost use Rattle.std.specs.Prelude.{◌≡◌, ◌+◌, ◌<◌, ◌≤◌, [], ◌∷◌, ◌++◌, length, drop, None, IfOk, IsSome};
-ghost use Rattle.key_index.specs.Entries.{below, from, filed_at, first_of, last_of, AreRising};
-ghost use Rattle.key_index.specs.Index.{index};
-ghost use Rattle.key_index.specs.Marks.{marked, mark_at};
+ghost use Rattle.key_index.{specs.Entries.{below, from, filed_at, first_of, last_of, AreRising}, specs.Index.index, specs.Marks.{marked, mark_at}};
 
 use crate::entry::Entry;
 use crate::filed::{Filed, Mark, Marks};

@@ -1,9 +1,6 @@
 //! A run of up to [`LEAF_SIZE`] entries, which takes its memory when it is opened.
-ghost use Rattle.std.specs.Prelude.{◌≡◌, ◌+◌, ◌<◌, ◌≤◌, [], ◌++◌, length, take, drop, slice_get, Some, IfOk};
-ghost use Rattle.std.specs.List.{insert, remove};
-ghost use Rattle.std.specs.Vec.{vec_len, vec_capacity};
-ghost use Rattle.key_index.specs.Entries.{below, first_of, last_of, AreRising};
-ghost use Rattle.key_index.specs.Marks.{marked, mark_at};
+ghost use Rattle.std.{specs.Prelude.{◌≡◌, ◌+◌, ◌<◌, ◌≤◌, [], ◌++◌, length, take, drop, slice_get, Some, IfOk}, specs.List.{insert, remove}, specs.Vec.{vec_len, vec_capacity}};
+ghost use Rattle.key_index.{specs.Entries.{below, first_of, last_of, AreRising}, specs.Marks.{marked, mark_at}};
 
 use crate::counts::{Counts, counts_over};
 use crate::entry::Entry;
@@ -24,11 +21,8 @@ pub struct Leaf<K: Ranked, V: Copy> {
 }
 
 impl<K: Ranked, V: Copy> Model for Leaf<K, V> {
-    ghost use Rattle.std.specs.Prelude.{List, length, ◌≤◌};
-    ghost use Rattle.std.specs.Vec.{vec_capacity};
-    ghost use Rattle.key_index.specs.declared.leaf.TheConstants.{LEAF_SIZE};
-    ghost use Rattle.key_index.specs.Entries.{Entry};
-    ghost use Rattle.key_index.specs.Marks.{AreCounts};
+    ghost use Rattle.std.{specs.Prelude.{List, length, ◌≤◌}, specs.Vec.vec_capacity};
+    ghost use Rattle.key_index.{specs.declared.leaf.TheConstants.LEAF_SIZE, specs.Entries.Entry, specs.Marks.AreCounts};
 
     ghost Value = { List (Entry V) };
 

@@ -1,11 +1,6 @@
 //! The leaves of an index: where a key belongs, and how a leaf is split and two are joined.
-ghost use Rattle.std.specs.Prelude.{◌≡◌, ◌+◌, ◌*◌, ◌<◌, ◌≤◌, suc, [], ◌∷◌, ◌++◌, length, take, drop, get_or, slice_set, true, IfSome, IfNone};
-ghost use Rattle.std.specs.List.{insert, remove};
-ghost use Rattle.std.specs.Vec.{vec_len, vec_capacity};
-ghost use Rattle.key_index.specs.Entries.{below, from, first_of, last_of, AreRising};
-ghost use Rattle.key_index.specs.Marks.{marked, mark_at};
-ghost use Rattle.key_index.specs.Places.{in_front, on_from, IsCutAt, IsPlace};
-ghost use Rattle.key_index.specs.Leaves.{all_of, AreFilled, AreEmpty, Belongs, NoneFit, IsKept, IsReady, HaveRoom};
+ghost use Rattle.std.{specs.Prelude.{◌≡◌, ◌+◌, ◌*◌, ◌<◌, ◌≤◌, suc, [], ◌∷◌, ◌++◌, length, take, drop, get_or, slice_set, true, IfSome, IfNone}, specs.List.{insert, remove}, specs.Vec.{vec_len, vec_capacity}};
+ghost use Rattle.key_index.{specs.Entries.{below, from, first_of, last_of, AreRising}, specs.Marks.{marked, mark_at}, specs.Places.{in_front, on_from, IsCutAt, IsPlace}, specs.Leaves.{all_of, AreFilled, AreEmpty, Belongs, NoneFit, IsKept, IsReady, HaveRoom}};
 
 use crate::entry::Entry;
 use crate::filed::{Mark, Marks};

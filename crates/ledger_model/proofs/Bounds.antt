@@ -1,30 +1,7 @@
 -- What a reached content holds: as much as the limits allow, and entries in range.
-use Rattle.std.proofs.Common.{◌≡◌, ℕ, zero, suc, ◌+◌, ◌<◌, ◌≤◌, Bool, true, false, not, ◌&&◌, cond, nat_le, List, [], ◌∷◌, length, Option, Some, refl, sym, ap, subst, ◌∙◌, arith, is_some}
-use Rattle.std.specs.List.{filter}
-use Rattle.std.specs.Ordering.{is_eq, eq_by_cmp}
-use Rattle.std.specs.declared.cmp.Ordering.{Ordering}
-use Rattle.std.specs.declared.cmp.Ordering.TheVariants.{Less, Equal, Greater}
+use Rattle.std.{proofs.Common.{◌≡◌, ℕ, zero, suc, ◌+◌, ◌<◌, ◌≤◌, Bool, true, false, not, ◌&&◌, cond, nat_le, List, [], ◌∷◌, length, Option, Some, refl, sym, ap, subst, ◌∙◌, arith, is_some}, specs.List.filter, specs.Ordering.{is_eq, eq_by_cmp}, specs.declared.cmp.Ordering.Ordering, specs.declared.cmp.Ordering.TheVariants.{Less, Equal, Greater}, specs.FinMap.{find, put, entries_sorted}, specs.FinMap.Entries.{by_order, length-put}, proofs.lemmas.Bool.{leb-false, ltb-false}}
 use Rattle.std.specs.FinMap as finite
-use Rattle.std.specs.FinMap.{find, put, entries_sorted}
-use Rattle.std.specs.FinMap.Entries.{by_order, length-put}
-use Rattle.std.proofs.lemmas.Bool.{leb-false, ltb-false}
-use Rattle.ledger_model.specs.declared.command.Command.{Command}
-use Rattle.ledger_model.specs.declared.command.Command.TheVariants.{Deliver, Void, Restore, Erase}
-use Rattle.ledger_model.specs.declared.answer.Answer.{Answer}
-use Rattle.ledger_model.specs.declared.answer.Answer.TheVariants.{Accepted}
-use Rattle.ledger_model.specs.Key.{KeyName, key_cmp, IsKeyName}
-use Rattle.ledger_model.specs.Event.{EventContent, IsEventContent}
-use Rattle.ledger_model.specs.Limits.{Bounds}
-use Rattle.ledger_model.specs.Content.{Content, Entry, Stored, entries, distinct, transactions_of, has_transaction}
-use Rattle.ledger_model.specs.Entries.{IsRising, entries_marked, entries_marked_at, entries_without, entries_after}
-use Rattle.ledger_model.specs.Admissible.{IsAdmissible}
-use Rattle.ledger_model.specs.Step.{readings_stored, step, content_after, Reached}
-use Rattle.ledger_model.specs.Laws.{IsAccepted}
-use Rattle.ledger_model.proofs.Keys.{key_total}
-use Rattle.ledger_model.proofs.Stored.{readings_put_old, length_without, readings_without, transactions-filter, ids_put_old}
-use Rattle.ledger_model.proofs.ListedRuns.{entries_after_is, none_listed}
-use Rattle.ledger_model.proofs.LedgerLemmas.{found_live, found_voided}
-use Rattle.ledger_model.proofs.Deliveries.{room, grown, fresh}
+use Rattle.ledger_model.{specs.declared.command.Command.Command, specs.declared.command.Command.TheVariants.{Deliver, Void, Restore, Erase}, specs.declared.answer.Answer.Answer, specs.declared.answer.Answer.TheVariants.Accepted, specs.Key.{KeyName, key_cmp, IsKeyName}, specs.Event.{EventContent, IsEventContent}, specs.Limits.Bounds, specs.Content.{Content, Entry, Stored, entries, distinct, transactions_of, has_transaction}, specs.Entries.{IsRising, entries_marked, entries_marked_at, entries_without, entries_after}, specs.Admissible.IsAdmissible, specs.Step.{readings_stored, step, content_after, Reached}, specs.Laws.IsAccepted, proofs.Keys.key_total, proofs.Stored.{readings_put_old, length_without, readings_without, transactions-filter, ids_put_old}, proofs.ListedRuns.{entries_after_is, none_listed}, proofs.LedgerLemmas.{found_live, found_voided}, proofs.Deliveries.{room, grown, fresh}}
 
 -- an entry whose key and event are in range
 pub record IsEntry (e : Entry) : Type 0 where

@@ -1,13 +1,6 @@
 -- A transaction is complete exactly if its four conditions hold.
-use Rattle.std.proofs.Common.{◌≡◌, ◌≢◌, ◌↔◌, ℕ, zero, suc, ◌<◌, ◌+◌, ◌-◌, true, List, [], ◌∷◌, Some, None, length, refl, sym, subst, arith, eqb}
-use Rattle.std.specs.List.{slice_get}
-use Rattle.std.proofs.lemmas.Bool.{and_parts, and_from, eqb-true, eq-eqb, false≢true}
-use Rattle.ledger_model.specs.declared.kind.Kind.{Kind}
-use Rattle.ledger_model.specs.declared.kind.Kind.TheVariants.{Started, Updated, Ended}
-use Rattle.ledger_model.specs.Complete.{goes_on_and_ends, starts_and_ends, kinds_of, is_complete}
-use Rattle.ledger_model.specs.Content.{Entry}
-use Rattle.ledger_model.specs.Gaps.{numbers_of, missing}
-use Rattle.ledger_model.specs.BoardLaws.{AreComplete}
+use Rattle.std.{proofs.Common.{◌≡◌, ◌≢◌, ◌↔◌, ℕ, zero, suc, ◌<◌, ◌+◌, ◌-◌, true, List, [], ◌∷◌, Some, None, length, refl, sym, subst, arith, eqb}, specs.List.slice_get, proofs.lemmas.Bool.{and_parts, and_from, eqb-true, eq-eqb, false≢true}}
+use Rattle.ledger_model.{specs.declared.kind.Kind.Kind, specs.declared.kind.Kind.TheVariants.{Started, Updated, Ended}, specs.Complete.{goes_on_and_ends, starts_and_ends, kinds_of, is_complete}, specs.Content.Entry, specs.Gaps.{numbers_of, missing}, specs.BoardLaws.AreComplete}
 
 -- the last kind is Ended
 goes_on-ends : (kind : Kind) (kinds : List Kind) → goes_on_and_ends (kind ∷ kinds) ≡ true → slice_get (kind ∷ kinds) (length kinds) ≡ Some Ended

@@ -1,32 +1,7 @@
 -- Two deliveries that are accepted are accepted the other way round, and leave the same.
-use Rattle.std.proofs.Common.{◌≡◌, ℕ, ◌+◌, ◌≤◌, Bool, true, false, cond, not, ◌&&◌, ◌||◌, List, [], ◌∷◌, ◌++◌, Option, Some, None, length, sum_by, refl, ap, sym, subst, ◌∙◌, nat_le, nat_lt, is_eq, Less, Equal, Greater, bytes_eq, arith, IsPermutation, true≢false}
-use Rattle.std.specs.Ordering.{eq_by_cmp}
-use Rattle.std.specs.List.{list_any}
-use Rattle.std.specs.Cmp.{eq_by_cmp_equiv}
+use Rattle.std.{proofs.Common.{◌≡◌, ℕ, ◌+◌, ◌≤◌, Bool, true, false, cond, not, ◌&&◌, ◌||◌, List, [], ◌∷◌, ◌++◌, Option, Some, None, length, sum_by, refl, ap, sym, subst, ◌∙◌, nat_le, nat_lt, is_eq, Less, Equal, Greater, bytes_eq, arith, IsPermutation, true≢false}, specs.Ordering.eq_by_cmp, specs.List.list_any, specs.Cmp.eq_by_cmp_equiv, specs.FinMap.FinMap, specs.FinMap.Entries.{find, put, by_order}, proofs.lemmas.Bool.{ltb-false, le-ltb}, proofs.lemmas.Cmp.nat_list_eq_equiv, proofs.lemmas.List.length-append, proofs.lemmas.List.Folds.list_any-append, proofs.lemmas.List.Sums.{sum_by-append, sum_by-cons}, proofs.lemmas.Slice.Eq.bytes_eq-Decides}
 use Rattle.std.specs.FinMap as finite
-use Rattle.std.specs.FinMap.{FinMap}
-use Rattle.std.specs.FinMap.Entries.{find, put, by_order}
-use Rattle.std.proofs.lemmas.Bool.{ltb-false, le-ltb}
-use Rattle.std.proofs.lemmas.Cmp.{nat_list_eq_equiv}
-use Rattle.std.proofs.lemmas.List.{length-append}
-use Rattle.std.proofs.lemmas.List.Folds.{list_any-append}
-use Rattle.std.proofs.lemmas.List.Sums.{sum_by-append, sum_by-cons}
-use Rattle.std.proofs.lemmas.Slice.Eq.{bytes_eq-Decides}
-use Rattle.ledger_model.specs.declared.command.Command.{Command}
-use Rattle.ledger_model.specs.declared.command.Command.TheVariants.{Deliver}
-use Rattle.ledger_model.specs.declared.answer.Answer.{Answer}
-use Rattle.ledger_model.specs.declared.answer.Answer.TheVariants.{Accepted, Repeat, Refused}
-use Rattle.ledger_model.specs.declared.answer.Refusal.TheVariants.{ConflictingEvent, TooManyTransactions, EventsFull, ReadingsFull, ChangesExhausted}
-use Rattle.ledger_model.specs.Key.{KeyName, key_cmp}
-use Rattle.ledger_model.specs.Event.{same_event}
-use Rattle.ledger_model.specs.Limits.{Bounds}
-use Rattle.ledger_model.specs.Content.{Content, Stored, Entry, entries, transactions_of, has_transaction}
-use Rattle.ledger_model.specs.Step.{step, answer, answer_to_deliver, readings_stored, content_after}
-use Rattle.ledger_model.specs.Laws.{IsAccepted, AreAccepted, left_by, Sent, deliveries}
-use Rattle.ledger_model.proofs.Keys.{key_total, exact_keys}
-use Rattle.ledger_model.proofs.LedgerLemmas.{not_refused}
-use Rattle.ledger_model.proofs.Transactions.{transactions_added}
-use Rattle.ledger_model.proofs.Exchanges.{IsKeptByExchanges, of_permutation}
+use Rattle.ledger_model.{specs.declared.command.Command.Command, specs.declared.command.Command.TheVariants.Deliver, specs.declared.answer.Answer.Answer, specs.declared.answer.Answer.TheVariants.{Accepted, Repeat, Refused}, specs.declared.answer.Refusal.TheVariants.{ConflictingEvent, TooManyTransactions, EventsFull, ReadingsFull, ChangesExhausted}, specs.Key.{KeyName, key_cmp}, specs.Event.same_event, specs.Limits.Bounds, specs.Content.{Content, Stored, Entry, entries, transactions_of, has_transaction}, specs.Step.{step, answer, answer_to_deliver, readings_stored, content_after}, specs.Laws.{IsAccepted, AreAccepted, left_by, Sent, deliveries}, proofs.Keys.{key_total, exact_keys}, proofs.LedgerLemmas.not_refused, proofs.Transactions.transactions_added, proofs.Exchanges.{IsKeptByExchanges, of_permutation}}
 
 abbrev pub fresh : Sent → Stored
 fresh d = record { event = d.1; voided = false }

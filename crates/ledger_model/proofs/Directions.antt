@@ -1,9 +1,6 @@
 -- What holds in each direction.
 use Rattle.std.proofs.Common.{◌≡◌, refl}
-use Rattle.ledger_model.specs.ByDirection.{in_direction, in_each}
-use Rattle.ledger_model.specs.declared.by_direction.ByDirection.{ByDirection}
-use Rattle.ledger_model.specs.declared.reading.Direction.{Direction}
-use Rattle.ledger_model.specs.declared.reading.Direction.TheVariants.{Import, Export}
+use Rattle.ledger_model.{specs.ByDirection.{in_direction, in_each}, specs.declared.by_direction.ByDirection.ByDirection, specs.declared.reading.Direction.Direction, specs.declared.reading.Direction.TheVariants.{Import, Export}}
 
 -- What holds of both directions holds of each.
 pub each_way : (P : Direction → Type 0) → P Import → P Export → (d : Direction) → P d

@@ -1,13 +1,6 @@
 -- The tests on events decide equality.
-use Rattle.std.proofs.Common.{◌≡◌, ℕ, List, [], ◌∷◌, Option, Some, None, refl, ap}
-use Rattle.std.specs.Bool.{Decides}
-use Rattle.std.proofs.lemmas.Bool.{false≢true}
-use Rattle.std.proofs.lemmas.Bool.Decides.{Decides-eqb, Decides-and, Decides-like}
-use Rattle.ledger_model.specs.declared.kind.Kind.{Kind}
-use Rattle.ledger_model.specs.declared.kind.Kind.TheVariants.{Started, Updated, Ended}
-use Rattle.ledger_model.specs.declared.reading.Direction.{Direction}
-use Rattle.ledger_model.specs.declared.reading.Direction.TheVariants.{Import, Export}
-use Rattle.ledger_model.specs.Event.{MeterReading, EventContent, same_kind, same_evse, same_direction, same_reading, same_readings, same_event}
+use Rattle.std.{proofs.Common.{◌≡◌, ℕ, List, [], ◌∷◌, Option, Some, None, refl, ap}, specs.Bool.Decides, proofs.lemmas.Bool.false≢true, proofs.lemmas.Bool.Decides.{Decides-eqb, Decides-and, Decides-like}}
+use Rattle.ledger_model.{specs.declared.kind.Kind.Kind, specs.declared.kind.Kind.TheVariants.{Started, Updated, Ended}, specs.declared.reading.Direction.Direction, specs.declared.reading.Direction.TheVariants.{Import, Export}, specs.Event.{MeterReading, EventContent, same_kind, same_evse, same_direction, same_reading, same_readings, same_event}}
 
 same_kind-Decides : (a b : Kind) → Decides (same_kind a b) (a ≡ b)
 same_kind-Decides Started Started = (λ _. refl, λ _. refl)

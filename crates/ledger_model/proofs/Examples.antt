@@ -1,14 +1,7 @@
 -- The worked examples compute.
 use Rattle.std.proofs.Common.{◌≡◌, List, [], ap, ◌∙◌}
 use Rattle.energy_flow.specs.Flow.{Energy}
-use Rattle.ledger_model.specs.declared.command.Command.{Command}
-use Rattle.ledger_model.specs.declared.answer.Answer.{Answer}
-use Rattle.ledger_model.specs.Limits.{Bounds}
-use Rattle.ledger_model.specs.Content.{entries, empty_content}
-use Rattle.ledger_model.specs.declared.reading.Direction.TheVariants.{Import}
-use Rattle.ledger_model.specs.Energy.{energy}
-use Rattle.ledger_model.specs.Laws.{answers, left_by}
-use Rattle.ledger_model.proofs.ListedRuns.{told_all, listed_left, told_from_empty, entries_from_empty}
+use Rattle.ledger_model.{specs.declared.command.Command.Command, specs.declared.answer.Answer.Answer, specs.Limits.Bounds, specs.Content.{entries, empty_content}, specs.declared.reading.Direction.TheVariants.Import, specs.Energy.energy, specs.Laws.{answers, left_by}, proofs.ListedRuns.{told_all, listed_left, told_from_empty, entries_from_empty}}
 
 -- the energy after a list of commands
 pub energy_after : (limits : Bounds) (commands : List Command) (e : Energy)

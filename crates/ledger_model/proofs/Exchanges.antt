@@ -1,8 +1,5 @@
 -- A relation of lists that holds when the first two elements change places holds of each other order.
-use Rattle.std.proofs.Common.{ℕ, zero, suc, ◌<◌, List, [], ◌∷◌, length, get_or, set, not-suc-le-zero, le_of_suc-le-suc}
-use Rattle.std.specs.List.{swap}
-use Rattle.std.specs.List.Sorted.{IsPermutation}
-use Rattle.std.proofs.lemmas.List.Sorted.{IsPermutation-keeps}
+use Rattle.std.{proofs.Common.{ℕ, zero, suc, ◌<◌, List, [], ◌∷◌, length, get_or, set, not-suc-le-zero, le_of_suc-le-suc}, specs.List.swap, specs.List.Sorted.IsPermutation, proofs.lemmas.List.Sorted.IsPermutation-keeps}
 
 -- what the relation needs
 pub record IsKeptByExchanges {X : Type 0} (R : List X → List X → Type 0) : Type 0 where

@@ -1,37 +1,6 @@
 -- The figures of a reached content are within its limits.
-use Rattle.std.proofs.Common.{◌≡◌, ℕ, suc, ◌+◌, ◌*◌, ◌<◌, ◌≤◌, Bool, true, false, not, ◌&&◌, cond, nat_lt, List, [], ◌∷◌, ◌++◌, length, map, refl, sym, ap, ◌∙◌, arith, bytes_eq}
-use Rattle.std.specs.Prelude.{sum_by, count_by}
-use Rattle.std.specs.List.{All, filter, flat_map}
-use Rattle.std.specs.FinMap.{entries_sorted}
-use Rattle.std.proofs.Math.Nat.{mul-le-mul_left}
-use Rattle.std.proofs.lemmas.List.{length-append, length-map}
-use Rattle.std.proofs.lemmas.List.Sums.{sum_by-cons, sum_by-le-sum_by, count_by-le-length, length-filter}
-use Rattle.std.proofs.lemmas.Slice.Eq.{bytes_eq-Decides}
-use Rattle.ledger_model.specs.Ranges.{greatest_reading, sequence_end}
-use Rattle.ledger_model.specs.declared.reading.Direction.{Direction}
-use Rattle.ledger_model.specs.declared.reading.Direction.TheVariants.{Import, Export}
-use Rattle.ledger_model.specs.Event.{MeterReading, IsMeterReading, same_direction, toward}
-use Rattle.ledger_model.specs.Limits.{Bounds}
-use Rattle.ledger_model.specs.Content.{Content, Entry, entries, live, live_of, distinct, transactions_of}
-use Rattle.ledger_model.specs.declared.order.Order.{Order}
-use Rattle.ledger_model.specs.declared.order.Order.TheVariants.{Sequence, Moment}
-use Rattle.ledger_model.specs.Energy.{all_pairs_by, difference, followed, pairs_by, readings_by, readings_of}
-use Rattle.ledger_model.specs.Gaps.{numbers_of, missing}
-use Rattle.ledger_model.specs.Complete.{is_complete}
-use Rattle.ledger_model.specs.InTime.{in_order, in_time, put_in_time}
-use Rattle.ledger_model.specs.ReadingOrder.{taken_when}
-use Rattle.ledger_model.specs.Board.{figures, figures_by, last_or_zero}
-use Rattle.ledger_model.specs.BoardLaws.{AreRising}
-use Rattle.ledger_model.specs.Entries.{IsRising}
-use Rattle.ledger_model.specs.Figures.{AreWithin}
-use Rattle.ledger_model.specs.Step.{Reached, readings_stored}
-use Rattle.ledger_model.proofs.GapLemmas.{missing-fills}
-use Rattle.ledger_model.proofs.NumberLemmas.{rising_from_sorted}
-use Rattle.ledger_model.proofs.InTimeLemmas.{in_time-sum}
-use Rattle.ledger_model.proofs.SumLemmas.{sum_by-flat_map}
-use Rattle.ledger_model.proofs.Stored.{transactions-filter}
-use Rattle.ledger_model.proofs.Transactions.{filter_twice, all_pass}
-use Rattle.ledger_model.proofs.Bounds.{AreEntries, AreEntries-filter, AreKept-reached}
+use Rattle.std.{proofs.Common.{◌≡◌, ℕ, suc, ◌+◌, ◌*◌, ◌<◌, ◌≤◌, Bool, true, false, not, ◌&&◌, cond, nat_lt, List, [], ◌∷◌, ◌++◌, length, map, refl, sym, ap, ◌∙◌, arith, bytes_eq}, specs.Prelude.{sum_by, count_by}, specs.List.{All, filter, flat_map}, specs.FinMap.entries_sorted, proofs.Math.Nat.mul-le-mul_left, proofs.lemmas.List.{length-append, length-map}, proofs.lemmas.List.Sums.{sum_by-cons, sum_by-le-sum_by, count_by-le-length, length-filter}, proofs.lemmas.Slice.Eq.bytes_eq-Decides}
+use Rattle.ledger_model.{specs.Ranges.{greatest_reading, sequence_end}, specs.declared.reading.Direction.Direction, specs.declared.reading.Direction.TheVariants.{Import, Export}, specs.Event.{MeterReading, IsMeterReading, same_direction, toward}, specs.Limits.Bounds, specs.Content.{Content, Entry, entries, live, live_of, distinct, transactions_of}, specs.declared.order.Order.Order, specs.declared.order.Order.TheVariants.{Sequence, Moment}, specs.Energy.{all_pairs_by, difference, followed, pairs_by, readings_by, readings_of}, specs.Gaps.{numbers_of, missing}, specs.Complete.is_complete, specs.InTime.{in_order, in_time, put_in_time}, specs.ReadingOrder.taken_when, specs.Board.{figures, figures_by, last_or_zero}, specs.BoardLaws.AreRising, specs.Entries.IsRising, specs.Figures.AreWithin, specs.Step.{Reached, readings_stored}, proofs.GapLemmas.missing-fills, proofs.NumberLemmas.rising_from_sorted, proofs.InTimeLemmas.in_time-sum, proofs.SumLemmas.sum_by-flat_map, proofs.Stored.transactions-filter, proofs.Transactions.{filter_twice, all_pass}, proofs.Bounds.{AreEntries, AreEntries-filter, AreKept-reached}}
 
 abbrev ids : List Entry → List (List ℕ)
 ids es = map (λ e. e.0.tx) es

@@ -1,12 +1,6 @@
 -- The figures of a site are the sums of its stations' figures.
-use Rattle.std.proofs.Common.{◌≡◌, ℕ, List, [], ◌∷◌, ◌+◌, refl, ap, sym, ◌∙◌, map}
-use Rattle.std.specs.Prelude.{sum_by}
-use Rattle.std.proofs.lemmas.List.Sums.{sum_by-cons}
-use Rattle.ledger_model.specs.Periods.{Periods}
-use Rattle.ledger_model.specs.declared.figures.Figures.{Figures}
-use Rattle.ledger_model.specs.Figures.{no_figures}
-use Rattle.ledger_model.specs.Board.{Board, plus_figures, sum_of_figures, site_board}
-use Rattle.ledger_model.specs.BoardLaws.{AreSums}
+use Rattle.std.{proofs.Common.{◌≡◌, ℕ, List, [], ◌∷◌, ◌+◌, refl, ap, sym, ◌∙◌, map}, specs.Prelude.sum_by, proofs.lemmas.List.Sums.sum_by-cons}
+use Rattle.ledger_model.{specs.Periods.Periods, specs.declared.figures.Figures.Figures, specs.Figures.no_figures, specs.Board.{Board, plus_figures, sum_of_figures, site_board}, specs.BoardLaws.AreSums}
 
 -- a figure of the sum is the sum of that figure
 pub figure_of_sum : (figure : Figures → ℕ) → figure no_figures ≡ 0

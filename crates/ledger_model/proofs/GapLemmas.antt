@@ -1,12 +1,6 @@
 -- The gaps of rising numbers are the maximal ranges of what is missing.
-use Rattle.std.proofs.Common.{◌≡◌, ℕ, ◌<◌, ◌≤◌, ◌+◌, ◌-◌, ◌⊎◌, List, [], ◌∷◌, length, refl, ap, sym, ◌∙◌, ⊎_elim, inl, inr, subst, arith}
-use Rattle.std.specs.Prelude.{sum_by}
-use Rattle.std.proofs.lemmas.Bool.{cases_order, cases_lt, lt-ltb, le-ltb}
-use Rattle.std.proofs.lemmas.List.Sums.{sum_by-cons}
-use Rattle.ledger_model.specs.Gaps.{Gap, gaps, gap_size, missing}
-use Rattle.ledger_model.specs.Evse.{first_or_zero}
-use Rattle.ledger_model.specs.Board.{last_or_zero}
-use Rattle.ledger_model.specs.BoardLaws.{AreRising, IsIn, IsMissing, IsInSome, AreApart, AreGaps}
+use Rattle.std.{proofs.Common.{◌≡◌, ℕ, ◌<◌, ◌≤◌, ◌+◌, ◌-◌, ◌⊎◌, List, [], ◌∷◌, length, refl, ap, sym, ◌∙◌, ⊎_elim, inl, inr, subst, arith}, specs.Prelude.sum_by, proofs.lemmas.Bool.{cases_order, cases_lt, lt-ltb, le-ltb}, proofs.lemmas.List.Sums.sum_by-cons}
+use Rattle.ledger_model.{specs.Gaps.{Gap, gaps, gap_size, missing}, specs.Evse.first_or_zero, specs.Board.last_or_zero, specs.BoardLaws.{AreRising, IsIn, IsMissing, IsInSome, AreApart, AreGaps}}
 
 -- numbers that follow one another leave no gap
 gaps-near : (n m : ℕ) (ns : List ℕ) → m ≤ n + 1 → gaps (n ∷ m ∷ ns) ≡ gaps (m ∷ ns)

@@ -1,11 +1,6 @@
 -- A folded id is an id as it is kept.
-use Rattle.std.proofs.Common.{◌≡◌, ◌<◌, ◌≤◌, ℕ, true, ◌&&◌, nat_lt, nat_le, List, [], ◌∷◌, length, refl, arith}
-use Rattle.std.specs.List.{list_all}
-use Rattle.std.proofs.lemmas.Bool.{and_parts, and_from, lt-ltb, le-leb, ltb-true, leb-true}
-use Rattle.std.proofs.lemmas.Bool.Decides.{nat_tests}
-use Rattle.std.proofs.lemmas.List.{length-map}
-use Rattle.ledger_model.specs.Ranges.{most_id_characters}
-use Rattle.ledger_model.specs.TxId.{is_visible, folded_byte, folded, is_tx_id, IsFoldedId}
+use Rattle.std.{proofs.Common.{◌≡◌, ◌<◌, ◌≤◌, ℕ, true, ◌&&◌, nat_lt, nat_le, List, [], ◌∷◌, length, refl, arith}, specs.List.list_all, proofs.lemmas.Bool.{and_parts, and_from, lt-ltb, le-leb, ltb-true, leb-true}, proofs.lemmas.Bool.Decides.nat_tests, proofs.lemmas.List.length-map}
+use Rattle.ledger_model.{specs.Ranges.most_id_characters, specs.TxId.{is_visible, folded_byte, folded, is_tx_id, IsFoldedId}}
 
 visible-folded_byte : (c : ℕ) → is_visible c ≡ true → is_visible (folded_byte c) ≡ true
 visible-folded_byte c h = grind (arith, nat_tests)

@@ -1,8 +1,5 @@
 -- Lists in the order of moments.
-use Rattle.std.proofs.Common.{◌≡◌, ℕ, ◌+◌, ◌<◌, ◌≤◌, ◌⊎◌, Bool, true, false, cond, List, [], ◌∷◌, ◌++◌, refl, sym, ap, subst, ◌∙◌, ⊎_elim, map, nat_lt, eqb, arith}
-use Rattle.std.specs.List.{filter, sum_by}
-use Rattle.std.proofs.lemmas.Bool.{lt-ltb, le-ltb, cases_lt, cases_eq, cases_order, eq-eqb, ne_eqb}
-use Rattle.std.proofs.lemmas.List.Sums.{sum_by-cons}
+use Rattle.std.{proofs.Common.{◌≡◌, ℕ, ◌+◌, ◌<◌, ◌≤◌, ◌⊎◌, Bool, true, false, cond, List, [], ◌∷◌, ◌++◌, refl, sym, ap, subst, ◌∙◌, ⊎_elim, map, nat_lt, eqb, arith}, specs.List.{filter, sum_by}, proofs.lemmas.Bool.{lt-ltb, le-ltb, cases_lt, cases_eq, cases_order, eq-eqb, ne_eqb}, proofs.lemmas.List.Sums.sum_by-cons}
 use Rattle.ledger_model.specs.InTime.{put_in_time, in_time, AreInTime}
 
 module _ {X : Type 0} (when : X → ℕ) where

@@ -1,11 +1,5 @@
 -- Keys are in a total order, and only equal keys tie.
-use Rattle.std.proofs.Common.{ℕ, List, ap}
-use Rattle.std.specs.Ordering.{nat_cmp}
-use Rattle.std.specs.Cmp.{IsTotalOrder}
-use Rattle.std.specs.Cmp.Lexicographic.{slice_cmp}
-use Rattle.std.specs.FinMap.{IsAntisymmetric}
-use Rattle.std.proofs.lemmas.Cmp.{then_total, on_total, nat_list_cmp_total, nat_cmp_total}
-use Rattle.std.proofs.lemmas.Map.Lookups.{exact_pairs, exact_bytes, exact_unsigned}
+use Rattle.std.{proofs.Common.{ℕ, List, ap}, specs.Ordering.nat_cmp, specs.Cmp.IsTotalOrder, specs.Cmp.Lexicographic.slice_cmp, specs.FinMap.IsAntisymmetric, proofs.lemmas.Cmp.{then_total, on_total, nat_list_cmp_total, nat_cmp_total}, proofs.lemmas.Map.Lookups.{exact_pairs, exact_bytes, exact_unsigned}}
 use Rattle.ledger_model.specs.Key.{KeyName, key_cmp}
 
 pub key_total : IsTotalOrder key_cmp

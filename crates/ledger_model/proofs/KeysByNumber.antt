@@ -1,17 +1,6 @@
 -- Where a key is among the events of its own transaction: by its number.
-use Rattle.std.proofs.Common.{◌≡◌, ℕ, ◌<◌, Bool, true, false, cond, ◌&&◌, nat_lt, ◌⊎◌, List, [], ◌∷◌, refl, sym, ap, ◌∙◌, bytes_eq, arith, ⊎_elim}
-use Rattle.std.specs.List.{filter}
-use Rattle.std.specs.Ordering.{is_lt, nat_cmp, ordering_then}
-use Rattle.std.specs.Cmp.{nat_cmp_is, tied_itself}
-use Rattle.std.specs.Cmp.Lexicographic.{slice_cmp}
-use Rattle.std.specs.declared.cmp.Ordering.TheVariants.{Less, Equal, Greater}
-use Rattle.std.proofs.Math.Path.{fun_ext}
-use Rattle.std.proofs.lemmas.Bool.{lt-ltb, le-ltb, cases_order}
-use Rattle.std.proofs.lemmas.Cmp.{nat_list_cmp_total}
-use Rattle.ledger_model.specs.Key.{KeyName, key_cmp}
-use Rattle.ledger_model.specs.Content.{Entry, live, live_of}
-use Rattle.ledger_model.specs.Deltas.{before_key, behind_key, own_events}
-use Rattle.ledger_model.proofs.SumsByTransaction.{one_text}
+use Rattle.std.{proofs.Common.{◌≡◌, ℕ, ◌<◌, Bool, true, false, cond, ◌&&◌, nat_lt, ◌⊎◌, List, [], ◌∷◌, refl, sym, ap, ◌∙◌, bytes_eq, arith, ⊎_elim}, specs.List.filter, specs.Ordering.{is_lt, nat_cmp, ordering_then}, specs.Cmp.{nat_cmp_is, tied_itself}, specs.Cmp.Lexicographic.slice_cmp, specs.declared.cmp.Ordering.TheVariants.{Less, Equal, Greater}, proofs.Math.Path.fun_ext, proofs.lemmas.Bool.{lt-ltb, le-ltb, cases_order}, proofs.lemmas.Cmp.nat_list_cmp_total}
+use Rattle.ledger_model.{specs.Key.{KeyName, key_cmp}, specs.Content.{Entry, live, live_of}, specs.Deltas.{before_key, behind_key, own_events}, proofs.SumsByTransaction.one_text}
 
 -- Two tests, one after the other, are one test.
 twice : {X : Type 0} (p q : X → Bool) (xs : List X) → filter p (filter q xs) ≡ filter (λ x. q x && p x) xs

@@ -1,20 +1,7 @@
 -- What single steps of the ledger do.
-use Rattle.std.proofs.Common.{◌≡◌, ◌+◌, Bool, true, false, cond, [], ◌∷◌, Option, Some, None, refl, ap, sym, ◌∙◌, nat_le, is_eq, Ordering, Less, Equal, Greater}
-use Rattle.std.specs.Ordering.{eq_by_cmp}
+use Rattle.std.{proofs.Common.{◌≡◌, ◌+◌, Bool, true, false, cond, [], ◌∷◌, Option, Some, None, refl, ap, sym, ◌∙◌, nat_le, is_eq, Ordering, Less, Equal, Greater}, specs.Ordering.eq_by_cmp, specs.FinMap.FinMap, proofs.lemmas.Cmp.tied_itself}
 use Rattle.std.specs.FinMap as finite
-use Rattle.std.specs.FinMap.{FinMap}
-use Rattle.std.proofs.lemmas.Cmp.{tied_itself}
-use Rattle.ledger_model.specs.declared.command.Command.TheVariants.{Void, Restore}
-use Rattle.ledger_model.specs.declared.answer.Answer.{Answer}
-use Rattle.ledger_model.specs.declared.answer.Answer.TheVariants.{Accepted, Refused}
-use Rattle.ledger_model.specs.declared.answer.Refusal.{Refusal}
-use Rattle.ledger_model.specs.declared.answer.Refusal.TheVariants.{AlreadyVoided, NotVoided, ChangesExhausted}
-use Rattle.ledger_model.specs.Key.{KeyName, key_cmp}
-use Rattle.ledger_model.specs.Limits.{Bounds}
-use Rattle.ledger_model.specs.Content.{Content, Stored}
-use Rattle.ledger_model.specs.Step.{step, answer_to_void, answer_to_voided, accepted_within_limit, content_after, marked_at}
-use Rattle.ledger_model.specs.Laws.{IsAccepted, AreAccepted, left_by}
-use Rattle.ledger_model.proofs.Keys.{key_total, exact_keys}
+use Rattle.ledger_model.{specs.declared.command.Command.TheVariants.{Void, Restore}, specs.declared.answer.Answer.Answer, specs.declared.answer.Answer.TheVariants.{Accepted, Refused}, specs.declared.answer.Refusal.Refusal, specs.declared.answer.Refusal.TheVariants.{AlreadyVoided, NotVoided, ChangesExhausted}, specs.Key.{KeyName, key_cmp}, specs.Limits.Bounds, specs.Content.{Content, Stored}, specs.Step.{step, answer_to_void, answer_to_voided, accepted_within_limit, content_after, marked_at}, specs.Laws.{IsAccepted, AreAccepted, left_by}, proofs.Keys.{key_total, exact_keys}}
 
 -- an answer that is either a refusal or another, and is accepted, is the other
 pub not_refused : (b : Bool) (why : Refusal) (other : Answer) → IsAccepted (cond b (Refused why) other) → (b ≡ false) × IsAccepted other

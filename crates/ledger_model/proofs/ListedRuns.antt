@@ -1,23 +1,7 @@
 -- Steps and runs of the ledger on the list of its entries, which computes.
-use Rattle.std.proofs.Common.{◌≡◌, ℕ, ◌+◌, Bool, true, false, cond, not, ◌&&◌, List, [], ◌∷◌, Option, Some, None, refl, ap, sym, ◌∙◌, nat_le, nat_lt, length}
-use Rattle.std.specs.Ordering.{eq_by_cmp}
-use Rattle.std.specs.Cmp.{eq_by_cmp_equiv}
+use Rattle.std.{proofs.Common.{◌≡◌, ℕ, ◌+◌, Bool, true, false, cond, not, ◌&&◌, List, [], ◌∷◌, Option, Some, None, refl, ap, sym, ◌∙◌, nat_le, nat_lt, length}, specs.Ordering.eq_by_cmp, specs.Cmp.eq_by_cmp_equiv, specs.FinMap.FinMap, specs.FinMap.Entries.{find, find-where_key, is_sorted-where_key, same_entries}}
 use Rattle.std.specs.FinMap as finite
-use Rattle.std.specs.FinMap.{FinMap}
-use Rattle.std.specs.FinMap.Entries.{find, find-where_key, is_sorted-where_key, same_entries}
-use Rattle.ledger_model.specs.declared.command.Command.{Command}
-use Rattle.ledger_model.specs.declared.command.Command.TheVariants.{Deliver, Void, Restore, Erase}
-use Rattle.ledger_model.specs.declared.answer.Answer.{Answer}
-use Rattle.ledger_model.specs.declared.answer.Answer.TheVariants.{Accepted, Repeat, Refused}
-use Rattle.ledger_model.specs.declared.answer.Refusal.TheVariants.{ConflictingEvent, TooManyTransactions, EventsFull, ReadingsFull, NoSuchEvent, AlreadyVoided, NotVoided, ChangesExhausted}
-use Rattle.ledger_model.specs.Key.{KeyName, key_cmp}
-use Rattle.ledger_model.specs.Event.{EventContent, same_event}
-use Rattle.ledger_model.specs.Limits.{Bounds}
-use Rattle.ledger_model.specs.Content.{Content, Stored, Entry, entries, empty_content, transactions_of, has_transaction}
-use Rattle.ledger_model.specs.Step.{step, answer, answer_to_deliver, answer_to_void, answer_to_voided, readings_stored, content_after, events_after, marked_at}
-use Rattle.ledger_model.specs.Entries.{entries_marked_at, entries_without, entries_after}
-use Rattle.ledger_model.specs.Laws.{answers, left_by}
-use Rattle.ledger_model.proofs.Keys.{key_total, exact_keys}
+use Rattle.ledger_model.{specs.declared.command.Command.Command, specs.declared.command.Command.TheVariants.{Deliver, Void, Restore, Erase}, specs.declared.answer.Answer.Answer, specs.declared.answer.Answer.TheVariants.{Accepted, Repeat, Refused}, specs.declared.answer.Refusal.TheVariants.{ConflictingEvent, TooManyTransactions, EventsFull, ReadingsFull, NoSuchEvent, AlreadyVoided, NotVoided, ChangesExhausted}, specs.Key.{KeyName, key_cmp}, specs.Event.{EventContent, same_event}, specs.Limits.Bounds, specs.Content.{Content, Stored, Entry, entries, empty_content, transactions_of, has_transaction}, specs.Step.{step, answer, answer_to_deliver, answer_to_void, answer_to_voided, readings_stored, content_after, events_after, marked_at}, specs.Entries.{entries_marked_at, entries_without, entries_after}, specs.Laws.{answers, left_by}, proofs.Keys.{key_total, exact_keys}}
 
 -- the entries in order, and the count of changes
 abbrev pub Listed : Type 0

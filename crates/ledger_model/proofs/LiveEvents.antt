@@ -1,25 +1,7 @@
 -- Boards depend on live events and the order of readings, except for how many are voided.
-use Rattle.std.proofs.Common.{◌≡◌, ℕ, Bool, List, ◌++◌, map, filter, length, sum_by, ap, bytes_eq}
-use Rattle.std.specs.Prelude.{◌&&◌, ◌==◌, count_by}
-use Rattle.std.specs.List.{filter_map, flat_map}
-use Rattle.std.proofs.Math.Path.{fun_ext}
+use Rattle.std.{proofs.Common.{◌≡◌, ℕ, Bool, List, ◌++◌, map, filter, length, sum_by, ap, bytes_eq}, specs.Prelude.{◌&&◌, ◌==◌, count_by}, specs.List.{filter_map, flat_map}, proofs.Math.Path.fun_ext}
 use Rattle.energy_flow.specs.Flow.{Energy}
-use Rattle.ledger_model.specs.Periods.{Periods}
-use Rattle.ledger_model.specs.declared.reading.Direction.{Direction}
-use Rattle.ledger_model.specs.declared.reading.Direction.TheVariants.{Import, Export}
-use Rattle.ledger_model.specs.declared.order.Order.{Order}
-use Rattle.ledger_model.specs.declared.order.Order.TheVariants.{Sequence, Moment}
-use Rattle.ledger_model.specs.Event.{MeterReading, toward}
-use Rattle.ledger_model.specs.ByDirection.{in_each}
-use Rattle.ledger_model.specs.Board.{Board, Shown, board_by, figures_by, last_or_zero}
-use Rattle.ledger_model.specs.Complete.{starts_and_ends}
-use Rattle.ledger_model.specs.Content.{Entry, live, transactions_of}
-use Rattle.ledger_model.specs.Energy.{Pair, energy_over, energy_within, followed, parts_over, readings_by, readings_of, rising}
-use Rattle.ledger_model.specs.Evse.{first_or_zero}
-use Rattle.ledger_model.specs.Gaps.{gaps, missing}
-use Rattle.ledger_model.specs.InTime.{in_order, AreInTime}
-use Rattle.ledger_model.specs.ReadingOrder.{taken_when}
-use Rattle.ledger_model.proofs.InTimeLemmas.{in_time-same}
+use Rattle.ledger_model.{specs.Periods.Periods, specs.declared.reading.Direction.Direction, specs.declared.reading.Direction.TheVariants.{Import, Export}, specs.declared.order.Order.Order, specs.declared.order.Order.TheVariants.{Sequence, Moment}, specs.Event.{MeterReading, toward}, specs.ByDirection.in_each, specs.Board.{Board, Shown, board_by, figures_by, last_or_zero}, specs.Complete.starts_and_ends, specs.Content.{Entry, live, transactions_of}, specs.Energy.{Pair, energy_over, energy_within, followed, parts_over, readings_by, readings_of, rising}, specs.Evse.first_or_zero, specs.Gaps.{gaps, missing}, specs.InTime.{in_order, AreInTime}, specs.ReadingOrder.taken_when, proofs.InTimeLemmas.in_time-same}
 
 -- Computed only from live events: those of a transaction, their numbers, its completeness, its
 -- EVSE.

@@ -1,21 +1,6 @@
 -- The live numbers of a transaction rise, as a content keeps its events in the order of their keys.
-use Rattle.std.proofs.Common.{◌≡◌, ℕ, ◌<◌, true, false, cond, not, ◌==◌, nat_lt, T, List, [], ◌∷◌, refl, sym, subst, map}
-use Rattle.std.specs.Prelude.{filter}
-use Rattle.std.specs.Str.{bytes_eq}
-use Rattle.std.specs.Ordering.{nat_cmp, ordering_then, is_lt}
-use Rattle.std.specs.declared.cmp.Ordering.TheVariants.{Less, Equal, Greater}
-use Rattle.std.specs.Cmp.{tied_itself}
-use Rattle.std.specs.Cmp.Lexicographic.{slice_cmp, nat_list_cmp_total}
-use Rattle.std.specs.FinMap.{entries_sorted}
-use Rattle.std.specs.FinMap.Entries.{below_all}
-use Rattle.std.proofs.lemmas.Bool.{ltb-true}
-use Rattle.std.proofs.lemmas.Slice.Eq.{bytes_eq-Decides}
-use Rattle.ledger_model.specs.Key.{KeyName, key_cmp}
-use Rattle.ledger_model.specs.Content.{Content, Entry, entries, live, live_of}
-use Rattle.ledger_model.specs.Gaps.{numbers_of}
-use Rattle.ledger_model.specs.Entries.{IsRising}
-use Rattle.ledger_model.specs.BoardLaws.{AreRising}
-use Rattle.ledger_model.proofs.Rising.{first, second}
+use Rattle.std.{proofs.Common.{◌≡◌, ℕ, ◌<◌, true, false, cond, not, ◌==◌, nat_lt, T, List, [], ◌∷◌, refl, sym, subst, map}, specs.Prelude.filter, specs.Str.bytes_eq, specs.Ordering.{nat_cmp, ordering_then, is_lt}, specs.declared.cmp.Ordering.TheVariants.{Less, Equal, Greater}, specs.Cmp.tied_itself, specs.Cmp.Lexicographic.{slice_cmp, nat_list_cmp_total}, specs.FinMap.entries_sorted, specs.FinMap.Entries.below_all, proofs.lemmas.Bool.ltb-true, proofs.lemmas.Slice.Eq.bytes_eq-Decides}
+use Rattle.ledger_model.{specs.Key.{KeyName, key_cmp}, specs.Content.{Content, Entry, entries, live, live_of}, specs.Gaps.numbers_of, specs.Entries.IsRising, specs.BoardLaws.AreRising, proofs.Rising.{first, second}}
 
 -- a number is below each of a list
 abbrev IsBelowAll : ℕ → List ℕ → Type 0

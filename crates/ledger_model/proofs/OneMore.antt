@@ -1,20 +1,6 @@
 -- What one more live event changes: only in its transaction.
-use Rattle.std.proofs.Common.{◌≡◌, ℕ, ◌+◌, ◌==◌, ◌≤◌, Bool, true, false, cond, not, ◌||◌, List, [], ◌∷◌, ◌++◌, Option, length, map, refl, sym, ap, ◌∙◌, bytes_eq, arith}
-use Rattle.std.specs.List.{filter, filter_map, flat_map, list_any, sum_by}
-use Rattle.std.proofs.lemmas.List.Elements.{filter-append}
-use Rattle.std.proofs.lemmas.List.Sums.{sum_by-append, sum_by-cons, length-filter}
-use Rattle.std.proofs.lemmas.Grind.{flat_map-append}
-use Rattle.std.proofs.lemmas.Cmp.{nat_list_eq_equiv}
-use Rattle.ledger_model.specs.declared.reading.Direction.{Direction}
-use Rattle.ledger_model.specs.Event.{MeterReading, toward}
-use Rattle.ledger_model.specs.Content.{Entry, has_transaction, live, live_of, transactions_of}
-use Rattle.ledger_model.specs.Energy.{Pair, followed, pairs, pairs_of}
-use Rattle.ledger_model.specs.Evse.{evse_of, transactions_at, first_or_zero}
-use Rattle.ledger_model.specs.Deltas.{across, came_by, gone_by, if_read, kept_by, most_for, own_events, own_readings, pairs_between, IsOneMore, pairs_less, pairs_more, pairs_kept, read_or, reading_before, reading_behind}
-use Rattle.ledger_model.proofs.SumLemmas.{sum_by-flat_map, sum_by-filter_cons}
-use Rattle.ledger_model.proofs.Splices.{few_across, few_between, followed_cut}
-use Rattle.ledger_model.proofs.SumsByTransaction.{others, same_text, sum_by_one, sums_differ_by_one, counts_differ_by_one}
-use Rattle.ledger_model.proofs.TransactionLemmas.{any-map}
+use Rattle.std.{proofs.Common.{◌≡◌, ℕ, ◌+◌, ◌==◌, ◌≤◌, Bool, true, false, cond, not, ◌||◌, List, [], ◌∷◌, ◌++◌, Option, length, map, refl, sym, ap, ◌∙◌, bytes_eq, arith}, specs.List.{filter, filter_map, flat_map, list_any, sum_by}, proofs.lemmas.List.Elements.filter-append, proofs.lemmas.List.Sums.{sum_by-append, sum_by-cons, length-filter}, proofs.lemmas.Grind.flat_map-append, proofs.lemmas.Cmp.nat_list_eq_equiv}
+use Rattle.ledger_model.{specs.declared.reading.Direction.Direction, specs.Event.{MeterReading, toward}, specs.Content.{Entry, has_transaction, live, live_of, transactions_of}, specs.Energy.{Pair, followed, pairs, pairs_of}, specs.Evse.{evse_of, transactions_at, first_or_zero}, specs.Deltas.{across, came_by, gone_by, if_read, kept_by, most_for, own_events, own_readings, pairs_between, IsOneMore, pairs_less, pairs_more, pairs_kept, read_or, reading_before, reading_behind}, proofs.SumLemmas.{sum_by-flat_map, sum_by-filter_cons}, proofs.Splices.{few_across, few_between, followed_cut}, proofs.SumsByTransaction.{others, same_text, sum_by_one, sums_differ_by_one, counts_differ_by_one}, proofs.TransactionLemmas.any-map}
 
 -- The ids of events' transactions.
 abbrev ids : List Entry → List (List ℕ)

@@ -1,18 +1,6 @@
 -- The commands that make one more live event, or one less.
-use Rattle.std.proofs.Common.{◌≡◌, Bool, true, false, cond, not, T, List, [], ◌∷◌, ◌++◌, Option, Some, None, refl, sym, ap, subst, ◌∙◌, append_assoc}
-use Rattle.std.specs.List.{filter}
-use Rattle.std.specs.Ordering.{is_lt, is_eq}
-use Rattle.std.specs.declared.cmp.Ordering.{Ordering}
-use Rattle.std.specs.declared.cmp.Ordering.TheVariants.{Less, Equal, Greater}
-use Rattle.std.specs.FinMap.Entries.{find, put, by_order, below_all}
-use Rattle.ledger_model.specs.declared.command.Command.TheVariants.{Deliver, Void, Restore, Erase}
-use Rattle.ledger_model.specs.Event.{EventContent}
-use Rattle.ledger_model.specs.Key.{KeyName, key_cmp}
-use Rattle.ledger_model.specs.Content.{Entry, Stored, live}
-use Rattle.ledger_model.specs.Entries.{IsRising, entries_after, entries_without, entries_marked_at}
-use Rattle.ledger_model.specs.Deltas.{before_key, behind_key, IsOneMore}
-use Rattle.ledger_model.proofs.Keys.{exact_keys}
-use Rattle.ledger_model.proofs.Rising.{first, second, both, less, turned, below_less, find_below}
+use Rattle.std.{proofs.Common.{◌≡◌, Bool, true, false, cond, not, T, List, [], ◌∷◌, ◌++◌, Option, Some, None, refl, sym, ap, subst, ◌∙◌, append_assoc}, specs.List.filter, specs.Ordering.{is_lt, is_eq}, specs.declared.cmp.Ordering.Ordering, specs.declared.cmp.Ordering.TheVariants.{Less, Equal, Greater}, specs.FinMap.Entries.{find, put, by_order, below_all}}
+use Rattle.ledger_model.{specs.declared.command.Command.TheVariants.{Deliver, Void, Restore, Erase}, specs.Event.EventContent, specs.Key.{KeyName, key_cmp}, specs.Content.{Entry, Stored, live}, specs.Entries.{IsRising, entries_after, entries_without, entries_marked_at}, specs.Deltas.{before_key, behind_key, IsOneMore}, proofs.Keys.exact_keys, proofs.Rising.{first, second, both, less, turned, below_less, find_below}}
 
 -- The events in front of a key, and those behind it.
 abbrev in_front : KeyName → List Entry → List Entry

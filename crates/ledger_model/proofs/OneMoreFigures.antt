@@ -1,35 +1,7 @@
 -- How figures and energies change with one more live event.
-use Rattle.std.proofs.Common.{◌≡◌, ℕ, ◌+◌, ◌==◌, Bool, true, false, cond, not, ◌&&◌, T, List, [], ◌∷◌, Option, Some, None, is_some, length, map, refl, sym, ap, subst, ◌∙◌, arith}
-use Rattle.std.specs.List.{filter, sum_by, count_by}
-use Rattle.std.specs.Ordering.{is_eq}
-use Rattle.std.specs.declared.cmp.Ordering.{Ordering}
-use Rattle.std.specs.declared.cmp.Ordering.TheVariants.{Less, Equal, Greater}
-use Rattle.std.specs.FinMap.Entries.{find, below_all, length-put}
-use Rattle.std.proofs.lemmas.List.{length-append}
+use Rattle.std.{proofs.Common.{◌≡◌, ℕ, ◌+◌, ◌==◌, Bool, true, false, cond, not, ◌&&◌, T, List, [], ◌∷◌, Option, Some, None, is_some, length, map, refl, sym, ap, subst, ◌∙◌, arith}, specs.List.{filter, sum_by, count_by}, specs.Ordering.is_eq, specs.declared.cmp.Ordering.Ordering, specs.declared.cmp.Ordering.TheVariants.{Less, Equal, Greater}, specs.FinMap.Entries.{find, below_all, length-put}, proofs.lemmas.List.length-append}
 use Rattle.energy_flow.specs.Flow.{Energy, plus}
-use Rattle.ledger_model.specs.Periods.{Periods}
-use Rattle.ledger_model.specs.declared.reading.Direction.{Direction}
-use Rattle.ledger_model.specs.declared.command.Command.TheVariants.{Deliver, Void, Restore, Erase}
-use Rattle.ledger_model.specs.Event.{EventContent}
-use Rattle.ledger_model.specs.Key.{KeyName, key_cmp}
-use Rattle.ledger_model.specs.Content.{Entry, Stored, live, transactions_of, has_transaction}
-use Rattle.ledger_model.specs.Entries.{IsRising, entries_after, entries_without, entries_marked_at}
-use Rattle.ledger_model.specs.declared.order.Order.{Order}
-use Rattle.ledger_model.specs.Energy.{Pair, difference, energy, energy_in, energy_of, energy_of_by, energy_over, energy_within, pairs, parts_of, parts_over}
-use Rattle.ledger_model.specs.Parts.{Part}
-use Rattle.ledger_model.specs.Evse.{evse_of, energy_at_by}
-use Rattle.ledger_model.specs.Gaps.{missing, numbers_of}
-use Rattle.ledger_model.specs.Complete.{is_complete, starts_and_ends}
-use Rattle.ledger_model.specs.Deltas.{IsOneMore, came_by, flow_if, gone_by}
-use Rattle.ledger_model.proofs.Keys.{key_total, exact_keys}
-use Rattle.ledger_model.proofs.Rising.{first, second, below_less, find_below}
-use Rattle.ledger_model.proofs.Transactions.{transactions_added}
-use Rattle.ledger_model.proofs.FigureBounds.{live_and_voided}
-use Rattle.ledger_model.proofs.OneMore.{live_else, by_transaction_sums, station_moved, transaction_moved, passed_sum, taken}
-use Rattle.ledger_model.proofs.OrderLemmas.{evse_sums}
-use Rattle.ledger_model.proofs.SumLemmas.{sum_by-flat_map}
-use Rattle.ledger_model.specs.DeltaLaws.{count_in}
-use Rattle.ledger_model.proofs.OneMoreByCommand.{delivered_more, restored_more, voided_less, erased_same, kept_below}
+use Rattle.ledger_model.{specs.Periods.Periods, specs.declared.reading.Direction.Direction, specs.declared.command.Command.TheVariants.{Deliver, Void, Restore, Erase}, specs.Event.EventContent, specs.Key.{KeyName, key_cmp}, specs.Content.{Entry, Stored, live, transactions_of, has_transaction}, specs.Entries.{IsRising, entries_after, entries_without, entries_marked_at}, specs.declared.order.Order.Order, specs.Energy.{Pair, difference, energy, energy_in, energy_of, energy_of_by, energy_over, energy_within, pairs, parts_of, parts_over}, specs.Parts.Part, specs.Evse.{evse_of, energy_at_by}, specs.Gaps.{missing, numbers_of}, specs.Complete.{is_complete, starts_and_ends}, specs.Deltas.{IsOneMore, came_by, flow_if, gone_by}, proofs.Keys.{key_total, exact_keys}, proofs.Rising.{first, second, below_less, find_below}, proofs.Transactions.transactions_added, proofs.FigureBounds.live_and_voided, proofs.OneMore.{live_else, by_transaction_sums, station_moved, transaction_moved, passed_sum, taken}, proofs.OrderLemmas.evse_sums, proofs.SumLemmas.sum_by-flat_map, specs.DeltaLaws.count_in, proofs.OneMoreByCommand.{delivered_more, restored_more, voided_less, erased_same, kept_below}}
 
 -- One event more is live.
 pub events_more : (es more front : List Entry) (e : Entry) (back : List Entry) → IsOneMore es more front e back → length (live more) ≡ length (live es) + 1

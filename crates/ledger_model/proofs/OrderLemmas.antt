@@ -1,26 +1,6 @@
 -- The readings of a transaction in either order, with one event more.
-use Rattle.std.proofs.Common.{◌≡◌, ℕ, ◌+◌, ◌*◌, ◌<◌, ◌≤◌, Bool, false, cond, not, ◌||◌, List, [], ◌∷◌, ◌++◌, length, map, refl, sym, ap, subst, ◌∙◌, ⊎_elim, bytes_eq, eqb, nat_lt, arith}
-use Rattle.std.specs.List.{filter, flat_map, sum_by, zip}
-use Rattle.std.proofs.Math.Path.{fun_ext}
-use Rattle.std.proofs.lemmas.Bool.{cases_lt, eq-eqb, ne_eqb, lt-ltb, le-ltb}
-use Rattle.std.proofs.lemmas.Grind.{flat_map-append}
-use Rattle.std.proofs.lemmas.List.Elements.{filter-append}
-use Rattle.std.proofs.lemmas.List.Sums.{sum_by-append}
-use Rattle.ledger_model.specs.declared.order.Order.{Order}
-use Rattle.ledger_model.specs.declared.order.Order.TheVariants.{Sequence, Moment}
-use Rattle.ledger_model.specs.declared.reading.Direction.{Direction}
-use Rattle.ledger_model.specs.Content.{Entry, live, live_of, transactions_of}
-use Rattle.ledger_model.specs.Deltas.{before_key, behind_key, own_events, IsOneMore}
-use Rattle.ledger_model.specs.Energy.{Pair, all_pairs_by, followed, pairs_by, readings_by, readings_of}
-use Rattle.ledger_model.specs.Event.{MeterReading, toward}
-use Rattle.ledger_model.specs.Evse.{evse_of, transactions_at}
-use Rattle.ledger_model.specs.InTime.{across_runs, in_order, in_pairs, runs}
-use Rattle.ledger_model.specs.ReadingOrder.{Numbered, bare, is_own, numbered, numbered_by, pairs_across, pairs_with, runs_of}
-use Rattle.ledger_model.proofs.InTimeLemmas.{in_time-map, in_time-passed, in_time-sum}
-use Rattle.ledger_model.proofs.KeysByNumber.{own_before_key, own_behind_key}
-use Rattle.ledger_model.proofs.OneMore.{by_transaction_sums, evse_else, live_else, live_with, live_without, nothing_taken, passed_sum, taken}
-use Rattle.ledger_model.proofs.RunLemmas.{AreForeign, AreOwn, few_by_runs, foreign_passed, one_run, own_passed, runs_sums}
-use Rattle.ledger_model.proofs.SumLemmas.{sum_by-flat_map, sum_by-map}
+use Rattle.std.{proofs.Common.{◌≡◌, ℕ, ◌+◌, ◌*◌, ◌<◌, ◌≤◌, Bool, false, cond, not, ◌||◌, List, [], ◌∷◌, ◌++◌, length, map, refl, sym, ap, subst, ◌∙◌, ⊎_elim, bytes_eq, eqb, nat_lt, arith}, specs.List.{filter, flat_map, sum_by, zip}, proofs.Math.Path.fun_ext, proofs.lemmas.Bool.{cases_lt, eq-eqb, ne_eqb, lt-ltb, le-ltb}, proofs.lemmas.Grind.flat_map-append, proofs.lemmas.List.Elements.filter-append, proofs.lemmas.List.Sums.sum_by-append}
+use Rattle.ledger_model.{specs.declared.order.Order.Order, specs.declared.order.Order.TheVariants.{Sequence, Moment}, specs.declared.reading.Direction.Direction, specs.Content.{Entry, live, live_of, transactions_of}, specs.Deltas.{before_key, behind_key, own_events, IsOneMore}, specs.Energy.{Pair, all_pairs_by, followed, pairs_by, readings_by, readings_of}, specs.Event.{MeterReading, toward}, specs.Evse.{evse_of, transactions_at}, specs.InTime.{across_runs, in_order, in_pairs, runs}, specs.ReadingOrder.{Numbered, bare, is_own, numbered, numbered_by, pairs_across, pairs_with, runs_of}, proofs.InTimeLemmas.{in_time-map, in_time-passed, in_time-sum}, proofs.KeysByNumber.{own_before_key, own_behind_key}, proofs.OneMore.{by_transaction_sums, evse_else, live_else, live_with, live_without, nothing_taken, passed_sum, taken}, proofs.RunLemmas.{AreForeign, AreOwn, few_by_runs, foreign_passed, one_run, own_passed, runs_sums}, proofs.SumLemmas.{sum_by-flat_map, sum_by-map}}
 
 module _ {X : Type 0} (when : X → ℕ) where
   pub order-nil : (order : Order) → in_order order when [] ≡ []

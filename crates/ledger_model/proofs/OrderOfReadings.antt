@@ -1,23 +1,7 @@
 -- A transaction's readings, by the order of the entries and by the numbers one after the other.
-use Rattle.std.proofs.Common.{◌≡◌, ℕ, zero, suc, ◌<◌, ◌+◌, Bool, true, false, cond, not, ◌&&◌, ◌⊎◌, inl, inr, T, List, [], ◌∷◌, ◌++◌, Some, None, All, refl, ap, sym, subst, ◌∙◌, nat_lt, is_eq, is_lt, Ordering, Less, Equal, Greater, filter, flat_map, bytes_eq, append_assoc, append-nil, arith}
-use Rattle.std.specs.Ordering.{nat_cmp, ordering_then}
-use Rattle.std.specs.List.{AllByRecursion}
+use Rattle.std.{proofs.Common.{◌≡◌, ℕ, zero, suc, ◌<◌, ◌+◌, Bool, true, false, cond, not, ◌&&◌, ◌⊎◌, inl, inr, T, List, [], ◌∷◌, ◌++◌, Some, None, All, refl, ap, sym, subst, ◌∙◌, nat_lt, is_eq, is_lt, Ordering, Less, Equal, Greater, filter, flat_map, bytes_eq, append_assoc, append-nil, arith}, specs.Ordering.{nat_cmp, ordering_then, MatchOrdering}, specs.List.AllByRecursion, specs.FinMap.Entries.{find, is_sorted, below_all}, specs.Cmp.Lexicographic.slice_cmp, proofs.lemmas.Cmp.{ranked, nat_list_eq_equiv}, proofs.lemmas.Bool.{lt-ltb, le-ltb}, proofs.lemmas.List.Concat.flat_map-append, proofs.lemmas.List.Elements.recursion_from_All, proofs.lemmas.Map.Text.is_eq-slice_cmp}
 use Rattle.std.specs.FinMap as finite
-use Rattle.std.specs.FinMap.Entries.{find, is_sorted, below_all}
-use Rattle.std.specs.Cmp.Lexicographic.{slice_cmp}
-use Rattle.std.specs.Ordering.{MatchOrdering}
-use Rattle.std.proofs.lemmas.Cmp.{ranked, nat_list_eq_equiv}
-use Rattle.std.proofs.lemmas.Bool.{lt-ltb, le-ltb}
-use Rattle.std.proofs.lemmas.List.Concat.{flat_map-append}
-use Rattle.std.proofs.lemmas.List.Elements.{recursion_from_All}
-use Rattle.std.proofs.lemmas.Map.Text.{is_eq-slice_cmp}
-use Rattle.ledger_model.specs.declared.reading.Direction.{Direction}
-use Rattle.ledger_model.specs.Event.{MeterReading, toward}
-use Rattle.ledger_model.specs.Key.{KeyName, key_cmp}
-use Rattle.ledger_model.specs.Content.{Content, Entry, entries, live_of, live}
-use Rattle.ledger_model.specs.Energy.{readings_of}
-use Rattle.ledger_model.specs.Laws.{upto, readings_at, by_number}
-use Rattle.ledger_model.proofs.Keys.{key_total, exact_keys}
+use Rattle.ledger_model.{specs.declared.reading.Direction.Direction, specs.Event.{MeterReading, toward}, specs.Key.{KeyName, key_cmp}, specs.Content.{Content, Entry, entries, live_of, live}, specs.Energy.readings_of, specs.Laws.{upto, readings_at, by_number}, proofs.Keys.{key_total, exact_keys}}
 
 first : (a b : Bool) → T (a && b) → T a
 first true b p = tt

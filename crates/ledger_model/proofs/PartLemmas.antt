@@ -1,18 +1,7 @@
 -- The parts of a difference add up to it, by each rule.
-use Rattle.std.proofs.Common.{◌≡◌, ℕ, zero, suc, ◌+◌, ◌*◌, ◌-◌, ◌/◌, ◌≤◌, ◌<◌, Bool, true, false, cond, List, [], ◌∷◌, refl, ap, subst, ◌∙◌, ◌⊎◌, inl, inr, ⊎_elim, arith}
-use Rattle.std.specs.Prelude.{sum_by, nat_le, nat_lt}
-use Rattle.std.proofs.Math.Nat.{div-le_of_le-mul, div-mul-le_self, div-zero, mul-le-mul_left, zero-div}
-use Rattle.std.proofs.lemmas.Bool.{ltb-true, and_parts}
-use Rattle.std.proofs.lemmas.List.Sums.{sum_by-cons}
-use Rattle.std.proofs.lemmas.Nat.{le-div}
+use Rattle.std.{proofs.Common.{◌≡◌, ℕ, zero, suc, ◌+◌, ◌*◌, ◌-◌, ◌/◌, ◌≤◌, ◌<◌, Bool, true, false, cond, List, [], ◌∷◌, refl, ap, subst, ◌∙◌, ◌⊎◌, inl, inr, ⊎_elim, arith}, specs.Prelude.{sum_by, nat_le, nat_lt}, proofs.Math.Nat.{div-le_of_le-mul, div-mul-le_self, div-zero, mul-le-mul_left, zero-div}, proofs.lemmas.Bool.{ltb-true, and_parts}, proofs.lemmas.List.Sums.sum_by-cons, proofs.lemmas.Nat.le-div}
 use Rattle.energy_flow.specs.Flow.{difference_of}
-use Rattle.ledger_model.specs.Energy.{Pair, change_of, difference, energy_over, parts_of, parts_over}
-use Rattle.ledger_model.specs.Parts.{Change, Part, energy_of_parts, is_shared, level_at, longest_share, parts_by, share, shares, shares_from, whole}
-use Rattle.ledger_model.specs.Periods.{Periods}
-use Rattle.ledger_model.specs.Quarter.{quarter_at}
-use Rattle.ledger_model.specs.declared.settle.Settle.{Settle}
-use Rattle.ledger_model.specs.declared.settle.Settle.TheVariants.{Later, Closing, Even}
-use Rattle.ledger_model.proofs.SumLemmas.{sum_by-flat_map, sum_by-same}
+use Rattle.ledger_model.{specs.Energy.{Pair, change_of, difference, energy_over, parts_of, parts_over}, specs.Parts.{Change, Part, energy_of_parts, is_shared, level_at, longest_share, parts_by, share, shares, shares_from, whole}, specs.Periods.Periods, specs.Quarter.quarter_at, specs.declared.settle.Settle.Settle, specs.declared.settle.Settle.TheVariants.{Later, Closing, Even}, proofs.SumLemmas.{sum_by-flat_map, sum_by-same}}
 
 div-rises : (a b k : ℕ) → a ≤ b → a / k ≤ b / k
 div-rises a b zero le = omega (arith, div-zero a)

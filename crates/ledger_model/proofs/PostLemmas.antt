@@ -1,15 +1,6 @@
 -- What one post more changes, and that the totals are the sums over the rows.
-use Rattle.std.proofs.Common.{◌≡◌, ◌≢◌, ℕ, zero, suc, ◌<◌, ◌≤◌, ◌+◌, ◌*◌, true, false, cond, ◌||◌, List, [], ◌∷◌, ◌++◌, refl, ap, sym, ◌∙◌, subst, ⊎_elim, arith, map, eqb}
-use Rattle.std.specs.Prelude.{sum_by, All}
-use Rattle.std.specs.List.{range_with_len}
-use Rattle.std.proofs.lemmas.Bool.{eq-eqb, ne_eqb, eqb-false, cases_eq, cases_Bool, or_parts, or_left, or_right}
-use Rattle.std.proofs.lemmas.List.Elements.{All-head, All-tail}
-use Rattle.ledger_model.specs.declared.figures.Figures.{Figures}
-use Rattle.ledger_model.specs.Figures.{no_figures}
-use Rattle.ledger_model.specs.Board.{plus_figures, sum_of_figures}
-use Rattle.ledger_model.specs.Posts.{Post, has_post, row_after, totals_after}
-use Rattle.ledger_model.proofs.SumLemmas.{sum_by-same, sum_by-none, sum_by-plus, sum_by-map, sum_by-times, AreOnce, times, times-here, times-other}
-use Rattle.ledger_model.proofs.FigureLemmas.{figure_of_sum, same_figures}
+use Rattle.std.{proofs.Common.{◌≡◌, ◌≢◌, ℕ, zero, suc, ◌<◌, ◌≤◌, ◌+◌, ◌*◌, true, false, cond, ◌||◌, List, [], ◌∷◌, ◌++◌, refl, ap, sym, ◌∙◌, subst, ⊎_elim, arith, map, eqb}, specs.Prelude.{sum_by, All}, specs.List.range_with_len, proofs.lemmas.Bool.{eq-eqb, ne_eqb, eqb-false, cases_eq, cases_Bool, or_parts, or_left, or_right}, proofs.lemmas.List.Elements.{All-head, All-tail}}
+use Rattle.ledger_model.{specs.declared.figures.Figures.Figures, specs.Figures.no_figures, specs.Board.{plus_figures, sum_of_figures}, specs.Posts.{Post, has_post, row_after, totals_after}, proofs.SumLemmas.{sum_by-same, sum_by-none, sum_by-plus, sum_by-map, sum_by-times, AreOnce, times, times-here, times-other}, proofs.FigureLemmas.{figure_of_sum, same_figures}}
 
 -- the test of has_post at a list with one post in front
 has-here : (row : ℕ) (p : Post) (ps : List Post) → p.0 ≡ row → has_post row (p ∷ ps) ≡ true

@@ -1,22 +1,7 @@
 -- What commands that are each accepted leave of the empty content.
-use Rattle.std.proofs.Common.{◌≡◌, ℕ, zero, suc, ◌+◌, ◌<◌, ◌≤◌, false, List, [], ◌∷◌, ◌++◌, length, refl, ap, sym, subst, ◌∙◌, nat_le, arith}
+use Rattle.std.{proofs.Common.{◌≡◌, ℕ, zero, suc, ◌+◌, ◌<◌, ◌≤◌, false, List, [], ◌∷◌, ◌++◌, length, refl, ap, sym, subst, ◌∙◌, nat_le, arith}, proofs.lemmas.Bool.leb-false, specs.List.All, proofs.lemmas.List.length-append, proofs.lemmas.List.Elements.{All-nil, All-push}}
 use Rattle.std.specs.FinMap as finite
-use Rattle.std.proofs.lemmas.Bool.{leb-false}
-use Rattle.std.specs.List.{All}
-use Rattle.std.proofs.lemmas.List.{length-append}
-use Rattle.std.proofs.lemmas.List.Elements.{All-nil, All-push}
-use Rattle.ledger_model.specs.declared.command.Command.{Command}
-use Rattle.ledger_model.specs.declared.command.Command.TheVariants.{Deliver, Void, Restore, Erase}
-use Rattle.ledger_model.specs.declared.answer.Answer.{Answer}
-use Rattle.ledger_model.specs.declared.answer.Answer.TheVariants.{Accepted}
-use Rattle.ledger_model.specs.declared.answer.Refusal.TheVariants.{ChangesExhausted}
-use Rattle.ledger_model.specs.Limits.{Bounds}
-use Rattle.ledger_model.specs.Content.{Content, empty_content}
-use Rattle.ledger_model.specs.Admissible.{IsAdmissible}
-use Rattle.ledger_model.specs.Step.{step, accepted_within_limit, content_after, Reached}
-use Rattle.ledger_model.specs.Laws.{IsAccepted, AreAccepted, left_by, IsLeftByRun}
-use Rattle.ledger_model.proofs.LedgerLemmas.{not_refused, found_live, found_voided}
-use Rattle.ledger_model.proofs.Deliveries.{room, told}
+use Rattle.ledger_model.{specs.declared.command.Command.Command, specs.declared.command.Command.TheVariants.{Deliver, Void, Restore, Erase}, specs.declared.answer.Answer.Answer, specs.declared.answer.Answer.TheVariants.Accepted, specs.declared.answer.Refusal.TheVariants.ChangesExhausted, specs.Limits.Bounds, specs.Content.{Content, empty_content}, specs.Admissible.IsAdmissible, specs.Step.{step, accepted_within_limit, content_after, Reached}, specs.Laws.{IsAccepted, AreAccepted, left_by, IsLeftByRun}, proofs.LedgerLemmas.{not_refused, found_live, found_voided}, proofs.Deliveries.{room, told}}
 
 -- an accepted command is counted, below the limit of changes
 pub record IsCounted (limits : Bounds) (c : Content) (a : Answer) : Type 0 where

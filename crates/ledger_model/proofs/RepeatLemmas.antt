@@ -1,34 +1,7 @@
 -- Readings that repeat others, by moment.
-use Rattle.std.proofs.Common.{◌≡◌, ℕ, ◌+◌, ◌-◌, ◌<◌, ◌≤◌, ◌⊎◌, inl, inr, Bool, true, false, cond, List, [], ◌∷◌, ◌++◌, Option, Some, None, refl, sym, ap, subst, ◌∙◌, ⊎_elim, bytes_eq, eqb, map, arith, append_assoc, ◌&&◌}
-use Rattle.std.specs.Prelude.{nat_le, nat_lt}
-use Rattle.std.specs.List.{filter, filter_map, cons_option, flat_map, sum_by, AllByRecursion}
-use Rattle.std.proofs.lemmas.Bool.{cases_Bool, cases_eq, eq-eqb, ltb-true, ne_eqb}
-use Rattle.std.proofs.lemmas.Grind.{flat_map-append}
-use Rattle.std.proofs.lemmas.List.Elements.{filter-append, recursion_from_All}
-use Rattle.std.proofs.lemmas.List.Sums.{sum_by-cons}
-use Rattle.ledger_model.specs.Periods.{Periods}
-use Rattle.ledger_model.specs.declared.order.Order.TheVariants.{Moment}
-use Rattle.ledger_model.specs.declared.reading.Direction.{Direction}
-use Rattle.ledger_model.specs.declared.reading.Direction.TheVariants.{Import, Export}
-use Rattle.ledger_model.specs.Content.{Entry, distinct, live, transactions_of}
-use Rattle.ledger_model.specs.Deltas.{across, first_reading, last_reading, pairs_between}
-use Rattle.ledger_model.specs.Energy.{Pair, energy_by, energy_in_by, energy_of_by, energy_over, energy_within, followed, pairs_by, parts_of, parts_over, readings_by, readings_of}
-use Rattle.ledger_model.specs.Event.{MeterReading, same_direction, toward}
-use Rattle.ledger_model.specs.Evse.{energy_at_by, evse_of, first_or_zero, transactions_at}
-use Rattle.ledger_model.specs.InTime.{AreInTime, in_time}
-use Rattle.ledger_model.specs.Key.{KeyName}
-use Rattle.ledger_model.specs.Parts.{Part, longest_share, parts_by, shares, whole}
-use Rattle.ledger_model.specs.Settling.{settled_by}
-use Rattle.ledger_model.specs.declared.settle.Settle.{Settle}
-use Rattle.ledger_model.specs.declared.settle.Settle.TheVariants.{Later, Closing, Even}
+use Rattle.std.{proofs.Common.{◌≡◌, ℕ, ◌+◌, ◌-◌, ◌<◌, ◌≤◌, ◌⊎◌, inl, inr, Bool, true, false, cond, List, [], ◌∷◌, ◌++◌, Option, Some, None, refl, sym, ap, subst, ◌∙◌, ⊎_elim, bytes_eq, eqb, map, arith, append_assoc, ◌&&◌}, specs.Prelude.{nat_le, nat_lt}, specs.List.{filter, filter_map, cons_option, flat_map, sum_by, AllByRecursion}, proofs.lemmas.Bool.{cases_Bool, cases_eq, eq-eqb, ltb-true, ne_eqb}, proofs.lemmas.Grind.flat_map-append, proofs.lemmas.List.Elements.{filter-append, recursion_from_All}, proofs.lemmas.List.Sums.sum_by-cons}
+use Rattle.ledger_model.{specs.Periods.Periods, specs.declared.order.Order.TheVariants.Moment, specs.declared.reading.Direction.Direction, specs.declared.reading.Direction.TheVariants.{Import, Export}, specs.Content.{Entry, distinct, live, transactions_of}, specs.Deltas.{across, first_reading, last_reading, pairs_between}, specs.Energy.{Pair, energy_by, energy_in_by, energy_of_by, energy_over, energy_within, followed, pairs_by, parts_of, parts_over, readings_by, readings_of}, specs.Event.{MeterReading, same_direction, toward}, specs.Evse.{energy_at_by, evse_of, first_or_zero, transactions_at}, specs.InTime.{AreInTime, in_time}, specs.Key.KeyName, specs.Parts.{Part, longest_share, parts_by, shares, whole}, specs.Settling.settled_by, specs.declared.settle.Settle.Settle, specs.declared.settle.Settle.TheVariants.{Later, Closing, Even}, specs.ReadingOrder.{taken_when, IsOneReadingMore, IsRepeat}, proofs.EnergyLemmas.same_energy, proofs.InTimeLemmas.{AreFrom, AreUpTo, IsPutIn, in_time-rises, of_moment, one_put_in, rest_from, tail_rises}, proofs.OneMore.{passed_sum, taken}, proofs.Splices.{followed_sums, last_is}, proofs.SumLemmas.{sum_by-flat_map, sum_by-same}, proofs.SumsByTransaction.one_text}
 use Rattle.energy_flow.specs.Flow.{difference_of}
-use Rattle.ledger_model.specs.ReadingOrder.{taken_when, IsOneReadingMore, IsRepeat}
-use Rattle.ledger_model.proofs.EnergyLemmas.{same_energy}
-use Rattle.ledger_model.proofs.InTimeLemmas.{AreFrom, AreUpTo, IsPutIn, in_time-rises, of_moment, one_put_in, rest_from, tail_rises}
-use Rattle.ledger_model.proofs.OneMore.{passed_sum, taken}
-use Rattle.ledger_model.proofs.Splices.{followed_sums, last_is}
-use Rattle.ledger_model.proofs.SumLemmas.{sum_by-flat_map, sum_by-same}
-use Rattle.ledger_model.proofs.SumsByTransaction.{one_text}
 
 none_or_some : {X : Type 0} (xs : List X) → (xs ≡ []) ⊎ (xs ≡ [] → ⊥)
 none_or_some [] = inl refl

@@ -1,13 +1,6 @@
 -- Entries in the order of their keys.
-use Rattle.std.proofs.Common.{◌≡◌, ℕ, zero, suc, ◌<◌, Bool, true, false, not, cond, T, ◌&&◌, List, [], ◌∷◌, length, get_or, Some, None, refl, sym, ap, subst, ◌∙◌, arith}
-use Rattle.std.specs.declared.cmp.Ordering.{Ordering}
-use Rattle.std.specs.declared.cmp.Ordering.TheVariants.{Less, Equal, Greater}
-use Rattle.std.specs.Ordering.{is_lt, is_eq, ordering_reverse}
-use Rattle.std.specs.FinMap.Entries.{below_all, find}
-use Rattle.ledger_model.specs.Key.{KeyName, key_cmp}
-use Rattle.ledger_model.specs.Content.{Entry, live}
-use Rattle.ledger_model.specs.Entries.{IsRising}
-use Rattle.ledger_model.proofs.Keys.{key_total}
+use Rattle.std.{proofs.Common.{◌≡◌, ℕ, zero, suc, ◌<◌, Bool, true, false, not, cond, T, ◌&&◌, List, [], ◌∷◌, length, get_or, Some, None, refl, sym, ap, subst, ◌∙◌, arith}, specs.declared.cmp.Ordering.Ordering, specs.declared.cmp.Ordering.TheVariants.{Less, Equal, Greater}, specs.Ordering.{is_lt, is_eq, ordering_reverse}, specs.FinMap.Entries.{below_all, find}}
+use Rattle.ledger_model.{specs.Key.{KeyName, key_cmp}, specs.Content.{Entry, live}, specs.Entries.IsRising, proofs.Keys.key_total}
 
 pub first : (a b : Bool) → T (a && b) → T a
 first true b h = tt

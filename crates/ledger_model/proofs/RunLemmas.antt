@@ -1,9 +1,5 @@
 -- Elements in a row; some pass a test. The row with these and without.
-use Rattle.std.proofs.Common.{◌≡◌, ℕ, ◌+◌, ◌*◌, ◌≤◌, Bool, true, false, cond, not, ◌&&◌, ◌||◌, List, [], ◌∷◌, ◌++◌, Option, Some, None, length, refl, ap, ◌∙◌, ⊎_elim, arith, length-append}
-use Rattle.std.specs.List.{filter, sum_by, zip}
-use Rattle.std.proofs.lemmas.Bool.{cases_Bool}
-use Rattle.std.proofs.lemmas.List.Elements.{filter-append}
-use Rattle.std.proofs.lemmas.List.Sums.{sum_by-append}
+use Rattle.std.{proofs.Common.{◌≡◌, ℕ, ◌+◌, ◌*◌, ◌≤◌, Bool, true, false, cond, not, ◌&&◌, ◌||◌, List, [], ◌∷◌, ◌++◌, Option, Some, None, length, refl, ap, ◌∙◌, ⊎_elim, arith, length-append}, specs.List.{filter, sum_by, zip}, proofs.lemmas.Bool.cases_Bool, proofs.lemmas.List.Elements.filter-append, proofs.lemmas.List.Sums.sum_by-append}
 use Rattle.ledger_model.specs.InTime.{across_behind, across_runs, in_pairs, joined, runs, runs_behind}
 
 module _ {X : Type 0} where

@@ -1,18 +1,6 @@
 -- Runs of a world, station by station, and runs of deliveries in another order.
-use Rattle.std.proofs.Common.{◌≡◌, ℕ, Bool, true, false, cond, List, [], ◌∷◌, ◌++◌, Some, None, map, All, refl, ap, sym, subst, ◌∙◌, bytes_eq, IsPermutation, suc, arith}
-use Rattle.std.specs.List.{cons_option}
-use Rattle.std.proofs.lemmas.List.Elements.{All-cons, All-nil}
-use Rattle.ledger_model.specs.declared.command.Command.{Command}
-use Rattle.ledger_model.specs.declared.command.Command.TheVariants.{Deliver, Void, Restore, Erase}
-use Rattle.ledger_model.specs.declared.answer.Answer.{Answer}
-use Rattle.ledger_model.specs.declared.answer.Answer.TheVariants.{Accepted, Repeat, Refused}
-use Rattle.ledger_model.specs.Limits.{Bounds}
-use Rattle.ledger_model.specs.Content.{Content}
-use Rattle.ledger_model.specs.Laws.{AreAccepted, IsAccepted, deliveries, left_by}
-use Rattle.ledger_model.specs.Step.{answer, content_after, step}
-use Rattle.ledger_model.specs.World.{Station, World, Happens, run, station_after, world_after}
-use Rattle.ledger_model.specs.WorldLaws.{AreReordered, IsDelivery, accepted_deliveries, commands_on, delivered_by, station_left}
-use Rattle.ledger_model.proofs.Deliveries.{orders_content}
+use Rattle.std.{proofs.Common.{◌≡◌, ℕ, Bool, true, false, cond, List, [], ◌∷◌, ◌++◌, Some, None, map, All, refl, ap, sym, subst, ◌∙◌, bytes_eq, IsPermutation, suc, arith}, specs.List.cons_option, proofs.lemmas.List.Elements.{All-cons, All-nil}}
+use Rattle.ledger_model.{specs.declared.command.Command.Command, specs.declared.command.Command.TheVariants.{Deliver, Void, Restore, Erase}, specs.declared.answer.Answer.Answer, specs.declared.answer.Answer.TheVariants.{Accepted, Repeat, Refused}, specs.Limits.Bounds, specs.Content.Content, specs.Laws.{AreAccepted, IsAccepted, deliveries, left_by}, specs.Step.{answer, content_after, step}, specs.World.{Station, World, Happens, run, station_after, world_after}, specs.WorldLaws.{AreReordered, IsDelivery, accepted_deliveries, commands_on, delivered_by, station_left}, proofs.Deliveries.orders_content}
 
 -- ---- lists
 

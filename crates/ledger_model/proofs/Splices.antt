@@ -1,11 +1,6 @@
 -- The pairs of readings in a row, when some are put in between.
-use Rattle.std.proofs.Common.{◌≡◌, ℕ, ◌+◌, ◌-◌, ◌≤◌, List, [], ◌∷◌, ◌++◌, Option, Some, None, length, slice_get, refl, sym, ap, ◌∙◌, arith, append_assoc, length-append}
-use Rattle.std.specs.List.{zip, sum_by}
-use Rattle.std.proofs.lemmas.List.{append-nil}
-use Rattle.std.proofs.lemmas.List.Sums.{sum_by-append}
-use Rattle.ledger_model.specs.Event.{MeterReading}
-use Rattle.ledger_model.specs.Energy.{Pair, followed}
-use Rattle.ledger_model.specs.Deltas.{across, pairs_between, first_reading, last_reading}
+use Rattle.std.{proofs.Common.{◌≡◌, ℕ, ◌+◌, ◌-◌, ◌≤◌, List, [], ◌∷◌, ◌++◌, Option, Some, None, length, slice_get, refl, sym, ap, ◌∙◌, arith, append_assoc, length-append}, specs.List.{zip, sum_by}, proofs.lemmas.List.append-nil, proofs.lemmas.List.Sums.sum_by-append}
+use Rattle.ledger_model.{specs.Event.MeterReading, specs.Energy.{Pair, followed}, specs.Deltas.{across, pairs_between, first_reading, last_reading}}
 
 -- The last reading, or what came before if there is none.
 abbrev last_after : Option MeterReading → List MeterReading → Option MeterReading

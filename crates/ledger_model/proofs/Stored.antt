@@ -1,18 +1,6 @@
 -- How many events, readings and transactions are stored after an accepted command.
-use Rattle.std.proofs.Common.{◌≡◌, ℕ, ◌+◌, ◌≤◌, Bool, true, false, not, ◌&&◌, cond, List, [], ◌∷◌, length, map, Some, refl, ap, arith, bytes_eq}
-use Rattle.std.specs.List.{filter, list_any}
-use Rattle.std.specs.Ordering.{is_eq, eq_by_cmp}
-use Rattle.std.specs.declared.cmp.Ordering.{Ordering}
-use Rattle.std.specs.declared.cmp.Ordering.TheVariants.{Less, Equal, Greater}
-use Rattle.std.specs.FinMap.{find, put}
-use Rattle.std.specs.FinMap.Entries.{by_order}
-use Rattle.std.proofs.lemmas.List.Sums.{sum_by-cons}
-use Rattle.ledger_model.specs.Key.{KeyName, key_cmp}
-use Rattle.ledger_model.specs.Content.{Entry, Stored, transactions_of}
-use Rattle.ledger_model.specs.Entries.{IsRising, entries_without}
-use Rattle.ledger_model.specs.Step.{readings_stored}
-use Rattle.ledger_model.proofs.Rising.{first, second, below_less, find_below}
-use Rattle.ledger_model.proofs.Transactions.{how_many, counted, split_by}
+use Rattle.std.{proofs.Common.{◌≡◌, ℕ, ◌+◌, ◌≤◌, Bool, true, false, not, ◌&&◌, cond, List, [], ◌∷◌, length, map, Some, refl, ap, arith, bytes_eq}, specs.List.{filter, list_any}, specs.Ordering.{is_eq, eq_by_cmp}, specs.declared.cmp.Ordering.Ordering, specs.declared.cmp.Ordering.TheVariants.{Less, Equal, Greater}, specs.FinMap.{find, put}, specs.FinMap.Entries.by_order, proofs.lemmas.List.Sums.sum_by-cons}
+use Rattle.ledger_model.{specs.Key.{KeyName, key_cmp}, specs.Content.{Entry, Stored, transactions_of}, specs.Entries.{IsRising, entries_without}, specs.Step.readings_stored, proofs.Rising.{first, second, below_less, find_below}, proofs.Transactions.{how_many, counted, split_by}}
 
 -- the readings of an entry
 abbrev size : Entry → ℕ

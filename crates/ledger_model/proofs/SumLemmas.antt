@@ -1,12 +1,6 @@
 -- Sums over lists, and over the distinct keys of their elements.
-use Rattle.std.proofs.Common.{◌≡◌, ℕ, ◌<◌, ◌+◌, ◌*◌, ◌⊎◌, ◌↔◌, Bool, true, false, cond, List, [], ◌∷◌, ◌++◌, refl, ap, sym, ◌∙◌, subst, ⊎_elim, inl, inr, arith, map, eqb}
-use Rattle.std.specs.Prelude.{filter, sum_by, count_by}
-use Rattle.std.specs.List.{flat_map}
-use Rattle.std.proofs.Math.Path.{fun_ext}
-use Rattle.std.proofs.lemmas.Bool.{eq-eqb, ne_eqb, lt-ltb, le-ltb, cases_order, cases_eq}
-use Rattle.std.proofs.lemmas.List.Sums.{sum_by-cons, sum_by-append}
-use Rattle.ledger_model.specs.Energy.{put_in, rising}
-use Rattle.ledger_model.specs.BoardLaws.{AreRising, IsIn}
+use Rattle.std.{proofs.Common.{◌≡◌, ℕ, ◌<◌, ◌+◌, ◌*◌, ◌⊎◌, ◌↔◌, Bool, true, false, cond, List, [], ◌∷◌, ◌++◌, refl, ap, sym, ◌∙◌, subst, ⊎_elim, inl, inr, arith, map, eqb}, specs.Prelude.{filter, sum_by, count_by}, specs.List.flat_map, proofs.Math.Path.fun_ext, proofs.lemmas.Bool.{eq-eqb, ne_eqb, lt-ltb, le-ltb, cases_order, cases_eq}, proofs.lemmas.List.Sums.{sum_by-cons, sum_by-append}}
+use Rattle.ledger_model.{specs.Energy.{put_in, rising}, specs.BoardLaws.{AreRising, IsIn}}
 
 pub sum_by-same : {X : Type 0} (f g : X → ℕ) → ((x : X) → f x ≡ g x) → (xs : List X) → sum_by f xs ≡ sum_by g xs
 sum_by-same f g e xs = ap (λ h. sum_by h xs) (fun_ext e)

@@ -1,11 +1,6 @@
 -- Sums over transactions, when the events of one change.
-use Rattle.std.proofs.Common.{◌≡◌, ℕ, ◌+◌, Bool, true, false, cond, not, ◌&&◌, ◌||◌, List, [], ◌∷◌, refl, sym, ap, subst, ◌∙◌, bytes_eq, arith}
-use Rattle.std.specs.List.{filter, list_any, sum_by}
-use Rattle.std.proofs.Math.Path.{fun_ext}
-use Rattle.std.proofs.lemmas.List.Sums.{sum_by-cons}
-use Rattle.std.proofs.lemmas.Slice.Eq.{bytes_eq-Decides}
-use Rattle.ledger_model.specs.Content.{distinct}
-use Rattle.ledger_model.proofs.Transactions.{filter_twice}
+use Rattle.std.{proofs.Common.{◌≡◌, ℕ, ◌+◌, Bool, true, false, cond, not, ◌&&◌, ◌||◌, List, [], ◌∷◌, refl, sym, ap, subst, ◌∙◌, bytes_eq, arith}, specs.List.{filter, list_any, sum_by}, proofs.Math.Path.fun_ext, proofs.lemmas.List.Sums.sum_by-cons, proofs.lemmas.Slice.Eq.bytes_eq-Decides}
+use Rattle.ledger_model.{specs.Content.distinct, proofs.Transactions.filter_twice}
 
 -- The texts other than one.
 abbrev pub others : List ℕ → List (List ℕ) → List (List ℕ)

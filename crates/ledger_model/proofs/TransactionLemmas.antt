@@ -1,22 +1,7 @@
 -- The transactions of a station, each listed once, and in the order of their ids where the events are in the order of
 -- their keys.
-use Rattle.std.proofs.Common.{◌≡◌, ◌⊎◌, Bool, true, false, cond, not, ◌||◌, T, List, [], ◌∷◌, ℕ, refl, ap, sym, ◌∙◌, subst, ⊎_elim, inl, inr, map}
-use Rattle.std.specs.Prelude.{filter}
-use Rattle.std.specs.List.{list_any, AllByRecursion}
-use Rattle.std.specs.List.Sorted.{IsStrictlySortedBy}
-use Rattle.std.specs.Str.{bytes_eq}
-use Rattle.std.specs.Ordering.{nat_cmp, ordering_then, is_lt}
-use Rattle.std.specs.declared.cmp.Ordering.TheVariants.{Less, Equal, Greater}
-use Rattle.std.specs.Cmp.Lexicographic.{slice_cmp}
-use Rattle.std.specs.FinMap.{entries_sorted, slice_cmp-IsAntisymmetric, nat_cmp-IsAntisymmetric}
-use Rattle.std.specs.FinMap.Entries.{below_all}
-use Rattle.std.proofs.lemmas.Bool.{true≢false}
-use Rattle.std.proofs.lemmas.List.Kept.{IsStrictlySortedBy-filter}
-use Rattle.std.proofs.lemmas.Slice.Eq.{bytes_eq-Decides}
-use Rattle.ledger_model.specs.Key.{KeyName, key_cmp}
-use Rattle.ledger_model.specs.Content.{Content, Entry, entries, live, distinct, transactions_of, has_transaction}
-use Rattle.ledger_model.specs.Entries.{IsRising}
-use Rattle.ledger_model.proofs.Rising.{first, second, live_rising}
+use Rattle.std.{proofs.Common.{◌≡◌, ◌⊎◌, Bool, true, false, cond, not, ◌||◌, T, List, [], ◌∷◌, ℕ, refl, ap, sym, ◌∙◌, subst, ⊎_elim, inl, inr, map}, specs.Prelude.filter, specs.List.{list_any, AllByRecursion}, specs.List.Sorted.IsStrictlySortedBy, specs.Str.bytes_eq, specs.Ordering.{nat_cmp, ordering_then, is_lt}, specs.declared.cmp.Ordering.TheVariants.{Less, Equal, Greater}, specs.Cmp.Lexicographic.slice_cmp, specs.FinMap.{entries_sorted, slice_cmp-IsAntisymmetric, nat_cmp-IsAntisymmetric}, specs.FinMap.Entries.below_all, proofs.lemmas.Bool.true≢false, proofs.lemmas.List.Kept.IsStrictlySortedBy-filter, proofs.lemmas.Slice.Eq.bytes_eq-Decides}
+use Rattle.ledger_model.{specs.Key.{KeyName, key_cmp}, specs.Content.{Content, Entry, entries, live, distinct, transactions_of, has_transaction}, specs.Entries.IsRising, proofs.Rising.{first, second, live_rising}}
 
 -- leaving out one text loses no other
 others_stay : (x tx : List ℕ) → bytes_eq tx x ≡ false → (ys : List (List ℕ)) → list_any (bytes_eq tx) (filter (λ y. not (bytes_eq x y)) ys) ≡ list_any (bytes_eq tx) ys

@@ -1,8 +1,5 @@
 -- How many transactions there are when one entry is added.
-use Rattle.std.proofs.Common.{◌≡◌, ℕ, ◌+◌, Bool, true, false, cond, not, ◌&&◌, ◌||◌, List, [], ◌∷◌, ◌++◌, length, map, filter, refl, ap, sym, ◌∙◌, bytes_eq, arith}
-use Rattle.std.specs.List.{list_any}
-use Rattle.std.proofs.lemmas.Cmp.{nat_list_eq_equiv}
-use Rattle.std.proofs.lemmas.Slice.Eq.{bytes_eq-Decides}
+use Rattle.std.{proofs.Common.{◌≡◌, ℕ, ◌+◌, Bool, true, false, cond, not, ◌&&◌, ◌||◌, List, [], ◌∷◌, ◌++◌, length, map, filter, refl, ap, sym, ◌∙◌, bytes_eq, arith}, specs.List.list_any, proofs.lemmas.Cmp.nat_list_eq_equiv, proofs.lemmas.Slice.Eq.bytes_eq-Decides}
 use Rattle.ledger_model.specs.Content.{distinct, transactions_of, has_transaction, Entry}
 
 -- how many distinct texts pass a test

@@ -1,7 +1,4 @@
-use Rattle.ledger_model.specs.declared.command.Command.{Command}
-use Rattle.ledger_model.specs.declared.command.Command.TheVariants.{Deliver, Void, Restore, Erase}
-use Rattle.ledger_model.specs.Key.{KeyName, IsKeyName}
-use Rattle.ledger_model.specs.Event.{IsEventContent}
+use Rattle.ledger_model.{specs.declared.command.Command.Command, specs.declared.command.Command.TheVariants.{Deliver, Void, Restore, Erase}, specs.Key.{KeyName, IsKeyName}, specs.Event.IsEventContent}
 
 -- A command that may be asked: its key is in range, and so is the event that it delivers.
 abbrev pub IsAdmissible : Command → Type 0

@@ -1,19 +1,6 @@
-use Rattle.std.specs.Prelude.{ℕ, Bool, List, [], ◌∷◌, ◌+◌, map, count_by, sum_by, length, ◌==◌, if◌then◌else◌}
-use Rattle.std.specs.List.{flat_map}
+use Rattle.std.{specs.Prelude.{ℕ, Bool, List, [], ◌∷◌, ◌+◌, map, count_by, sum_by, length, ◌==◌, if◌then◌else◌}, specs.List.flat_map}
 use Rattle.energy_flow.specs.Flow.{Energy}
-use Rattle.ledger_model.specs.Periods.{Periods}
-use Rattle.ledger_model.specs.declared.reading.Direction.TheVariants.{Import, Export}
-use Rattle.ledger_model.specs.declared.figures.Figures.{Figures}
-use Rattle.ledger_model.specs.Figures.{no_figures}
-use Rattle.ledger_model.specs.Content.{Entry, live, live_of, transactions_of}
-use Rattle.ledger_model.specs.declared.order.Order.{Order}
-use Rattle.ledger_model.specs.declared.order.Order.TheVariants.{Sequence}
-use Rattle.ledger_model.specs.Energy.{energy_by, flows_in_by, flows_of_by, quarters_by, rising}
-use Rattle.ledger_model.specs.ByDirection.{no_flows, plus_flows}
-use Rattle.ledger_model.specs.declared.by_direction.ByDirection.{ByDirection}
-use Rattle.ledger_model.specs.Evse.{evse_of, evses, flows_at_by, first_or_zero}
-use Rattle.ledger_model.specs.Gaps.{Gap, numbers_of, gaps, missing}
-use Rattle.ledger_model.specs.Complete.{is_complete}
+use Rattle.ledger_model.{specs.Periods.Periods, specs.declared.reading.Direction.TheVariants.{Import, Export}, specs.declared.figures.Figures.Figures, specs.Figures.no_figures, specs.Content.{Entry, live, live_of, transactions_of}, specs.declared.order.Order.Order, specs.declared.order.Order.TheVariants.Sequence, specs.Energy.{energy_by, flows_in_by, flows_of_by, quarters_by, rising}, specs.ByDirection.{no_flows, plus_flows}, specs.declared.by_direction.ByDirection.ByDirection, specs.Evse.{evse_of, evses, flows_at_by, first_or_zero}, specs.Gaps.{Gap, numbers_of, gaps, missing}, specs.Complete.is_complete}
 
 -- The figures of a station, with the readings of each transaction in the given order: live and
 -- voided events; transactions with a live event, how many of these are complete, what they miss,

@@ -1,19 +1,6 @@
 use Rattle.std.specs.Prelude.{ℕ, List, [], ◌∷◌, ◌+◌, ◌*◌, Option, None, Some, true, false, codes}
 use Rattle.energy_flow.specs.Flow.{Energy}
-use Rattle.ledger_model.specs.declared.kind.Kind.{Kind}
-use Rattle.ledger_model.specs.declared.kind.Kind.TheVariants.{Started, Updated, Ended}
-use Rattle.ledger_model.specs.declared.reading.Direction.TheVariants.{Import, Export}
-use Rattle.ledger_model.specs.declared.figures.Figures.{Figures}
-use Rattle.ledger_model.specs.Periods.{Periods}
-use Rattle.ledger_model.specs.declared.settle.Settle.TheVariants.{Closing}
-use Rattle.ledger_model.specs.Event.{MeterReading}
-use Rattle.ledger_model.specs.Moment.{first_moment}
-use Rattle.ledger_model.specs.Quarter.{default_period}
-use Rattle.ledger_model.specs.Settling.{default_periods}
-use Rattle.ledger_model.specs.Content.{Entry}
-use Rattle.ledger_model.specs.ByDirection.{flows_toward}
-use Rattle.ledger_model.specs.declared.by_direction.ByDirection.{ByDirection}
-use Rattle.ledger_model.specs.Board.{Board, Flowed, SiteBoard}
+use Rattle.ledger_model.{specs.declared.kind.Kind.Kind, specs.declared.kind.Kind.TheVariants.{Started, Updated, Ended}, specs.declared.reading.Direction.TheVariants.{Import, Export}, specs.declared.figures.Figures.Figures, specs.Periods.Periods, specs.declared.settle.Settle.TheVariants.Closing, specs.Event.MeterReading, specs.Moment.first_moment, specs.Quarter.default_period, specs.Settling.default_periods, specs.Content.Entry, specs.ByDirection.flows_toward, specs.declared.by_direction.ByDirection.ByDirection, specs.Board.{Board, Flowed, SiteBoard}}
 
 -- So many minutes after 2026-03-01T10:00:00Z, in nanoseconds from 1970.
 abbrev pub minute : ℕ → ℕ

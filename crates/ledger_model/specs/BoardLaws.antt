@@ -1,17 +1,6 @@
-use Rattle.std.specs.Prelude.{ℕ, List, [], ◌∷◌, ◌≡◌, ◌≢◌, ◌<◌, ◌≤◌, ◌+◌, ◌-◌, ◌⊎◌, Some, length, map, sum_by}
-use Rattle.std.specs.List.{flat_map, slice_get}
+use Rattle.std.{specs.Prelude.{ℕ, List, [], ◌∷◌, ◌≡◌, ◌≢◌, ◌<◌, ◌≤◌, ◌+◌, ◌-◌, ◌⊎◌, Some, length, map, sum_by}, specs.List.{flat_map, slice_get}}
 use Rattle.energy_flow.specs.Flow.{Energy, no_energy, plus}
-use Rattle.ledger_model.specs.Periods.{Periods}
-use Rattle.ledger_model.specs.declared.figures.Figures.{Figures}
-use Rattle.ledger_model.specs.declared.kind.Kind.{Kind}
-use Rattle.ledger_model.specs.declared.kind.Kind.TheVariants.{Started, Ended}
-use Rattle.ledger_model.specs.declared.order.Order.{Order}
-use Rattle.ledger_model.specs.Board.{Board, Flowed, board_by}
-use Rattle.ledger_model.specs.Content.{Entry}
-use Rattle.ledger_model.specs.ByDirection.{in_each}
-use Rattle.ledger_model.specs.declared.by_direction.ByDirection.{ByDirection}
-use Rattle.ledger_model.specs.Energy.{energy_in_by}
-use Rattle.ledger_model.specs.Gaps.{Gap}
+use Rattle.ledger_model.{specs.Periods.Periods, specs.declared.figures.Figures.Figures, specs.declared.kind.Kind.Kind, specs.declared.kind.Kind.TheVariants.{Started, Ended}, specs.declared.order.Order.Order, specs.Board.{Board, Flowed, board_by}, specs.Content.Entry, specs.ByDirection.in_each, specs.declared.by_direction.ByDirection.ByDirection, specs.Energy.energy_in_by, specs.Gaps.Gap}
 
 -- Rising numbers: each is below the next.
 abbrev pub AreRising : List ℕ → Type 0

@@ -1,8 +1,5 @@
 use Rattle.std.specs.Prelude.{ℕ, Bool, true, false, List, [], ◌∷◌, ◌&&◌, ◌==◌, map}
-use Rattle.ledger_model.specs.declared.kind.Kind.{Kind}
-use Rattle.ledger_model.specs.declared.kind.Kind.TheVariants.{Started, Updated, Ended}
-use Rattle.ledger_model.specs.Content.{Entry, live_of}
-use Rattle.ledger_model.specs.Gaps.{numbers_of, missing}
+use Rattle.ledger_model.{specs.declared.kind.Kind.Kind, specs.declared.kind.Kind.TheVariants.{Started, Updated, Ended}, specs.Content.{Entry, live_of}, specs.Gaps.{numbers_of, missing}}
 
 -- The kinds of a transaction's live events, in the order of their numbers.
 abbrev pub kinds_of : List ℕ → List Entry → List Kind

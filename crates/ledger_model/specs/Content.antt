@@ -1,10 +1,6 @@
-use Rattle.std.specs.Prelude.{ℕ, Bool, List, [], ◌∷◌, not, map, filter}
-use Rattle.std.specs.List.{list_any}
-use Rattle.std.specs.Str.{bytes_eq}
+use Rattle.std.{specs.Prelude.{ℕ, Bool, List, [], ◌∷◌, not, map, filter}, specs.List.list_any, specs.Str.bytes_eq, specs.FinMap.FinMap}
 use Rattle.std.specs.FinMap as finite
-use Rattle.std.specs.FinMap.{FinMap}
-use Rattle.ledger_model.specs.Key.{KeyName, key_cmp}
-use Rattle.ledger_model.specs.Event.{EventContent}
+use Rattle.ledger_model.{specs.Key.{KeyName, key_cmp}, specs.Event.EventContent}
 
 -- An event that is stored, and whether it is voided.
 pub record Stored : Type 0 where

@@ -1,20 +1,7 @@
 -- What one more live event changes, law by law.
-use Rattle.std.specs.Prelude.{◌≡◌, ℕ, ◌+◌, ◌≤◌, ◌==◌, true, false, if◌then◌else◌, List, ◌++◌, None, Some, count_by, length, sum_by}
-use Rattle.std.specs.FinMap.{find}
+use Rattle.std.{specs.Prelude.{◌≡◌, ℕ, ◌+◌, ◌≤◌, ◌==◌, true, false, if◌then◌else◌, List, ◌++◌, None, Some, count_by, length, sum_by}, specs.FinMap.find}
 use Rattle.energy_flow.specs.Flow.{plus}
-use Rattle.ledger_model.specs.Periods.{Periods}
-use Rattle.ledger_model.specs.declared.command.Command.TheVariants.{Deliver, Void, Restore}
-use Rattle.ledger_model.specs.declared.order.Order.{Order}
-use Rattle.ledger_model.specs.declared.reading.Direction.{Direction}
-use Rattle.ledger_model.specs.Complete.{is_complete}
-use Rattle.ledger_model.specs.Content.{Entry, Stored, has_transaction, live, transactions_of}
-use Rattle.ledger_model.specs.Deltas.{across, before_key, behind_key, came_by, first_reading, flow_if, gone_by, kept_by, last_reading, own_readings, pairs_between, pairs_kept, pairs_less, pairs_more, IsOneMore}
-use Rattle.ledger_model.specs.Energy.{Pair, energy, energy_in, energy_of, energy_of_by, energy_over, energy_within, followed, pairs, pairs_of, parts_over}
-use Rattle.ledger_model.specs.Entries.{entries_after, IsRising}
-use Rattle.ledger_model.specs.Event.{EventContent, MeterReading}
-use Rattle.ledger_model.specs.Evse.{energy_at_by, evse_of, transactions_at}
-use Rattle.ledger_model.specs.Gaps.{missing, numbers_of}
-use Rattle.ledger_model.specs.Key.{KeyName, key_cmp}
+use Rattle.ledger_model.{specs.Periods.Periods, specs.declared.command.Command.TheVariants.{Deliver, Void, Restore}, specs.declared.order.Order.Order, specs.declared.reading.Direction.Direction, specs.Complete.is_complete, specs.Content.{Entry, Stored, has_transaction, live, transactions_of}, specs.Deltas.{across, before_key, behind_key, came_by, first_reading, flow_if, gone_by, kept_by, last_reading, own_readings, pairs_between, pairs_kept, pairs_less, pairs_more, IsOneMore}, specs.Energy.{Pair, energy, energy_in, energy_of, energy_of_by, energy_over, energy_within, followed, pairs, pairs_of, parts_over}, specs.Entries.{entries_after, IsRising}, specs.Event.{EventContent, MeterReading}, specs.Evse.{energy_at_by, evse_of, transactions_at}, specs.Gaps.{missing, numbers_of}, specs.Key.{KeyName, key_cmp}}
 
 -- The middle readings are put in between the others: the pair across their place goes, and the
 -- pairs come that they make with one another and with the readings on either side. The sum of each

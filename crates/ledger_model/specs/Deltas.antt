@@ -1,14 +1,7 @@
 -- What one more live event changes.
-use Rattle.std.specs.Prelude.{Bool, if◌then◌else◌, ◌≡◌, ℕ, zero, suc, ◌+◌, ◌-◌, not, List, [], ◌∷◌, ◌++◌, Option, None, Some, filter, length, slice_get}
-use Rattle.std.specs.List.{flat_map}
-use Rattle.std.specs.Ordering.{is_lt}
-use Rattle.std.specs.Str.{bytes_eq}
+use Rattle.std.{specs.Prelude.{Bool, if◌then◌else◌, ◌≡◌, ℕ, zero, suc, ◌+◌, ◌-◌, not, List, [], ◌∷◌, ◌++◌, Option, None, Some, filter, length, slice_get}, specs.List.flat_map, specs.Ordering.is_lt, specs.Str.bytes_eq}
 use Rattle.energy_flow.specs.Flow.{Energy, no_energy}
-use Rattle.ledger_model.specs.declared.reading.Direction.{Direction}
-use Rattle.ledger_model.specs.Event.{MeterReading, toward}
-use Rattle.ledger_model.specs.Key.{KeyName, key_cmp}
-use Rattle.ledger_model.specs.Content.{Entry, live, transactions_of}
-use Rattle.ledger_model.specs.Energy.{Pair, followed, pairs, pairs_of}
+use Rattle.ledger_model.{specs.declared.reading.Direction.Direction, specs.Event.{MeterReading, toward}, specs.Key.{KeyName, key_cmp}, specs.Content.{Entry, live, transactions_of}, specs.Energy.{Pair, followed, pairs, pairs_of}}
 
 -- The pair of two readings, if both are there.
 abbrev pub across : Option MeterReading → Option MeterReading → List Pair

@@ -1,18 +1,6 @@
-use Rattle.std.specs.Prelude.{ℕ, List, [], ◌∷◌, ◌++◌, ◌==◌, nat_lt, if◌then◌else◌, map, filter, sum_by, drop}
-use Rattle.std.specs.List.{flat_map, zip}
+use Rattle.std.{specs.Prelude.{ℕ, List, [], ◌∷◌, ◌++◌, ◌==◌, nat_lt, if◌then◌else◌, map, filter, sum_by, drop}, specs.List.{flat_map, zip}}
 use Rattle.energy_flow.specs.Flow.{Energy, difference_of}
-use Rattle.ledger_model.specs.ByDirection.{in_each}
-use Rattle.ledger_model.specs.declared.by_direction.ByDirection.{ByDirection}
-use Rattle.ledger_model.specs.Periods.{Periods}
-use Rattle.ledger_model.specs.declared.reading.Direction.{Direction}
-use Rattle.ledger_model.specs.declared.reading.Direction.TheVariants.{Import, Export}
-use Rattle.ledger_model.specs.declared.order.Order.{Order}
-use Rattle.ledger_model.specs.declared.order.Order.TheVariants.{Sequence}
-use Rattle.ledger_model.specs.Event.{MeterReading, toward}
-use Rattle.ledger_model.specs.InTime.{in_order}
-use Rattle.ledger_model.specs.Parts.{Change, Part, energy_of_parts, parts_by}
-use Rattle.ledger_model.specs.Settling.{settled_at}
-use Rattle.ledger_model.specs.Content.{Entry, live, live_of, transactions_of}
+use Rattle.ledger_model.{specs.ByDirection.in_each, specs.declared.by_direction.ByDirection.ByDirection, specs.Periods.Periods, specs.declared.reading.Direction.Direction, specs.declared.reading.Direction.TheVariants.{Import, Export}, specs.declared.order.Order.Order, specs.declared.order.Order.TheVariants.Sequence, specs.Event.{MeterReading, toward}, specs.InTime.in_order, specs.Parts.{Change, Part, energy_of_parts, parts_by}, specs.Settling.settled_at, specs.Content.{Entry, live, live_of, transactions_of}}
 
 -- The readings of a transaction in one direction, by sequence: its live events in the order of
 -- their numbers, and within an event its readings of that direction as sent.

@@ -1,11 +1,5 @@
-use Rattle.std.specs.Prelude.{T, Bool, true, false, not, List, Option, None, Some}
-use Rattle.std.specs.List.{filter}
-use Rattle.std.specs.Ordering.{eq_by_cmp}
-use Rattle.std.specs.FinMap.{is_sorted, find, put}
-use Rattle.ledger_model.specs.declared.command.Command.{Command}
-use Rattle.ledger_model.specs.declared.command.Command.TheVariants.{Deliver, Void, Restore, Erase}
-use Rattle.ledger_model.specs.Key.{KeyName, key_cmp}
-use Rattle.ledger_model.specs.Content.{Entry, Stored}
+use Rattle.std.{specs.Prelude.{T, Bool, true, false, not, List, Option, None, Some}, specs.List.filter, specs.Ordering.eq_by_cmp, specs.FinMap.{is_sorted, find, put}}
+use Rattle.ledger_model.{specs.declared.command.Command.Command, specs.declared.command.Command.TheVariants.{Deliver, Void, Restore, Erase}, specs.Key.{KeyName, key_cmp}, specs.Content.{Entry, Stored}}
 
 -- The keys of entries rise strictly.
 abbrev pub IsRising : List Entry → Type 0

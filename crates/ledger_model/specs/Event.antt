@@ -1,10 +1,5 @@
 use Rattle.std.specs.Prelude.{ℕ, Bool, true, false, List, [], ◌∷◌, ◌≢◌, ◌≤◌, ◌&&◌, ◌==◌, Option, None, Some, IfSome, All, filter, length}
-use Rattle.ledger_model.specs.declared.kind.Kind.{Kind}
-use Rattle.ledger_model.specs.declared.kind.Kind.TheVariants.{Started, Updated, Ended}
-use Rattle.ledger_model.specs.declared.reading.Direction.{Direction}
-use Rattle.ledger_model.specs.declared.reading.Direction.TheVariants.{Import, Export}
-use Rattle.ledger_model.specs.Moment.{IsMoment}
-use Rattle.ledger_model.specs.Ranges.{greatest_evse, greatest_reading, most_event_readings}
+use Rattle.ledger_model.{specs.declared.kind.Kind.Kind, specs.declared.kind.Kind.TheVariants.{Started, Updated, Ended}, specs.declared.reading.Direction.Direction, specs.declared.reading.Direction.TheVariants.{Import, Export}, specs.Moment.IsMoment, specs.Ranges.{greatest_evse, greatest_reading, most_event_readings}}
 
 -- A counted reading of an active energy register: its moment in nanoseconds since 1970, its milliwatt-hours, and its
 -- direction.

@@ -1,12 +1,6 @@
-use Rattle.std.specs.Prelude.{ℕ, List, [], ◌∷◌, ◌==◌, filter, map}
-use Rattle.std.specs.List.{flat_map, filter_map}
+use Rattle.std.{specs.Prelude.{ℕ, List, [], ◌∷◌, ◌==◌, filter, map}, specs.List.{flat_map, filter_map}}
 use Rattle.energy_flow.specs.Flow.{Energy}
-use Rattle.ledger_model.specs.Content.{Entry, live, live_of, transactions_of}
-use Rattle.ledger_model.specs.declared.reading.Direction.{Direction}
-use Rattle.ledger_model.specs.declared.order.Order.{Order}
-use Rattle.ledger_model.specs.ByDirection.{in_each}
-use Rattle.ledger_model.specs.declared.by_direction.ByDirection.{ByDirection}
-use Rattle.ledger_model.specs.Energy.{pairs_by, energy_over, rising}
+use Rattle.ledger_model.{specs.Content.{Entry, live, live_of, transactions_of}, specs.declared.reading.Direction.Direction, specs.declared.order.Order.Order, specs.ByDirection.in_each, specs.declared.by_direction.ByDirection.ByDirection, specs.Energy.{pairs_by, energy_over, rising}}
 
 -- The first of a list, or 0 if it is empty.
 abbrev pub first_or_zero : List ℕ → ℕ

@@ -1,7 +1,5 @@
 use Rattle.std.specs.Prelude.{◌+◌, ◌*◌, ◌≤◌}
-use Rattle.ledger_model.specs.declared.figures.Figures.{Figures}
-use Rattle.ledger_model.specs.Limits.{Bounds}
-use Rattle.ledger_model.specs.Ranges.{greatest_reading, sequence_end}
+use Rattle.ledger_model.{specs.declared.figures.Figures.Figures, specs.Limits.Bounds, specs.Ranges.{greatest_reading, sequence_end}}
 
 -- The figures of a station without events.
 abbrev pub no_figures : Figures

@@ -1,5 +1,4 @@
-use Rattle.std.specs.Prelude.{ℕ, List, Option, None, Some, ◌+◌, ◌-◌, nat_lt, if◌then◌else◌, map, drop, sum_by}
-use Rattle.std.specs.List.{zip, filter_map}
+use Rattle.std.{specs.Prelude.{ℕ, List, Option, None, Some, ◌+◌, ◌-◌, nat_lt, if◌then◌else◌, map, drop, sum_by}, specs.List.{zip, filter_map}}
 use Rattle.ledger_model.specs.Content.{Entry, live_of}
 
 -- The live numbers of a transaction, rising.

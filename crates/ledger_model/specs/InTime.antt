@@ -1,8 +1,6 @@
 -- Lists in the order of moments.
-use Rattle.std.specs.Prelude.{ℕ, Bool, true, false, ◌+◌, ◌≤◌, ◌&&◌, not, List, [], ◌∷◌, ◌++◌, Option, None, Some, drop, nat_lt, if◌then◌else◌}
-use Rattle.std.specs.List.{zip}
-use Rattle.ledger_model.specs.declared.order.Order.{Order}
-use Rattle.ledger_model.specs.declared.order.Order.TheVariants.{Sequence, Moment}
+use Rattle.std.{specs.Prelude.{ℕ, Bool, true, false, ◌+◌, ◌≤◌, ◌&&◌, not, List, [], ◌∷◌, ◌++◌, Option, None, Some, drop, nat_lt, if◌then◌else◌}, specs.List.zip}
+use Rattle.ledger_model.{specs.declared.order.Order.Order, specs.declared.order.Order.TheVariants.{Sequence, Moment}}
 
 -- An element put in front of the first one that is not earlier.
 abbrev pub put_in_time : {X : Type 0} → (X → ℕ) → X → List X → List X

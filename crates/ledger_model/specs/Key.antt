@@ -1,11 +1,5 @@
-use Rattle.std.specs.Prelude.{ℕ, List, ◌<◌}
-use Rattle.std.specs.Ordering.{nat_cmp, ordering_then}
-use Rattle.std.specs.Cmp.Lexicographic.{slice_cmp}
-use Rattle.std.specs.declared.cmp.Ordering.{Ordering}
-use Rattle.std.specs.Coded.{Coded, code_by, coded×, coded_list, coded_ℕ}
-use Rattle.std.specs.Prelude.{refl}
-use Rattle.ledger_model.specs.Ranges.{sequence_end}
-use Rattle.ledger_model.specs.TxId.{IsFoldedId}
+use Rattle.std.{specs.Prelude.{ℕ, List, ◌<◌, refl}, specs.Ordering.{nat_cmp, ordering_then}, specs.Cmp.Lexicographic.slice_cmp, specs.declared.cmp.Ordering.Ordering, specs.Coded.{Coded, code_by, coded×, coded_list, coded_ℕ}}
+use Rattle.ledger_model.{specs.Ranges.sequence_end, specs.TxId.IsFoldedId}
 
 -- What identifies an event of a station: the folded id of its transaction, and its sequence number.
 pub record KeyName : Type 0 where

@@ -1,17 +1,6 @@
-use Rattle.std.specs.Prelude.{ℕ, zero, suc, List, [], ◌∷◌, ◌++◌, Option, None, Some, ⊤, ◌≡◌, map, length, All, if◌then◌else◌}
-use Rattle.std.specs.List.{flat_map}
+use Rattle.std.{specs.Prelude.{ℕ, zero, suc, List, [], ◌∷◌, ◌++◌, Option, None, Some, ⊤, ◌≡◌, map, length, All, if◌then◌else◌}, specs.List.flat_map}
 use Rattle.std.specs.FinMap as finite
-use Rattle.ledger_model.specs.declared.command.Command.{Command}
-use Rattle.ledger_model.specs.declared.command.Command.TheVariants.{Deliver}
-use Rattle.ledger_model.specs.declared.answer.Answer.{Answer}
-use Rattle.ledger_model.specs.declared.answer.Answer.TheVariants.{Accepted, Repeat, Refused}
-use Rattle.ledger_model.specs.Limits.{Bounds}
-use Rattle.ledger_model.specs.Key.{KeyName}
-use Rattle.ledger_model.specs.declared.reading.Direction.{Direction}
-use Rattle.ledger_model.specs.Event.{MeterReading, EventContent, toward}
-use Rattle.ledger_model.specs.Content.{Content, Stored, empty_content}
-use Rattle.ledger_model.specs.Admissible.{IsAdmissible}
-use Rattle.ledger_model.specs.Step.{step}
+use Rattle.ledger_model.{specs.declared.command.Command.Command, specs.declared.command.Command.TheVariants.Deliver, specs.declared.answer.Answer.Answer, specs.declared.answer.Answer.TheVariants.{Accepted, Repeat, Refused}, specs.Limits.Bounds, specs.Key.KeyName, specs.declared.reading.Direction.Direction, specs.Event.{MeterReading, EventContent, toward}, specs.Content.{Content, Stored, empty_content}, specs.Admissible.IsAdmissible, specs.Step.step}
 
 -- The content after a list of commands, one after the other.
 abbrev pub left_by : Bounds → Content → List Command → Content

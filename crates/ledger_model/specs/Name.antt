@@ -1,5 +1,4 @@
-use Rattle.std.specs.Prelude.{ℕ, Bool, List, length, ◌&&◌, ◌||◌, ◌==◌, nat_lt, nat_le, codes}
-use Rattle.std.specs.List.{list_all, list_any}
+use Rattle.std.{specs.Prelude.{ℕ, Bool, List, length, ◌&&◌, ◌||◌, ◌==◌, nat_lt, nat_le, codes}, specs.List.{list_all, list_any}}
 use Rattle.ledger_model.specs.Ranges.{most_name_characters}
 
 -- A letter or a digit, or one of * - _ = : + | @ .

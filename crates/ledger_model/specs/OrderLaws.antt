@@ -1,16 +1,6 @@
 -- What one more event, or one more reading, changes in either order, law by law.
-use Rattle.std.specs.Prelude.{◌≡◌, ℕ, ◌+◌, ◌*◌, ◌≤◌, false, not, List, filter, length, sum_by}
-use Rattle.std.specs.Str.{bytes_eq}
-use Rattle.ledger_model.specs.Periods.{Periods}
-use Rattle.ledger_model.specs.declared.order.Order.{Order}
-use Rattle.ledger_model.specs.declared.order.Order.TheVariants.{Moment}
-use Rattle.ledger_model.specs.declared.reading.Direction.{Direction}
-use Rattle.ledger_model.specs.Content.{Entry}
-use Rattle.ledger_model.specs.Deltas.{before_key, behind_key, IsOneMore}
-use Rattle.ledger_model.specs.Energy.{Pair, all_pairs_by, energy_by, energy_in_by, energy_of_by, pairs_by}
-use Rattle.ledger_model.specs.Event.{toward}
-use Rattle.ledger_model.specs.Evse.{energy_at_by}
-use Rattle.ledger_model.specs.ReadingOrder.{is_own, numbered_by, pairs_across, pairs_with, runs_of}
+use Rattle.std.{specs.Prelude.{◌≡◌, ℕ, ◌+◌, ◌*◌, ◌≤◌, false, not, List, filter, length, sum_by}, specs.Str.bytes_eq}
+use Rattle.ledger_model.{specs.Periods.Periods, specs.declared.order.Order.Order, specs.declared.order.Order.TheVariants.Moment, specs.declared.reading.Direction.Direction, specs.Content.Entry, specs.Deltas.{before_key, behind_key, IsOneMore}, specs.Energy.{Pair, all_pairs_by, energy_by, energy_in_by, energy_of_by, pairs_by}, specs.Event.toward, specs.Evse.energy_at_by, specs.ReadingOrder.{is_own, numbered_by, pairs_across, pairs_with, runs_of}}
 
 -- The second entries have the same energies by moment as the first: of each transaction, each EVSE and each period, and
 -- of the station.

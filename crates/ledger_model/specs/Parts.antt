@@ -1,10 +1,7 @@
 -- The parts of a difference: what of it belongs to each settlement period.
 use Rattle.std.specs.Prelude.{ℕ, zero, suc, Bool, ◌+◌, ◌*◌, ◌-◌, ◌/◌, ◌&&◌, nat_lt, nat_le, List, [], ◌∷◌, sum_by, if◌then◌else◌}
 use Rattle.energy_flow.specs.Flow.{Energy, difference_of}
-use Rattle.ledger_model.specs.Quarter.{quarter_at}
-use Rattle.ledger_model.specs.Settling.{settled_by}
-use Rattle.ledger_model.specs.declared.settle.Settle.{Settle}
-use Rattle.ledger_model.specs.declared.settle.Settle.TheVariants.{Later, Closing, Even}
+use Rattle.ledger_model.{specs.Quarter.quarter_at, specs.Settling.settled_by, specs.declared.settle.Settle.Settle, specs.declared.settle.Settle.TheVariants.{Later, Closing, Even}}
 
 -- A settlement period, and what of a difference belongs to it.
 abbrev pub Part : Type 0

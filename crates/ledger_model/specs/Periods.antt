@@ -1,6 +1,5 @@
 -- The settlement periods of a site.
-use Rattle.std.specs.Prelude.{ℕ, refl}
-use Rattle.std.specs.Coded.{Coded, code_by, coded×, coded_ℕ}
+use Rattle.std.{specs.Prelude.{ℕ, refl}, specs.Coded.{Coded, code_by, coded×, coded_ℕ}}
 use Rattle.ledger_model.specs.contracts.settle.Settle as settles
 use Rattle.ledger_model.specs.declared.settle.Settle.{Settle}
 

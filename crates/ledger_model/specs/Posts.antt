@@ -1,8 +1,5 @@
-use Rattle.std.specs.Prelude.{ℕ, Bool, List, [], ◌∷◌, ◌==◌, if◌then◌else◌}
-use Rattle.std.specs.List.{list_any}
-use Rattle.ledger_model.specs.declared.figures.Figures.{Figures}
-use Rattle.ledger_model.specs.Figures.{no_figures}
-use Rattle.ledger_model.specs.Board.{plus_figures}
+use Rattle.std.{specs.Prelude.{ℕ, Bool, List, [], ◌∷◌, ◌==◌, if◌then◌else◌}, specs.List.list_any}
+use Rattle.ledger_model.{specs.declared.figures.Figures.Figures, specs.Figures.no_figures, specs.Board.plus_figures}
 
 -- A post: the row of a station in its site's book, and the figures that are written to it.
 abbrev pub Post : Type 0

@@ -1,13 +1,6 @@
 -- What one more event, or one more reading, changes in a transaction's readings, in either order.
-use Rattle.std.specs.Prelude.{ℕ, Bool, ◌≡◌, ◌≢◌, ◌==◌, ◌||◌, List, [], ◌∷◌, ◌++◌, All, false, map, filter}
-use Rattle.std.specs.List.{flat_map}
-use Rattle.ledger_model.specs.declared.order.Order.{Order}
-use Rattle.ledger_model.specs.declared.reading.Direction.{Direction}
-use Rattle.ledger_model.specs.Event.{EventContent, MeterReading, toward}
-use Rattle.ledger_model.specs.Key.{KeyName}
-use Rattle.ledger_model.specs.Content.{Entry, live, live_of}
-use Rattle.ledger_model.specs.InTime.{across_runs, in_order, in_pairs, runs}
-use Rattle.ledger_model.specs.Energy.{Pair}
+use Rattle.std.{specs.Prelude.{ℕ, Bool, ◌≡◌, ◌≢◌, ◌==◌, ◌||◌, List, [], ◌∷◌, ◌++◌, All, false, map, filter}, specs.List.flat_map}
+use Rattle.ledger_model.{specs.declared.order.Order.Order, specs.declared.reading.Direction.Direction, specs.Event.{EventContent, MeterReading, toward}, specs.Key.KeyName, specs.Content.{Entry, live, live_of}, specs.InTime.{across_runs, in_order, in_pairs, runs}, specs.Energy.Pair}
 
 -- When a reading was taken.
 abbrev pub taken_when : MeterReading → ℕ

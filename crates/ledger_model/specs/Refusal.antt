@@ -1,6 +1,5 @@
 use Rattle.std.specs.Prelude.{ℕ, List, codes}
-use Rattle.ledger_model.specs.declared.answer.Refusal.{Refusal}
-use Rattle.ledger_model.specs.declared.answer.Refusal.TheVariants.{ConflictingEvent, TooManyTransactions, EventsFull, ReadingsFull, NoSuchEvent, AlreadyVoided, NotVoided, ChangesExhausted}
+use Rattle.ledger_model.{specs.declared.answer.Refusal.Refusal, specs.declared.answer.Refusal.TheVariants.{ConflictingEvent, TooManyTransactions, EventsFull, ReadingsFull, NoSuchEvent, AlreadyVoided, NotVoided, ChangesExhausted}}
 
 -- The number of a refusal, from 1 to 8.
 abbrev pub refusal_number : Refusal → ℕ

@@ -1,10 +1,6 @@
 -- In which settlement period a difference counts.
 use Rattle.std.specs.Prelude.{ℕ, ◌-◌, max}
-use Rattle.ledger_model.specs.Periods.{Periods}
-use Rattle.ledger_model.specs.declared.settle.Settle.{Settle}
-use Rattle.ledger_model.specs.declared.settle.Settle.TheVariants.{Later, Closing, Even}
-use Rattle.ledger_model.specs.Moment.{first_moment}
-use Rattle.ledger_model.specs.Quarter.{default_period, quarter_at}
+use Rattle.ledger_model.{specs.Periods.Periods, specs.declared.settle.Settle.Settle, specs.declared.settle.Settle.TheVariants.{Later, Closing, Even}, specs.Moment.first_moment, specs.Quarter.{default_period, quarter_at}}
 
 -- The settlement period of so many seconds that a moment closes: that of the nanosecond before it. The
 -- first moment closes none; it gets the period that begins there.

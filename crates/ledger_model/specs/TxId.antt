@@ -1,5 +1,4 @@
-use Rattle.std.specs.Prelude.{◌≡◌, ℕ, Bool, true, List, length, map, ◌+◌, ◌&&◌, nat_lt, nat_le, if◌then◌else◌}
-use Rattle.std.specs.List.{list_all}
+use Rattle.std.{specs.Prelude.{◌≡◌, ℕ, Bool, true, List, length, map, ◌+◌, ◌&&◌, nat_lt, nat_le, if◌then◌else◌}, specs.List.list_all}
 use Rattle.ledger_model.specs.Ranges.{most_id_characters}
 
 -- A printing ASCII character other than the blank.

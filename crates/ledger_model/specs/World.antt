@@ -1,9 +1,5 @@
-use Rattle.std.specs.Prelude.{ℕ, List, [], ◌∷◌, map, if◌then◌else◌}
-use Rattle.std.specs.Str.{bytes_eq}
-use Rattle.ledger_model.specs.declared.command.Command.{Command}
-use Rattle.ledger_model.specs.Limits.{Bounds}
-use Rattle.ledger_model.specs.Content.{Content}
-use Rattle.ledger_model.specs.Step.{step}
+use Rattle.std.{specs.Prelude.{ℕ, List, [], ◌∷◌, map, if◌then◌else◌}, specs.Str.bytes_eq}
+use Rattle.ledger_model.{specs.declared.command.Command.Command, specs.Limits.Bounds, specs.Content.Content, specs.Step.step}
 
 -- A station of a plan: its site, its name, its limits and its content.
 pub record Station : Type 0 where

@@ -1,14 +1,5 @@
-use Rattle.std.specs.Prelude.{ℕ, if◌then◌else◌, List, [], ◌∷◌, ◌++◌, ⊤, All, filter_map, None, Some, IsPermutation}
-use Rattle.std.specs.Str.{bytes_eq}
-use Rattle.ledger_model.specs.declared.command.Command.{Command}
-use Rattle.ledger_model.specs.declared.command.Command.TheVariants.{Deliver, Void, Restore, Erase}
-use Rattle.ledger_model.specs.declared.answer.Answer.{Answer}
-use Rattle.ledger_model.specs.declared.answer.Answer.TheVariants.{Accepted}
-use Rattle.ledger_model.specs.Limits.{Bounds}
-use Rattle.ledger_model.specs.Content.{Content}
-use Rattle.ledger_model.specs.Laws.{Sent, left_by}
-use Rattle.ledger_model.specs.Step.{answer, step}
-use Rattle.ledger_model.specs.World.{Station, World, Happens}
+use Rattle.std.{specs.Prelude.{ℕ, if◌then◌else◌, List, [], ◌∷◌, ◌++◌, ⊤, All, filter_map, None, Some, IsPermutation}, specs.Str.bytes_eq}
+use Rattle.ledger_model.{specs.declared.command.Command.Command, specs.declared.command.Command.TheVariants.{Deliver, Void, Restore, Erase}, specs.declared.answer.Answer.Answer, specs.declared.answer.Answer.TheVariants.Accepted, specs.Limits.Bounds, specs.Content.Content, specs.Laws.{Sent, left_by}, specs.Step.{answer, step}, specs.World.{Station, World, Happens}}
 
 -- The commands of a run on the station of this name.
 abbrev pub commands_on : List ℕ → List Happens → List Command

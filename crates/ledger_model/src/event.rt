@@ -1,7 +1,5 @@
 ghost use Rattle.std.specs.Prelude.{◌≡◌, ◌≤◌, ◌≢◌, ◌↔◌, length, All, Some, IsTrue, IfSome, IsOk, IfOk, IfErr};
-ghost use Rattle.ledger_model.specs.Event.{IsEvent, IsEventContent, IsMeterReading};
-ghost use Rattle.ledger_model.specs.Moment.{IsMoment};
-ghost use Rattle.ledger_model.specs.Ranges.{greatest_evse, most_event_readings};
+ghost use Rattle.ledger_model.{specs.Event.{IsEvent, IsEventContent, IsMeterReading}, specs.Moment.IsMoment, specs.Ranges.{greatest_evse, most_event_readings}};
 
 use crate::{EvseId, Kind, Listed, Moment, Reading};
 use std::marker::Model;

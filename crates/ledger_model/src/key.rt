@@ -1,6 +1,5 @@
 ghost use Rattle.std.specs.Prelude.{◌≡◌, ◌<◌, ◌↔◌, IsSome, IfSome};
-ghost use Rattle.ledger_model.specs.Key.{IsKeyName};
-ghost use Rattle.ledger_model.specs.Ranges.{sequence_end};
+ghost use Rattle.ledger_model.{specs.Key.IsKeyName, specs.Ranges.sequence_end};
 
 use crate::TxId;
 use std::marker::Model;
@@ -19,8 +18,7 @@ pub struct Key {
 
 impl Model for Key {
     ghost use Rattle.std.specs.Prelude.{◌<◌};
-    ghost use Rattle.ledger_model.specs.Ranges.{sequence_end};
-    ghost use Rattle.ledger_model.specs.Key.{KeyName, key_code};
+    ghost use Rattle.ledger_model.{specs.Ranges.sequence_end, specs.Key.{KeyName, key_code}};
 
     ghost Value = { KeyName };
 

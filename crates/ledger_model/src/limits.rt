@@ -1,6 +1,5 @@
 ghost use Rattle.std.specs.Prelude.{◌≡◌, ◌≤◌, ◌↔◌, IsSome, IfSome};
-ghost use Rattle.ledger_model.specs.Limits.{AreBounds};
-ghost use Rattle.ledger_model.specs.Ranges.{most_transactions, most_events, most_readings, most_changes};
+ghost use Rattle.ledger_model.{specs.Limits.AreBounds, specs.Ranges.{most_transactions, most_events, most_readings, most_changes}};
 
 use std::marker::Model;
 

@@ -1,6 +1,5 @@
 ghost use Rattle.std.specs.Prelude.{◌≡◌, ◌↔◌, IsSome, IfSome};
-ghost use Rattle.ledger_model.specs.Moment.{IsMoment, first_moment};
-ghost use Rattle.ledger_model.specs.Quarter.{IsQuarter};
+ghost use Rattle.ledger_model.{specs.Moment.{IsMoment, first_moment}, specs.Quarter.IsQuarter};
 
 use std::marker::Model;
 

@@ -30,8 +30,7 @@ pub struct Reading {
 
 impl Model for Reading {
     ghost use Rattle.std.specs.Prelude.{◌≤◌};
-    ghost use Rattle.ledger_model.specs.Event.{MeterReading};
-    ghost use Rattle.ledger_model.specs.Ranges.{greatest_reading};
+    ghost use Rattle.ledger_model.{specs.Event.MeterReading, specs.Ranges.greatest_reading};
 
     ghost Value = { MeterReading };
 

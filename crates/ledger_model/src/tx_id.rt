@@ -1,10 +1,5 @@
-ghost use Rattle.std.specs.Prelude.{◌≡◌, ◌≤◌, ◌<◌, ◌↔◌, true, length, IsSome, IfSome, Some, nat_eq, refl};
-ghost use Rattle.std.specs.List.{list_all};
-ghost use Rattle.std.specs.Ordering.{nat_cmp};
-ghost use Rattle.std.specs.Cmp.{partial_equiv_from_equiv};
-ghost use Rattle.std.specs.Cmp.Lexicographic.{pointwise, slice_cmp, nat_list_eq_equiv, nat_list_cmp_total, texts_po, texts_ties};
-ghost use Rattle.ledger_model.specs.Ranges.{most_id_characters};
-ghost use Rattle.ledger_model.specs.TxId.{is_tx_id, is_visible, folded, folded_byte, IsFoldedId};
+ghost use Rattle.std.{specs.Prelude.{◌≡◌, ◌≤◌, ◌<◌, ◌↔◌, true, length, IsSome, IfSome, Some, nat_eq, refl}, specs.List.list_all, specs.Ordering.nat_cmp, specs.Cmp.partial_equiv_from_equiv, specs.Cmp.Lexicographic.{pointwise, slice_cmp, nat_list_eq_equiv, nat_list_cmp_total, texts_po, texts_ties}};
+ghost use Rattle.ledger_model.{specs.Ranges.most_id_characters, specs.TxId.{is_tx_id, is_visible, folded, folded_byte, IsFoldedId}};
 
 use arrayvec::ArrayString;
 use std::cmp::Ordering;

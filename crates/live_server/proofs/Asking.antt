@@ -1,11 +1,5 @@
 -- A name is text.
-use Rattle.std.proofs.Common.{◌≡◌, ℕ, ◌<◌, ◌&&◌, Bool, true, false, List, get_or, refl, arith}
-use Rattle.std.specs.List.{list_all}
-use Rattle.std.specs.Str.{IsUtf8}
-use Rattle.std.proofs.lemmas.Bool.Decides.{nat_tests}
-use Rattle.std.proofs.lemmas.List.Sums.{AllPass-from_list_all}
-use Rattle.std.proofs.lemmas.Str.{IsUtf8-from_ascii}
-use Rattle.std.proofs.lemmas.Str.Ascii.{IsAscii-from_all}
+use Rattle.std.{proofs.Common.{◌≡◌, ℕ, ◌<◌, ◌&&◌, Bool, true, false, List, get_or, refl, arith}, specs.List.list_all, specs.Str.IsUtf8, proofs.lemmas.Bool.Decides.nat_tests, proofs.lemmas.List.Sums.AllPass-from_list_all, proofs.lemmas.Str.IsUtf8-from_ascii, proofs.lemmas.Str.Ascii.IsAscii-from_all}
 use Rattle.ledger_model.specs.Name.{is_name, is_name_character}
 
 name_byte : (c : ℕ) → is_name_character c ≡ true → c < 128

@@ -1,16 +1,9 @@
 -- The page that lists sites, link by link, and what was seen with an answer.
-use Rattle.std.proofs.Common.{◌≡◌, ℕ, ◌+◌, ◌<◌, List, [], ◌∷◌, ◌++◌, All, Option, None, Some, inl, inr, length, get_or, take, ap, subst, sym, ◌∙◌}
-use Rattle.std.specs.List.{flat_map}
-use Rattle.std.proofs.lemmas.List.{flat_map_more, take_more}
-use Rattle.std.specs.List.{position}
-use Rattle.std.specs.Str.{bytes_eq}
-use Rattle.std.proofs.lemmas.List.Elements.{All-cons, All-nil}
+use Rattle.std.{proofs.Common.{◌≡◌, ℕ, ◌+◌, ◌<◌, List, [], ◌∷◌, ◌++◌, All, Option, None, Some, inl, inr, length, get_or, take, ap, subst, sym, ◌∙◌}, specs.List.{flat_map, position}, proofs.lemmas.List.{flat_map_more, take_more}, specs.Str.bytes_eq, proofs.lemmas.List.Elements.{All-cons, All-nil}}
 use Rattle.ledger_model.specs.Board.{Board}
-use Rattle.live_server.specs.Browsing.{IsBoardAnswer, IsBrowsed, IsSeenWithBoards, site_link}
-use Rattle.live_server.specs.declared.request.Request.{Request}
+use Rattle.live_server.{specs.Browsing.{IsBoardAnswer, IsBrowsed, IsSeenWithBoards, site_link}, specs.declared.request.Request.Request}
 use Rattle.live_server.specs.declared.request.Request.TheVariants as request
-use Rattle.site_desk.specs.declared.plan.SitePlan.{SitePlan}
-use Rattle.site_desk.specs.declared.roster.StationPlace.{StationPlace}
+use Rattle.site_desk.{specs.declared.plan.SitePlan.SitePlan, specs.declared.roster.StationPlace.StationPlace}
 use Rattle.station_link.specs.Attended.{if_seen}
 
 abbrev link_of : SitePlan → List ℕ

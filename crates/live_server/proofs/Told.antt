@@ -1,21 +1,11 @@
 -- What a live server writes, piece by piece.
-use Rattle.std.proofs.Common.{◌≡◌, ℕ, List, [], codes, Option, None, Some, Result, Ok, Err, refl, subst, sym}
-use Rattle.std.specs.Prelude.{IfOk, OnOk}
-use Rattle.std.specs.Io.KnownBytes.{Appends}
-use Rattle.std.proofs.KnownBytes.{Appends-nil, Appends-trans}
-use Rattle.std.proofs.lemmas.List.Elements.{All-nil}
-use Rattle.ledger_model.specs.declared.answer.Answer.{Answer}
-use Rattle.ledger_model.specs.declared.command.Command.{Command}
-use Rattle.ledger_model.specs.Board.{Board}
-use Rattle.script_lines.specs.LineMeaning.{line_meaning}
-use Rattle.script_lines.specs.Lines.{Line}
+use Rattle.std.{proofs.Common.{◌≡◌, ℕ, List, [], codes, Option, None, Some, Result, Ok, Err, refl, subst, sym}, specs.Prelude.{IfOk, OnOk}, specs.Io.KnownBytes.Appends, proofs.KnownBytes.{Appends-nil, Appends-trans}, proofs.lemmas.List.Elements.All-nil}
+use Rattle.ledger_model.{specs.declared.answer.Answer.Answer, specs.declared.command.Command.Command, specs.Board.Board}
+use Rattle.script_lines.{specs.LineMeaning.line_meaning, specs.Lines.Line}
 use Rattle.site_book.specs.Book.{Known}
-use Rattle.site_desk.specs.declared.plan.SitePlan.{SitePlan}
-use Rattle.site_desk.specs.declared.roster.StationPlace.{StationPlace}
+use Rattle.site_desk.{specs.declared.plan.SitePlan.SitePlan, specs.declared.roster.StationPlace.StationPlace}
 use Rattle.server_parts.specs.Ports.{at_port}
-use Rattle.running_desk.specs.Ordered.{lines_in}
-use Rattle.running_desk.specs.Replied.{IsReplyOrMemory}
-use Rattle.running_desk.specs.Replies.{AddsReplies, Replied}
+use Rattle.running_desk.{specs.Ordered.lines_in, specs.Replied.IsReplyOrMemory, specs.Replies.{AddsReplies, Replied}}
 use Rattle.live_server.specs.Told.{Tells, operator_input, ports}
 
 -- where it listens for stations, and then for browsers

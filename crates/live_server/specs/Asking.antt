@@ -1,10 +1,8 @@
 -- What a browser's bytes ask for (RFC 9112).
 use Rattle.std.specs.Prelude.{◌≡◌, ◌≢◌, ℕ, false, List, ◌++◌, codes}
-use Rattle.httparse.specs.Grammar.{HasNoRequest, MayBecomeRequest, ReadsRequest, RequestHead}
-use Rattle.httparse.specs.Spans.{RequestOverflows}
+use Rattle.httparse.{specs.Grammar.{HasNoRequest, MayBecomeRequest, ReadsRequest, RequestHead}, specs.Spans.RequestOverflows}
 use Rattle.ledger_model.specs.Name.{is_name}
-use Rattle.live_server.specs.declared.request.Request.{Request}
-use Rattle.live_server.specs.declared.request.Request.TheVariants.{Unfinished, Malformed, NotAllowed, Sites, Board, Elsewhere}
+use Rattle.live_server.{specs.declared.request.Request.Request, specs.declared.request.Request.TheVariants.{Unfinished, Malformed, NotAllowed, Sites, Board, Elsewhere}}
 
 -- The path of the board of a site of this name.
 abbrev pub board_path : List ℕ → List ℕ

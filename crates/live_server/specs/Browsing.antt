@@ -1,16 +1,10 @@
 -- The answer to a browser's request.
-use Rattle.std.specs.Prelude.{◌≡◌, ◌⊎◌, ◌++◌, ℕ, List, Option, None, Some, codes}
-use Rattle.std.specs.List.{flat_map, position}
-use Rattle.std.specs.Str.{bytes_eq}
+use Rattle.std.{specs.Prelude.{◌≡◌, ◌⊎◌, ◌++◌, ℕ, List, Option, None, Some, codes}, specs.List.{flat_map, position}, specs.Str.bytes_eq}
 use Rattle.ledger_model.specs.Board.{Board}
 use Rattle.running_desk.specs.Replied.{IsShownBoard}
-use Rattle.live_server.specs.declared.reply.Status.{Status}
-use Rattle.live_server.specs.declared.reply.Status.TheVariants.{Found, Malformed, NotFound, NotAllowed, NoMemory}
-use Rattle.live_server.specs.declared.request.Request.{Request}
+use Rattle.live_server.{specs.declared.reply.Status.Status, specs.declared.reply.Status.TheVariants.{Found, Malformed, NotFound, NotAllowed, NoMemory}, specs.declared.request.Request.Request, specs.Responses.{html, plain, response_bytes, status_bytes}}
 use Rattle.live_server.specs.declared.request.Request.TheVariants as request
-use Rattle.live_server.specs.Responses.{html, plain, response_bytes, status_bytes}
-use Rattle.site_desk.specs.declared.plan.SitePlan.{SitePlan}
-use Rattle.site_desk.specs.declared.roster.StationPlace.{StationPlace}
+use Rattle.site_desk.{specs.declared.plan.SitePlan.SitePlan, specs.declared.roster.StationPlace.StationPlace}
 use Rattle.station_link.specs.Attended.{if_seen}
 
 -- The answer shows the board of the site of this number, and what was seen of the desk's journal belongs to it.

@@ -1,8 +1,6 @@
 -- The bytes of answers to browsers (RFC 9110, RFC 9112).
-use Rattle.std.specs.Prelude.{ℕ, List, [], ◌∷◌, ◌++◌, codes, length}
-use Rattle.std.specs.Fmt.{decimal}
-use Rattle.live_server.specs.declared.reply.Status.{Status}
-use Rattle.live_server.specs.declared.reply.Status.TheVariants.{Found, Malformed, NotFound, NotAllowed, NoMemory}
+use Rattle.std.{specs.Prelude.{ℕ, List, [], ◌∷◌, ◌++◌, codes, length}, specs.Fmt.decimal}
+use Rattle.live_server.{specs.declared.reply.Status.Status, specs.declared.reply.Status.TheVariants.{Found, Malformed, NotFound, NotAllowed, NoMemory}}
 
 -- The status of an answer, and its reason.
 abbrev pub status_text : Status → List ℕ

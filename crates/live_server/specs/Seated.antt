@@ -1,6 +1,5 @@
 -- Which worker serves which connection, and which connection is asked to end.
-use Rattle.std.specs.Prelude.{◌≡◌, ◌≢◌, ℕ, ◌<◌, ◌≤◌, Bool, true, false, cond, leb, List, length, Option, None, Some, eqb, slice_get, slice_set, is_none}
-use Rattle.std.specs.List.{filter}
+use Rattle.std.{specs.Prelude.{◌≡◌, ◌≢◌, ℕ, ◌<◌, ◌≤◌, Bool, true, false, cond, leb, List, length, Option, None, Some, eqb, slice_get, slice_set, is_none}, specs.List.filter}
 use Rattle.live_server.specs.declared.seats.ServedConnection.{ServedConnection}
 
 -- Whether both are the same station, or both none.

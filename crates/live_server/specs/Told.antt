@@ -1,12 +1,8 @@
 -- What a live server writes to its output.
-use Rattle.std.specs.Prelude.{ℕ, List, [], ◌++◌, Option, None, Some, codes}
-use Rattle.std.specs.Io.KnownBytes.{Appends}
-use Rattle.ledger_model.specs.declared.answer.Answer.{Answer}
-use Rattle.ledger_model.specs.declared.command.Command.{Command}
-use Rattle.ledger_model.specs.Board.{Board}
+use Rattle.std.{specs.Prelude.{ℕ, List, [], ◌++◌, Option, None, Some, codes}, specs.Io.KnownBytes.Appends}
+use Rattle.ledger_model.{specs.declared.answer.Answer.Answer, specs.declared.command.Command.Command, specs.Board.Board}
 use Rattle.script_lines.specs.Lines.{Line}
-use Rattle.site_desk.specs.declared.plan.SitePlan.{SitePlan}
-use Rattle.site_desk.specs.declared.roster.StationPlace.{StationPlace}
+use Rattle.site_desk.{specs.declared.plan.SitePlan.SitePlan, specs.declared.roster.StationPlace.StationPlace}
 use Rattle.server_parts.specs.Ports.{at_port}
 use Rattle.running_desk.specs.Replies.{AddsReplies}
 use Rattle.site_book.specs.Book.{Known}

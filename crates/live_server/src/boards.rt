@@ -1,10 +1,6 @@
 //! Boards in a browser: a listener of its own, one request at a time, and no request changes anything.
-ghost use Rattle.std.specs.Prelude.{◌≡◌, ◌++◌, All, IfOk, OnOk};
-ghost use Rattle.std.specs.List.{position};
-ghost use Rattle.std.specs.Str.{bytes_eq};
-ghost use Rattle.live_server.specs.declared.reply.Status.{Status};
-ghost use Rattle.live_server.specs.Browsing.{IsBoardAnswer, IsBrowsed, IsNoted, IsSeenWithBoards, site_link, sites_page};
-ghost use Rattle.live_server.specs.Responses.{html, response_bytes, status_bytes};
+ghost use Rattle.std.{specs.Prelude.{◌≡◌, ◌++◌, All, IfOk, OnOk}, specs.List.position, specs.Str.bytes_eq};
+ghost use Rattle.live_server.{specs.declared.reply.Status.Status, specs.Browsing.{IsBoardAnswer, IsBrowsed, IsNoted, IsSeenWithBoards, site_link, sites_page}, specs.Responses.{html, response_bytes, status_bytes}};
 
 use crate::acceptor::Acceptor;
 use crate::connection::{Connection, ConnectionStream, Patience};

@@ -1,6 +1,5 @@
 //! The ports that a live server listens on, and their lines.
-ghost use Rattle.std.specs.Prelude.{ℕ, Option, OnOk};
-ghost use Rattle.std.specs.Io.KnownBytes.{Appends};
+ghost use Rattle.std.{specs.Prelude.{ℕ, Option, OnOk}, specs.Io.KnownBytes.Appends};
 ghost use Rattle.live_server.specs.Told.{ports};
 
 use crate::acceptor::{Acceptor, Acceptors};

@@ -1,13 +1,10 @@
 //! A live server at a desk that the caller hands in.
-ghost use Rattle.std.specs.Prelude.{◌≡◌, ◌≤◌, All, IfOk, IfSome, sum_by};
-ghost use Rattle.std.specs.Thread.{IsSend, IsSync};
+ghost use Rattle.std.{specs.Prelude.{◌≡◌, ◌≤◌, All, IfOk, IfSome, sum_by}, specs.Thread.{IsSend, IsSync}};
 ghost use Rattle.ledger_model.specs.Ranges.{most_plan_readings};
 ghost use Rattle.site_desk.specs.Roster.{AreNewPlaces};
 ghost use Rattle.station_link.specs.Attended.{IsAnswered};
-ghost use Rattle.live_server.specs.Browsing.{IsSeenWithBoards};
-ghost use Rattle.live_server.specs.Told.{Tells, operator_input};
-ghost use Rattle.running_desk.specs.Ordered.{lines_in};
-ghost use Rattle.running_desk.specs.Replies.{AddsReplies};
+ghost use Rattle.live_server.{specs.Browsing.IsSeenWithBoards, specs.Told.{Tells, operator_input}};
+ghost use Rattle.running_desk.{specs.Ordered.lines_in, specs.Replies.AddsReplies};
 
 use crate::acceptor::{Acceptor, Acceptors};
 use crate::boards::SeenWithBoards;

@@ -1,10 +1,5 @@
 -- Where the steps of the marking cut a text, it may be cut.
-use Rattle.std.proofs.Common.{zero, add-one, ◌≡◌, ◌<◌, ℕ, suc, true, List, length, get_or, arith}
-use Rattle.std.specs.List.{prefix_len}
-use Rattle.std.specs.Str.{IsUtf8, IsCharBoundary}
-use Rattle.std.proofs.lemmas.Bool.Decides.{nat_tests}
-use Rattle.std.proofs.lemmas.Str.{IsCharBoundary-start, IsCharBoundary-after_ascii}
-use Rattle.std.proofs.lemmas.List.Sums.{prefix_len_passes, prefix_len-le-length}
+use Rattle.std.{proofs.Common.{zero, add-one, ◌≡◌, ◌<◌, ℕ, suc, true, List, length, get_or, arith}, specs.List.prefix_len, specs.Str.{IsUtf8, IsCharBoundary}, proofs.lemmas.Bool.Decides.nat_tests, proofs.lemmas.Str.{IsCharBoundary-start, IsCharBoundary-after_ascii}, proofs.lemmas.List.Sums.{prefix_len_passes, prefix_len-le-length}}
 use Rattle.marked_json.specs.Marking.{begins_number, goes_on_number}
 
 token_ascii : (c : ℕ) → goes_on_number c ≡ true → c < 128

@@ -1,11 +1,5 @@
 -- The number grammar of RFC 8259 and the test for it agree.
-use Rattle.std.proofs.Common.{◌≡◌, ◌<◌, ◌+◌, ℕ, suc, Bool, true, false, cond, eqb, List, [], ◌∷◌, ◌++◌, take, drop, length, get_or, Option, Some, None, option_and_then, refl, ap, sym, ◌∙◌, inl, inr, ◌⊎◌, ◌||◌, arith, append_assoc, append-nil}
-use Rattle.std.specs.List.{prefix_len, list_all}
-use Rattle.std.proofs.lemmas.Bool.{and_parts, and_from, or_cases, cond-true, cond-false, eqb-true, ne_eqb, eqb-false}
-use Rattle.std.proofs.lemmas.Bool.Decides.{nat_tests}
-use Rattle.std.proofs.lemmas.List.{take-append-drop, length-take}
-use Rattle.std.proofs.Math.Seq.{drop-append_seam}
-use Rattle.std.proofs.lemmas.List.Sums.{AllPass-from_list_all, list_all-from_AllPass, prefix_len-le-length}
+use Rattle.std.{proofs.Common.{◌≡◌, ◌<◌, ◌+◌, ℕ, suc, Bool, true, false, cond, eqb, List, [], ◌∷◌, ◌++◌, take, drop, length, get_or, Option, Some, None, option_and_then, refl, ap, sym, ◌∙◌, inl, inr, ◌⊎◌, ◌||◌, arith, append_assoc, append-nil}, specs.List.{prefix_len, list_all}, proofs.lemmas.Bool.{and_parts, and_from, or_cases, cond-true, cond-false, eqb-true, ne_eqb, eqb-false}, proofs.lemmas.Bool.Decides.nat_tests, proofs.lemmas.List.{take-append-drop, length-take}, proofs.Math.Seq.drop-append_seam, proofs.lemmas.List.Sums.{AllPass-from_list_all, list_all-from_AllPass, prefix_len-le-length}}
 use Rattle.marked_json.specs.Number.{is_digit, IsDigits, IsSign, IsWhole, IsFraction, IsExponentMark, IsExponentSign, IsExponent, IsNumber, after_digits, after_sign, after_whole, after_fraction, after_exponent_sign, after_exponent, is_all, is_number}
 
 -- ---- a token that passes the test has the four parts

@@ -1,7 +1,5 @@
 -- The first byte that passes a test, by the mask of a load.
-use Rattle.std.proofs.Common.{◌≡◌, ℕ, suc, ◌+◌, ◌*◌, ◌≤◌, ◌<◌, ◌||◌, Bool, true, false, not, cond, eqb, List, [], ◌∷◌, map, length, get_or, refl, ap, ap₂, ◌∙◌, arith, Some}
-use Rattle.std.specs.List.{prefix_len}
-use Rattle.std.proofs.lemmas.Simd.{trailing_mask_l, length-chunk, run_in_chunk_fails, run_in_chunk_stops}
+use Rattle.std.{proofs.Common.{◌≡◌, ℕ, suc, ◌+◌, ◌*◌, ◌≤◌, ◌<◌, ◌||◌, Bool, true, false, not, cond, eqb, List, [], ◌∷◌, map, length, get_or, refl, ap, ap₂, ◌∙◌, arith, Some}, specs.List.prefix_len, proofs.lemmas.Simd.{trailing_mask_l, length-chunk, run_in_chunk_fails, run_in_chunk_stops}}
 use Rattle.memchr.specs.Find.{IsFirstByte, is_byte2}
 use lib.Bits.{bit_or}
 use lib.Count.{count_trailing_zeros}

@@ -1,17 +1,7 @@
 -- What each step of the marking adds is what the definition says.
-use Rattle.std.proofs.Common.{◌≤◌, ◌||◌, ◌≡◌, ◌<◌, ◌+◌, ℕ, zero, suc, Bool, true, false, cond, eqb, not, List, [], ◌∷◌, ◌++◌, take, drop, get_or, length, Ok, Err, refl, ap, sym, ◌∙◌, append_assoc, append-nil, arith, ◌-◌, zero-le, subst, min, ◌⊎◌, inl, inr}
-use Rattle.std.specs.List.{prefix_len, take_while}
-use Rattle.std.proofs.lemmas.Bool.Decides.{nat_tests}
-use Rattle.marked_json.specs.Marking.{BytePlace, outside, in_number, in_string, after_backslash, Marks, with_front, marked, marked_token, marked_outside, is_before_colon, begins_number, goes_on_number}
-use Rattle.marked_json.specs.Number.{is_number}
-use Rattle.marked_json.specs.declared.fault.JsonFault.TheVariants.{BadNumber, NumberAsKey}
-use Rattle.std.proofs.lemmas.List.{at_drop_more, at_drop_all, take_all, length-drop, get_or-drop, drop-drop, length-take-le, take-take}
-use Rattle.std.proofs.Math.Seq.{drop-length, take-append-add}
-use Rattle.std.proofs.lemmas.List.Sums.{prefix_len_stops}
-use Rattle.std.proofs.lemmas.Bool.{false_from_ne_true, cases_lt}
-use Rattle.std.proofs.lemmas.Grind.{common_steps}
+use Rattle.std.{proofs.Common.{◌≤◌, ◌||◌, ◌≡◌, ◌<◌, ◌+◌, ℕ, zero, suc, Bool, true, false, cond, eqb, not, List, [], ◌∷◌, ◌++◌, take, drop, get_or, length, Ok, Err, refl, ap, sym, ◌∙◌, append_assoc, append-nil, arith, ◌-◌, zero-le, subst, min, ◌⊎◌, inl, inr}, specs.List.{prefix_len, take_while}, proofs.lemmas.Bool.Decides.nat_tests, proofs.lemmas.List.{at_drop_more, at_drop_all, take_all, length-drop, get_or-drop, drop-drop, length-take-le, take-take}, proofs.Math.Seq.{drop-length, take-append-add}, proofs.lemmas.List.Sums.prefix_len_stops, proofs.lemmas.Bool.{false_from_ne_true, cases_lt}, proofs.lemmas.Grind.common_steps}
+use Rattle.marked_json.{specs.Marking.{BytePlace, outside, in_number, in_string, after_backslash, Marks, with_front, marked, marked_token, marked_outside, is_before_colon, begins_number, goes_on_number}, specs.Number.is_number, specs.declared.fault.JsonFault.TheVariants.{BadNumber, NumberAsKey}, specs.Steps.{string_len, completed}}
 use Rattle.memchr.specs.Find.{Nowhere, NoneBefore, Passes, is_byte2}
-use Rattle.marked_json.specs.Steps.{string_len, completed}
 
 -- one front before another
 pub with_front-with_front : (xs ys : List ℕ) (m : Marks) → with_front xs (with_front ys m) ≡ with_front (xs ++ ys) m

@@ -1,11 +1,6 @@
 -- What a place in a tree shows.
-use Rattle.std.proofs.Common.{◌≡◌, ◌≢◌, ℕ, Bool, true, eqb, get_or, take, drop, length, ◌-◌, ◌∙◌, List, [], ◌∷◌, Option, Some, None, option_map, refl, ap, arith, MatchOption, Bor}
-use Rattle.std.proofs.lemmas.Bool.Decides.{nat_tests, Decides-eqb}
-use Rattle.std.specs.Cmp.Lexicographic.{pointwise}
-use Rattle.std.proofs.lemmas.Slice.Eq.{slice_eq-Decides}
-use Rattle.std.proofs.lemmas.List.{take_all}
-use Rattle.serde_json.specs.Data.{Data}
-use Rattle.serde_json.specs.View.{items_of}
+use Rattle.std.{proofs.Common.{◌≡◌, ◌≢◌, ℕ, Bool, true, eqb, get_or, take, drop, length, ◌-◌, ◌∙◌, List, [], ◌∷◌, Option, Some, None, option_map, refl, ap, arith, MatchOption, Bor}, proofs.lemmas.Bool.Decides.{nat_tests, Decides-eqb}, specs.Cmp.Lexicographic.pointwise, proofs.lemmas.Slice.Eq.slice_eq-Decides, proofs.lemmas.List.take_all}
+use Rattle.serde_json.{specs.Data.Data, specs.View.items_of}
 use Rattle.marked_json.specs.Reading.{behind_mark, list_of}
 
 -- what `strip_prefix` gives at a mark

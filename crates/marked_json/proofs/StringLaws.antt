@@ -1,27 +1,9 @@
 -- Strings and numbers of the text in the marked text, and in the tree.
-use Rattle.std.proofs.Common.{◌≡◌, ◌<◌, ◌/◌, ◌%◌, ℕ, Bool, true, false, cond, eqb, not, List, [], ◌∷◌, ◌++◌, length, Ok, Some, refl, ap, sym, ◌∙◌, arith, append-nil, take, drop, get_or, inl, inr, option_and_then, ◌&&◌, ltb}
-use Rattle.std.specs.List.{list_all, prefix_len}
-use Rattle.std.proofs.Math.Seq.{drop-length}
-use Rattle.std.proofs.lemmas.List.{take_all}
-use Rattle.std.proofs.lemmas.List.Sums.{list_all-from_AllPass}
-use Rattle.std.specs.Char.{digit_char}
-use Rattle.std.proofs.lemmas.Bool.{and_parts, and_from, cond-false}
-use Rattle.std.proofs.lemmas.Bool.Decides.{nat_tests}
-use Rattle.json.specs.Token.{Token}
-use Rattle.json.specs.Lex.{tokens}
+use Rattle.std.{proofs.Common.{◌≡◌, ◌<◌, ◌/◌, ◌%◌, ℕ, Bool, true, false, cond, eqb, not, List, [], ◌∷◌, ◌++◌, length, Ok, Some, refl, ap, sym, ◌∙◌, arith, append-nil, take, drop, get_or, inl, inr, option_and_then, ◌&&◌, ltb}, specs.List.{list_all, prefix_len}, proofs.Math.Seq.drop-length, proofs.lemmas.List.take_all, proofs.lemmas.List.Sums.list_all-from_AllPass, specs.Char.digit_char, proofs.lemmas.Bool.{and_parts, and_from, cond-false}, proofs.lemmas.Bool.Decides.nat_tests}
+use Rattle.json.{specs.Token.Token, specs.Lex.tokens, specs.Print.{escape_byte, escape_letter, escape, quoted, ArePrintable}, proofs.Printed.Tokens.tokens-print}
 use Rattle.json.specs.Json as json
-use Rattle.json.specs.Print.{escape_byte, escape_letter, escape, quoted, ArePrintable}
-use Rattle.json.proofs.Printed.Tokens.{tokens-print}
-use Rattle.serde_json.specs.Data.{string}
-use Rattle.serde_json.specs.Read.{read, max_depth, of_json}
-use Rattle.serde_json.specs.Written.{compact_text}
-use Rattle.serde_json.proofs.Texts.{print-outline}
-use Rattle.marked_json.specs.Marking.{outside, in_string, after_backslash, with_front, marked, begins_number, goes_on_number}
-use Rattle.marked_json.specs.Number.{is_digit, IsDigits, IsSign, IsWhole, IsFraction, IsExponentSign, IsExponent, IsNumber}
-use Rattle.marked_json.specs.Reading.{marked_reading, tree_of, tree_or_fault}
-use Rattle.marked_json.specs.Strings.{is_content_after, is_content}
-use Rattle.marked_json.proofs.Grammar.{prefix_len-all, test_from_IsNumber}
-use Rattle.marked_json.proofs.Marks.{with_front-with_front, with_front-nil, place_of, completed-token, marked_token-good}
+use Rattle.serde_json.{specs.Data.string, specs.Read.{read, max_depth, of_json}, specs.Written.compact_text, proofs.Texts.print-outline}
+use Rattle.marked_json.{specs.Marking.{outside, in_string, after_backslash, with_front, marked, begins_number, goes_on_number}, specs.Number.{is_digit, IsDigits, IsSign, IsWhole, IsFraction, IsExponentSign, IsExponent, IsNumber}, specs.Reading.{marked_reading, tree_of, tree_or_fault}, specs.Strings.{is_content_after, is_content}, proofs.Grammar.{prefix_len-all, test_from_IsNumber}, proofs.Marks.{with_front-with_front, with_front-nil, place_of, completed-token, marked_token-good}}
 
 content_step : (c : ℕ) (cs rest : List ℕ) (q s : Bool) → not q && is_content_after s cs ≡ true
     → (is_content_after s cs ≡ true → marked (place_of s) (cs ++ 34 ∷ rest) ≡ with_front (cs ++ 34 ∷ []) (marked outside rest))

@@ -1,17 +1,6 @@
 -- The marked text of a text of UTF-8 is one.
-use Rattle.std.proofs.Common.{◌≡◌, ◌<◌, ◌≤◌, ◌+◌, ◌⊎◌, inl, inr, ℕ, zero, suc, Bool, true, false, cond, eqb, not, List, [], ◌∷◌, ◌++◌, take, drop, get_or, length, Ok, Err, refl, ap, sym, subst, ◌∙◌, arith, append_assoc, append-nil}
-use Rattle.std.specs.List.{prefix_len}
-use Rattle.std.specs.Str.{IsUtf8, IsAscii, IsCharBoundary}
-use Rattle.std.proofs.lemmas.Bool.{cases_lt}
-use Rattle.std.proofs.lemmas.Bool.Decides.{nat_tests}
-use Rattle.std.proofs.lemmas.List.{length-drop, get_or-drop, at_drop_more, take_more, take_all}
-use Rattle.std.proofs.lemmas.Str.{IsUtf8-append, IsUtf8-take, IsUtf8-drop, IsUtf8-from_ascii, IsCharBoundary-after_ascii, IsCharBoundary-before_ascii}
-use Rattle.marked_json.specs.Number.{is_number}
-use Rattle.marked_json.specs.Marking.{Marks, with_front, marked, outside, marked_token, is_before_colon, begins_number, goes_on_number}
-use Rattle.marked_json.specs.Steps.{string_len}
-use Rattle.marked_json.specs.declared.fault.JsonFault.TheVariants.{BadNumber, NumberAsKey}
-use Rattle.marked_json.proofs.Cuts.{IsCharBoundary-token, number_ascii}
-use Rattle.marked_json.proofs.Marks.{marked-plain, marked-at_quote, marked-string, marked-at_number, completed-end, token_is_some}
+use Rattle.std.{proofs.Common.{◌≡◌, ◌<◌, ◌≤◌, ◌+◌, ◌⊎◌, inl, inr, ℕ, zero, suc, Bool, true, false, cond, eqb, not, List, [], ◌∷◌, ◌++◌, take, drop, get_or, length, Ok, Err, refl, ap, sym, subst, ◌∙◌, arith, append_assoc, append-nil}, specs.List.prefix_len, specs.Str.{IsUtf8, IsAscii, IsCharBoundary}, proofs.lemmas.Bool.cases_lt, proofs.lemmas.Bool.Decides.nat_tests, proofs.lemmas.List.{length-drop, get_or-drop, at_drop_more, take_more, take_all}, proofs.lemmas.Str.{IsUtf8-append, IsUtf8-take, IsUtf8-drop, IsUtf8-from_ascii, IsCharBoundary-after_ascii, IsCharBoundary-before_ascii}}
+use Rattle.marked_json.{specs.Number.is_number, specs.Marking.{Marks, with_front, marked, outside, marked_token, is_before_colon, begins_number, goes_on_number}, specs.Steps.string_len, specs.declared.fault.JsonFault.TheVariants.{BadNumber, NumberAsKey}, proofs.Cuts.{IsCharBoundary-token, number_ascii}, proofs.Marks.{marked-plain, marked-at_quote, marked-string, marked-at_number, completed-end, token_is_some}}
 
 -- what follows a front that was marked
 ok_behind : (front : List ℕ) (m : Marks) (out : List ℕ) → with_front front m ≡ Ok out → (rest : List ℕ) × (m ≡ Ok rest) × (out ≡ front ++ rest)

@@ -1,18 +1,7 @@
 -- Members that are looked for, as the entries of an object are offered to them.
-use Rattle.std.proofs.Common.{◌≡◌, List, [], ◌∷◌, map, Bool, true, false, Option, Some, None, option_map, string_bytes, bytes_eq, refl, sym, ap, ◌∙◌}
-use Rattle.std.specs.Prelude.{◌&&◌, is_none, option_and_then, All, if◌then◌else◌}
-use Rattle.std.proofs.lemmas.Bool.{false≢true}
-use Rattle.std.specs.Option.{option_or}
-use Rattle.std.proofs.lemmas.List.Elements.{All-head, All-tail}
-use Rattle.std.proofs.lemmas.Slice.Eq.{bytes_eq-Decides}
-use Rattle.serde_json.specs.Data.{Data}
-use Rattle.serde_json.specs.Find.{get_member, as_object}
-use Rattle.serde_json.specs.View.{view, members_view}
-use Rattle.serde_json.proofs.Views.{member_here, member_later}
-use Rattle.marked_json.specs.declared.node.Node.{Node}
-use Rattle.marked_json.specs.declared.wanted.Wanted.{Wanted}
-use Rattle.marked_json.specs.Reading.{node, unless_null, field_of}
-use Rattle.marked_json.specs.Wanted.{Entry, name_of, first_of, found, offered, within}
+use Rattle.std.{proofs.Common.{◌≡◌, List, [], ◌∷◌, map, Bool, true, false, Option, Some, None, option_map, string_bytes, bytes_eq, refl, sym, ap, ◌∙◌}, specs.Prelude.{◌&&◌, is_none, option_and_then, All, if◌then◌else◌}, proofs.lemmas.Bool.false≢true, specs.Option.option_or, proofs.lemmas.List.Elements.{All-head, All-tail}, proofs.lemmas.Slice.Eq.bytes_eq-Decides}
+use Rattle.serde_json.{specs.Data.Data, specs.Find.{get_member, as_object}, specs.View.{view, members_view}, proofs.Views.{member_here, member_later}}
+use Rattle.marked_json.{specs.declared.node.Node.Node, specs.declared.wanted.Wanted.Wanted, specs.Reading.{node, unless_null, field_of}, specs.Wanted.{Entry, name_of, first_of, found, offered, within}}
 
 -- the first of two, where the second is put in only for want of the first
 taken : (first : Option Node) (same : Bool) (member : Node) (rest all : Option Data) → (same ≡ true → all ≡ Some (node member)) → (same ≡ false → all ≡ rest)

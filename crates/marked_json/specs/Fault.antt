@@ -1,7 +1,6 @@
 -- What a fault prints.
 use Rattle.std.specs.Prelude.{ℕ, List, codes}
-use Rattle.marked_json.specs.declared.fault.JsonFault.{JsonFault}
-use Rattle.marked_json.specs.declared.fault.JsonFault.TheVariants.{BadNumber, NumberAsKey, NotJson, OutOfMemory}
+use Rattle.marked_json.{specs.declared.fault.JsonFault.JsonFault, specs.declared.fault.JsonFault.TheVariants.{BadNumber, NumberAsKey, NotJson, OutOfMemory}}
 
 -- the words of a fault
 abbrev pub message_of : JsonFault → List ℕ

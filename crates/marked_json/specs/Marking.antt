@@ -1,10 +1,7 @@
 -- The marked text of a text. Both are bytes of UTF-8: all that is looked for is ASCII, and no byte of another character
 -- is.
-use Rattle.std.specs.Prelude.{◌||◌, ◌==◌, ℕ, List, [], ◌∷◌, ◌++◌, drop, Bool, false, not, Option, Some, None, if◌then◌else◌, Result, Ok, Err}
-use Rattle.std.specs.List.{prefix_len, take_while, find}
-use Rattle.marked_json.specs.declared.fault.JsonFault.{JsonFault}
-use Rattle.marked_json.specs.declared.fault.JsonFault.TheVariants.{BadNumber, NumberAsKey}
-use Rattle.marked_json.specs.Number.{is_digit, is_number}
+use Rattle.std.{specs.Prelude.{◌||◌, ◌==◌, ℕ, List, [], ◌∷◌, ◌++◌, drop, Bool, false, not, Option, Some, None, if◌then◌else◌, Result, Ok, Err}, specs.List.{prefix_len, take_while, find}}
+use Rattle.marked_json.{specs.declared.fault.JsonFault.JsonFault, specs.declared.fault.JsonFault.TheVariants.{BadNumber, NumberAsKey}, specs.Number.{is_digit, is_number}}
 
 -- where in a text a byte is
 pub data BytePlace : Type 0 where

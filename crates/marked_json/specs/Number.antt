@@ -1,7 +1,6 @@
 -- The numbers of RFC 8259: an optional minus, a whole part, a fraction and an exponent.
 -- `IsNumber` is the grammar; `is_number` finds the parts one after another. A law says that they agree.
-use Rattle.std.specs.Prelude.{◌≡◌, ◌≢◌, ◌⊎◌, ◌&&◌, ◌||◌, ◌==◌, ◌<◌, ℕ, List, [], ◌∷◌, ◌++◌, length, drop, slice_index, Bool, false, nat_le, if◌then◌else◌, Option, Some, None, option_and_then}
-use Rattle.std.specs.List.{prefix_len, AllPass}
+use Rattle.std.{specs.Prelude.{◌≡◌, ◌≢◌, ◌⊎◌, ◌&&◌, ◌||◌, ◌==◌, ◌<◌, ℕ, List, [], ◌∷◌, ◌++◌, length, drop, slice_index, Bool, false, nat_le, if◌then◌else◌, Option, Some, None, option_and_then}, specs.List.{prefix_len, AllPass}}
 
 -- `0` to `9`
 abbrev pub is_digit : ℕ → Bool

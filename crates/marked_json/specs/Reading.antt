@@ -1,15 +1,7 @@
 -- The tree of a text, and what a place in it shows.
 use Rattle.std.specs.Prelude.{◌==◌, ℕ, List, [], ◌∷◌, map, Bool, is_some, if◌then◌else◌, Option, Some, None, option_map, option_and_then, Result, Ok, Err}
-use Rattle.serde_json.specs.Data.{Data, null, boolean, number, string, array, object, Items, no_items, item, Members}
-use Rattle.serde_json.specs.Find.{as_str, as_array, as_object, get_member}
-use Rattle.serde_json.specs.Read.{read}
-use Rattle.serde_json.specs.View.{view}
-use Rattle.marked_json.specs.declared.fault.JsonFault.{JsonFault}
-use Rattle.marked_json.specs.declared.fault.JsonFault.TheVariants.{NotJson}
-use Rattle.marked_json.specs.declared.marked.Marked.{Marked}
-use Rattle.marked_json.specs.declared.node.Node.{Node}
-use Rattle.marked_json.specs.declared.node.Items.{Items as ItemsLeft}
-use Rattle.marked_json.specs.Marking.{Marks, marked, outside}
+use Rattle.serde_json.{specs.Data.{Data, null, boolean, number, string, array, object, Items, no_items, item, Members}, specs.Find.{as_str, as_array, as_object, get_member}, specs.Read.read, specs.View.view}
+use Rattle.marked_json.{specs.declared.fault.JsonFault.JsonFault, specs.declared.fault.JsonFault.TheVariants.NotJson, specs.declared.marked.Marked.Marked, specs.declared.node.Node.Node, specs.declared.node.Items.Items as ItemsLeft, specs.Marking.{Marks, marked, outside}}
 
 -- the tree that `serde_json` reads, or the fault if there is none
 abbrev pub tree_or_fault : Option Data → Result Data JsonFault

@@ -1,15 +1,7 @@
 -- Members that are looked for by name.
-use Rattle.std.specs.Prelude.{◌&&◌, ℕ, List, ◌∷◌, String, is_none, if◌then◌else◌, Option, Some, option_map, option_and_then}
-use Rattle.std.specs.Global.{Global}
-use Rattle.std.specs.Option.{option_or}
-use Rattle.std.specs.Str.{bytes_eq}
-use Rattle.serde_json.specs.Data.{Data}
-use Rattle.serde_json.specs.Find.{get_member}
-use Rattle.serde_json.specs.View.{members_view}
-use Rattle.serde_json.specs.declared.value.Value.{Value}
-use Rattle.marked_json.specs.declared.node.Node.{Node}
-use Rattle.marked_json.specs.declared.wanted.Wanted.{Wanted}
-use Rattle.marked_json.specs.Reading.{node, unless_null}
+use Rattle.std.{specs.Prelude.{◌&&◌, ℕ, List, ◌∷◌, String, is_none, if◌then◌else◌, Option, Some, option_map, option_and_then}, specs.Global.Global, specs.Option.option_or, specs.Str.bytes_eq}
+use Rattle.serde_json.{specs.Data.Data, specs.Find.get_member, specs.View.members_view, specs.declared.value.Value.Value}
+use Rattle.marked_json.{specs.declared.node.Node.Node, specs.declared.wanted.Wanted.Wanted, specs.Reading.{node, unless_null}}
 
 -- a key and its value, as a map of `serde_json` holds them
 abbrev pub Entry : Type 0

@@ -1,11 +1,7 @@
 //! Laws of the marked reading, each proved as the contract of a function that does nothing.
 ghost use Rattle.std.specs.Prelude.{◌≡◌, ◌↔◌, ◌∷◌, ◌++◌, [], ℕ, List, IsTrue, Ok};
-ghost use Rattle.serde_json.specs.Data.{Data, string};
-ghost use Rattle.serde_json.specs.Written.{compact_text};
-ghost use Rattle.marked_json.specs.Marking.{marked, outside, with_front};
-ghost use Rattle.marked_json.specs.Number.{is_number, IsNumber};
-ghost use Rattle.marked_json.specs.Reading.{marked_reading};
-ghost use Rattle.marked_json.specs.Strings.{is_content, IsTextAlone, IsNumberAlone};
+ghost use Rattle.serde_json.{specs.Data.{Data, string}, specs.Written.compact_text};
+ghost use Rattle.marked_json.{specs.Marking.{marked, outside, with_front}, specs.Number.{is_number, IsNumber}, specs.Reading.marked_reading, specs.Strings.{is_content, IsTextAlone, IsNumberAlone}};
 
 /// The tokens that are taken as numbers are the numbers of RFC 8259, and no others.
 pub fn numbers_are_those_of_the_grammar()

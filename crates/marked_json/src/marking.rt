@@ -1,7 +1,5 @@
 //! The marking of a text: `serde_json` reads the marked text in its place.
-ghost use Rattle.std.specs.Prelude.{◌≡◌, ◌≢◌, not, ◌<◌, ◌+◌, ◌*◌, ◌++◌, [], ◌∷◌, take, drop, ℕ, length, map, slice_index, string_bytes, ◌≤◌, true, false, Ok, Err, IfOk, IfErr, OnOk, IfSome, Some};
-ghost use Rattle.std.specs.List.{prefix_len, find};
-ghost use Rattle.std.specs.Simd.Lanes.{mask_l};
+ghost use Rattle.std.{specs.Prelude.{◌≡◌, ◌≢◌, not, ◌<◌, ◌+◌, ◌*◌, ◌++◌, [], ◌∷◌, take, drop, ℕ, length, map, slice_index, string_bytes, ◌≤◌, true, false, Ok, Err, IfOk, IfErr, OnOk, IfSome, Some}, specs.List.{prefix_len, find}, specs.Simd.Lanes.mask_l};
 ghost use Rattle.memchr.specs.Find.{IsFirstByte, is_byte2};
 ghost use Rattle.marked_json.specs.Marking as spec;
 ghost use Rattle.marked_json.specs.Steps as steps;

@@ -1,8 +1,6 @@
 //! Places in a marked text, with the marks taken off.
-ghost use Rattle.std.specs.Prelude.{◌≡◌, ◌≤◌, ◌↔◌, ◌∷◌, length, option_map, IsTrue};
-ghost use Rattle.std.specs.Iterator.{YieldsFirstBy, item_count};
-ghost use Rattle.serde_json.specs.Find.{get_member};
-ghost use Rattle.serde_json.specs.View.{view, members_view};
+ghost use Rattle.std.{specs.Prelude.{◌≡◌, ◌≤◌, ◌↔◌, ◌∷◌, length, option_map, IsTrue}, specs.Iterator.{YieldsFirstBy, item_count}};
+ghost use Rattle.serde_json.{specs.Find.get_member, specs.View.{view, members_view}};
 ghost use Rattle.marked_json.specs.Reading as spec;
 
 use serde_json::{Map, Value};

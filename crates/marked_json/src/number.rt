@@ -1,6 +1,5 @@
 //! The number grammar of RFC 8259, part by part.
-ghost use Rattle.std.specs.Prelude.{◌≡◌, ◌≤◌, length, option_map};
-ghost use Rattle.std.specs.List.{prefix_len};
+ghost use Rattle.std.{specs.Prelude.{◌≡◌, ◌≤◌, length, option_map}, specs.List.prefix_len};
 ghost use Rattle.marked_json.specs.Number as spec;
 
 /// Whether the whole token is a number of RFC 8259.

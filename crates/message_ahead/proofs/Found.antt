@@ -1,10 +1,7 @@
 -- What was found stays found if readings are put behind those that were there.
-use Rattle.std.proofs.Common.{ℕ, ◌≡◌, ◌-◌, ◌≤◌, ◌++◌, List, All, Option, None, Some, get_or, length, take, drop, ap, sym, subst, ◌∙◌, arith, length-drop}
-use Rattle.std.proofs.lemmas.List.{take-append-le, drop-append-le, length-append}
-use Rattle.std.specs.Prelude.{IfSome}
+use Rattle.std.{proofs.Common.{ℕ, ◌≡◌, ◌-◌, ◌≤◌, ◌++◌, List, All, Option, None, Some, get_or, length, take, drop, ap, sym, subst, ◌∙◌, arith, length-drop}, proofs.lemmas.List.{take-append-le, drop-append-le, length-append}, specs.Prelude.IfSome}
 use Rattle.ledger_model.specs.Event.{MeterReading}
-use Rattle.message_ahead.specs.Ahead.{Extends, IsFound, Sends, with_readings}
-use Rattle.message_ahead.specs.declared.found_event.FoundEvent.{FoundEvent}
+use Rattle.message_ahead.{specs.Ahead.{Extends, IsFound, Sends, with_readings}, specs.declared.found_event.FoundEvent.FoundEvent}
 
 -- the readings between two places that were there are the same
 same-range : (old more : List MeterReading) (first end : ℕ) → first ≤ end → end ≤ length old → take (end - first) (drop first (old ++ more)) ≡ take (end - first) (drop first old)

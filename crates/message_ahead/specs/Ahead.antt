@@ -2,8 +2,7 @@
 use Rattle.std.specs.Prelude.{◌≡◌, ℕ, ◌-◌, ◌≤◌, List, [], ◌++◌, length, take, drop, Some}
 use Rattle.ledger_model.specs.Event.{MeterReading}
 use Rattle.script_lines.specs.LineMeaning.{LineMeaning, line_meaning, sends}
-use Rattle.transaction_event.specs.MessageMeaning.{HasShortId, IsMeaningOf, asking}
-use Rattle.transaction_event.specs.declared.delivery.Delivery.{Delivery}
+use Rattle.transaction_event.{specs.MessageMeaning.{HasShortId, IsMeaningOf, asking}, specs.declared.delivery.Delivery.Delivery}
 use Rattle.message_ahead.specs.declared.found_event.FoundEvent.{FoundEvent}
 
 -- The text asks for this delivery, at any moment.

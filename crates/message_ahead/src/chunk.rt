@@ -1,6 +1,5 @@
 //! The events of a piece of lines, read by one thread.
-ghost use Rattle.std.specs.Prelude.{◌≡◌, ◌≤◌, ◌<◌, ◌-◌, ◌+◌, ℕ, [], All, length, IfOk, IfSome, IsTrue, take, drop};
-ghost use Rattle.std.specs.Arc.{arc_value};
+ghost use Rattle.std.{specs.Prelude.{◌≡◌, ◌≤◌, ◌<◌, ◌-◌, ◌+◌, ℕ, [], All, length, IfOk, IfSome, IsTrue, take, drop}, specs.Arc.arc_value};
 ghost use Rattle.message_ahead.specs.Ahead.{Asks, Extends, IsFound, Sends};
 
 use crate::found_event::{FoundEvent, SentEvent};

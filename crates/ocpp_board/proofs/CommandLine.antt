@@ -1,17 +1,6 @@
 -- The parser's definition gives the matches of a program with options and commands.
-use Rattle.std.proofs.Common.{◌≡◌, ◌∙◌, ◌+◌, ◌==◌, ◌&&◌, ◌||◌, ℕ, Bool, min, cond, true, false, not, refl, sym, ap, List, [], ◌∷◌, ◌++◌, map, Some, is_some, true≢false, Result, Ok, Err}
-use Rattle.std.specs.Prelude.{IfOk}
-use Rattle.std.specs.List.{count_by, list_all, list_any}
-use Rattle.std.proofs.lemmas.List.Folds.{list_all-append}
-use Rattle.std.proofs.lemmas.List.Recursion.{is_count_by}
-use Rattle.std.proofs.Math.Bool.{and-false}
-use Rattle.std.specs.Prelude.{unwrap_or}
-use Rattle.clap.specs.Lexer.{usize_max}
-use Rattle.clap.specs.Walk.{Rule, is_early_multiple, is_multiple, rule_of}
-use Rattle.clap.specs.Simple.{App, Shape, app_of, built, built_above, built_leaf, filled, filled_from, help_rule, help_shape, index_after, inherited, is_in_order, is_positional, is_ready, is_ready_leaf, is_simple, is_simple_leaf, marked_built, on_top, shape_of, version_rule, with_built_subs, with_filled_rules, with_help_flag, with_index, with_inherited, with_leaf_noted, with_subcommand, with_version_flag}
-use Rattle.clap.specs.Built.{AddsArg, AddsSubcommand}
-use Rattle.clap.specs.declared.builder.arg.Arg.{Arg}
-use Rattle.clap.specs.declared.builder.command.Command.{Command}
+use Rattle.std.{proofs.Common.{◌≡◌, ◌∙◌, ◌+◌, ◌==◌, ◌&&◌, ◌||◌, ℕ, Bool, min, cond, true, false, not, refl, sym, ap, List, [], ◌∷◌, ◌++◌, map, Some, is_some, true≢false, Result, Ok, Err}, specs.Prelude.{IfOk, unwrap_or}, specs.List.{count_by, list_all, list_any}, proofs.lemmas.List.Folds.list_all-append, proofs.lemmas.List.Recursion.is_count_by, proofs.Math.Bool.and-false}
+use Rattle.clap.{specs.Lexer.usize_max, specs.Walk.{Rule, is_early_multiple, is_multiple, rule_of}, specs.Simple.{App, Shape, app_of, built, built_above, built_leaf, filled, filled_from, help_rule, help_shape, index_after, inherited, is_in_order, is_positional, is_ready, is_ready_leaf, is_simple, is_simple_leaf, marked_built, on_top, shape_of, version_rule, with_built_subs, with_filled_rules, with_help_flag, with_index, with_inherited, with_leaf_noted, with_subcommand, with_version_flag}, specs.Built.{AddsArg, AddsSubcommand}, specs.declared.builder.arg.Arg.Arg, specs.declared.builder.command.Command.Command}
 use Rattle.ocpp_board.specs.Options.{IsCommand, IsOption, IsPlaced, IsProgram, TakesOptions, are_options, are_readable, is_command, is_option_rule, is_plain_rule}
 
 -- both of two tests

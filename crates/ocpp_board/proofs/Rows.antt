@@ -1,13 +1,6 @@
 -- The command that matches name, with the rows of its options.
-use Rattle.std.proofs.Common.{◌≡◌, ◌∙◌, List, Option, None, Some, refl, ap, sym, length}
-use Rattle.std.specs.Prelude.{option_map, unwrap_or, Box}
-use Rattle.std.specs.Box.{box_value}
-use Rattle.clap.specs.Matches.{subcommand_name_of}
-use Rattle.clap.specs.Simple.{subcommand_rows, subcommand_rows_of}
-use Rattle.clap.specs.Walk.{Row, Text}
-use Rattle.clap.specs.declared.parser.matches.ArgMatches.{ArgMatches}
-use Rattle.clap.specs.declared.parser.matches.ArgMatches.TheViews.{out-ArgMatches, out-SubCommand}
-use Rattle.clap.specs.declared.parser.matches.SubCommand.{SubCommand}
+use Rattle.std.{proofs.Common.{◌≡◌, ◌∙◌, List, Option, None, Some, refl, ap, sym, length}, specs.Prelude.{option_map, unwrap_or, Box}, specs.Box.box_value}
+use Rattle.clap.{specs.Matches.subcommand_name_of, specs.Simple.{subcommand_rows, subcommand_rows_of}, specs.Walk.{Row, Text}, specs.declared.parser.matches.ArgMatches.ArgMatches, specs.declared.parser.matches.ArgMatches.TheViews.{out-ArgMatches, out-SubCommand}, specs.declared.parser.matches.SubCommand.SubCommand}
 
 -- a name and rows that are known apart
 named_rows : (named : Option (Text × List Row)) (name : Text) (rows : List Row) → option_map (λ p. p.0) named ≡ Some name → option_map (λ p. p.1) named ≡ Some rows → named ≡ Some (name, rows)

@@ -1,27 +1,16 @@
 -- How the run of a server ends.
-use Rattle.std.proofs.Common.{◌≡◌, ◌∙◌, ℕ, Bool, false, true, List, [], ◌++◌, Option, Some, Result, Ok, Err, IfOk, IfSome, OnOk, ap, append_assoc, refl, subst, sym}
-use Rattle.std.specs.Prelude.{is_some}
-use Rattle.std.specs.Io.KnownBytes.{Appends}
-use Rattle.std.proofs.KnownBytes.{Appends-trans}
-use Rattle.journal_server.specs.declared.fault.JournalFault.{JournalFault}
-use Rattle.journal_server.specs.declared.run.Served.{Served}
-use Rattle.journal_server.specs.Left.{Left, left_of}
-use Rattle.journal_server.specs.Served.{IsNewRun, IsRestoredRun, IsToldOf, TellsNew, TellsRestored}
-use Rattle.journal_server.specs.Simulated.{IsSimulatedRun}
-use Rattle.journal_server.proofs.Ends.{telling}
+use Rattle.std.{proofs.Common.{◌≡◌, ◌∙◌, ℕ, Bool, false, true, List, [], ◌++◌, Option, Some, Result, Ok, Err, IfOk, IfSome, OnOk, ap, append_assoc, refl, subst, sym}, specs.Prelude.is_some, specs.Io.KnownBytes.Appends, proofs.KnownBytes.Appends-trans}
+use Rattle.journal_server.{specs.declared.fault.JournalFault.JournalFault, specs.declared.run.Served.Served, specs.Left.{Left, left_of}, specs.Served.{IsNewRun, IsRestoredRun, IsToldOf, TellsNew, TellsRestored}, specs.Simulated.IsSimulatedRun, proofs.Ends.telling}
 use Rattle.journal_script.specs.Restoring.{Grows}
 use Rattle.kept_desk.specs.Opened.{contents_of}
 use Rattle.live_server.specs.Told.{operator_input}
 use Rattle.running_desk.specs.Ordered.{lines_in}
-use Rattle.site_desk.specs.declared.plan.SitePlan.{SitePlan}
-use Rattle.site_desk.specs.declared.plan.StationPlan.{StationPlan}
+use Rattle.site_desk.{specs.declared.plan.SitePlan.SitePlan, specs.declared.plan.StationPlan.StationPlan}
 use Rattle.server_parts.specs.declared.fault.ServiceFault.{ServiceFault}
 use Rattle.script_lines.specs.Writing.{WritesFront}
 use Rattle.script_replay.specs.Whole.{HasOutput, Writes}
 use Rattle.station_cell.specs.Cell.{Held}
-use Rattle.ocpp_board.specs.declared.run.Ran.{Ran}
-use Rattle.ocpp_board.specs.Run.{IsJournalRun, IsServerEnd, IsUnwrittenRun}
-use Rattle.ocpp_board.specs.Serving.{EndsJournalled, EndsUnwritten}
+use Rattle.ocpp_board.{specs.declared.run.Ran.Ran, specs.Run.{IsJournalRun, IsServerEnd, IsUnwrittenRun}, specs.Serving.{EndsJournalled, EndsUnwritten}}
 
 -- a front of bytes, behind others
 front_behind : {T E : Type 0} (r : Result T E) (x bytes written : List ℕ) → WritesFront r bytes written → WritesFront r (x ++ bytes) (x ++ written)

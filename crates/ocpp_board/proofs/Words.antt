@@ -1,13 +1,7 @@
 -- The plan that words declare, one after the other.
-use Rattle.std.proofs.Common.{◌≡◌, ℕ, ◌≤◌, ◌&&◌, Bool, true, false, cond, List, [], ◌∷◌, ◌++◌, Option, None, Some, map, length, drop, slice_index_or, refl, ap, sym, subst, ◌∙◌, bytes_eq, arith, Bor}
-use Rattle.std.specs.List.{position}
-use Rattle.ledger_model.specs.declared.order.Order.{Order}
-use Rattle.ledger_model.specs.Periods.{Periods}
-use Rattle.ledger_model.specs.Limits.{Bounds}
-use Rattle.ledger_model.specs.Name.{is_name}
-use Rattle.site_desk.specs.declared.plan.SitePlan.{SitePlan}
-use Rattle.site_desk.specs.declared.plan.StationPlan.{StationPlan}
-use Rattle.site_desk.specs.Plan.{is_past, site_number, sites_with}
+use Rattle.std.{proofs.Common.{◌≡◌, ℕ, ◌≤◌, ◌&&◌, Bool, true, false, cond, List, [], ◌∷◌, ◌++◌, Option, None, Some, map, length, drop, slice_index_or, refl, ap, sym, subst, ◌∙◌, bytes_eq, arith, Bor}, specs.List.position}
+use Rattle.ledger_model.{specs.declared.order.Order.Order, specs.Periods.Periods, specs.Limits.Bounds, specs.Name.is_name}
+use Rattle.site_desk.{specs.declared.plan.SitePlan.SitePlan, specs.declared.plan.StationPlan.StationPlan, specs.Plan.{is_past, site_number, sites_with}}
 use Rattle.ocpp_board.specs.StationWords.{declared_by, found_site, is_too_many, new_station, site_of, station_of, station_word}
 
 abbrev first : Option (List ℕ × List ℕ) → List ℕ

@@ -1,28 +1,13 @@
 -- What the program can do, and what its words ask for.
-use Rattle.std.specs.Prelude.{◌≡◌, ◌≢◌, ℕ, ◌<◌, ◌≤◌, ◌^◌, ⊤, Bool, true, false, List, [], Option, None, Some, IfSome, is_some, not, codes, nat_lt, if◌then◌else◌, option_map, unwrap_or}
+use Rattle.std.{specs.Prelude.{◌≡◌, ◌≢◌, ℕ, ◌<◌, ◌≤◌, ◌^◌, ⊤, Bool, true, false, List, [], Option, None, Some, IfSome, is_some, not, codes, nat_lt, if◌then◌else◌, option_map, unwrap_or}, specs.declared.result.Result.Result, specs.declared.result.Result.TheVariants.Err}
 use Rattle.core.specs.Str.Parse.{IsNumeral, digits_value, without_leading_plus}
-use Rattle.clap.specs.Matches.{first_value, matched_of, one_text, raw_values}
-use Rattle.clap.specs.Walk.{Row, rows_of}
-use Rattle.clap.specs.declared.parser.matches.Found.{Found}
-use Rattle.std.specs.declared.result.Result.{Result}
-use Rattle.std.specs.declared.result.Result.TheVariants.{Err}
+use Rattle.clap.{specs.Matches.{first_value, matched_of, one_text, raw_values}, specs.Walk.{Row, rows_of}, specs.declared.parser.matches.Found.Found}
 use Rattle.site_desk.specs.declared.plan.Plan.{Plan}
-use Rattle.ocpp_board.specs.declared.asked.Task.{Task}
-use Rattle.ocpp_board.specs.declared.asked.Task.TheVariants.{Replay, Serve, ServeRestored, Simulate}
+use Rattle.ocpp_board.{specs.declared.asked.Task.Task, specs.declared.asked.Task.TheVariants.{Replay, Serve, ServeRestored, Simulate}, specs.LimitWords.AsksLimits, specs.StationWords.AnswersWords, specs.declared.station_words.WordFault.WordFault, specs.declared.station_words.WordFault.TheVariants.BadLimits}
 use Rattle.journal_server.specs.declared.serve.Journalling.{Journalling}
 use Rattle.live_server.specs.declared.service.Live.{Live}
-use Rattle.ledger_model.specs.declared.order.Order.{Order}
-use Rattle.ledger_model.specs.declared.order.Order.TheVariants.{Sequence}
-use Rattle.ledger_model.specs.Periods.{Periods}
-use Rattle.ledger_model.specs.declared.settle.Settle.{Settle}
-use Rattle.ledger_model.specs.declared.settle.Settle.TheVariants.{Later}
-use Rattle.ledger_model.specs.Quarter.{IsPeriod, default_period}
-use Rattle.ledger_model.specs.Limits.{Bounds}
+use Rattle.ledger_model.{specs.declared.order.Order.Order, specs.declared.order.Order.TheVariants.Sequence, specs.Periods.Periods, specs.declared.settle.Settle.Settle, specs.declared.settle.Settle.TheVariants.Later, specs.Quarter.{IsPeriod, default_period}, specs.Limits.Bounds}
 use Rattle.script_lines.specs.LineMeaning.{order_word, settle_word}
-use Rattle.ocpp_board.specs.LimitWords.{AsksLimits}
-use Rattle.ocpp_board.specs.StationWords.{AnswersWords}
-use Rattle.ocpp_board.specs.declared.station_words.WordFault.{WordFault}
-use Rattle.ocpp_board.specs.declared.station_words.WordFault.TheVariants.{BadLimits}
 use Rattle.station_link.specs.Sim.{IsSimulated}
 
 -- A server ends after 1 to 64 connections, or no number of them ends it.

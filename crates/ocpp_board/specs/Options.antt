@@ -1,11 +1,6 @@
 -- Conditions on commands and options under which the parser of words gives the matches of its definition.
-use Rattle.std.specs.Prelude.{◌≡◌, ◌&&◌, Bool, true, false, not, List, [], ◌∷◌, is_some, if◌then◌else◌}
-use Rattle.std.specs.List.{list_all}
-use Rattle.clap.specs.Simple.{App, Shape, app_of, is_positional}
-use Rattle.clap.specs.Walk.{Rule, rule_of}
-use Rattle.clap.specs.declared.builder.arg.Arg.{Arg}
-use Rattle.clap.specs.declared.builder.command.Command.{Command}
-use Rattle.clap.specs.declared.builder.command.Command.TheViews.{out-Command}
+use Rattle.std.{specs.Prelude.{◌≡◌, ◌&&◌, Bool, true, false, not, List, [], ◌∷◌, is_some, if◌then◌else◌}, specs.List.list_all}
+use Rattle.clap.{specs.Simple.{App, Shape, app_of, is_positional}, specs.Walk.{Rule, rule_of}, specs.declared.builder.arg.Arg.Arg, specs.declared.builder.command.Command.Command, specs.declared.builder.command.Command.TheViews.out-Command}
 
 -- An argument changes nothing of how words are read, and has no place of its own.
 abbrev pub is_plain_rule : Rule → Bool

@@ -1,24 +1,14 @@
 -- The result of a run of the program: its output, its console, its exit status, and its report on standard
 -- error.
-use Rattle.std.specs.Prelude.{◌≡◌, ◌≢◌, ◌⊎◌, ℕ, Bool, true, false, List, [], ◌++◌, Option, None, Some, IfSome, OnOk, is_some, codes, if◌then◌else◌}
-use Rattle.std.specs.Io.KnownBytes.{Appends}
-use Rattle.std.specs.declared.result.Result.{Result}
-use Rattle.std.specs.declared.result.Result.TheVariants.{Ok, Err}
-use Rattle.clap.specs.Simple.{App, is_simple, subcommand_of}
-use Rattle.clap.specs.Takes.{takes}
-use Rattle.clap.specs.declared.error.kind.ErrorKind.{ErrorKind}
-use Rattle.clap.specs.declared.error.kind.ErrorKind.TheVariants.{DisplayHelp, DisplayVersion}
+use Rattle.std.{specs.Prelude.{◌≡◌, ◌≢◌, ◌⊎◌, ℕ, Bool, true, false, List, [], ◌++◌, Option, None, Some, IfSome, OnOk, is_some, codes, if◌then◌else◌}, specs.Io.KnownBytes.Appends, specs.declared.result.Result.Result, specs.declared.result.Result.TheVariants.{Ok, Err}}
+use Rattle.clap.{specs.Simple.{App, is_simple, subcommand_of}, specs.Takes.takes, specs.declared.error.kind.ErrorKind.ErrorKind, specs.declared.error.kind.ErrorKind.TheVariants.{DisplayHelp, DisplayVersion}}
 use Rattle.journal_script.specs.declared.fault.RestoreFault.{RestoreFault}
 use Rattle.journal_script.specs.declared.fault.RestoreFault.TheVariants as restored
-use Rattle.journal_server.specs.declared.fault.JournalFault.{JournalFault}
-use Rattle.journal_server.specs.declared.fault.JournalFault.TheVariants.{Service, Restore, LeftOut}
-use Rattle.journal_server.specs.Left.{Left}
+use Rattle.journal_server.{specs.declared.fault.JournalFault.JournalFault, specs.declared.fault.JournalFault.TheVariants.{Service, Restore, LeftOut}, specs.Left.Left, specs.Served.{IsNewRun, IsRestoredRun, TellsNew, TellsRestored}, specs.Simulated.IsSimulatedRun}
 use Rattle.live_server.specs.Told.{operator_input}
-use Rattle.journal_server.specs.Served.{IsNewRun, IsRestoredRun, TellsNew, TellsRestored}
 use Rattle.script_lines.specs.declared.fault.ReplayFault.{ReplayFault}
 use Rattle.script_lines.specs.declared.fault.ReplayFault.TheVariants as replay
-use Rattle.script_replay.specs.Whole.{HasOutput, IsMistake, IsReplayRun, IsReported, Shows, Writes, fault_report}
-use Rattle.script_replay.specs.declared.whole.Ended.{Ended}
+use Rattle.script_replay.{specs.Whole.{HasOutput, IsMistake, IsReplayRun, IsReported, Shows, Writes, fault_report}, specs.declared.whole.Ended.Ended}
 use Rattle.site_desk.specs.declared.plan.Plan.{Plan}
 use Rattle.server_parts.specs.declared.fault.ServiceFault.{ServiceFault}
 use Rattle.server_parts.specs.declared.fault.ServiceFault.TheVariants as service
@@ -26,13 +16,7 @@ use Rattle.board_report.specs.declared.closed.BoardsFault.TheVariants as board
 use Rattle.site_desk.specs.declared.fault.CloseFault.TheVariants as close
 use Rattle.site_desk.specs.declared.fault.DeskFault.TheVariants as desk
 use Rattle.station_link.specs.declared.sim.SimFault.TheVariants as sim
-use Rattle.journal_server.specs.Simulated.{IsSimulatedRun}
-use Rattle.ocpp_board.specs.declared.asked.Task.{Task}
-use Rattle.ocpp_board.specs.declared.asked.Task.TheVariants.{Replay, Serve, ServeRestored, Simulate}
-use Rattle.ocpp_board.specs.declared.station_words.WordFault.{WordFault}
-use Rattle.ocpp_board.specs.declared.station_words.WordFault.TheVariants.{BadLimits, BadStation, PlanLimit}
-use Rattle.ocpp_board.specs.declared.run.Ran.{Ran}
-use Rattle.ocpp_board.specs.Arguments.{IsAskedBy}
+use Rattle.ocpp_board.{specs.declared.asked.Task.Task, specs.declared.asked.Task.TheVariants.{Replay, Serve, ServeRestored, Simulate}, specs.declared.station_words.WordFault.WordFault, specs.declared.station_words.WordFault.TheVariants.{BadLimits, BadStation, PlanLimit}, specs.declared.run.Ran.Ran, specs.Arguments.IsAskedBy}
 
 -- The name of a fault of a server.
 abbrev pub service_name : ServiceFault → List ℕ

@@ -1,13 +1,8 @@
 -- How a server ends its run.
-use Rattle.std.specs.Prelude.{◌≡◌, ℕ, List, Option, None, Some, OnOk}
-use Rattle.std.specs.declared.result.Result.{Result}
-use Rattle.std.specs.declared.result.Result.TheVariants.{Ok, Err}
-use Rattle.std.specs.Io.KnownBytes.{Appends}
-use Rattle.journal_server.specs.declared.fault.JournalFault.{JournalFault}
-use Rattle.journal_server.specs.declared.run.Served.{Served}
+use Rattle.std.{specs.Prelude.{◌≡◌, ℕ, List, Option, None, Some, OnOk}, specs.declared.result.Result.Result, specs.declared.result.Result.TheVariants.{Ok, Err}, specs.Io.KnownBytes.Appends}
+use Rattle.journal_server.{specs.declared.fault.JournalFault.JournalFault, specs.declared.run.Served.Served}
 use Rattle.script_replay.specs.Whole.{HasOutput}
-use Rattle.ocpp_board.specs.declared.run.Ran.{Ran}
-use Rattle.ocpp_board.specs.Run.{IsServerEnd}
+use Rattle.ocpp_board.{specs.declared.run.Ran.Ran, specs.Run.IsServerEnd}
 
 -- A server without a journal ends with its fault. Else its run has its passes; and after Ok its operator's lines ended
 -- well, and the output took what the console had taken, and then the boards.

@@ -1,19 +1,8 @@
 -- The words of a server for its stations, and the plan that they make (this product's profile).
-use Rattle.std.specs.Prelude.{◌≡◌, ◌==◌, ◌&&◌, ◌++◌, ◌∷◌, [], ℕ, Bool, List, Option, None, Some, is_none, if◌then◌else◌}
-use Rattle.std.specs.List.{before_first, after_first, find, position}
-use Rattle.std.specs.Str.{bytes_eq}
-use Rattle.std.specs.declared.result.Result.{Result}
-use Rattle.std.specs.declared.result.Result.TheVariants.{Ok, Err}
-use Rattle.ledger_model.specs.Periods.{Periods}
-use Rattle.ledger_model.specs.declared.order.Order.{Order}
-use Rattle.ledger_model.specs.Limits.{Bounds}
-use Rattle.ledger_model.specs.Name.{is_name}
-use Rattle.site_desk.specs.declared.plan.Plan.{Plan}
-use Rattle.site_desk.specs.declared.plan.SitePlan.{SitePlan}
-use Rattle.site_desk.specs.declared.plan.StationPlan.{StationPlan}
-use Rattle.site_desk.specs.Plan.{is_past, site_number, sites_with}
-use Rattle.ocpp_board.specs.declared.station_words.WordFault.{WordFault}
-use Rattle.ocpp_board.specs.declared.station_words.WordFault.TheVariants.{BadLimits, BadStation, PlanLimit}
+use Rattle.std.{specs.Prelude.{◌≡◌, ◌==◌, ◌&&◌, ◌++◌, ◌∷◌, [], ℕ, Bool, List, Option, None, Some, is_none, if◌then◌else◌}, specs.List.{before_first, after_first, find, position}, specs.Str.bytes_eq, specs.declared.result.Result.Result, specs.declared.result.Result.TheVariants.{Ok, Err}}
+use Rattle.ledger_model.{specs.Periods.Periods, specs.declared.order.Order.Order, specs.Limits.Bounds, specs.Name.is_name}
+use Rattle.site_desk.{specs.declared.plan.Plan.Plan, specs.declared.plan.SitePlan.SitePlan, specs.declared.plan.StationPlan.StationPlan, specs.Plan.{is_past, site_number, sites_with}}
+use Rattle.ocpp_board.{specs.declared.station_words.WordFault.WordFault, specs.declared.station_words.WordFault.TheVariants.{BadLimits, BadStation, PlanLimit}}
 
 -- the bytes before the first `/` of a word, and the bytes behind it
 abbrev pub site_of : List ℕ → List ℕ

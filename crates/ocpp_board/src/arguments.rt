@@ -1,9 +1,6 @@
 //! What the program's words ask for.
 ghost use Rattle.std.specs.Prelude.{◌≡◌, IfErr, IfOk, map, true};
-ghost use Rattle.clap.specs.Simple.{app_of, is_simple, subcommand_of, subcommand_rows_of};
-ghost use Rattle.clap.specs.Takes.{takes};
-ghost use Rattle.clap.specs.Values.{kind_of};
-ghost use Rattle.clap.specs.declared.error.kind.ErrorKind.TheVariants.{OutOfMemory};
+ghost use Rattle.clap.{specs.Simple.{app_of, is_simple, subcommand_of, subcommand_rows_of}, specs.Takes.takes, specs.Values.kind_of, specs.declared.error.kind.ErrorKind.TheVariants.OutOfMemory};
 ghost use Rattle.ocpp_board.specs.Arguments.{IsAskable, IsAskedBy};
 
 use crate::asked::{Task, serve_asked, sim_asked};

@@ -1,10 +1,8 @@
 //! A run of the program, from its words to its exit status.
-ghost use Rattle.std.specs.Prelude.{◌≡◌, ◌≢◌, Err, map};
-ghost use Rattle.std.specs.declared.io.ErrorKind.{ErrorKind};
+ghost use Rattle.std.{specs.Prelude.{◌≡◌, ◌≢◌, Err, map}, specs.declared.io.ErrorKind.ErrorKind};
 ghost use Rattle.clap.specs.Values.{kind_of};
 ghost use Rattle.clap.specs.declared.error.kind.ErrorKind.TheVariants as why;
-ghost use Rattle.ocpp_board.specs.Arguments.{IsAskable};
-ghost use Rattle.ocpp_board.specs.Run.{IsProgramRun, IsRefusal, Runs};
+ghost use Rattle.ocpp_board.{specs.Arguments.IsAskable, specs.Run.{IsProgramRun, IsRefusal, Runs}};
 ghost use Rattle.script_lines.specs.declared.fault.ReplayFault.{ReplayFault};
 ghost use Rattle.script_replay.specs.Whole.{IsMistake, IsReported};
 

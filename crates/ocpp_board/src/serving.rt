@@ -1,9 +1,6 @@
 //! Servers, as the program runs them: each reads and writes through buffers.
-ghost use Rattle.std.specs.Prelude.{◌≡◌, Ok, OnOk, false, true};
-ghost use Rattle.std.specs.Io.Buffered.{writer_contents};
-ghost use Rattle.ocpp_board.specs.declared.asked.Task.{Task};
-ghost use Rattle.ocpp_board.specs.Run.{Runs};
-ghost use Rattle.ocpp_board.specs.Serving.{EndsJournalled, EndsUnwritten};
+ghost use Rattle.std.{specs.Prelude.{◌≡◌, Ok, OnOk, false, true}, specs.Io.Buffered.writer_contents};
+ghost use Rattle.ocpp_board.{specs.declared.asked.Task.Task, specs.Run.Runs, specs.Serving.{EndsJournalled, EndsUnwritten}};
 ghost use Rattle.station_link.specs.Sim.{IsSimulated};
 
 use crate::process::Process;

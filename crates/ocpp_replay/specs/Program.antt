@@ -1,11 +1,8 @@
 -- The result of a run of the program: its output, its exit status, and its report on standard
 -- error.
 use Rattle.std.specs.Prelude.{ℕ, List, Option}
-use Rattle.script_replay.specs.Whole.{IsMistake, IsReplayRun, Shows}
-use Rattle.script_replay.specs.declared.whole.Ended.{Ended}
-use Rattle.ocpp_replay.specs.declared.words.TheConstants.{HELP, USAGE, VERSION}
-use Rattle.ocpp_replay.specs.declared.words.Action.{Action}
-use Rattle.ocpp_replay.specs.declared.words.Action.TheVariants.{Replay, Help, Version, Unknown}
+use Rattle.script_replay.{specs.Whole.{IsMistake, IsReplayRun, Shows}, specs.declared.whole.Ended.Ended}
+use Rattle.ocpp_replay.{specs.declared.words.TheConstants.{HELP, USAGE, VERSION}, specs.declared.words.Action.Action, specs.declared.words.Action.TheVariants.{Replay, Help, Version, Unknown}}
 
 -- The run of a program that was asked for this, with an input, an output and standard error: a
 -- replay, its help, its version, or the usage.

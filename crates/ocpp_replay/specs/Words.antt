@@ -1,8 +1,6 @@
 -- What the program's words ask for.
-use Rattle.std.specs.Prelude.{◌&&◌, ◌||◌, ℕ, Bool, List, [], ◌∷◌, codes, if◌then◌else◌}
-use Rattle.std.specs.Str.{bytes_eq}
-use Rattle.ocpp_replay.specs.declared.words.Action.{Action}
-use Rattle.ocpp_replay.specs.declared.words.Action.TheVariants.{Replay, Help, Version, Unknown}
+use Rattle.std.{specs.Prelude.{◌&&◌, ◌||◌, ℕ, Bool, List, [], ◌∷◌, codes, if◌then◌else◌}, specs.Str.bytes_eq}
+use Rattle.ocpp_replay.{specs.declared.words.Action.Action, specs.declared.words.Action.TheVariants.{Replay, Help, Version, Unknown}}
 
 -- The words that ask for the help text.
 abbrev pub asks_help : List ℕ → Bool

@@ -1,8 +1,6 @@
 //! A run of the program, from its words to its exit status.
-ghost use Rattle.std.specs.Prelude.{◌≡◌, ◌≢◌, Err, map};
-ghost use Rattle.std.specs.declared.io.ErrorKind.{ErrorKind};
-ghost use Rattle.ocpp_replay.specs.Program.{IsRun};
-ghost use Rattle.ocpp_replay.specs.Words.{words_meaning};
+ghost use Rattle.std.{specs.Prelude.{◌≡◌, ◌≢◌, Err, map}, specs.declared.io.ErrorKind.ErrorKind};
+ghost use Rattle.ocpp_replay.{specs.Program.IsRun, specs.Words.words_meaning};
 ghost use Rattle.script_lines.specs.declared.fault.ReplayFault.{ReplayFault};
 ghost use Rattle.script_replay.specs.Whole.{IsMistake, IsReported, Shows};
 

@@ -1,9 +1,5 @@
 -- How long texts are as JSON strings.
-use Rattle.std.proofs.Common.{◌≤◌, ◌*◌, ℕ, length, List, [], ◌∷◌, Bool, true, false, arith, length-append, ap}
-use Rattle.std.specs.Prelude.{◌||◌, if◌then◌else◌, nat_lt, ◌==◌, encode_utf8}
-use Rattle.std.specs.List.{flat_map}
-use Rattle.std.specs.Str.{IsUtf8, chars, encode_utf8_all}
-use Rattle.std.proofs.lemmas.Str.{length-encode, len_utf8_bounds, encodes-chars}
+use Rattle.std.{proofs.Common.{◌≤◌, ◌*◌, ℕ, length, List, [], ◌∷◌, Bool, true, false, arith, length-append, ap}, specs.Prelude.{◌||◌, if◌then◌else◌, nat_lt, ◌==◌, encode_utf8}, specs.List.flat_map, specs.Str.{IsUtf8, chars, encode_utf8_all}, proofs.lemmas.Str.{length-encode, len_utf8_bounds, encodes-chars}}
 use Rattle.ocppj_frame.specs.Reply.{escaped}
 
 -- a character takes at most four bytes

@@ -1,21 +1,8 @@
 -- What elements ask for: a call, silence or a refusal, and what is known of the elements then.
-use Rattle.std.proofs.Common.{◌≡◌, ◌≤◌, ◌∙◌, ℕ, length, List, [], ◌∷◌, Bool, true, false, Option, Some, None, ◌⊎◌, inl, inr, ⊎_elim, refl, sym, ap, subst}
-use Rattle.std.specs.Prelude.{not, nat_le, ◌||◌, if◌then◌else◌, option_and_then, codes}
-use Rattle.std.specs.List.{find}
-use Rattle.std.specs.Str.{bytes_eq}
-use Rattle.std.proofs.lemmas.Bool.{leb-true}
-use Rattle.std.proofs.lemmas.Slice.Eq.{bytes_eq-Decides}
+use Rattle.std.{proofs.Common.{◌≡◌, ◌≤◌, ◌∙◌, ℕ, length, List, [], ◌∷◌, Bool, true, false, Option, Some, None, ◌⊎◌, inl, inr, ⊎_elim, refl, sym, ap, subst}, specs.Prelude.{not, nat_le, ◌||◌, if◌then◌else◌, option_and_then, codes}, specs.List.find, specs.Str.bytes_eq, proofs.lemmas.Bool.leb-true, proofs.lemmas.Slice.Eq.bytes_eq-Decides}
 use Rattle.serde_json.specs.Data.{Data}
 use Rattle.marked_json.specs.Reading.{text_of, number_of, is_object}
-use Rattle.ocppj_frame.specs.declared.action.Action.{Action}
-use Rattle.ocppj_frame.specs.declared.action.Action.TheVariants.{BootNotification, Heartbeat, StatusNotification, MeterValues, TransactionEvent}
-use Rattle.ocppj_frame.specs.declared.frame_fault.FrameFault.{FrameFault}
-use Rattle.ocppj_frame.specs.declared.frame_fault.FrameFault.TheVariants.{NotACall, MessageType, UnknownAction, Format}
-use Rattle.ocppj_frame.specs.Reply.{character_count}
-use Rattle.ocppj_frame.specs.Action.{action_of, action_name, actions}
-use Rattle.ocppj_frame.specs.Id.{message_id}
-use Rattle.ocppj_frame.specs.Frame.{Frame, Called, Silence, refused, id_of, with_action, with_name, with_id, with_type, frame_of, payload_in}
-use Rattle.ocppj_frame.specs.Ranges.{longest_message_id}
+use Rattle.ocppj_frame.{specs.declared.action.Action.Action, specs.declared.action.Action.TheVariants.{BootNotification, Heartbeat, StatusNotification, MeterValues, TransactionEvent}, specs.declared.frame_fault.FrameFault.FrameFault, specs.declared.frame_fault.FrameFault.TheVariants.{NotACall, MessageType, UnknownAction, Format}, specs.Reply.character_count, specs.Action.{action_of, action_name, actions}, specs.Id.message_id, specs.Frame.{Frame, Called, Silence, refused, id_of, with_action, with_name, with_id, with_type, frame_of, payload_in}, specs.Ranges.longest_message_id}
 
 -- the elements are those of a call
 pub record Calls (elements : List Data) (id : List ℕ) (action : Action) (payload : Data) : Type 0 where

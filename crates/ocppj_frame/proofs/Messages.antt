@@ -1,18 +1,8 @@
 -- A text is a call or an answer exactly if the frame says so.
-use Rattle.std.proofs.Common.{◌≡◌, ◌≤◌, ◌∙◌, ◌↔◌, ℕ, length, List, [], ◌∷◌, Bool, true, false, Some, None, Result, Ok, Err, ◌⊎◌, inl, inr, refl, ap}
-use Rattle.std.specs.Prelude.{not, nat_lt, if◌then◌else◌, option_and_then, codes}
-use Rattle.std.proofs.lemmas.Bool.{le-ltb, le-leb, ltb-false}
+use Rattle.std.{proofs.Common.{◌≡◌, ◌≤◌, ◌∙◌, ◌↔◌, ℕ, length, List, [], ◌∷◌, Bool, true, false, Some, None, Result, Ok, Err, ◌⊎◌, inl, inr, refl, ap}, specs.Prelude.{not, nat_lt, if◌then◌else◌, option_and_then, codes}, proofs.lemmas.Bool.{le-ltb, le-leb, ltb-false}}
 use Rattle.serde_json.specs.Data.{Data, null, boolean, number, string, array, object, Items, no_items, item}
-use Rattle.marked_json.specs.declared.fault.JsonFault.{JsonFault}
-use Rattle.marked_json.specs.Reading.{marked_reading, number_of, list_of}
-use Rattle.ocppj_frame.specs.declared.action.Action.{Action}
-use Rattle.ocppj_frame.specs.declared.frame_fault.FrameFault.TheVariants.{TextTooLong, Format}
-use Rattle.ocppj_frame.specs.Reply.{character_count}
-use Rattle.ocppj_frame.specs.Id.{message_id}
-use Rattle.ocppj_frame.specs.Frame.{Called, Silence, refused, id_of, with_action, with_name, with_id, with_type, frame_of, elements_of, frame_read, frame}
-use Rattle.ocppj_frame.specs.Message.{IsCall, IsAnswer}
-use Rattle.ocppj_frame.proofs.Frames.{Calls, Answers, frame_of-Called, frame_of-Silence, action_of-action_name}
-use Rattle.ocppj_frame.specs.Ranges.{longest_message, longest_message_id}
+use Rattle.marked_json.{specs.declared.fault.JsonFault.JsonFault, specs.Reading.{marked_reading, number_of, list_of}}
+use Rattle.ocppj_frame.{specs.declared.action.Action.Action, specs.declared.frame_fault.FrameFault.TheVariants.{TextTooLong, Format}, specs.Reply.character_count, specs.Id.message_id, specs.Frame.{Called, Silence, refused, id_of, with_action, with_name, with_id, with_type, frame_of, elements_of, frame_read, frame}, specs.Message.{IsCall, IsAnswer}, proofs.Frames.{Calls, Answers, frame_of-Called, frame_of-Silence, action_of-action_name}, specs.Ranges.{longest_message, longest_message_id}}
 
 -- ---- arrays and their elements
 

@@ -1,21 +1,9 @@
 -- A reader of JSON gives back what was written as a JSON string: it takes each escape for its character, and goes
 -- over it in one string.
-use Rattle.std.proofs.Common.{◌≡◌, ◌≢◌, ℕ, ◌+◌, ◌/◌, ◌%◌, ◌<◌, ◌≤◌, Bool, true, false, cond, List, [], ◌∷◌, ◌++◌, Option, Some, None, ◌⊎◌, inl, inr, refl, sym, ap, ◌∙◌, subst, arith, append_assoc}
-use Rattle.std.specs.Prelude.{nat_lt, option_and_then}
-use Rattle.std.specs.List.{flat_map}
-use Rattle.std.specs.Char.{digit_char}
-use Rattle.std.specs.Str.{IsUtf8, chars, encode_utf8_all}
-use Rattle.std.proofs.lemmas.Bool.{cases_eq, cases_lt, ne_eqb, le-ltb, lt-ltb, lt-leb, ltb-false}
-use Rattle.std.proofs.lemmas.List.{append-nil}
-use Rattle.std.proofs.lemmas.Str.{encodes-chars, digit_value-digit_char}
+use Rattle.std.{proofs.Common.{◌≡◌, ◌≢◌, ℕ, ◌+◌, ◌/◌, ◌%◌, ◌<◌, ◌≤◌, Bool, true, false, cond, List, [], ◌∷◌, ◌++◌, Option, Some, None, ◌⊎◌, inl, inr, refl, sym, ap, ◌∙◌, subst, arith, append_assoc}, specs.Prelude.{nat_lt, option_and_then}, specs.List.flat_map, specs.Char.digit_char, specs.Str.{IsUtf8, chars, encode_utf8_all}, proofs.lemmas.Bool.{cases_eq, cases_lt, ne_eqb, le-ltb, lt-ltb, lt-leb, ltb-false}, proofs.lemmas.List.append-nil, proofs.lemmas.Str.{encodes-chars, digit_value-digit_char}}
 use lib.Utf8.{encode}
-use Rattle.json.specs.Text.{content, plain, prepend, code_unit, short_escape}
-use Rattle.json.specs.Token.{Token}
-use Rattle.json.specs.Word.{is_operator, is_space}
-use Rattle.json.specs.Lex.{Lexeme, Mode, lex, lex_byte, in_string, operator, space, other, tokens, punctuate}
-use Rattle.json.specs.Json.{value, if_last}
-use Rattle.serde_json.specs.Data.{Data, string}
-use Rattle.serde_json.specs.Read.{read, of_json, max_depth}
+use Rattle.json.{specs.Text.{content, plain, prepend, code_unit, short_escape}, specs.Token.Token, specs.Word.{is_operator, is_space}, specs.Lex.{Lexeme, Mode, lex, lex_byte, in_string, operator, space, other, tokens, punctuate}, specs.Json.{value, if_last}}
+use Rattle.serde_json.{specs.Data.{Data, string}, specs.Read.{read, of_json, max_depth}}
 use Rattle.ocppj_frame.specs.Reply.{escaped, json_string}
 
 -- what is in a string is read as this text, whatever follows it

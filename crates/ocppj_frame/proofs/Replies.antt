@@ -1,12 +1,6 @@
 -- A CALLERROR shows the last letter of its description.
 use Rattle.std.proofs.Common.{◌≡◌, ◌≢◌, ◌∙◌, ◌++◌, ℕ, length, List, [], ◌∷◌, sym, ap, append_assoc, arith, length-append, codes, refl, drop}
-use Rattle.ocppj_frame.specs.declared.error_code.ErrorCode.{ErrorCode}
-use Rattle.ocppj_frame.specs.declared.error_code.ErrorCode.TheVariants.{InternalError}
-use Rattle.ocppj_frame.specs.declared.frame_fault.FrameFault.{FrameFault}
-use Rattle.ocppj_frame.specs.declared.frame_fault.FrameFault.TheVariants.{TextTooLong, NotJson, NotACall, MessageType, UnknownAction, Format}
-use Rattle.ocppj_frame.specs.ErrorCode.{code_name}
-use Rattle.ocppj_frame.specs.Reply.{error_bytes, json_string, memory_bytes}
-use Rattle.ocppj_frame.specs.FrameFault.{fault_code, fault_name}
+use Rattle.ocppj_frame.{specs.declared.error_code.ErrorCode.ErrorCode, specs.declared.error_code.ErrorCode.TheVariants.InternalError, specs.declared.frame_fault.FrameFault.FrameFault, specs.declared.frame_fault.FrameFault.TheVariants.{TextTooLong, NotJson, NotACall, MessageType, UnknownAction, Format}, specs.ErrorCode.code_name, specs.Reply.{error_bytes, json_string, memory_bytes}, specs.FrameFault.{fault_code, fault_name}}
 
 -- lists with equal ends of one length end in the same
 same_ends : (a b xs ys : List ℕ) → length xs ≡ length ys → a ++ xs ≡ b ++ ys → xs ≡ ys

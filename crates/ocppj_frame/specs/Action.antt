@@ -1,7 +1,5 @@
-use Rattle.std.specs.Prelude.{ℕ, List, [], ◌∷◌, find, Option, codes}
-use Rattle.std.specs.Str.{bytes_eq}
-use Rattle.ocppj_frame.specs.declared.action.Action.{Action}
-use Rattle.ocppj_frame.specs.declared.action.Action.TheVariants.{BootNotification, Heartbeat, StatusNotification, MeterValues, TransactionEvent}
+use Rattle.std.{specs.Prelude.{ℕ, List, [], ◌∷◌, find, Option, codes}, specs.Str.bytes_eq}
+use Rattle.ocppj_frame.{specs.declared.action.Action.Action, specs.declared.action.Action.TheVariants.{BootNotification, Heartbeat, StatusNotification, MeterValues, TransactionEvent}}
 
 -- The name of an action, as a CALL has it.
 abbrev pub action_name : Action → List ℕ

@@ -2,9 +2,7 @@
 use Rattle.std.specs.Prelude.{ℕ, List}
 use Rattle.serde_json.specs.Data.{Data}
 use Rattle.marked_json.specs.Reading.{tree}
-use Rattle.ocppj_frame.specs.declared.action.Action.{Action}
-use Rattle.ocppj_frame.specs.declared.call.Call.{Call}
-use Rattle.ocppj_frame.specs.Frame.{elements_of, payload_in}
+use Rattle.ocppj_frame.{specs.declared.action.Action.Action, specs.declared.call.Call.Call, specs.Frame.{elements_of, payload_in}}
 
 -- Its id.
 abbrev pub id_of : Call → List ℕ

@@ -1,6 +1,5 @@
 use Rattle.std.specs.Prelude.{ℕ, List, codes}
-use Rattle.ocppj_frame.specs.declared.error_code.ErrorCode.{ErrorCode}
-use Rattle.ocppj_frame.specs.declared.error_code.ErrorCode.TheVariants.{FormatViolation, OccurrenceConstraintViolation, TypeConstraintViolation, PropertyConstraintViolation, GenericError, InternalError, RpcFrameworkError, MessageTypeNotSupported, NotImplemented}
+use Rattle.ocppj_frame.{specs.declared.error_code.ErrorCode.ErrorCode, specs.declared.error_code.ErrorCode.TheVariants.{FormatViolation, OccurrenceConstraintViolation, TypeConstraintViolation, PropertyConstraintViolation, GenericError, InternalError, RpcFrameworkError, MessageTypeNotSupported, NotImplemented}}
 
 -- The code as a CALLERROR has it.
 abbrev pub code_name : ErrorCode → List ℕ

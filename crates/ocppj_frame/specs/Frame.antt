@@ -1,18 +1,9 @@
 -- What a text of OCPP-J asks for: CALL is `[2,<id>,<action>,<payload>]`, CALLRESULT `[3,..]`, CALLERROR `[4,..]`
 -- (OCPP 2.0.1 Part 4). The order of the checks and the replies are this product's profile.
-use Rattle.std.specs.Prelude.{ℕ, ◌||◌, not, nat_lt, List, [], ◌∷◌, length, if◌then◌else◌, Option, Some, None, option_and_then, unwrap_or, slice_get, Result, Ok, Err, codes}
-use Rattle.std.specs.Str.{bytes_eq}
+use Rattle.std.{specs.Prelude.{ℕ, ◌||◌, not, nat_lt, List, [], ◌∷◌, length, if◌then◌else◌, Option, Some, None, option_and_then, unwrap_or, slice_get, Result, Ok, Err, codes}, specs.Str.bytes_eq}
 use Rattle.serde_json.specs.Data.{Data, null}
-use Rattle.marked_json.specs.Reading.{marked_reading, text_of, number_of, items_of, is_object}
-use Rattle.marked_json.specs.declared.fault.JsonFault.{JsonFault}
-use Rattle.ocppj_frame.specs.declared.action.Action.{Action}
-use Rattle.ocppj_frame.specs.declared.frame_fault.FrameFault.{FrameFault}
-use Rattle.ocppj_frame.specs.declared.frame_fault.FrameFault.TheVariants.{TextTooLong, NotJson, NotACall, MessageType, UnknownAction, Format}
-use Rattle.ocppj_frame.specs.Reply.{error_bytes}
-use Rattle.ocppj_frame.specs.Action.{action_of}
-use Rattle.ocppj_frame.specs.Id.{message_id}
-use Rattle.ocppj_frame.specs.FrameFault.{fault_code, fault_name}
-use Rattle.ocppj_frame.specs.Ranges.{longest_message}
+use Rattle.marked_json.{specs.Reading.{marked_reading, text_of, number_of, items_of, is_object}, specs.declared.fault.JsonFault.JsonFault}
+use Rattle.ocppj_frame.{specs.declared.action.Action.Action, specs.declared.frame_fault.FrameFault.FrameFault, specs.declared.frame_fault.FrameFault.TheVariants.{TextTooLong, NotJson, NotACall, MessageType, UnknownAction, Format}, specs.Reply.error_bytes, specs.Action.action_of, specs.Id.message_id, specs.FrameFault.{fault_code, fault_name}, specs.Ranges.longest_message}
 
 -- A call with its id, action and payload; or silence; or a ready reply.
 pub data Frame : Type 0 where

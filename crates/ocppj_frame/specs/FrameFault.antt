@@ -1,9 +1,6 @@
 -- The faults of a frame, their codes and their names.
 use Rattle.std.specs.Prelude.{ℕ, List, codes}
-use Rattle.ocppj_frame.specs.declared.error_code.ErrorCode.{ErrorCode}
-use Rattle.ocppj_frame.specs.declared.error_code.ErrorCode.TheVariants.{RpcFrameworkError, MessageTypeNotSupported, NotImplemented, FormatViolation}
-use Rattle.ocppj_frame.specs.declared.frame_fault.FrameFault.{FrameFault}
-use Rattle.ocppj_frame.specs.declared.frame_fault.FrameFault.TheVariants.{TextTooLong, NotJson, NotACall, MessageType, UnknownAction, Format}
+use Rattle.ocppj_frame.{specs.declared.error_code.ErrorCode.ErrorCode, specs.declared.error_code.ErrorCode.TheVariants.{RpcFrameworkError, MessageTypeNotSupported, NotImplemented, FormatViolation}, specs.declared.frame_fault.FrameFault.FrameFault, specs.declared.frame_fault.FrameFault.TheVariants.{TextTooLong, NotJson, NotACall, MessageType, UnknownAction, Format}}
 
 -- The code of the CALLERROR that reports a fault.
 abbrev pub fault_code : FrameFault → ErrorCode

@@ -1,13 +1,9 @@
 -- What a result of the reader says about the text.
 use Rattle.std.specs.Prelude.{◌≡◌, ◌↔◌, IsTrue, true, false, ⊤}
 use Rattle.arrayvec.specs.ArrayString.{ArrayString}
-use Rattle.ocppj_frame.specs.declared.incoming.Incoming.{Incoming}
+use Rattle.ocppj_frame.{specs.declared.incoming.Incoming.Incoming, specs.declared.incoming.Framed.Framed, specs.Reply.memory_bytes, specs.Frame.{Frame, Called, Silence, Ready}, specs.Call.{id_of, action_of, payload_of}}
 use Rattle.ocppj_frame.specs.declared.incoming.Incoming.TheVariants as incoming
-use Rattle.ocppj_frame.specs.declared.incoming.Framed.{Framed}
 use Rattle.ocppj_frame.specs.declared.incoming.Framed.TheVariants as framed
-use Rattle.ocppj_frame.specs.Reply.{memory_bytes}
-use Rattle.ocppj_frame.specs.Frame.{Frame, Called, Silence, Ready}
-use Rattle.ocppj_frame.specs.Call.{id_of, action_of, payload_of}
 
 -- The result, with the text from the caller's buffer if it is a ready reply.
 abbrev pub with_reply : Framed → ArrayString → Incoming

@@ -2,10 +2,7 @@
 use Rattle.std.specs.Prelude.{◌≡◌, ◌⊎◌, ◌≤◌, ℕ, List, length, true, Some, Ok, codes}
 use Rattle.serde_json.specs.Data.{Data, array, Items, item, no_items}
 use Rattle.marked_json.specs.Reading.{marked_reading, text_of, number_of, is_object}
-use Rattle.ocppj_frame.specs.declared.action.Action.{Action}
-use Rattle.ocppj_frame.specs.Action.{action_name}
-use Rattle.ocppj_frame.specs.Reply.{character_count}
-use Rattle.ocppj_frame.specs.Ranges.{longest_message, longest_message_id}
+use Rattle.ocppj_frame.{specs.declared.action.Action.Action, specs.Action.action_name, specs.Reply.character_count, specs.Ranges.{longest_message, longest_message_id}}
 
 -- A CALL is `[2,<id>,<action>,<payload>]` no longer than a message may be: the id is a text no longer than an id may
 -- be, the action is the name of one of the five, the payload is an object.

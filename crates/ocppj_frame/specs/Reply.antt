@@ -1,13 +1,6 @@
 -- The texts of replies (OCPP 2.0.1 Part 4), without blanks.
-use Rattle.std.specs.Prelude.{ℕ, ◌/◌, ◌%◌, ◌==◌, ◌||◌, ◌&&◌, Bool, nat_lt, nat_le, List, [], ◌∷◌, ◌++◌, length, if◌then◌else◌, codes, encode_utf8}
-use Rattle.std.specs.List.{flat_map}
-use Rattle.std.specs.Char.{digit_char}
-use Rattle.std.specs.Str.{chars}
-use Rattle.ocppj_frame.specs.declared.body.Body.{Body}
-use Rattle.ocppj_frame.specs.declared.body.Body.TheVariants.{Empty, TokenAccepted, Now, Boot}
-use Rattle.ocppj_frame.specs.declared.error_code.ErrorCode.{ErrorCode}
-use Rattle.ocppj_frame.specs.declared.error_code.ErrorCode.TheVariants.{InternalError}
-use Rattle.ocppj_frame.specs.ErrorCode.{code_name}
+use Rattle.std.{specs.Prelude.{ℕ, ◌/◌, ◌%◌, ◌==◌, ◌||◌, ◌&&◌, Bool, nat_lt, nat_le, List, [], ◌∷◌, ◌++◌, length, if◌then◌else◌, codes, encode_utf8}, specs.List.flat_map, specs.Char.digit_char, specs.Str.chars}
+use Rattle.ocppj_frame.{specs.declared.body.Body.Body, specs.declared.body.Body.TheVariants.{Empty, TokenAccepted, Now, Boot}, specs.declared.error_code.ErrorCode.ErrorCode, specs.declared.error_code.ErrorCode.TheVariants.InternalError, specs.ErrorCode.code_name}
 
 -- How many characters a text has: Unicode scalar values, not bytes.
 abbrev pub character_count : List ℕ → ℕ

@@ -1,8 +1,7 @@
 use Rattle.std.specs.Prelude.{◌≡◌}
 use Rattle.serde_json.specs.Data.{Data}
-use Rattle.ocppj_frame.specs.declared.verdict.Verdict.{Verdict}
+use Rattle.ocppj_frame.{specs.declared.verdict.Verdict.Verdict, specs.Frame.{Frame, Called, Silence, refused}}
 use Rattle.ocppj_frame.specs.declared.verdict.Verdict.TheVariants as verdict
-use Rattle.ocppj_frame.specs.Frame.{Frame, Called, Silence, refused}
 
 -- The verdict is what the elements ask for; it leaves out the payload of a call.
 abbrev pub Says : Frame → Verdict → Type 0

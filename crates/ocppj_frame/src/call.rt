@@ -1,8 +1,6 @@
 ghost use Rattle.std.specs.Prelude.{◌≡◌, ◌≤◌, true, length};
 ghost use Rattle.marked_json.specs.Reading.{tree, node, is_object};
-ghost use Rattle.ocppj_frame.specs.Reply.{character_count};
-ghost use Rattle.ocppj_frame.specs.Frame.{elements_of, payload_in};
-ghost use Rattle.ocppj_frame.specs.Ranges.{longest_message_id};
+ghost use Rattle.ocppj_frame.{specs.Reply.character_count, specs.Frame.{elements_of, payload_in}, specs.Ranges.longest_message_id};
 
 use crate::action::Action;
 use crate::message_id::MessageId;

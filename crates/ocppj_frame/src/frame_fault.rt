@@ -1,5 +1,4 @@
-ghost use Rattle.std.specs.Prelude.{◌≡◌, ◌≤◌, true, length};
-ghost use Rattle.std.specs.List.{list_all};
+ghost use Rattle.std.{specs.Prelude.{◌≡◌, ◌≤◌, true, length}, specs.List.list_all};
 ghost use Rattle.ocppj_frame.specs.Reply.{is_letter};
 
 use crate::error_code::ErrorCode;

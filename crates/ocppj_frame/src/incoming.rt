@@ -1,9 +1,6 @@
 ghost use Rattle.std.specs.Prelude.{◌≡◌, ◌≤◌, length};
 ghost use Rattle.marked_json.specs.Reading.{tree};
-ghost use Rattle.ocppj_frame.specs.Frame.{frame, frame_of, refused, elements_of};
-ghost use Rattle.ocppj_frame.specs.Incoming.{Reads, IsMemoryTold, IsOutOfMemory, IsCall, with_reply};
-ghost use Rattle.ocppj_frame.specs.Reply.{memory_bytes};
-ghost use Rattle.ocppj_frame.specs.Ranges.{longest_message};
+ghost use Rattle.ocppj_frame.{specs.Frame.{frame, frame_of, refused, elements_of}, specs.Incoming.{Reads, IsMemoryTold, IsOutOfMemory, IsCall, with_reply}, specs.Reply.memory_bytes, specs.Ranges.longest_message};
 
 use crate::call::Call;
 use crate::error_code::ErrorCode;

@@ -1,8 +1,6 @@
-ghost use Rattle.std.specs.Prelude.{◌≡◌, ◌≤◌, ◌+◌, ◌<◌, ◌++◌};
-ghost use Rattle.std.specs.Char.{digit_char};
+ghost use Rattle.std.{specs.Prelude.{◌≡◌, ◌≤◌, ◌+◌, ◌<◌, ◌++◌}, specs.Char.digit_char};
 ghost use Rattle.arrayvec.specs.ArrayString.{array_string_len};
-ghost use Rattle.ocppj_frame.specs.Reply.{json_string as json_string_of, escaped, character_count};
-ghost use Rattle.ocppj_frame.specs.Ranges.{longest_message_id};
+ghost use Rattle.ocppj_frame.{specs.Reply.{json_string as json_string_of, escaped, character_count}, specs.Ranges.longest_message_id};
 
 use arrayvec::ArrayString;
 

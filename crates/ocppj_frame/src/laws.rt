@@ -1,12 +1,7 @@
 //! Laws of frames and replies, each proved as the contract of a function that does nothing.
-ghost use Rattle.std.specs.Prelude.{◌≡◌, ◌↔◌, ℕ, List, Some};
-ghost use Rattle.std.specs.Str.{IsUtf8};
-ghost use Rattle.serde_json.specs.Data.{Data, string};
-ghost use Rattle.serde_json.specs.Read.{read};
-ghost use Rattle.ocppj_frame.specs.declared.action.Action.{Action};
-ghost use Rattle.ocppj_frame.specs.Frame.{frame, Called, Silence};
-ghost use Rattle.ocppj_frame.specs.Message.{IsCall, IsAnswer};
-ghost use Rattle.ocppj_frame.specs.Reply.{json_string};
+ghost use Rattle.std.{specs.Prelude.{◌≡◌, ◌↔◌, ℕ, List, Some}, specs.Str.IsUtf8};
+ghost use Rattle.serde_json.{specs.Data.{Data, string}, specs.Read.read};
+ghost use Rattle.ocppj_frame.{specs.declared.action.Action.Action, specs.Frame.{frame, Called, Silence}, specs.Message.{IsCall, IsAnswer}, specs.Reply.json_string};
 
 /// A text is taken as a call exactly if it is one (CALL, OCPP 2.0.1 Part 4), with its id, action and payload.
 pub fn calls_are_taken()

@@ -1,7 +1,5 @@
 ghost use Rattle.std.specs.Prelude.{◌≡◌, ◌≤◌, ◌*◌, ◌↔◌, IsTrue, codes, length};
-ghost use Rattle.ocppj_frame.specs.Reply.{character_count as count_of};
-ghost use Rattle.ocppj_frame.specs.Id.{message_id};
-ghost use Rattle.ocppj_frame.specs.Ranges.{longest_message_id};
+ghost use Rattle.ocppj_frame.{specs.Reply.character_count as count_of, specs.Id.message_id, specs.Ranges.longest_message_id};
 
 use arrayvec::ArrayString;
 use std::marker::Model;
@@ -34,8 +32,7 @@ pub(crate) struct FrameId<'a> {
 
 impl<'a> Model for FrameId<'a> {
     ghost use Rattle.std.specs.Prelude.{List, ℕ, ◌≤◌};
-    ghost use Rattle.ocppj_frame.specs.Ranges.{longest_message_id};
-    ghost use Rattle.ocppj_frame.specs.Reply.{character_count};
+    ghost use Rattle.ocppj_frame.{specs.Ranges.longest_message_id, specs.Reply.character_count};
 
     ghost Value = { List ℕ };
 
@@ -79,8 +76,7 @@ pub(crate) struct MessageId {
 
 impl Model for MessageId {
     ghost use Rattle.std.specs.Prelude.{List, ℕ, ◌≤◌};
-    ghost use Rattle.ocppj_frame.specs.Ranges.{longest_message_id};
-    ghost use Rattle.ocppj_frame.specs.Reply.{character_count};
+    ghost use Rattle.ocppj_frame.{specs.Ranges.longest_message_id, specs.Reply.character_count};
 
     ghost Value = { List ℕ };
 

@@ -1,7 +1,5 @@
-ghost use Rattle.std.specs.Prelude.{◌≡◌, ◌≤◌, true, length};
-ghost use Rattle.std.specs.List.{list_all};
-ghost use Rattle.ocppj_frame.specs.Reply.{result_bytes, error_bytes, character_count, is_letter};
-ghost use Rattle.ocppj_frame.specs.Ranges.{longest_message_id};
+ghost use Rattle.std.{specs.Prelude.{◌≡◌, ◌≤◌, true, length}, specs.List.list_all};
+ghost use Rattle.ocppj_frame.{specs.Reply.{result_bytes, error_bytes, character_count, is_letter}, specs.Ranges.longest_message_id};
 
 use crate::body::{Body, push_body};
 use crate::error_code::ErrorCode;

@@ -1,7 +1,6 @@
 ghost use Rattle.std.specs.Prelude.{◌≡◌, Some};
 ghost use Rattle.marked_json.specs.Reading.{node, left_of};
-ghost use Rattle.ocppj_frame.specs.Frame.{frame_of, with_type, with_id, with_name, elements_of, id_of};
-ghost use Rattle.ocppj_frame.specs.Verdict.{Says};
+ghost use Rattle.ocppj_frame.{specs.Frame.{frame_of, with_type, with_id, with_name, elements_of, id_of}, specs.Verdict.Says};
 
 use crate::action::Action;
 use crate::frame_fault::FrameFault;

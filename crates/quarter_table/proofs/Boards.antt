@@ -1,26 +1,7 @@
 -- The rows of pairs of readings, and the periods of a board.
-use Rattle.std.proofs.Common.{◌≡◌, ℕ, ◌+◌, ◌==◌, cond, List, [], ◌∷◌, ◌++◌, map, refl, sym, ap, subst, ◌∙◌, arith}
-use Rattle.std.specs.List.{filter, flat_map, sum_by}
-use Rattle.std.proofs.lemmas.List.{map-append}
-use Rattle.std.proofs.lemmas.List.Elements.{filter-append}
-use Rattle.std.proofs.lemmas.List.Sums.{sum_by-append}
-use Rattle.std.proofs.Math.Path.{fun_ext}
-use Rattle.ledger_model.specs.Periods.{Periods}
-use Rattle.ledger_model.specs.declared.order.Order.{Order}
-use Rattle.ledger_model.specs.declared.reading.Direction.{Direction}
-use Rattle.ledger_model.specs.declared.reading.Direction.TheVariants.{Import, Export}
-use Rattle.ledger_model.specs.Board.{Flowed, board_by}
-use Rattle.ledger_model.specs.Content.{Entry}
-use Rattle.ledger_model.specs.ByDirection.{flows_toward}
-use Rattle.ledger_model.specs.declared.by_direction.ByDirection.{ByDirection}
+use Rattle.std.{proofs.Common.{◌≡◌, ℕ, ◌+◌, ◌==◌, cond, List, [], ◌∷◌, ◌++◌, map, refl, sym, ap, subst, ◌∙◌, arith}, specs.List.{filter, flat_map, sum_by}, proofs.lemmas.List.map-append, proofs.lemmas.List.Elements.filter-append, proofs.lemmas.List.Sums.sum_by-append, proofs.Math.Path.fun_ext}
+use Rattle.ledger_model.{specs.Periods.Periods, specs.declared.order.Order.Order, specs.declared.reading.Direction.Direction, specs.declared.reading.Direction.TheVariants.{Import, Export}, specs.Board.{Flowed, board_by}, specs.Content.Entry, specs.ByDirection.flows_toward, specs.declared.by_direction.ByDirection.ByDirection, specs.Energy.{Pair, all_pairs_by, change_of, difference, flows_in_by, parts_of_both, parts_over, quarters_by, rising}, specs.Parts.{Part, parts_by, whole}, specs.Settling.settled_by, specs.declared.settle.Settle.Settle, specs.declared.settle.Settle.TheVariants.{Later, Closing, Even}, proofs.Callers.{sum_by-map, passed_sum}, proofs.SumLemmas.sum_by-none}
 use Rattle.energy_flow.specs.Flow.{Energy}
-use Rattle.ledger_model.specs.Energy.{Pair, all_pairs_by, change_of, difference, flows_in_by, parts_of_both, parts_over, quarters_by, rising}
-use Rattle.ledger_model.specs.Parts.{Part, parts_by, whole}
-use Rattle.ledger_model.specs.Settling.{settled_by}
-use Rattle.ledger_model.specs.declared.settle.Settle.{Settle}
-use Rattle.ledger_model.specs.declared.settle.Settle.TheVariants.{Later, Closing, Even}
-use Rattle.ledger_model.proofs.Callers.{sum_by-map, passed_sum}
-use Rattle.ledger_model.proofs.SumLemmas.{sum_by-none}
 use Rattle.quarter_table.specs.Pairs.{total, row_of, rows_of, board_flows_by, flows_of, parts_toward, station_flows_by, line_of}
 
 map_map : {X Y Z : Type 0} (f : Y → Z) (g : X → Y) (xs : List X) → map f (map g xs) ≡ map (λ x. f (g x)) xs

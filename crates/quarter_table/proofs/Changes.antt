@@ -1,15 +1,8 @@
 -- What a pair added or taken out does to the rows, at the place of its period.
-use Rattle.std.proofs.Common.{◌≡◌, ℕ, ◌+◌, ◌-◌, ◌<◌, List, get_or, set, unwrap_or, sym, ap, ◌∙◌, arith}
-use Rattle.std.specs.List.{insert, remove}
-use Rattle.std.proofs.lemmas.Option.{unwrap_or-slice_get}
+use Rattle.std.{proofs.Common.{◌≡◌, ℕ, ◌+◌, ◌-◌, ◌<◌, List, get_or, set, unwrap_or, sym, ap, ◌∙◌, arith}, specs.List.{insert, remove}, proofs.lemmas.Option.unwrap_or-slice_get}
 use Rattle.energy_flow.specs.Flow.{Energy}
-use Rattle.ledger_model.specs.ByDirection.{minus_flows, plus_flows}
-use Rattle.ledger_model.specs.declared.by_direction.ByDirection.{ByDirection}
-use Rattle.quarter_table.specs.declared.row.QuarterRow.{QuarterRow}
-use Rattle.quarter_table.specs.Rows.{no_row, row_at, with_pair, without_pair, set_row}
-use Rattle.quarter_table.specs.Kept.{StandsAt, BelongsAt}
-use Rattle.quarter_table.proofs.Parts.{plus_none}
-use Rattle.quarter_table.proofs.Replaced.{row_written, row_inserted, row_removed}
+use Rattle.ledger_model.{specs.ByDirection.{minus_flows, plus_flows}, specs.declared.by_direction.ByDirection.ByDirection}
+use Rattle.quarter_table.{specs.declared.row.QuarterRow.QuarterRow, specs.Rows.{no_row, row_at, with_pair, without_pair, set_row}, specs.Kept.{StandsAt, BelongsAt}, proofs.Parts.plus_none, proofs.Replaced.{row_written, row_inserted, row_removed}}
 
 -- The row read at the place of a period is the period's.
 pub row_read : (q : ℕ) (rs : List QuarterRow) (at : ℕ) (r : QuarterRow) → StandsAt q rs at → r ≡ get_or rs at r → r ≡ row_at q rs

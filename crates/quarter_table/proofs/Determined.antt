@@ -1,10 +1,6 @@
 -- Rows are determined by the row of each period.
-use Rattle.std.proofs.Common.{◌≡◌, ◌≢◌, ℕ, ◌<◌, ◌≤◌, ◌⊎◌, ⊎_elim, List, [], ◌∷◌, ◌++◌, refl, sym, ap, ◌∙◌, arith, inl, inr}
-use Rattle.std.proofs.lemmas.Bool.{cases_lt, cases_eq, cases_order}
-use Rattle.quarter_table.specs.declared.row.QuarterRow.{QuarterRow}
-use Rattle.quarter_table.specs.Rows.{no_row, row_at, earlier, later, if_any, set_row, AreInOrder, HavePairs}
-use Rattle.quarter_table.proofs.Orders.{earlier_on, earlier_past, later_on, later_past, row_here, row_other, after_less, after_missing}
-use Rattle.quarter_table.proofs.Replaced.{some_row, none_row, AreBefore, earlier_before, later_after}
+use Rattle.std.{proofs.Common.{◌≡◌, ◌≢◌, ℕ, ◌<◌, ◌≤◌, ◌⊎◌, ⊎_elim, List, [], ◌∷◌, ◌++◌, refl, sym, ap, ◌∙◌, arith, inl, inr}, proofs.lemmas.Bool.{cases_lt, cases_eq, cases_order}}
+use Rattle.quarter_table.{specs.declared.row.QuarterRow.QuarterRow, specs.Rows.{no_row, row_at, earlier, later, if_any, set_row, AreInOrder, HavePairs}, proofs.Orders.{earlier_on, earlier_past, later_on, later_past, row_here, row_other, after_less, after_missing}, proofs.Replaced.{some_row, none_row, AreBefore, earlier_before, later_after}}
 
 -- A row that has a pair is not that of a period without any.
 not_none : (r : QuarterRow) (q : ℕ) → 0 < r.pairs → r ≢ no_row q

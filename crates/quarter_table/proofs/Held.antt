@@ -1,22 +1,8 @@
 -- What the rows of pairs hold: no more than the pairs, and each of them.
-use Rattle.std.proofs.Common.{◌≡◌, ℕ, ◌+◌, ◌<◌, ◌≤◌, ◌==◌, ◌⊎◌, ⊎_elim, Bool, true, false, cond, List, [], ◌∷◌, ◌++◌, length, map, sym, ap, ◌∙◌, subst, arith}
-use Rattle.std.specs.List.{filter, sum_by}
-use Rattle.std.proofs.lemmas.Bool.{cases_order}
-use Rattle.std.proofs.lemmas.List.{length-map}
-use Rattle.std.proofs.lemmas.List.Sums.{sum_by-le-sum_by, length-filter, count_by-le-length}
+use Rattle.std.{proofs.Common.{◌≡◌, ℕ, ◌+◌, ◌<◌, ◌≤◌, ◌==◌, ◌⊎◌, ⊎_elim, Bool, true, false, cond, List, [], ◌∷◌, ◌++◌, length, map, sym, ap, ◌∙◌, subst, arith}, specs.List.{filter, sum_by}, proofs.lemmas.Bool.cases_order, proofs.lemmas.List.length-map, proofs.lemmas.List.Sums.{sum_by-le-sum_by, length-filter, count_by-le-length}}
 use Rattle.energy_flow.specs.Flow.{Energy}
-use Rattle.ledger_model.specs.ByDirection.{in_direction, plus_flows, CanMinusFlows}
-use Rattle.ledger_model.specs.declared.by_direction.ByDirection.{ByDirection}
-use Rattle.ledger_model.specs.declared.reading.Direction.{Direction}
-use Rattle.ledger_model.specs.declared.reading.Direction.TheVariants.{Import, Export}
-use Rattle.ledger_model.specs.Board.{Flowed}
-use Rattle.ledger_model.specs.Energy.{put_in, rising}
-use Rattle.ledger_model.proofs.Callers.{passed_sum, put_in-same, put_in-below, put_in-above}
-use Rattle.quarter_table.specs.declared.row.QuarterRow.{QuarterRow}
-use Rattle.quarter_table.specs.Rows.{no_row, row_at, with_pair}
-use Rattle.quarter_table.specs.Pairs.{total, row_of, rows_of}
-use Rattle.quarter_table.proofs.Parts.{plus_none}
-use Rattle.quarter_table.proofs.Made.{made_row, none_made, row_with_pair}
+use Rattle.ledger_model.{specs.ByDirection.{in_direction, plus_flows, CanMinusFlows}, specs.declared.by_direction.ByDirection.ByDirection, specs.declared.reading.Direction.Direction, specs.declared.reading.Direction.TheVariants.{Import, Export}, specs.Board.Flowed, specs.Energy.{put_in, rising}, proofs.Callers.{passed_sum, put_in-same, put_in-below, put_in-above}}
+use Rattle.quarter_table.{specs.declared.row.QuarterRow.QuarterRow, specs.Rows.{no_row, row_at, with_pair}, specs.Pairs.{total, row_of, rows_of}, proofs.Parts.plus_none, proofs.Made.{made_row, none_made, row_with_pair}}
 
 -- A number put in makes a list longer by one at most.
 length-put_in : (n : ℕ) (ms : List ℕ) → length (put_in n ms) ≤ length ms + 1

@@ -1,22 +1,8 @@
 -- The rows that pairs make, and how they change with a pair.
-use Rattle.std.proofs.Common.{◌≡◌, ◌≢◌, ℕ, suc, ◌+◌, ◌-◌, ◌<◌, ◌⊎◌, ⊎_elim, ◌==◌, cond, List, [], ◌∷◌, ◌++◌, length, map, refl, sym, ap, ◌∙◌, subst, arith, inl, inr}
-use Rattle.std.specs.List.{filter, sum_by}
-use Rattle.std.proofs.lemmas.Bool.{eq-eqb, ne_eqb, cases_eq}
-use Rattle.std.proofs.lemmas.List.Sums.{sum_by-cons, sum_by-append, length-filter}
-use Rattle.ledger_model.specs.Board.{Flowed}
-use Rattle.ledger_model.specs.BoardLaws.{AreRising, IsIn}
+use Rattle.std.{proofs.Common.{◌≡◌, ◌≢◌, ℕ, suc, ◌+◌, ◌-◌, ◌<◌, ◌⊎◌, ⊎_elim, ◌==◌, cond, List, [], ◌∷◌, ◌++◌, length, map, refl, sym, ap, ◌∙◌, subst, arith, inl, inr}, specs.List.{filter, sum_by}, proofs.lemmas.Bool.{eq-eqb, ne_eqb, cases_eq}, proofs.lemmas.List.Sums.{sum_by-cons, sum_by-append, length-filter}}
+use Rattle.ledger_model.{specs.Board.Flowed, specs.BoardLaws.{AreRising, IsIn}, specs.ByDirection.{minus_flows, plus_flows}, specs.declared.by_direction.ByDirection.ByDirection, specs.Energy.rising, proofs.Callers.{passed_sum, rising-AreRising, rising-IsIn}}
 use Rattle.energy_flow.specs.Flow.{Energy}
-use Rattle.ledger_model.specs.ByDirection.{minus_flows, plus_flows}
-use Rattle.ledger_model.specs.declared.by_direction.ByDirection.{ByDirection}
-use Rattle.ledger_model.specs.Energy.{rising}
-use Rattle.ledger_model.proofs.Callers.{passed_sum, rising-AreRising, rising-IsIn}
-use Rattle.quarter_table.specs.declared.row.QuarterRow.{QuarterRow}
-use Rattle.quarter_table.specs.Rows.{no_row, row_at, with_pair, without_pair, set_row, AreAfter, AreInOrder, HavePairs}
-use Rattle.quarter_table.specs.Pairs.{total, row_of, rows_of}
-use Rattle.quarter_table.proofs.Orders.{row_here, row_other}
-use Rattle.quarter_table.proofs.Parts.{Part, same_flows}
-use Rattle.quarter_table.proofs.Replaced.{order_set, pairs_set}
-use Rattle.quarter_table.proofs.Determined.{rows_alike, row_at-set_same, row_at-set_other}
+use Rattle.quarter_table.{specs.declared.row.QuarterRow.QuarterRow, specs.Rows.{no_row, row_at, with_pair, without_pair, set_row, AreAfter, AreInOrder, HavePairs}, specs.Pairs.{total, row_of, rows_of}, proofs.Orders.{row_here, row_other}, proofs.Parts.{Part, same_flows}, proofs.Replaced.{order_set, pairs_set}, proofs.Determined.{rows_alike, row_at-set_same, row_at-set_other}}
 
 -- The pairs of a period.
 abbrev own : ℕ → List Flowed → List Flowed

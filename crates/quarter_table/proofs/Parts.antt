@@ -1,10 +1,7 @@
 -- The four sums of energies of both directions.
-use Rattle.std.proofs.Common.{◌≡◌, ℕ, ◌+◌, ◌-◌, List, refl, arith}
-use Rattle.std.specs.List.{sum_by}
-use Rattle.ledger_model.specs.Board.{Flowed}
+use Rattle.std.{proofs.Common.{◌≡◌, ℕ, ◌+◌, ◌-◌, List, refl, arith}, specs.List.sum_by}
+use Rattle.ledger_model.{specs.Board.Flowed, specs.ByDirection.{minus_flows, no_flows, plus_flows}, specs.declared.by_direction.ByDirection.ByDirection}
 use Rattle.energy_flow.specs.Flow.{Energy}
-use Rattle.ledger_model.specs.ByDirection.{minus_flows, no_flows, plus_flows}
-use Rattle.ledger_model.specs.declared.by_direction.ByDirection.{ByDirection}
 use Rattle.quarter_table.specs.Pairs.{total}
 
 -- One of them: it adds up and is taken off by itself.

@@ -1,10 +1,6 @@
 -- Where the row of a period is among rows in order, or belongs.
-use Rattle.std.proofs.Common.{◌≡◌, ◌≢◌, ℕ, zero, suc, ◌<◌, List, [], ◌∷◌, length, get_or, Some, refl, sym, ap, ◌∙◌, subst, arith, inl, inr}
-use Rattle.std.proofs.lemmas.Bool.{cases_lt}
-use Rattle.quarter_table.specs.declared.row.QuarterRow.{QuarterRow}
-use Rattle.quarter_table.specs.Rows.{earlier, AreAfter, AreInOrder}
-use Rattle.quarter_table.specs.Kept.{StandsAt, BelongsAt}
-use Rattle.quarter_table.proofs.Orders.{earlier_on, later_past, row_here, row_other, after_at, after_less, after_later, after_missing, none_earlier}
+use Rattle.std.{proofs.Common.{◌≡◌, ◌≢◌, ℕ, zero, suc, ◌<◌, List, [], ◌∷◌, length, get_or, Some, refl, sym, ap, ◌∙◌, subst, arith, inl, inr}, proofs.lemmas.Bool.cases_lt}
+use Rattle.quarter_table.{specs.declared.row.QuarterRow.QuarterRow, specs.Rows.{earlier, AreAfter, AreInOrder}, specs.Kept.{StandsAt, BelongsAt}, proofs.Orders.{earlier_on, later_past, row_here, row_other, after_at, after_less, after_later, after_missing, none_earlier}}
 
 -- Behind the rows of earlier periods is the row of the period, if there is one.
 pub stands : (q : ℕ) (rs : List QuarterRow) (d : QuarterRow) → AreInOrder rs → length (earlier q rs) < length rs

@@ -1,11 +1,6 @@
 -- Rows with one replaced or left out.
-use Rattle.std.proofs.Common.{◌≡◌, ℕ, zero, suc, ◌<◌, ◌≤◌, Bool, true, false, cond, nat_lt, List, [], ◌∷◌, ◌++◌, length, take, drop, set, refl, sym, ap, ◌∙◌, arith, inl, inr}
-use Rattle.std.specs.List.{insert, remove, filter}
-use Rattle.std.proofs.lemmas.Bool.{eq-eqb, ne_eqb, cases_lt}
-use Rattle.quarter_table.specs.declared.row.QuarterRow.{QuarterRow}
-use Rattle.quarter_table.specs.Rows.{earlier, later, if_any, set_row, AreAfter, AreInOrder, HavePairs}
-use Rattle.quarter_table.specs.Kept.{StandsAt, BelongsAt}
-use Rattle.quarter_table.proofs.Orders.{earlier_on, earlier_past, later_on, later_past}
+use Rattle.std.{proofs.Common.{◌≡◌, ℕ, zero, suc, ◌<◌, ◌≤◌, Bool, true, false, cond, nat_lt, List, [], ◌∷◌, ◌++◌, length, take, drop, set, refl, sym, ap, ◌∙◌, arith, inl, inr}, specs.List.{insert, remove, filter}, proofs.lemmas.Bool.{eq-eqb, ne_eqb, cases_lt}}
+use Rattle.quarter_table.{specs.declared.row.QuarterRow.QuarterRow, specs.Rows.{earlier, later, if_any, set_row, AreAfter, AreInOrder, HavePairs}, specs.Kept.{StandsAt, BelongsAt}, proofs.Orders.{earlier_on, earlier_past, later_on, later_past}}
 
 -- A row that has a pair.
 pub some_row : (r : QuarterRow) → 0 < r.pairs → if_any r ≡ r ∷ []

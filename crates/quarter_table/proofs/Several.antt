@@ -1,21 +1,7 @@
 -- Rows after several pairs, and after one event.
-use Rattle.std.proofs.Common.{◌≡◌, ℕ, ◌+◌, ◌<◌, List, [], ◌∷◌, ◌++◌, get_or, length, take, refl, sym, ap, ◌∙◌, arith}
-use Rattle.std.specs.List.{sum_by}
-use Rattle.std.proofs.lemmas.List.{map-append, take_more}
-use Rattle.std.proofs.lemmas.List.Sums.{sum_by-append}
-use Rattle.ledger_model.specs.Periods.{Periods}
-use Rattle.ledger_model.specs.declared.reading.Direction.{Direction}
-use Rattle.ledger_model.specs.declared.reading.Direction.TheVariants.{Import, Export}
-use Rattle.ledger_model.specs.Board.{Flowed}
-use Rattle.ledger_model.specs.Content.{Entry}
-use Rattle.ledger_model.specs.Deltas.{IsOneMore, came_by, gone_by, kept_by}
-use Rattle.ledger_model.specs.ByDirection.{flows_toward}
-use Rattle.ledger_model.specs.Energy.{Pair, difference, pairs, quarter_of}
-use Rattle.ledger_model.specs.Parts.{Part}
-use Rattle.ledger_model.proofs.Callers.{sum_by-map, less_kept, more_kept}
-use Rattle.quarter_table.specs.Pairs.{parts_toward, rows_of, rows_plus, rows_with, rows_without, flows_of, station_flows, gone_flows, came_flows}
-use Rattle.quarter_table.specs.declared.row.QuarterRow.{QuarterRow}
-use Rattle.quarter_table.proofs.Made.{made_added, made_removed, made_alike, moved_front}
+use Rattle.std.{proofs.Common.{◌≡◌, ℕ, ◌+◌, ◌<◌, List, [], ◌∷◌, ◌++◌, get_or, length, take, refl, sym, ap, ◌∙◌, arith}, specs.List.sum_by, proofs.lemmas.List.{map-append, take_more}, proofs.lemmas.List.Sums.sum_by-append}
+use Rattle.ledger_model.{specs.Periods.Periods, specs.declared.reading.Direction.Direction, specs.declared.reading.Direction.TheVariants.{Import, Export}, specs.Board.Flowed, specs.Content.Entry, specs.Deltas.{IsOneMore, came_by, gone_by, kept_by}, specs.ByDirection.flows_toward, specs.Energy.{Pair, difference, pairs, quarter_of}, specs.Parts.Part, proofs.Callers.{sum_by-map, less_kept, more_kept}}
+use Rattle.quarter_table.{specs.Pairs.{parts_toward, rows_of, rows_plus, rows_with, rows_without, flows_of, station_flows, gone_flows, came_flows}, specs.declared.row.QuarterRow.QuarterRow, proofs.Made.{made_added, made_removed, made_alike, moved_front}}
 
 -- Those of two lists are added one list after the other.
 pub rows_with-append : (fs gs : List Flowed) (rows : List QuarterRow) → rows_with (fs ++ gs) rows ≡ rows_with gs (rows_with fs rows)

@@ -1,9 +1,6 @@
 -- What a table keeps, and the places of its rows.
-use Rattle.std.specs.Prelude.{◌≡◌, ℕ, suc, ◌<◌, ◌≤◌, List, length, take, drop, Some, slice_get}
-use Rattle.std.specs.Vec.{vec_capacity}
-use Rattle.std.specs.declared.vec.Vec.{Vec}
-use Rattle.quarter_table.specs.declared.row.QuarterRow.{QuarterRow}
-use Rattle.quarter_table.specs.Rows.{no_row, row_at, earlier, later, AreInOrder, HavePairs}
+use Rattle.std.{specs.Prelude.{◌≡◌, ℕ, suc, ◌<◌, ◌≤◌, List, length, take, drop, Some, slice_get}, specs.Vec.vec_capacity, specs.declared.vec.Vec.Vec}
+use Rattle.quarter_table.{specs.declared.row.QuarterRow.QuarterRow, specs.Rows.{no_row, row_at, earlier, later, AreInOrder, HavePairs}}
 
 -- Rows in order, each with a pair, at most as many as the capacity, which is reserved.
 pub record IsKept {Z : Type 0} (rows : Vec QuarterRow Z) (capacity : ℕ) : Type 0 where

@@ -1,20 +1,8 @@
 -- The rows that pairs make.
 use Rattle.std.specs.Prelude.{◌≡◌, ◌<◌, ℕ, ◌==◌, List, [], ◌∷◌, ◌++◌, map, filter, length, sum_by}
 use Rattle.energy_flow.specs.Flow.{Energy}
-use Rattle.ledger_model.specs.ByDirection.{in_direction, in_each, flows_toward, CanMinusFlows}
-use Rattle.ledger_model.specs.declared.by_direction.ByDirection.{ByDirection}
-use Rattle.ledger_model.specs.Periods.{Periods}
-use Rattle.ledger_model.specs.declared.order.Order.{Order}
-use Rattle.ledger_model.specs.declared.order.Order.TheVariants.{Sequence}
-use Rattle.ledger_model.specs.declared.reading.Direction.{Direction}
-use Rattle.ledger_model.specs.declared.reading.Direction.TheVariants.{Import, Export}
-use Rattle.ledger_model.specs.Board.{Flowed}
-use Rattle.ledger_model.specs.Content.{Entry}
-use Rattle.ledger_model.specs.Deltas.{came_by, gone_by}
-use Rattle.ledger_model.specs.Energy.{Pair, all_pairs_by, difference, parts_over, quarter_of, rising}
-use Rattle.ledger_model.specs.Parts.{Part}
-use Rattle.quarter_table.specs.declared.row.QuarterRow.{QuarterRow}
-use Rattle.quarter_table.specs.Rows.{row_at, set_row, with_pair, without_pair}
+use Rattle.ledger_model.{specs.ByDirection.{in_direction, in_each, flows_toward, CanMinusFlows}, specs.declared.by_direction.ByDirection.ByDirection, specs.Periods.Periods, specs.declared.order.Order.Order, specs.declared.order.Order.TheVariants.Sequence, specs.declared.reading.Direction.Direction, specs.declared.reading.Direction.TheVariants.{Import, Export}, specs.Board.Flowed, specs.Content.Entry, specs.Deltas.{came_by, gone_by}, specs.Energy.{Pair, all_pairs_by, difference, parts_over, quarter_of, rising}, specs.Parts.Part}
+use Rattle.quarter_table.{specs.declared.row.QuarterRow.QuarterRow, specs.Rows.{row_at, set_row, with_pair, without_pair}}
 
 -- Differences added up, field by field, in each direction.
 abbrev pub total : List Flowed → ByDirection Energy

@@ -1,8 +1,7 @@
 -- Rows of a table, one for each settlement period that has a pair.
 use Rattle.std.specs.Prelude.{ℕ, ◌+◌, ◌-◌, ◌<◌, ◌==◌, nat_lt, if◌then◌else◌, List, [], ◌∷◌, ◌++◌, filter}
 use Rattle.energy_flow.specs.Flow.{Energy}
-use Rattle.ledger_model.specs.ByDirection.{no_flows, plus_flows, minus_flows}
-use Rattle.ledger_model.specs.declared.by_direction.ByDirection.{ByDirection}
+use Rattle.ledger_model.{specs.ByDirection.{no_flows, plus_flows, minus_flows}, specs.declared.by_direction.ByDirection.ByDirection}
 use Rattle.quarter_table.specs.declared.row.QuarterRow.{QuarterRow}
 
 -- The row of a period that has no pair.

@@ -1,18 +1,9 @@
 //! Laws of rows, each the contract of a function that does nothing. A pair is given by its period
 //! and its difference in each direction.
 ghost use Rattle.std.specs.Prelude.{◌≡◌, ◌≢◌, ◌≤◌, ℕ, List, [], ◌∷◌, ◌++◌, length, map, sum_by};
-ghost use Rattle.ledger_model.specs.Periods.{Periods};
-ghost use Rattle.ledger_model.specs.declared.order.Order.{Order};
-ghost use Rattle.ledger_model.specs.declared.settle.Settle.{Settle};
-ghost use Rattle.ledger_model.specs.Board.{Flowed, board_by};
-ghost use Rattle.ledger_model.specs.Content.{Entry};
-ghost use Rattle.ledger_model.specs.Deltas.{IsOneMore};
+ghost use Rattle.ledger_model.{specs.Periods.Periods, specs.declared.order.Order.Order, specs.declared.settle.Settle.Settle, specs.Board.{Flowed, board_by}, specs.Content.Entry, specs.Deltas.IsOneMore, specs.ByDirection.in_direction, specs.declared.by_direction.ByDirection.ByDirection, specs.declared.reading.Direction.Direction};
 ghost use Rattle.energy_flow.specs.Flow.{Energy};
-ghost use Rattle.ledger_model.specs.ByDirection.{in_direction};
-ghost use Rattle.ledger_model.specs.declared.by_direction.ByDirection.{ByDirection};
-ghost use Rattle.ledger_model.specs.declared.reading.Direction.{Direction};
-ghost use Rattle.quarter_table.specs.Pairs.{total, row_of, rows_of, rows_minus, rows_plus, rows_with, rows_without, board_flows_by, station_flows_by, line_of, HasPair, RowsFollow};
-ghost use Rattle.quarter_table.specs.Rows.{no_row, row_at, with_pair};
+ghost use Rattle.quarter_table.{specs.Pairs.{total, row_of, rows_of, rows_minus, rows_plus, rows_with, rows_without, board_flows_by, station_flows_by, line_of, HasPair, RowsFollow}, specs.Rows.{no_row, row_at, with_pair}};
 
 /// After a pair was added or taken out, at any place among the pairs, the rows are those of the
 /// pairs that are then there. Lists of pairs have the same rows if every sum over them is the same,

@@ -1,9 +1,6 @@
 //! The places of rows, and changes at them.
-ghost use Rattle.std.specs.Prelude.{◌≡◌, ◌<◌, ◌≤◌, ◌+◌, ◌-◌, IfOk, IfErr, length, get_or, slice_get, Some, slice_set};
-ghost use Rattle.std.specs.List.{insert, remove};
-ghost use Rattle.std.specs.Vec.{vec_len, vec_capacity};
-ghost use Rattle.quarter_table.specs.Rows.{row_at, earlier, AreInOrder};
-ghost use Rattle.quarter_table.specs.Kept.{StandsAt, BelongsAt};
+ghost use Rattle.std.{specs.Prelude.{◌≡◌, ◌<◌, ◌≤◌, ◌+◌, ◌-◌, IfOk, IfErr, length, get_or, slice_get, Some, slice_set}, specs.List.{insert, remove}, specs.Vec.{vec_len, vec_capacity}};
+ghost use Rattle.quarter_table.{specs.Rows.{row_at, earlier, AreInOrder}, specs.Kept.{StandsAt, BelongsAt}};
 
 use crate::row::QuarterRow;
 use ledger_model::Quarter;

@@ -1,11 +1,6 @@
 //! Differences that are shared by time.
 ghost use Rattle.std.specs.Prelude.{◌≡◌, ◌≤◌, ◌/◌, ◌++◌, true, IfOk};
-ghost use Rattle.ledger_model.specs.Energy.{change_of};
-ghost use Rattle.ledger_model.specs.Moment.{IsMoment};
-ghost use Rattle.ledger_model.specs.Parts.{is_shared, level_at, parts_by, share, shares as shares_of};
-ghost use Rattle.ledger_model.specs.Quarter.{quarter_at};
-ghost use Rattle.ledger_model.specs.Ranges.{greatest_reading};
-ghost use Rattle.ledger_model.specs.declared.settle.Settle.{Settle};
+ghost use Rattle.ledger_model.{specs.Energy.change_of, specs.Moment.IsMoment, specs.Parts.{is_shared, level_at, parts_by, share, shares as shares_of}, specs.Quarter.quarter_at, specs.Ranges.greatest_reading, specs.declared.settle.Settle.Settle};
 
 use energy_flow::Flow;
 use ledger_model::{FIRST_MOMENT, Period, Quarter, Reading};
@@ -29,9 +24,7 @@ struct Change {
 
 impl Model for Change {
     ghost use Rattle.std.specs.Prelude.{◌≤◌};
-    ghost use Rattle.ledger_model.specs.Moment.{IsMoment};
-    ghost use Rattle.ledger_model.specs.Parts.{Change as Shown};
-    ghost use Rattle.ledger_model.specs.Ranges.{greatest_reading};
+    ghost use Rattle.ledger_model.{specs.Moment.IsMoment, specs.Parts.Change as Shown, specs.Ranges.greatest_reading};
 
     ghost Value = { Shown };
 

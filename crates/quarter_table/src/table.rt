@@ -1,11 +1,6 @@
 ghost use Rattle.std.specs.Prelude.{◌≡◌, ◌↔◌, ◌<◌, ◌+◌, ◌^◌, [], IfErr, IfOk, IsTrue, length};
-ghost use Rattle.ledger_model.specs.ByDirection.{flows_toward, CanPlusFlows, CanMinusFlows};
-ghost use Rattle.ledger_model.specs.Energy.{change_of};
-ghost use Rattle.ledger_model.specs.Parts.{parts_by};
-ghost use Rattle.ledger_model.specs.declared.settle.Settle.{Settle};
-ghost use Rattle.quarter_table.specs.Pairs.{parts_toward, rows_with};
-ghost use Rattle.quarter_table.specs.Rows.{row_at, with_pair, without_pair, set_row, AreInOrder, HavePairs};
-ghost use Rattle.quarter_table.specs.Table.{table};
+ghost use Rattle.ledger_model.{specs.ByDirection.{flows_toward, CanPlusFlows, CanMinusFlows}, specs.Energy.change_of, specs.Parts.parts_by, specs.declared.settle.Settle.Settle};
+ghost use Rattle.quarter_table.{specs.Pairs.{parts_toward, rows_with}, specs.Rows.{row_at, with_pair, without_pair, set_row, AreInOrder, HavePairs}, specs.Table.table};
 
 use crate::place::place_near;
 use crate::row::QuarterRow;
@@ -26,8 +21,7 @@ pub struct QuarterTable {
 }
 
 impl Model for QuarterTable {
-    ghost use Rattle.quarter_table.specs.Table.{Table, table};
-    ghost use Rattle.quarter_table.specs.Kept.{IsKept};
+    ghost use Rattle.quarter_table.{specs.Table.{Table, table}, specs.Kept.IsKept};
 
     ghost Value = { Table };
 

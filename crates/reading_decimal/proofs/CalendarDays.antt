@@ -1,9 +1,6 @@
 -- The day that a number of days after 1 January 1970 names, by its year and month.
-use Rattle.std.proofs.Common.{◌≡◌, ℕ, zero, suc, ◌+◌, ◌-◌, ◌*◌, ◌<◌, ◌≤◌, inl, inr, refl, arith, pos}
-use Rattle.std.proofs.lemmas.Bool.{cases_lt, lt-ltb, le-ltb}
-use Rattle.jiff_core.specs.Calendar.{days_in_year, days_in_month, day_count}
-use Rattle.jiff_core.proofs.SignedLemmas.{signed_arith}
-use Rattle.jiff_core.proofs.CalendarLemmas.{day_count-next_year, day_count-next_month, day_count-day, day_count-last_of_year, days_in_year_bounds}
+use Rattle.std.{proofs.Common.{◌≡◌, ℕ, zero, suc, ◌+◌, ◌-◌, ◌*◌, ◌<◌, ◌≤◌, inl, inr, refl, arith, pos}, proofs.lemmas.Bool.{cases_lt, lt-ltb, le-ltb}}
+use Rattle.jiff_core.{specs.Calendar.{days_in_year, days_in_month, day_count}, proofs.SignedLemmas.signed_arith, proofs.CalendarLemmas.{day_count-next_year, day_count-next_month, day_count-day, day_count-last_of_year, days_in_year_bounds}}
 use Rattle.reading_decimal.specs.MomentText.{year_after, month_after}
 
 -- `found` is a year and a day of it, the same that was sought

@@ -1,23 +1,10 @@
 -- The text of a moment is what a clock in UTC shows at it, and reads back as its whole second.
-use Rattle.std.proofs.Common.{◌≡◌, ℕ, ◌+◌, ◌/◌, ◌%◌, ◌<◌, ◌≤◌, List, [], ◌∷◌, ◌++◌, Ok, sym, ap, ◌∙◌, arith, pos, unsigned_abs, true}
-use Rattle.std.proofs.lemmas.Bool.Decides.{nat_tests}
-use Rattle.jiff_core.specs.declared.civil.date.Date.{Date}
-use Rattle.jiff_core.specs.declared.civil.datetime.DateTime.{DateTime}
-use Rattle.jiff_core.specs.declared.timestamp.Timestamp.{Timestamp}
-use Rattle.jiff_core.specs.Calendar.{day_count}
-use Rattle.jiff_core.specs.Date.{epoch_day}
-use Rattle.jiff_core.specs.DateTime.{civil_nanos}
-use Rattle.jiff_core.specs.Time.{time_nanos}
-use Rattle.jiff_core.proofs.SignedLemmas.{signed_arith}
-use Rattle.jiff_core.proofs.CalendarLemmas.{day_count-epoch, days_from_civil-day_count, day_count-day}
-use Rattle.jiff_core.proofs.DateLemmas.{epoch_day_injective}
-use Rattle.jiff_core.proofs.DateTimeLemmas.{civil_nanos-parts, time_nanos_bound}
+use Rattle.std.{proofs.Common.{◌≡◌, ℕ, ◌+◌, ◌/◌, ◌%◌, ◌<◌, ◌≤◌, List, [], ◌∷◌, ◌++◌, Ok, sym, ap, ◌∙◌, arith, pos, unsigned_abs, true}, proofs.lemmas.Bool.Decides.nat_tests}
+use Rattle.jiff_core.{specs.declared.civil.date.Date.Date, specs.declared.civil.datetime.DateTime.DateTime, specs.declared.timestamp.Timestamp.Timestamp, specs.Calendar.day_count, specs.Date.epoch_day, specs.DateTime.civil_nanos, specs.Time.time_nanos, proofs.SignedLemmas.signed_arith, proofs.CalendarLemmas.{day_count-epoch, days_from_civil-day_count, day_count-day}, proofs.DateLemmas.epoch_day_injective, proofs.DateTimeLemmas.{civil_nanos-parts, time_nanos_bound}}
 use Rattle.jiff.specs.Words.{parse_timestamp}
 use Rattle.jiff_fmt.proofs.RoundTrip.{parse_timestamp-text}
 use Rattle.ledger_model.specs.Moment.{IsMoment, is_moment}
-use Rattle.reading_decimal.specs.Moment.{moment_reading, moment_at, moment_within}
-use Rattle.reading_decimal.specs.MomentText.{year_after, month_after, date_text, time_text, text_of, clock_text, whole_second}
-use Rattle.reading_decimal.proofs.CalendarDays.{IsYearFound, IsMonthFound, year_after-IsYearFound, month_after-IsMonthFound}
+use Rattle.reading_decimal.{specs.Moment.{moment_reading, moment_at, moment_within}, specs.MomentText.{year_after, month_after, date_text, time_text, text_of, clock_text, whole_second}, proofs.CalendarDays.{IsYearFound, IsMonthFound, year_after-IsYearFound, month_after-IsMonthFound}}
 
 abbrev year_of : ℕ → ℕ × ℕ
 year_of days = year_after 131 1970 days

@@ -1,14 +1,5 @@
 -- Reading digits from the left into a number of 128 bits.
-use Rattle.std.proofs.Common.{◌≡◌, ℕ, suc, ◌+◌, ◌-◌, ◌*◌, ◌^◌, ◌<◌, ◌≤◌, List, [], ◌∷◌, ◌++◌, length, get_or, drop, refl, sym, ap, ◌∙◌, subst, arith, lit<}
-use Rattle.std.proofs.Math.Nat.{pow-suc, pow-le-pow_right, mul-le-mul_right, le-mul_of_pos_right}
-use Rattle.std.proofs.Math.Numerals.{add-one}
-use Rattle.std.proofs.Math.Seq.{drop-cons}
-use Rattle.std.proofs.lemmas.Bool.Decides.{nat_tests}
-use Rattle.std.proofs.lemmas.Int.Digits.{digits_value-lt}
-use Rattle.std.proofs.lemmas.Nat.{pow-add}
-use Rattle.std.proofs.lemmas.Str.Parse.{digit_from_value}
-use Rattle.std.specs.Char.{digit_value}
-use Rattle.std.specs.Str.Parse.{AllDigits, digits_value, digits_value_after}
+use Rattle.std.{proofs.Common.{◌≡◌, ℕ, suc, ◌+◌, ◌-◌, ◌*◌, ◌^◌, ◌<◌, ◌≤◌, List, [], ◌∷◌, ◌++◌, length, get_or, drop, refl, sym, ap, ◌∙◌, subst, arith, lit<}, proofs.Math.Nat.{pow-suc, pow-le-pow_right, mul-le-mul_right, le-mul_of_pos_right}, proofs.Math.Numerals.add-one, proofs.Math.Seq.drop-cons, proofs.lemmas.Bool.Decides.nat_tests, proofs.lemmas.Int.Digits.digits_value-lt, proofs.lemmas.Nat.pow-add, proofs.lemmas.Str.Parse.digit_from_value, specs.Char.digit_value, specs.Str.Parse.{AllDigits, digits_value, digits_value_after}}
 use Rattle.reading_decimal.proofs.Scaling.{ten_pos}
 
 -- `value` has been read so far, and `rest` is still to be read

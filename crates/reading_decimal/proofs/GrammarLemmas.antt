@@ -1,20 +1,6 @@
 -- The scan of a token takes it whole exactly if the token is a number of RFC 8259.
-use Rattle.std.proofs.Common.{◌≡◌, ℕ, ◌+◌, ◌-◌, ◌<◌, ◌≤◌, Bool, true, false, cond, not, ◌&&◌, ◌||◌, eqb, ltb, List, [], ◌∷◌, ◌++◌, length, get_or, take, drop, slice_range, inl, inr, refl, sym, ap, ◌∙◌, subst, arith, true≢false, length-drop}
-use Rattle.std.proofs.Math.Bool.{or-true}
-use Rattle.std.proofs.Math.Nat.{sub-zero}
-use Rattle.std.proofs.Math.Numerals.{one-add, add-one}
-use Rattle.std.proofs.Math.Seq.{drop-cons}
-use Rattle.std.proofs.lemmas.Bool.{cases_Bool, cases_lt, and_parts, or_cases, eqb-true, eq-eqb, ltb-true, lt-ltb}
-use Rattle.std.proofs.lemmas.Bool.Decides.{nat_tests}
-use Rattle.std.proofs.lemmas.List.{get_or-drop, get_or_past, drop-drop, take-append-drop, length-append, take_at, drop_at}
-use Rattle.std.proofs.lemmas.List.Sums.{prefix_len-le-length}
-use Rattle.std.proofs.lemmas.Str.Parse.{digit_from_value}
-use Rattle.std.specs.Char.{digit_value, is_ascii_digit}
-use Rattle.std.specs.Str.Parse.{AllDigits, IsNumeral}
-use Rattle.std.specs.Float.Numeral.{scan_numeral, digits_len, digits_end, exponent_start, has_exponent}
-use Rattle.reading_decimal.proofs.Scan.{digits_front, run_digits}
-use Rattle.reading_decimal.specs.Grammar.{Minus, no_minus, minus, IsInt, Frac, no_frac, frac, Sign, no_sign, plus, negative, Exp, no_exp, lower, upper, IsNumber}
-use Rattle.reading_decimal.specs.Decimal.{is_decimal_of, is_decimal, is_negative}
+use Rattle.std.{proofs.Common.{◌≡◌, ℕ, ◌+◌, ◌-◌, ◌<◌, ◌≤◌, Bool, true, false, cond, not, ◌&&◌, ◌||◌, eqb, ltb, List, [], ◌∷◌, ◌++◌, length, get_or, take, drop, slice_range, inl, inr, refl, sym, ap, ◌∙◌, subst, arith, true≢false, length-drop}, proofs.Math.Bool.or-true, proofs.Math.Nat.sub-zero, proofs.Math.Numerals.{one-add, add-one}, proofs.Math.Seq.drop-cons, proofs.lemmas.Bool.{cases_Bool, cases_lt, and_parts, or_cases, eqb-true, eq-eqb, ltb-true, lt-ltb}, proofs.lemmas.Bool.Decides.nat_tests, proofs.lemmas.List.{get_or-drop, get_or_past, drop-drop, take-append-drop, length-append, take_at, drop_at}, proofs.lemmas.List.Sums.prefix_len-le-length, proofs.lemmas.Str.Parse.digit_from_value, specs.Char.{digit_value, is_ascii_digit}, specs.Str.Parse.{AllDigits, IsNumeral}, specs.Float.Numeral.{scan_numeral, digits_len, digits_end, exponent_start, has_exponent}}
+use Rattle.reading_decimal.{proofs.Scan.{digits_front, run_digits}, specs.Grammar.{Minus, no_minus, minus, IsInt, Frac, no_frac, frac, Sign, no_sign, plus, negative, Exp, no_exp, lower, upper, IsNumber}, specs.Decimal.{is_decimal_of, is_decimal, is_negative}}
 
 -- a digit's byte is one of '0' to '9'
 pub is_digit : (c : ℕ) → digit_value c < 10 → is_ascii_digit c ≡ true

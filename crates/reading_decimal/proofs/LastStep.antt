@@ -1,15 +1,6 @@
 -- The last step of reading a decimal, once no fault applies.
-use Rattle.std.proofs.Common.{◌≡◌, ℕ, ◌+◌, ◌*◌, ◌/◌, ◌^◌, ◌≤◌, ◌&&◌, true, false, List, length, ℤ, sym, ap, ◌∙◌, subst, arith, nat_lt}
-use Rattle.std.specs.Option.{ok_or}
-use Rattle.std.proofs.lemmas.Nat.{pow-add}
-use Rattle.std.proofs.Common.{length-drop}
-use Rattle.std.specs.Float.Numeral.{Parts, numeral_digits, tens_up, tens_down}
-use Rattle.std.specs.Str.Parse.{digits_value}
-use Rattle.reading_decimal.specs.declared.decimal.Unit.{Unit as EnergyUnit}
-use Rattle.reading_decimal.specs.declared.decimal.DecimalFault.TheVariants.{TooLarge}
-use Rattle.reading_decimal.specs.Decimal.{is_decimal, is_negative, unsigned, parts, watt_hours, tens_of, tenths_of, tens_left, right_side, mwh, within_register, mwh_reading}
-use Rattle.reading_decimal.specs.Numeral.{IsShort}
-use Rattle.reading_decimal.proofs.Scan.{scan_numeral-IsShort}
+use Rattle.std.{proofs.Common.{◌≡◌, ℕ, ◌+◌, ◌*◌, ◌/◌, ◌^◌, ◌≤◌, ◌&&◌, true, false, List, length, ℤ, sym, ap, ◌∙◌, subst, arith, nat_lt, length-drop}, specs.Option.ok_or, proofs.lemmas.Nat.pow-add, specs.Float.Numeral.{Parts, numeral_digits, tens_up, tens_down}, specs.Str.Parse.digits_value}
+use Rattle.reading_decimal.{specs.declared.decimal.Unit.Unit as EnergyUnit, specs.declared.decimal.DecimalFault.TheVariants.TooLarge, specs.Decimal.{is_decimal, is_negative, unsigned, parts, watt_hours, tens_of, tenths_of, tens_left, right_side, mwh, within_register, mwh_reading}, specs.Numeral.IsShort, proofs.Scan.scan_numeral-IsShort}
 
 unsigned-short : (token : List ℕ) → length token ≤ 36 → length (unsigned token) ≤ 36
 unsigned-short token h = simp length-drop (omega arith)

@@ -1,14 +1,6 @@
 -- The parts that the scan of a number gives are those that the grammar writes.
-use Rattle.std.proofs.Common.{◌≡◌, ℕ, ◌+◌, ◌-◌, Bool, true, false, cond, ◌&&◌, ◌||◌, eqb, List, [], ◌∷◌, ◌++◌, length, get_or, take, drop, slice_range, refl, sym, ap, ◌∙◌, arith, take_all}
-use Rattle.std.proofs.lemmas.Bool.Decides.{nat_tests}
-use Rattle.std.proofs.lemmas.List.{get_or-drop, drop-drop, take_at}
-use Rattle.std.proofs.lemmas.Str.Parse.{digit_from_value}
-use Rattle.std.specs.Str.Parse.{AllDigits, IsNumeral}
-use Rattle.std.specs.Float.Numeral.{Parts, scan_numeral, digits_len, digits_end, exponent_start, has_exponent}
-use Rattle.reading_decimal.specs.Grammar.{Minus, no_minus, minus, IsInt, Frac, no_frac, frac, Sign, no_sign, plus, negative, Exp, no_exp, lower, upper, IsNumber, frac_digits, is_negative_sign, exp_digits, is_negative_exp}
-use Rattle.reading_decimal.specs.Decimal.{parts}
-use Rattle.reading_decimal.specs.Laws.{AreWritten}
-use Rattle.reading_decimal.proofs.GrammarLemmas.{is_digit, digits_len-append, digits_len-all, exponent_start-drop, has_exponent-drop, digits_end-drop, exp_stops, behind, first_behind, whole_front, no_sign_first}
+use Rattle.std.{proofs.Common.{◌≡◌, ℕ, ◌+◌, ◌-◌, Bool, true, false, cond, ◌&&◌, ◌||◌, eqb, List, [], ◌∷◌, ◌++◌, length, get_or, take, drop, slice_range, refl, sym, ap, ◌∙◌, arith, take_all}, proofs.lemmas.Bool.Decides.nat_tests, proofs.lemmas.List.{get_or-drop, drop-drop, take_at}, proofs.lemmas.Str.Parse.digit_from_value, specs.Str.Parse.{AllDigits, IsNumeral}, specs.Float.Numeral.{Parts, scan_numeral, digits_len, digits_end, exponent_start, has_exponent}}
+use Rattle.reading_decimal.{specs.Grammar.{Minus, no_minus, minus, IsInt, Frac, no_frac, frac, Sign, no_sign, plus, negative, Exp, no_exp, lower, upper, IsNumber, frac_digits, is_negative_sign, exp_digits, is_negative_exp}, specs.Decimal.parts, specs.Laws.AreWritten, proofs.GrammarLemmas.{is_digit, digits_len-append, digits_len-all, exponent_start-drop, has_exponent-drop, digits_end-drop, exp_stops, behind, first_behind, whole_front, no_sign_first}}
 
 -- the digits behind a front are read from there to the end
 digits_behind : (front digits : List ℕ) → AllDigits 10 digits → slice_range (front ++ digits) (length front) (digits_end (front ++ digits) (length front)) ≡ digits

@@ -1,8 +1,5 @@
 -- Numbers times one power of ten and over another.
-use Rattle.std.proofs.Common.{◌≡◌, ℕ, ◌+◌, ◌-◌, ◌*◌, ◌/◌, ◌^◌, ◌<◌, ◌≤◌, None, ap, ◌∙◌, arith, lit<}
-use Rattle.std.proofs.Math.Nat.{one-le-pow, mul-div_cancel, mul-div-mul_right}
-use Rattle.std.proofs.lemmas.Nat.{pow-add}
-use Rattle.std.proofs.lemmas.Bool.Decides.{nat_tests}
+use Rattle.std.{proofs.Common.{◌≡◌, ℕ, ◌+◌, ◌-◌, ◌*◌, ◌/◌, ◌^◌, ◌<◌, ◌≤◌, None, ap, ◌∙◌, arith, lit<}, proofs.Math.Nat.{one-le-pow, mul-div_cancel, mul-div-mul_right}, proofs.lemmas.Nat.pow-add, proofs.lemmas.Bool.Decides.nat_tests}
 use Rattle.reading_decimal.specs.Decimal.{within_register}
 
 pub ten_pos : (k : ℕ) → 0 < 10 ^ k

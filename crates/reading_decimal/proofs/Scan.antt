@@ -1,11 +1,5 @@
 -- What the scan of a short text holds: digits, and few of them.
-use Rattle.std.proofs.Common.{◌≡◌, ℕ, ◌+◌, ◌-◌, ◌<◌, ◌≤◌, Bool, true, false, cond, eqb, List, [], ◌∷◌, length, get_or, take, drop, slice_range, refl, ap, arith, length-take, length-drop}
-use Rattle.std.proofs.Math.Numerals.{one-add}
-use Rattle.std.proofs.lemmas.Bool.Decides.{nat_tests}
-use Rattle.std.proofs.lemmas.List.Sums.{prefix_len-le-length}
-use Rattle.std.specs.Char.{digit_value, is_ascii_digit}
-use Rattle.std.specs.Str.Parse.{AllDigits}
-use Rattle.std.specs.Float.Numeral.{scan_numeral, digits_len, digits_end, exponent_start, has_exponent}
+use Rattle.std.{proofs.Common.{◌≡◌, ℕ, ◌+◌, ◌-◌, ◌<◌, ◌≤◌, Bool, true, false, cond, eqb, List, [], ◌∷◌, length, get_or, take, drop, slice_range, refl, ap, arith, length-take, length-drop}, proofs.Math.Numerals.one-add, proofs.lemmas.Bool.Decides.nat_tests, proofs.lemmas.List.Sums.prefix_len-le-length, specs.Char.{digit_value, is_ascii_digit}, specs.Str.Parse.AllDigits, specs.Float.Numeral.{scan_numeral, digits_len, digits_end, exponent_start, has_exponent}}
 use Rattle.reading_decimal.specs.Numeral.{IsShort}
 
 digit_of : (c : ℕ) → is_ascii_digit c ≡ true → digit_value c < 10

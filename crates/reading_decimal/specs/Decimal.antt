@@ -1,13 +1,7 @@
 -- A decimal of RFC 8259, and its whole milliwatt-hours.
-use Rattle.std.specs.Prelude.{ℕ, ◌+◌, ◌*◌, ◌/◌, ◌^◌, ◌≤◌, Bool, not, ◌&&◌, ◌||◌, List, length, drop, ◌==◌, nat_lt, nat_le, if◌then◌else◌, slice_index, ℤ, pos, negsuc, Option, Some, None, Result, Err}
-use Rattle.std.specs.Option.{ok_or}
-use Rattle.std.specs.Float.Numeral.{Parts, scan_numeral, numeral_digits, tens_up, tens_down}
-use Rattle.std.specs.Str.Parse.{digits_value}
+use Rattle.std.{specs.Prelude.{ℕ, ◌+◌, ◌*◌, ◌/◌, ◌^◌, ◌≤◌, Bool, not, ◌&&◌, ◌||◌, List, length, drop, ◌==◌, nat_lt, nat_le, if◌then◌else◌, slice_index, ℤ, pos, negsuc, Option, Some, None, Result, Err}, specs.Option.ok_or, specs.Float.Numeral.{Parts, scan_numeral, numeral_digits, tens_up, tens_down}, specs.Str.Parse.digits_value}
 use Rattle.ledger_model.specs.Ranges.{greatest_reading}
-use Rattle.reading_decimal.specs.declared.decimal.Unit.{Unit as EnergyUnit}
-use Rattle.reading_decimal.specs.declared.decimal.Unit.TheVariants.{Wh, KWh}
-use Rattle.reading_decimal.specs.declared.decimal.DecimalFault.{DecimalFault}
-use Rattle.reading_decimal.specs.declared.decimal.DecimalFault.TheVariants.{NotADecimal, TooLong, ExponentRange, Negative, TooLarge}
+use Rattle.reading_decimal.{specs.declared.decimal.Unit.Unit as EnergyUnit, specs.declared.decimal.Unit.TheVariants.{Wh, KWh}, specs.declared.decimal.DecimalFault.DecimalFault, specs.declared.decimal.DecimalFault.TheVariants.{NotADecimal, TooLong, ExponentRange, Negative, TooLarge}}
 
 -- the token begins with `-`
 abbrev pub is_negative : List ℕ → Bool

@@ -1,6 +1,5 @@
 -- The numbers of RFC 8259, part by part as its grammar writes them.
-use Rattle.std.specs.Prelude.{◌≡◌, ℕ, Bool, true, false, List, [], ◌∷◌, ◌++◌, length, slice_index}
-use Rattle.std.specs.Str.Parse.{IsNumeral}
+use Rattle.std.{specs.Prelude.{◌≡◌, ℕ, Bool, true, false, List, [], ◌∷◌, ◌++◌, length, slice_index}, specs.Str.Parse.IsNumeral}
 
 -- `minus`, which may be left out
 pub data Minus : List ℕ → Type 0 where

@@ -1,7 +1,5 @@
 -- Integers: numbers of RFC 8259 without a point and without an exponent.
-use Rattle.std.specs.Prelude.{ℕ, Bool, ◌&&◌, ◌==◌, List, length, drop, slice_index, nat_lt, if◌then◌else◌}
-use Rattle.std.specs.Char.{is_ascii_digit}
-use Rattle.std.specs.List.{list_all}
+use Rattle.std.{specs.Prelude.{ℕ, Bool, ◌&&◌, ◌==◌, List, length, drop, slice_index, nat_lt, if◌then◌else◌}, specs.Char.is_ascii_digit, specs.List.list_all}
 
 -- The token without a leading `-`.
 abbrev pub without_minus : List ℕ → List ℕ

@@ -1,15 +1,7 @@
 -- The laws that tie the definitions of this crate to one another.
-use Rattle.std.specs.Prelude.{◌≡◌, ◌≢◌, ◌↔◌, ℕ, ◌+◌, ◌<◌, ℤ, List, IsTrue, Ok}
-use Rattle.std.specs.Float.Numeral.{Parts}
-use Rattle.reading_decimal.specs.declared.decimal.Unit.{Unit as EnergyUnit}
-use Rattle.ledger_model.specs.Moment.{IsMoment, first_moment}
-use Rattle.ledger_model.specs.Quarter.{IsPeriod, IsQuarterOf, quarter_at}
-use Rattle.ledger_model.specs.Settling.{closed_at}
-use Rattle.reading_decimal.specs.Decimal.{IsMwh, is_decimal, mwh, parts}
-use Rattle.reading_decimal.specs.Grammar.{IsNumber, frac_digits, exp_digits, is_negative_exp}
-use Rattle.reading_decimal.specs.Moment.{moment_reading}
-use Rattle.reading_decimal.specs.MomentText.{text_of, whole_second}
-use Rattle.reading_decimal.specs.Quarter.{IsStart, quarter_start}
+use Rattle.std.{specs.Prelude.{◌≡◌, ◌≢◌, ◌↔◌, ℕ, ◌+◌, ◌<◌, ℤ, List, IsTrue, Ok}, specs.Float.Numeral.Parts}
+use Rattle.reading_decimal.{specs.declared.decimal.Unit.Unit as EnergyUnit, specs.Decimal.{IsMwh, is_decimal, mwh, parts}, specs.Grammar.{IsNumber, frac_digits, exp_digits, is_negative_exp}, specs.Moment.moment_reading, specs.MomentText.{text_of, whole_second}, specs.Quarter.{IsStart, quarter_start}}
+use Rattle.ledger_model.{specs.Moment.{IsMoment, first_moment}, specs.Quarter.{IsPeriod, IsQuarterOf, quarter_at}, specs.Settling.closed_at}
 
 -- for each decimal, multiplier and unit
 abbrev pub RoundsDown : Type 0

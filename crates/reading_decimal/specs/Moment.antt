@@ -2,8 +2,7 @@
 use Rattle.std.specs.Prelude.{ℕ, List, if◌then◌else◌, ℤ, pos, negsuc, Result, Ok, Err}
 use Rattle.jiff.specs.Words.{Error, parse_timestamp}
 use Rattle.ledger_model.specs.Moment.{is_moment}
-use Rattle.reading_decimal.specs.declared.moment.MomentFault.{MomentFault}
-use Rattle.reading_decimal.specs.declared.moment.MomentFault.TheVariants.{NotATime, MomentRange}
+use Rattle.reading_decimal.{specs.declared.moment.MomentFault.MomentFault, specs.declared.moment.MomentFault.TheVariants.{NotATime, MomentRange}}
 
 -- an instant in nanoseconds since 1970, if it is a moment
 abbrev pub moment_at : ℤ → Result ℕ MomentFault

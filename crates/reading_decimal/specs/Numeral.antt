@@ -1,7 +1,5 @@
 -- The parts of a number without its sign, as the reader holds them.
-use Rattle.std.specs.Prelude.{◌+◌, ◌≤◌, length}
-use Rattle.std.specs.Float.Numeral.{Parts}
-use Rattle.std.specs.Str.Parse.{AllDigits}
+use Rattle.std.{specs.Prelude.{◌+◌, ◌≤◌, length}, specs.Float.Numeral.Parts, specs.Str.Parse.AllDigits}
 use Rattle.reading_decimal.specs.declared.numeral.Numeral.{Numeral}
 
 -- the parts without their places in memory

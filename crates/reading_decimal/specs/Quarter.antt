@@ -1,7 +1,6 @@
 -- Where a settlement period begins.
 use Rattle.std.specs.Prelude.{◌≡◌, ℕ, ◌*◌, ◌≤◌}
-use Rattle.ledger_model.specs.Moment.{IsMoment}
-use Rattle.ledger_model.specs.Quarter.{quarter_at}
+use Rattle.ledger_model.{specs.Moment.IsMoment, specs.Quarter.quarter_at}
 
 -- the first nanosecond, counted from 1970, of the period of this number and of so many seconds
 abbrev pub quarter_start : ℕ → ℕ → ℕ

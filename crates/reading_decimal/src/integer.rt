@@ -1,7 +1,5 @@
 // Integers as JSON writes them.
-ghost use Rattle.std.specs.Prelude.{◌≡◌};
-ghost use Rattle.std.specs.Char.{is_ascii_digit};
-ghost use Rattle.std.specs.List.{list_all};
+ghost use Rattle.std.{specs.Prelude.◌≡◌, specs.Char.is_ascii_digit, specs.List.list_all};
 ghost use Rattle.reading_decimal.specs.Integer as spec;
 
 /// Whether a number of RFC 8259 is an integer without a point and without an exponent: only digits,

@@ -1,7 +1,5 @@
 // A number without its sign, cut into its parts.
-ghost use Rattle.std.specs.Prelude.{◌≡◌, ◌+◌, ◌≤◌, ◌<◌, ◌*◌, ◌^◌, ◌&&◌, ◌==◌, [], length, slice_index, slice_range, if◌then◌else◌, IsTrue};
-ghost use Rattle.std.specs.Float.Numeral.{scan_numeral, has_exponent, exponent_start, digits_end, numeral_digits, tens_up, tens_down};
-ghost use Rattle.std.specs.Str.Parse.{AllDigits, digits_value, digits_value_after};
+ghost use Rattle.std.{specs.Prelude.{◌≡◌, ◌+◌, ◌≤◌, ◌<◌, ◌*◌, ◌^◌, ◌&&◌, ◌==◌, [], length, slice_index, slice_range, if◌then◌else◌, IsTrue}, specs.Float.Numeral.{scan_numeral, has_exponent, exponent_start, digits_end, numeral_digits, tens_up, tens_down}, specs.Str.Parse.{AllDigits, digits_value, digits_value_after}};
 
 /// The longest run of digits, point and exponent at the front of a text, in its parts.
 #[derive(Drop)]
@@ -15,8 +13,7 @@ pub struct Numeral<'a> {
 }
 
 impl<'a> Numeral<'a> {
-    ghost use Rattle.reading_decimal.specs.Numeral.{parts_of, IsShort};
-    ghost use Rattle.reading_decimal.specs.Decimal.{is_decimal_of};
+    ghost use Rattle.reading_decimal.{specs.Numeral.{parts_of, IsShort}, specs.Decimal.is_decimal_of};
 
     /// The numeral at the front of these bytes; its digits may be none.
     pub fn scan(bytes: &'a [u8]) -> Numeral<'a>

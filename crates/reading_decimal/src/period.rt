@@ -1,8 +1,6 @@
 // Settlement periods of moments.
 ghost use Rattle.std.specs.Prelude.{◌≡◌, ◌↔◌, ◌-◌, IsTrue, max};
-ghost use Rattle.ledger_model.specs.Moment.{first_moment};
-ghost use Rattle.ledger_model.specs.Quarter.{IsQuarterOf, quarter_at};
-ghost use Rattle.ledger_model.specs.Settling.{settled_at};
+ghost use Rattle.ledger_model.{specs.Moment.first_moment, specs.Quarter.{IsQuarterOf, quarter_at}, specs.Settling.settled_at};
 ghost use Rattle.reading_decimal.specs.Quarter.{quarter_start};
 
 use ledger_model::{FIRST_MOMENT, MOMENTS_END, Moment, Period, Periods, Quarter, Settle};

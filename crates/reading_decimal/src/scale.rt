@@ -1,6 +1,5 @@
 // Whole numbers scaled by powers of ten.
-ghost use Rattle.std.specs.Prelude.{◌≡◌, ◌*◌, ◌/◌, ◌^◌, ◌<◌};
-ghost use Rattle.std.specs.Option.{SomeIff};
+ghost use Rattle.std.{specs.Prelude.{◌≡◌, ◌*◌, ◌/◌, ◌^◌, ◌<◌}, specs.Option.SomeIff};
 ghost use Rattle.reading_decimal.specs.Decimal.{within_register};
 
 use ledger_model::GREATEST_READING;

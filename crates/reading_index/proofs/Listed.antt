@@ -1,15 +1,8 @@
 -- The readings of an owner from a rank on, one after the other.
-use Rattle.std.proofs.Common.{◌≡◌, ℕ, ◌+◌, ◌*◌, ◌/◌, ◌^◌, ◌<◌, ◌≤◌, Bool, true, false, cond, not, List, [], ◌∷◌, ◌++◌, Option, Some, None, map, option_map, append_assoc, refl, sym, ap, subst, ◌∙◌, ⊎_elim, arith}
-use Rattle.std.specs.List.{filter}
-use Rattle.std.proofs.Math.Nat.{div-mul-le_self}
-use Rattle.std.proofs.lemmas.Nat.{div-mul-add}
-use Rattle.std.proofs.lemmas.Bool.{cases_lt, cases_eq, eq-eqb, ne_eqb, lt-ltb, le-ltb}
+use Rattle.std.{proofs.Common.{◌≡◌, ℕ, ◌+◌, ◌*◌, ◌/◌, ◌^◌, ◌<◌, ◌≤◌, Bool, true, false, cond, not, List, [], ◌∷◌, ◌++◌, Option, Some, None, map, option_map, append_assoc, refl, sym, ap, subst, ◌∙◌, ⊎_elim, arith}, specs.List.filter, proofs.Math.Nat.div-mul-le_self, proofs.lemmas.Nat.div-mul-add, proofs.lemmas.Bool.{cases_lt, cases_eq, eq-eqb, ne_eqb, lt-ltb, le-ltb}}
 use Rattle.key_index.specs.Entries.{Entry, from}
 use Rattle.ledger_model.specs.Event.{MeterReading}
-use Rattle.reading_index.specs.Ranks.{owner_of, rank}
-use Rattle.reading_index.specs.declared.placed.PlacedReading.{PlacedReading}
-use Rattle.reading_index.specs.Timed.{Timed, first_of, from_on, placed_at, only_owned, owned, with_rank, AreAbove, AreRising}
-use Rattle.reading_index.proofs.Ranked.{first_behind}
+use Rattle.reading_index.{specs.Ranks.{owner_of, rank}, specs.declared.placed.PlacedReading.PlacedReading, specs.Timed.{Timed, first_of, from_on, placed_at, only_owned, owned, with_rank, AreAbove, AreRising}, proofs.Ranked.first_behind}
 
 -- From a rank on, one that is in front is left out, and one that is not comes first.
 past : (r : ℕ) (t : Timed) (ts : List Timed) → t.0 < r → from_on r (t ∷ ts) ≡ from_on r ts

@@ -1,15 +1,8 @@
 -- Entries by rising rank, as readings by rising rank.
-use Rattle.std.proofs.Common.{◌≡◌, ℕ, ◌*◌, ◌/◌, ◌^◌, ◌<◌, ◌≤◌, Bool, true, false, cond, not, ◌||◌, is_some, List, [], ◌∷◌, ◌++◌, Option, Some, None, map, drop, refl, sym, ap, subst, ◌∙◌, ⊎_elim, eqb, nat_lt, option_map, arith}
-use Rattle.std.proofs.Math.Nat.{div-mul-le_self}
-use Rattle.std.proofs.lemmas.Nat.{le-div}
-use Rattle.std.proofs.lemmas.Bool.{cases_lt, cases_eq, eq-eqb, ne_eqb, lt-ltb, le-ltb, or_from, or_parts}
-use Rattle.key_index.specs.declared.filed.Filed.{Filed}
-use Rattle.key_index.specs.Entries.{Entry, below, from, filed_at, AreAbove, AreRising, first_of, last_of}
-use Rattle.key_index.proofs.Orders.{last_cons}
-use Rattle.ledger_model.specs.Event.{MeterReading}
-use Rattle.ledger_model.specs.InTime.{put_in_time}
-use Rattle.reading_index.specs.Ranks.{owner_of}
-use Rattle.reading_index.specs.Timed.{Timed, from_on, in_front, only_owned, owned, has_rank, with_rank, without}
+use Rattle.std.{proofs.Common.{◌≡◌, ℕ, ◌*◌, ◌/◌, ◌^◌, ◌<◌, ◌≤◌, Bool, true, false, cond, not, ◌||◌, is_some, List, [], ◌∷◌, ◌++◌, Option, Some, None, map, drop, refl, sym, ap, subst, ◌∙◌, ⊎_elim, eqb, nat_lt, option_map, arith}, proofs.Math.Nat.div-mul-le_self, proofs.lemmas.Nat.le-div, proofs.lemmas.Bool.{cases_lt, cases_eq, eq-eqb, ne_eqb, lt-ltb, le-ltb, or_from, or_parts}}
+use Rattle.key_index.{specs.declared.filed.Filed.Filed, specs.Entries.{Entry, below, from, filed_at, AreAbove, AreRising, first_of, last_of}, proofs.Orders.last_cons}
+use Rattle.ledger_model.{specs.Event.MeterReading, specs.InTime.put_in_time}
+use Rattle.reading_index.{specs.Ranks.owner_of, specs.Timed.{Timed, from_on, in_front, only_owned, owned, has_rank, with_rank, without}}
 
 abbrev E : Type 0
 E = Entry MeterReading

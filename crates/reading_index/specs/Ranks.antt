@@ -1,8 +1,7 @@
 -- The order of readings in an index: by owner, then by moment, then by the sequence number of their
 -- event, then by their place in it.
 use Rattle.std.specs.Prelude.{ℕ, ◌+◌, ◌*◌, ◌/◌, ◌%◌, ◌^◌}
-use Rattle.ledger_model.specs.declared.reading.Direction.{Direction}
-use Rattle.ledger_model.specs.declared.reading.Direction.TheVariants.{Import, Export}
+use Rattle.ledger_model.{specs.declared.reading.Direction.Direction, specs.declared.reading.Direction.TheVariants.{Import, Export}}
 
 -- The readings of a transaction and a direction have one owner: the transaction's slot and the direction.
 abbrev pub owner : ℕ → Direction → ℕ

@@ -1,12 +1,10 @@
 -- Readings by their ranks.
-use Rattle.std.specs.Prelude.{ℕ, Bool, ◌==◌, not, nat_lt, List, Option, None, Some, filter, map, if◌then◌else◌}
-use Rattle.std.specs.List.{list_any}
+use Rattle.std.{specs.Prelude.{ℕ, Bool, ◌==◌, not, nat_lt, List, Option, None, Some, filter, map, if◌then◌else◌}, specs.List.list_any}
 use Rattle.key_index.specs.Entries.{Entry}
 pub use Rattle.key_index.specs.Entries.{first_of, last_of, AreAbove, AreBelow, AreRising}
 use Rattle.key_index.specs.Index as keyed
 use Rattle.ledger_model.specs.Event.{MeterReading}
-use Rattle.reading_index.specs.Ranks.{number_of, owner_of, place_of}
-use Rattle.reading_index.specs.declared.placed.PlacedReading.{PlacedReading}
+use Rattle.reading_index.{specs.Ranks.{number_of, owner_of, place_of}, specs.declared.placed.PlacedReading.PlacedReading}
 
 -- A reading with its rank.
 abbrev pub Timed : Type 0

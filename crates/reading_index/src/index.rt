@@ -1,7 +1,6 @@
 ghost use Rattle.std.specs.Prelude.{◌≡◌, ◌<◌, ◌≤◌, ◌^◌, ◌++◌, [], false, length, map, option_map, IfOk};
 ghost use Rattle.ledger_model.specs.InTime.{put_in_time};
-ghost use Rattle.reading_index.specs.Ranks.{owner, owner_of};
-ghost use Rattle.reading_index.specs.Timed.{first_of, from_on, has_rank, in_front, last_of, only_owned, owned, placed_at, with_rank, without, AreRising};
+ghost use Rattle.reading_index.{specs.Ranks.{owner, owner_of}, specs.Timed.{first_of, from_on, has_rank, in_front, last_of, only_owned, owned, placed_at, with_rank, without, AreRising}};
 
 use crate::MomentKey;
 use crate::placed::PlacedReading;

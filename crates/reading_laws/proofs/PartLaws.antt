@@ -1,12 +1,6 @@
 -- What the parts of a difference are by each rule of settling.
-use Rattle.std.proofs.Common.{◌≡◌, ℕ, ◌≤◌, List, [], ◌∷◌, append-nil, sym, ap, ◌∙◌, arith}
-use Rattle.std.specs.List.{AllByRecursion}
-use Rattle.std.specs.Prelude.{sum_by}
-use Rattle.std.proofs.lemmas.List.Sums.{sum_by-cons}
-use Rattle.ledger_model.specs.Energy.{Pair, difference, parts_of}
-use Rattle.ledger_model.specs.Parts.{Part}
-use Rattle.ledger_model.specs.Periods.{Periods}
-use Rattle.ledger_model.proofs.PartLemmas.{parts_down, parts_up}
+use Rattle.std.{proofs.Common.{◌≡◌, ℕ, ◌≤◌, List, [], ◌∷◌, append-nil, sym, ap, ◌∙◌, arith}, specs.List.AllByRecursion, specs.Prelude.sum_by, proofs.lemmas.List.Sums.sum_by-cons}
+use Rattle.ledger_model.{specs.Energy.{Pair, difference, parts_of}, specs.Parts.Part, specs.Periods.Periods, proofs.PartLemmas.{parts_down, parts_up}}
 
 -- Where numbers add up to nothing, each is nothing.
 each_nothing : {X : Type 0} (measure : X → ℕ) (xs : List X) → sum_by measure xs ≡ 0 → AllByRecursion (λ x. measure x ≡ 0) xs

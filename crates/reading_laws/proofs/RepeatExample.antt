@@ -1,14 +1,7 @@
 -- The readings of the example are repeats.
-use Rattle.std.proofs.Common.{◌≡◌, [], refl, arith}
-use Rattle.std.proofs.lemmas.List.Elements.{All-from_recursion}
-use Rattle.ledger_model.specs.declared.order.Order.TheVariants.{Moment}
-use Rattle.ledger_model.specs.declared.reading.Direction.TheVariants.{Import}
-use Rattle.ledger_model.specs.BoardExamples.{late_event, reading}
-use Rattle.ledger_model.specs.Energy.{readings_by}
-use Rattle.ledger_model.specs.Event.{MeterReading}
-use Rattle.ledger_model.specs.ReadingOrder.{IsRepeat}
-use Rattle.reading_laws.specs.RepeatExamples.{end_with_repeats, ended_with_repeats}
-use Rattle.reading_laws.specs.Repeats.{IsOneMoreOfRepeats}
+use Rattle.std.{proofs.Common.{◌≡◌, [], refl, arith}, proofs.lemmas.List.Elements.All-from_recursion}
+use Rattle.ledger_model.{specs.declared.order.Order.TheVariants.Moment, specs.declared.reading.Direction.TheVariants.Import, specs.BoardExamples.{late_event, reading}, specs.Energy.readings_by, specs.Event.MeterReading, specs.ReadingOrder.IsRepeat}
+use Rattle.reading_laws.{specs.RepeatExamples.{end_with_repeats, ended_with_repeats}, specs.Repeats.IsOneMoreOfRepeats}
 
 first : IsRepeat (reading 0 1_000) (readings_by Moment Import end_with_repeats.0.tx late_event)
 first = record {

@@ -1,35 +1,7 @@
 -- Any number of readings that repeat others, one after the other.
-use Rattle.std.proofs.Common.{◌≡◌, ℕ, ◌⊎◌, inl, inr, Bool, true, false, cond, not, List, [], ◌∷◌, ◌++◌, ◌==◌, refl, sym, ap, subst, ◌∙◌, ⊎_elim, bytes_eq, eqb, append_assoc, arith}
-use Rattle.std.specs.List.{filter, filter_map, flat_map, sum_by, AllByRecursion}
-use Rattle.std.proofs.lemmas.Bool.{cases_Bool, cases_eq, eq-eqb, ne_eqb}
-use Rattle.std.proofs.lemmas.Grind.{flat_map-append}
-use Rattle.std.proofs.lemmas.List.Elements.{filter-append, filter_passes, recursion_from_All, All-from_recursion, All-head, All-tail, All-weaker}
+use Rattle.std.{proofs.Common.{◌≡◌, ℕ, ◌⊎◌, inl, inr, Bool, true, false, cond, not, List, [], ◌∷◌, ◌++◌, ◌==◌, refl, sym, ap, subst, ◌∙◌, ⊎_elim, bytes_eq, eqb, append_assoc, arith}, specs.List.{filter, filter_map, flat_map, sum_by, AllByRecursion}, proofs.lemmas.Bool.{cases_Bool, cases_eq, eq-eqb, ne_eqb}, proofs.lemmas.Grind.flat_map-append, proofs.lemmas.List.Elements.{filter-append, filter_passes, recursion_from_All, All-from_recursion, All-head, All-tail, All-weaker}}
 use Rattle.energy_flow.specs.Flow.{plus, Energy}
-use Rattle.ledger_model.specs.declared.command.Command.TheVariants.{Deliver}
-use Rattle.ledger_model.specs.declared.order.Order.TheVariants.{Moment}
-use Rattle.ledger_model.specs.declared.reading.Direction.{Direction}
-use Rattle.ledger_model.specs.declared.reading.Direction.TheVariants.{Import, Export}
-use Rattle.ledger_model.specs.Content.{Entry, live, live_of, transactions_of}
-use Rattle.ledger_model.specs.Deltas.{before_key, behind_key, flow_if, own_events, own_readings, IsOneMore}
-use Rattle.ledger_model.specs.DeltaLaws.{live_under}
-use Rattle.ledger_model.specs.Energy.{difference, energy_of_by, energy_over, energy_within, followed, pairs_by, parts_of, parts_over, readings_by, readings_of, Pair, all_pairs_by}
-use Rattle.ledger_model.specs.Parts.{Part}
-use Rattle.ledger_model.specs.Periods.{Periods}
-use Rattle.ledger_model.specs.Entries.{entries_after}
-use Rattle.ledger_model.specs.Event.{same_direction, toward, EventContent, MeterReading}
-use Rattle.ledger_model.specs.Evse.{energy_at_by, evse_of, first_or_zero}
-use Rattle.ledger_model.specs.InTime.{in_time}
-use Rattle.ledger_model.specs.Key.{KeyName}
-use Rattle.ledger_model.specs.OrderLaws.{HaveSameEnergies}
-use Rattle.ledger_model.specs.ReadingOrder.{taken_when, IsOneReadingMore, IsRepeat}
-use Rattle.ledger_model.proofs.EnergyLemmas.{same_energy}
-use Rattle.ledger_model.proofs.InTimeLemmas.{in_time-stable, of_moment}
-use Rattle.ledger_model.proofs.OneMore.{by_transaction_sums, live_else, live_without, passed_sum, taken}
-use Rattle.ledger_model.proofs.OneMoreByCommand.{delivered_more}
-use Rattle.ledger_model.proofs.OneMoreFigures.{energy_at_more}
-use Rattle.ledger_model.proofs.RepeatLemmas.{evse_energy_stays, quarter_stays, station_stays, transaction_stays}
-use Rattle.ledger_model.proofs.SumLemmas.{sum_by-flat_map}
-use Rattle.ledger_model.proofs.SumsByTransaction.{one_text, same_text}
+use Rattle.ledger_model.{specs.declared.command.Command.TheVariants.Deliver, specs.declared.order.Order.TheVariants.Moment, specs.declared.reading.Direction.Direction, specs.declared.reading.Direction.TheVariants.{Import, Export}, specs.Content.{Entry, live, live_of, transactions_of}, specs.Deltas.{before_key, behind_key, flow_if, own_events, own_readings, IsOneMore}, specs.DeltaLaws.live_under, specs.Energy.{difference, energy_of_by, energy_over, energy_within, followed, pairs_by, parts_of, parts_over, readings_by, readings_of, Pair, all_pairs_by}, specs.Parts.Part, specs.Periods.Periods, specs.Entries.entries_after, specs.Event.{same_direction, toward, EventContent, MeterReading}, specs.Evse.{energy_at_by, evse_of, first_or_zero}, specs.InTime.in_time, specs.Key.KeyName, specs.OrderLaws.HaveSameEnergies, specs.ReadingOrder.{taken_when, IsOneReadingMore, IsRepeat}, proofs.EnergyLemmas.same_energy, proofs.InTimeLemmas.{in_time-stable, of_moment}, proofs.OneMore.{by_transaction_sums, live_else, live_without, passed_sum, taken}, proofs.OneMoreByCommand.delivered_more, proofs.OneMoreFigures.energy_at_more, proofs.RepeatLemmas.{evse_energy_stays, quarter_stays, station_stays, transaction_stays}, proofs.SumLemmas.sum_by-flat_map, proofs.SumsByTransaction.{one_text, same_text}}
 use Rattle.reading_laws.specs.Repeats.{AreReadingsMore, AreRepeats, BringsRepeats, HaveSameSums, IsOneMoreOfRepeats}
 
 front_all : {X : Type 0} (P : X → Type 0) (xs ys : List X) → AllByRecursion P (xs ++ ys) → AllByRecursion P xs

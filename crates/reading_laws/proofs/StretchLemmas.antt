@@ -1,10 +1,6 @@
 -- Runs of elements that pass a test, as the longest stretches of them.
-use Rattle.std.proofs.Common.{◌≡◌, ◌+◌, Bool, true, false, List, [], ◌∷◌, ◌++◌, length, refl, ap, ◌∙◌, ⊎_elim, append_assoc, arith}
-use Rattle.std.specs.List.{All, AllByRecursion}
-use Rattle.std.proofs.lemmas.Bool.{cases_Bool}
-use Rattle.std.proofs.lemmas.List.Elements.{recursion_from_All, All-cons, All-nil}
-use Rattle.ledger_model.specs.InTime.{runs, runs_behind}
-use Rattle.ledger_model.proofs.RunLemmas.{runs_foreign, runs_own}
+use Rattle.std.{proofs.Common.{◌≡◌, ◌+◌, Bool, true, false, List, [], ◌∷◌, ◌++◌, length, refl, ap, ◌∙◌, ⊎_elim, append_assoc, arith}, specs.List.{All, AllByRecursion}, proofs.lemmas.Bool.cases_Bool, proofs.lemmas.List.Elements.{recursion_from_All, All-cons, All-nil}}
+use Rattle.ledger_model.{specs.InTime.{runs, runs_behind}, proofs.RunLemmas.{runs_foreign, runs_own}}
 use Rattle.reading_laws.specs.Stretches.{elements_of, AreMaximalStretches, AreStretches, IsStretch, Stretch}
 
 module _ {X : Type 0} (own : X → Bool) where

@@ -1,8 +1,6 @@
 -- A worked example of an event that lists readings again.
 use Rattle.std.specs.Prelude.{List, [], ◌∷◌, ◌++◌, None}
-use Rattle.ledger_model.specs.declared.kind.Kind.TheVariants.{Ended}
-use Rattle.ledger_model.specs.BoardExamples.{late_event, reading, told}
-use Rattle.ledger_model.specs.Content.{Entry}
+use Rattle.ledger_model.{specs.declared.kind.Kind.TheVariants.Ended, specs.BoardExamples.{late_event, reading, told}, specs.Content.Entry}
 
 -- The end of a transaction, which lists two readings of earlier events again, the later one first.
 abbrev pub end_with_repeats : Entry

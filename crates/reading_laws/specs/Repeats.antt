@@ -1,16 +1,6 @@
 -- Live readings that repeat others of their transaction.
-use Rattle.std.specs.Prelude.{◌≡◌, ℕ, false, List, ◌∷◌, ◌++◌, None, All}
-use Rattle.std.specs.FinMap.{find}
-use Rattle.ledger_model.specs.Periods.{Periods}
-use Rattle.ledger_model.specs.declared.order.Order.TheVariants.{Moment}
-use Rattle.ledger_model.specs.declared.reading.Direction.{Direction}
-use Rattle.ledger_model.specs.Content.{Entry, live}
-use Rattle.ledger_model.specs.Deltas.{IsOneMore}
-use Rattle.ledger_model.specs.Energy.{energy_by, energy_in_by, energy_of_by, readings_by}
-use Rattle.ledger_model.specs.Entries.{IsRising}
-use Rattle.ledger_model.specs.Event.{EventContent, MeterReading}
-use Rattle.ledger_model.specs.Key.{key_cmp, KeyName}
-use Rattle.ledger_model.specs.ReadingOrder.{IsRepeat}
+use Rattle.std.{specs.Prelude.{◌≡◌, ℕ, false, List, ◌∷◌, ◌++◌, None, All}, specs.FinMap.find}
+use Rattle.ledger_model.{specs.Periods.Periods, specs.declared.order.Order.TheVariants.Moment, specs.declared.reading.Direction.Direction, specs.Content.{Entry, live}, specs.Deltas.IsOneMore, specs.Energy.{energy_by, energy_in_by, energy_of_by, readings_by}, specs.Entries.IsRising, specs.Event.{EventContent, MeterReading}, specs.Key.{key_cmp, KeyName}, specs.ReadingOrder.IsRepeat}
 
 -- Each of these readings repeats live readings of the transaction in its direction: some have its moment, and all that
 -- have it show its level.

@@ -1,6 +1,5 @@
 -- A list cut where elements that pass a test and elements that do not take turns.
-use Rattle.std.specs.Prelude.{◌≡◌, ◌≢◌, Bool, true, false, List, [], ◌∷◌, ◌++◌, All}
-use Rattle.std.specs.List.{flat_map}
+use Rattle.std.{specs.Prelude.{◌≡◌, ◌≢◌, Bool, true, false, List, [], ◌∷◌, ◌++◌, All}, specs.List.flat_map}
 
 -- A stretch of elements, and the elements behind it up to the next stretch.
 abbrev pub Stretch : Type 0 → Type 0

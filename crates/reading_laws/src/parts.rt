@@ -1,8 +1,5 @@
-ghost use Rattle.std.specs.Prelude.{◌≡◌, ◌≤◌, ℕ, List};
-ghost use Rattle.std.specs.List.{AllByRecursion};
-ghost use Rattle.ledger_model.specs.Energy.{Pair, energy_over, parts_of, parts_over};
-ghost use Rattle.ledger_model.specs.Parts.{energy_of_parts};
-ghost use Rattle.ledger_model.specs.Periods.{Periods};
+ghost use Rattle.std.{specs.Prelude.{◌≡◌, ◌≤◌, ℕ, List}, specs.List.AllByRecursion};
+ghost use Rattle.ledger_model.{specs.Energy.{Pair, energy_over, parts_of, parts_over}, specs.Parts.energy_of_parts, specs.Periods.Periods};
 
 /// By each rule of settling the parts of differences add up to the differences. A rise has no part that falls, a fall
 /// none that rises.

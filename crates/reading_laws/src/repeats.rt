@@ -1,16 +1,7 @@
 //! Laws of events that list readings again, by moment.
 ghost use Rattle.std.specs.Prelude.{◌≡◌, ℕ, List};
-ghost use Rattle.ledger_model.specs.declared.command.Command.TheVariants.{Deliver};
-ghost use Rattle.ledger_model.specs.declared.reading.Direction.{Direction};
-ghost use Rattle.ledger_model.specs.BoardExamples.{late_event};
-ghost use Rattle.ledger_model.specs.Content.{Entry};
-ghost use Rattle.ledger_model.specs.Entries.{entries_after};
-ghost use Rattle.ledger_model.specs.Event.{EventContent, MeterReading};
-ghost use Rattle.ledger_model.specs.Evse.{evse_of};
-ghost use Rattle.ledger_model.specs.Key.{KeyName};
-ghost use Rattle.ledger_model.specs.OrderLaws.{HaveSameEnergies};
-ghost use Rattle.reading_laws.specs.RepeatExamples.{end_with_repeats, ended_with_repeats};
-ghost use Rattle.reading_laws.specs.Repeats.{AreReadingsMore, AreRepeats, BringsRepeats, HaveSameSums, IsOneMoreOfRepeats};
+ghost use Rattle.ledger_model.{specs.declared.command.Command.TheVariants.Deliver, specs.declared.reading.Direction.Direction, specs.BoardExamples.late_event, specs.Content.Entry, specs.Entries.entries_after, specs.Event.{EventContent, MeterReading}, specs.Evse.evse_of, specs.Key.KeyName, specs.OrderLaws.HaveSameEnergies};
+ghost use Rattle.reading_laws.{specs.RepeatExamples.{end_with_repeats, ended_with_repeats}, specs.Repeats.{AreReadingsMore, AreRepeats, BringsRepeats, HaveSameSums, IsOneMoreOfRepeats}};
 
 /// An event that lists readings of its transaction again changes no energy by moment: not a
 /// transaction's, a period's or the station's, imported or exported. It may list any number of

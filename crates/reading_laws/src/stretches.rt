@@ -1,7 +1,6 @@
 //! Laws of the runs that an event's readings form.
 ghost use Rattle.std.specs.Prelude.{◌≡◌, Bool, List, length};
-ghost use Rattle.ledger_model.specs.InTime.{runs};
-ghost use Rattle.ledger_model.specs.ReadingOrder.{Numbered};
+ghost use Rattle.ledger_model.{specs.InTime.runs, specs.ReadingOrder.Numbered};
 ghost use Rattle.reading_laws.specs.Stretches.{AreMaximalStretches, Stretch};
 
 /// The number of runs of readings that pass a test is the number of their longest stretches. Every list

@@ -1,15 +1,7 @@
 -- An operator's lines, as they are read.
-use Rattle.std.proofs.Common.{◌≡◌, ℕ, ◌+◌, ◌<◌, List, [], ◌∷◌, ◌++◌, Option, None, Some, Ok, refl, sym, ap, ◌∙◌, arith, length, length-take, subst, take, append-nil}
-use Rattle.std.specs.Prelude.{OnSome, option_map}
-use Rattle.std.specs.Io.KnownBytes.{Consumes, IsAtEnd}
-use Rattle.script_lines.specs.declared.line_reader.LineEnd.{LineEnd}
-use Rattle.script_lines.specs.declared.line_reader.LineEnd.TheVariants.{Feed, Input}
-use Rattle.script_lines.specs.Lines.{lines_of, unended}
-use Rattle.script_lines.specs.Reading.{TakesLine, line_of}
-use Rattle.script_lines.proofs.Cuts.{cut-ended, cut-unended, kept_line_of, unended_whole, none_kept}
-use Rattle.script_lines.specs.Ranges.{longest_line}
-use Rattle.running_desk.specs.declared.orders.Came.{Came}
-use Rattle.running_desk.specs.Ordered.{Comes, Gives, came_of, lines_in}
+use Rattle.std.{proofs.Common.{◌≡◌, ℕ, ◌+◌, ◌<◌, List, [], ◌∷◌, ◌++◌, Option, None, Some, Ok, refl, sym, ap, ◌∙◌, arith, length, length-take, subst, take, append-nil}, specs.Prelude.{OnSome, option_map}, specs.Io.KnownBytes.{Consumes, IsAtEnd}}
+use Rattle.script_lines.{specs.declared.line_reader.LineEnd.LineEnd, specs.declared.line_reader.LineEnd.TheVariants.{Feed, Input}, specs.Lines.{lines_of, unended}, specs.Reading.{TakesLine, line_of}, proofs.Cuts.{cut-ended, cut-unended, kept_line_of, unended_whole, none_kept}, specs.Ranges.longest_line}
+use Rattle.running_desk.{specs.declared.orders.Came.Came, specs.Ordered.{Comes, Gives, came_of, lines_in}}
 
 some_read : (most b : ℕ) (bs raw : List ℕ) → b ∷ bs ≡ take (most + 1) raw → 0 < length raw
 some_read most b bs [] e = absurd (omega (arith, ap length e, length-take {A = ℕ} (most + 1) []))

@@ -1,34 +1,18 @@
 -- An operator's answers, from the desk's answers.
-use Rattle.std.proofs.Common.{◌≡◌, ℕ, zero, Bool, true, false, ◌⊎◌, inl, inr, List, [], ◌++◌, Option, Some, Result, Ok, Err, refl, ap, sym, subst, ◌∙◌, codes, slice_get}
-use Rattle.std.specs.Prelude.{OnOk, unwrap_or}
+use Rattle.std.{proofs.Common.{◌≡◌, ℕ, zero, Bool, true, false, ◌⊎◌, inl, inr, List, [], ◌++◌, Option, Some, Result, Ok, Err, refl, ap, sym, subst, ◌∙◌, codes, slice_get}, specs.Prelude.{OnOk, unwrap_or}}
 use Rattle.board_report.specs.Texts.{total_text}
 use Rattle.energy_flow.specs.Flow.{Energy}
-use Rattle.ledger_model.specs.declared.answer.Answer.{Answer}
-use Rattle.ledger_model.specs.declared.answer.Answer.TheVariants.{Accepted, Repeat, Refused}
-use Rattle.ledger_model.specs.declared.answer.Refusal.TheVariants.{ConflictingEvent, TooManyTransactions, EventsFull, ReadingsFull, NoSuchEvent, AlreadyVoided, NotVoided, ChangesExhausted}
-use Rattle.ledger_model.specs.declared.command.Command.{Command}
-use Rattle.ledger_model.specs.declared.command.Command.TheVariants.{Deliver}
+use Rattle.ledger_model.{specs.declared.answer.Answer.Answer, specs.declared.answer.Answer.TheVariants.{Accepted, Repeat, Refused}, specs.declared.answer.Refusal.TheVariants.{ConflictingEvent, TooManyTransactions, EventsFull, ReadingsFull, NoSuchEvent, AlreadyVoided, NotVoided, ChangesExhausted}, specs.declared.command.Command.Command, specs.declared.command.Command.TheVariants.Deliver, specs.Content.{Content, empty_content}, specs.Limits.Bounds, specs.Step.{Reached, answer}, specs.World.Station}
 use Rattle.ledger_model.specs.declared.figures.Figures as figures
-use Rattle.ledger_model.specs.Content.{Content, empty_content}
-use Rattle.ledger_model.specs.Limits.{Bounds}
-use Rattle.ledger_model.specs.Step.{Reached, answer}
-use Rattle.ledger_model.specs.World.{Station}
 use Rattle.script_ledgers.specs.Script.{by_meaning, energy_line, export_line, listed, start}
-use Rattle.script_lines.specs.declared.script_line.TxList.{TxList}
-use Rattle.script_lines.specs.Texts.{answer_text, ended_line}
+use Rattle.script_lines.{specs.declared.script_line.TxList.TxList, specs.Texts.{answer_text, ended_line}}
 use Rattle.site_book.specs.Book.{Known}
-use Rattle.site_desk.specs.declared.roster.StationPlace.{StationPlace}
-use Rattle.site_desk.specs.Operator.{AreTotalsOfName, IsListingOfName}
-use Rattle.site_desk.specs.Roster.{IsNamed}
-use Rattle.site_desk.specs.Submit.{IsAnswered, Submitted}
+use Rattle.site_desk.{specs.declared.roster.StationPlace.StationPlace, specs.Operator.{AreTotalsOfName, IsListingOfName}, specs.Roster.IsNamed, specs.Submit.{IsAnswered, Submitted}}
 use Rattle.station_cell.specs.Cell.{Held}
 use Rattle.station_ledger.specs.declared.listing.TxListing.{TxListing}
 use Rattle.station_link.specs.Answer.{Answers, AnswersMeaning, IsGivenAt}
-use Rattle.transaction_event.specs.Message.{Meaning, Event, Ready, Silence, message}
-use Rattle.transaction_event.specs.Reply.{event_reply_bytes}
-use Rattle.running_desk.specs.declared.operator.WhichTotals.{WhichTotals}
-use Rattle.running_desk.specs.declared.operator.WhichTotals.TheVariants.{Figures, Import, Export}
-use Rattle.running_desk.specs.Replied.{AreTotals, IsCommandLine, IsCommanded, IsExhausted, IsList, IsMessageLine, IsSent, IsStationOf, IsTotals, totals_line}
+use Rattle.transaction_event.{specs.Message.{Meaning, Event, Ready, Silence, message}, specs.Reply.event_reply_bytes}
+use Rattle.running_desk.{specs.declared.operator.WhichTotals.WhichTotals, specs.declared.operator.WhichTotals.TheVariants.{Figures, Import, Export}, specs.Replied.{AreTotals, IsCommandLine, IsCommanded, IsExhausted, IsList, IsMessageLine, IsSent, IsStationOf, IsTotals, totals_line}}
 
 -- a station of a name with this content
 abbrev with_content : List ℕ → Bounds → Content → Station

@@ -1,26 +1,12 @@
 -- Answers to an operator's lines, piece by piece.
-use Rattle.std.proofs.Common.{◌≡◌, ℕ, Bool, true, false, List, [], ◌∷◌, ◌++◌, Option, None, Some, refl, sym, subst, ap, ◌∙◌, append-nil, append_assoc, cond, map}
-use Rattle.std.specs.Prelude.{⊤, All}
-use Rattle.std.specs.Io.KnownBytes.{Appends}
-use Rattle.std.specs.List.{flat_map}
-use Rattle.std.proofs.KnownBytes.{Appends-nil, Appends-trans}
-use Rattle.std.proofs.lemmas.List.Concat.{flat_map-append}
-use Rattle.std.proofs.lemmas.List.Elements.{All-append, All-cons, All-nil}
-use Rattle.std.proofs.lemmas.List.{map-append}
-use Rattle.ledger_model.specs.declared.answer.Answer.{Answer}
-use Rattle.ledger_model.specs.declared.command.Command.{Command}
-use Rattle.ledger_model.specs.Board.{Board}
+use Rattle.std.{proofs.Common.{◌≡◌, ℕ, Bool, true, false, List, [], ◌∷◌, ◌++◌, Option, None, Some, refl, sym, subst, ap, ◌∙◌, append-nil, append_assoc, cond, map}, specs.Prelude.{⊤, All}, specs.Io.KnownBytes.Appends, specs.List.flat_map, proofs.KnownBytes.{Appends-nil, Appends-trans}, proofs.lemmas.List.Concat.flat_map-append, proofs.lemmas.List.Elements.{All-append, All-cons, All-nil}, proofs.lemmas.List.map-append}
+use Rattle.ledger_model.{specs.declared.answer.Answer.Answer, specs.declared.command.Command.Command, specs.Board.Board}
 use Rattle.site_book.specs.Book.{Known}
-use Rattle.script_lines.specs.LineMeaning.{line_meaning}
-use Rattle.script_lines.specs.Lines.{Line}
-use Rattle.site_desk.specs.declared.plan.SitePlan.{SitePlan}
-use Rattle.site_desk.specs.declared.roster.StationPlace.{StationPlace}
-use Rattle.running_desk.specs.declared.orders.Came.{Came}
+use Rattle.script_lines.{specs.LineMeaning.line_meaning, specs.Lines.Line}
+use Rattle.site_desk.{specs.declared.plan.SitePlan.SitePlan, specs.declared.roster.StationPlace.StationPlace}
+use Rattle.running_desk.{specs.declared.orders.Came.Came, specs.Ordered.{AreAnswered, Comes, before_close, ends, is_close}, specs.Replied.IsReplyOrMemory, specs.Replies.{AddsReplies, AddsReply, Replied}}
 use Rattle.running_desk.specs.declared.orders.Came.TheVariants as kind
-use Rattle.running_desk.specs.Ordered.{AreAnswered, Comes, before_close, ends, is_close}
-use Rattle.running_desk.specs.Replied.{IsReplyOrMemory}
 use Rattle.station_link.specs.Attended.{if_seen}
-use Rattle.running_desk.specs.Replies.{AddsReplies, AddsReply, Replied}
 
 -- of the lines that came first, those that were answered are in front of what is answered of those that come now
 abbrev pub Stands : Option (List Line) → Option (List Line) → List Line → Type 0

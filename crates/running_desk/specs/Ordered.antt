@@ -1,12 +1,8 @@
 -- How an operator's lines come, and which of them get an answer.
-use Rattle.std.specs.Prelude.{◌≡◌, ℕ, ⊤, Bool, false, true, List, [], ◌∷◌, Option, None, Some, codes, if◌then◌else◌, option_map}
-use Rattle.std.specs.Str.{bytes_eq}
-use Rattle.script_lines.specs.Lines.{Line, lines_of}
-use Rattle.script_lines.specs.Ranges.{longest_line}
+use Rattle.std.{specs.Prelude.{◌≡◌, ℕ, ⊤, Bool, false, true, List, [], ◌∷◌, Option, None, Some, codes, if◌then◌else◌, option_map}, specs.Str.bytes_eq}
+use Rattle.script_lines.{specs.Lines.{Line, lines_of}, specs.Ranges.longest_line, specs.declared.line_reader.LineEnd.LineEnd, specs.declared.line_reader.LineEnd.TheVariants.{Feed, Input}}
 use Rattle.running_desk.specs.declared.orders.Came.{Came}
 use Rattle.running_desk.specs.declared.orders.Came.TheVariants as came
-use Rattle.script_lines.specs.declared.line_reader.LineEnd.{LineEnd}
-use Rattle.script_lines.specs.declared.line_reader.LineEnd.TheVariants.{Feed, Input}
 
 -- What came, by the end of a line and its bytes: no line, if the input ended and there are no bytes.
 abbrev pub came_of : LineEnd → List ℕ → Came

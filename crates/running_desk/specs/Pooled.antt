@@ -1,9 +1,5 @@
 -- A pool of passes.
-use Rattle.std.specs.Prelude.{◌≡◌, ℕ, ◌+◌, List, [], ◌∷◌, ◌++◌, Option, None, Some, slice_get}
-use Rattle.std.specs.List.{remove}
-use Rattle.std.specs.declared.alloc.AllocError.{AllocError}
-use Rattle.std.specs.declared.result.Result.{Result}
-use Rattle.std.specs.declared.result.Result.TheVariants.{Ok, Err}
+use Rattle.std.{specs.Prelude.{◌≡◌, ℕ, ◌+◌, List, [], ◌∷◌, ◌++◌, Option, None, Some, slice_get}, specs.List.remove, specs.declared.alloc.AllocError.AllocError, specs.declared.result.Result.Result, specs.declared.result.Result.TheVariants.{Ok, Err}}
 use Rattle.station_cell.specs.Cell.{Held}
 
 -- A pool: the passes in it, and how many more have room.

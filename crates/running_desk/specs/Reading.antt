@@ -1,9 +1,7 @@
 -- The lines of an operator, as they are read.
 use Rattle.std.specs.Prelude.{ℕ, List, Option}
-use Rattle.script_lines.specs.Lines.{Line}
-use Rattle.script_lines.specs.Reading.{line_of}
-use Rattle.running_desk.specs.declared.orders.Orders.{Orders}
-use Rattle.running_desk.specs.Ordered.{lines_in}
+use Rattle.script_lines.{specs.Lines.Line, specs.Reading.line_of}
+use Rattle.running_desk.{specs.declared.orders.Orders.Orders, specs.Ordered.lines_in}
 
 -- The lines of the reader's remaining bytes.
 abbrev pub orders_coming : {I S R : Type 0} → (I → Option (List ℕ)) → Orders I S R → Option (List Line)

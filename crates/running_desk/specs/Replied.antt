@@ -1,41 +1,18 @@
 -- The answer to an operator's line: a replay's answer to the same line when it has the desk's stations.
-use Rattle.std.specs.Prelude.{◌≡◌, ◌⊎◌, ℕ, Bool, false, List, [], Option, None, Some, codes, unwrap_or}
-use Rattle.std.specs.List.{list_any, position}
-use Rattle.std.specs.Str.{bytes_eq}
-use Rattle.ledger_model.specs.declared.answer.Answer.{Answer}
-use Rattle.ledger_model.specs.declared.answer.Answer.TheVariants.{Refused}
-use Rattle.ledger_model.specs.declared.answer.Refusal.TheVariants.{ChangesExhausted}
-use Rattle.ledger_model.specs.declared.command.Command.{Command}
+use Rattle.std.{specs.Prelude.{◌≡◌, ◌⊎◌, ℕ, Bool, false, List, [], Option, None, Some, codes, unwrap_or}, specs.List.{list_any, position}, specs.Str.bytes_eq}
+use Rattle.ledger_model.{specs.declared.answer.Answer.Answer, specs.declared.answer.Answer.TheVariants.Refused, specs.declared.answer.Refusal.TheVariants.ChangesExhausted, specs.declared.command.Command.Command, specs.declared.order.Order.Order, specs.declared.order.Order.TheVariants.Sequence, specs.Board.Board, specs.Periods.Periods, specs.Settling.default_periods, specs.Step.Reached, specs.World.Station}
 use Rattle.ledger_model.specs.declared.figures.Figures as figures
-use Rattle.ledger_model.specs.declared.order.Order.{Order}
-use Rattle.ledger_model.specs.declared.order.Order.TheVariants.{Sequence}
-use Rattle.ledger_model.specs.Board.{Board}
-use Rattle.ledger_model.specs.Periods.{Periods}
-use Rattle.ledger_model.specs.Settling.{default_periods}
-use Rattle.ledger_model.specs.Step.{Reached}
-use Rattle.ledger_model.specs.World.{Station}
-use Rattle.board_report.specs.Texts.{board_text, total_text}
-use Rattle.board_report.specs.Running.{running_site}
+use Rattle.board_report.{specs.Texts.{board_text, total_text}, specs.Running.running_site}
 use Rattle.energy_flow.specs.Flow.{Energy}
-use Rattle.running_desk.specs.declared.operator.WhichTotals.{WhichTotals}
-use Rattle.running_desk.specs.declared.operator.WhichTotals.TheVariants.{Figures, Import, Export}
+use Rattle.running_desk.{specs.declared.operator.WhichTotals.WhichTotals, specs.declared.operator.WhichTotals.TheVariants.{Figures, Import, Export}}
 use Rattle.ocppj_frame.specs.Frame.{frame}
 use Rattle.script_ledgers.specs.Script.{commanded_to, energy_answer, energy_line, export_answer, export_line, list_answer, mark_line, sent_to, start, total_answer}
-use Rattle.script_lines.specs.declared.script_line.TxList.{TxList}
-use Rattle.script_lines.specs.declared.script_line.LineFault.TheVariants.{BadLine, DeclaredLate, UnknownSite, UnknownStation}
-use Rattle.script_lines.specs.LineMeaning.{LineMeaning, nothing, fails, sets_limits, declares, sets_period, sets_order, sets_settle, tells, sends, commands, asks_energy, asks_export, asks_total, asks_board, lists, marks}
-use Rattle.script_lines.specs.Texts.{answer_text, ended_line, fault_line}
+use Rattle.script_lines.{specs.declared.script_line.TxList.TxList, specs.declared.script_line.LineFault.TheVariants.{BadLine, DeclaredLate, UnknownSite, UnknownStation}, specs.LineMeaning.{LineMeaning, nothing, fails, sets_limits, declares, sets_period, sets_order, sets_settle, tells, sends, commands, asks_energy, asks_export, asks_total, asks_board, lists, marks}, specs.Texts.{answer_text, ended_line, fault_line}}
 use Rattle.site_book.specs.Book.{Known}
-use Rattle.site_desk.specs.declared.plan.SitePlan.{SitePlan}
-use Rattle.site_desk.specs.declared.roster.StationPlace.{StationPlace}
-use Rattle.site_desk.specs.Operator.{AreBoardsAt}
-use Rattle.site_desk.specs.Roster.{IsNamed}
-use Rattle.site_desk.specs.Submit.{Submitted}
+use Rattle.site_desk.{specs.declared.plan.SitePlan.SitePlan, specs.declared.roster.StationPlace.StationPlace, specs.Operator.AreBoardsAt, specs.Roster.IsNamed, specs.Submit.Submitted}
 use Rattle.station_cell.specs.Cell.{Held}
 use Rattle.station_link.specs.Answer.{Answers, IsGivenAt}
-use Rattle.transaction_event.specs.Message.{Meaning, Event, Ready, Silence, message}
-use Rattle.transaction_event.specs.MessageMeaning.{IsMemoryReply}
-use Rattle.transaction_event.specs.Reply.{event_reply_bytes}
+use Rattle.transaction_event.{specs.Message.{Meaning, Event, Ready, Silence, message}, specs.MessageMeaning.IsMemoryReply, specs.Reply.event_reply_bytes}
 
 -- A replay may have this station under the name: the desk has a station of the name with these
 -- limits, and some accepted commands lead to its content.

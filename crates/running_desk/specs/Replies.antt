@@ -1,18 +1,11 @@
 -- The answers to an operator's lines, one after the other.
-use Rattle.std.specs.Prelude.{◌≡◌, ℕ, List, [], ◌∷◌, Option, None, Some, All, map}
-use Rattle.std.specs.Io.KnownBytes.{Appends}
-use Rattle.std.specs.List.{flat_map}
-use Rattle.ledger_model.specs.declared.answer.Answer.{Answer}
-use Rattle.ledger_model.specs.declared.command.Command.{Command}
-use Rattle.ledger_model.specs.Board.{Board}
-use Rattle.script_lines.specs.LineMeaning.{line_meaning}
-use Rattle.script_lines.specs.Lines.{Line}
+use Rattle.std.{specs.Prelude.{◌≡◌, ℕ, List, [], ◌∷◌, Option, None, Some, All, map}, specs.Io.KnownBytes.Appends, specs.List.flat_map}
+use Rattle.ledger_model.{specs.declared.answer.Answer.Answer, specs.declared.command.Command.Command, specs.Board.Board}
+use Rattle.script_lines.{specs.LineMeaning.line_meaning, specs.Lines.Line}
 use Rattle.site_book.specs.Book.{Known}
-use Rattle.site_desk.specs.declared.plan.SitePlan.{SitePlan}
-use Rattle.site_desk.specs.declared.roster.StationPlace.{StationPlace}
+use Rattle.site_desk.{specs.declared.plan.SitePlan.SitePlan, specs.declared.roster.StationPlace.StationPlace}
 use Rattle.station_link.specs.Attended.{if_seen}
-use Rattle.running_desk.specs.Ordered.{AreAnswered}
-use Rattle.running_desk.specs.Replied.{IsReplyOrMemory}
+use Rattle.running_desk.{specs.Ordered.AreAnswered, specs.Replied.IsReplyOrMemory}
 
 -- A line, its answer, and what was seen of the desk's journal with it.
 pub record Replied (M : Type 0) : Type 0 where

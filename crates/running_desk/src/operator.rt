@@ -1,17 +1,8 @@
 //! An operator's lines, which are answered while stations are served.
-ghost use Rattle.std.specs.Prelude.{◌≡◌, ℕ, List, [], ◌++◌, IfOk, OnOk, Some, slice_get};
-ghost use Rattle.std.specs.List.{position};
-ghost use Rattle.std.specs.Str.{bytes_eq};
-ghost use Rattle.script_lines.specs.LineMeaning.{commands, line_meaning};
-ghost use Rattle.script_lines.specs.Lines.{line_bytes};
-ghost use Rattle.script_lines.specs.declared.script_line.LineFault.{LineFault};
-ghost use Rattle.script_lines.specs.Texts.{fault_line};
-ghost use Rattle.site_desk.specs.declared.roster.StationPlace.{StationPlace};
-ghost use Rattle.site_desk.specs.Roster.{IsNamed};
-ghost use Rattle.running_desk.specs.declared.running.PassFault.{PassFault};
-ghost use Rattle.running_desk.specs.Replied.{IsBoard, IsCommandLine, IsCommanded, IsList, IsMessageLine, IsMessaged, IsReply, IsSent, IsSubmitted, IsTotals, totals_line};
-ghost use Rattle.running_desk.specs.Ordered.{ends, lines_in};
-ghost use Rattle.running_desk.specs.Replies.{AddsReplies, AddsReply};
+ghost use Rattle.std.{specs.Prelude.{◌≡◌, ℕ, List, [], ◌++◌, IfOk, OnOk, Some, slice_get}, specs.List.position, specs.Str.bytes_eq};
+ghost use Rattle.script_lines.{specs.LineMeaning.{commands, line_meaning}, specs.Lines.line_bytes, specs.declared.script_line.LineFault.LineFault, specs.Texts.fault_line};
+ghost use Rattle.site_desk.{specs.declared.roster.StationPlace.StationPlace, specs.Roster.IsNamed};
+ghost use Rattle.running_desk.{specs.declared.running.PassFault.PassFault, specs.Replied.{IsBoard, IsCommandLine, IsCommanded, IsList, IsMessageLine, IsMessaged, IsReply, IsSent, IsSubmitted, IsTotals, totals_line}, specs.Ordered.{ends, lines_in}, specs.Replies.{AddsReplies, AddsReply}};
 ghost use Rattle.station_link.specs.Attended.{if_seen};
 
 use crate::orders::{Came, Orders};

@@ -1,6 +1,5 @@
 //! The passes that sessions left.
-ghost use Rattle.std.specs.Prelude.{◌≡◌, ◌==◌};
-ghost use Rattle.std.specs.List.{position};
+ghost use Rattle.std.{specs.Prelude.{◌≡◌, ◌==◌}, specs.List.position};
 ghost use Rattle.running_desk.specs.Pooled.{IsLaid, IsReserved, IsTaken};
 
 use station_cell::Pass;

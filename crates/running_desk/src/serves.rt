@@ -29,12 +29,8 @@ pub trait Serves: Delivers + MayBreak {
 
     ghost use Rattle.std.specs.Prelude.{◌≡◌, ℕ, List, Some, IfOk, map, slice_get};
     ghost use Rattle.ledger_model.specs.Board.{Board, sum_of_figures};
-    ghost use Rattle.script_lines.specs.LineMeaning.{commands, line_meaning};
-    ghost use Rattle.script_lines.specs.Lines.{line_bytes};
-    ghost use Rattle.site_desk.specs.declared.roster.StationPlace.{StationPlace};
-    ghost use Rattle.site_desk.specs.Roster.{IsNamed, Roster};
-    ghost use Rattle.site_desk.specs.Operator.{AreBoardsAt};
-    ghost use Rattle.site_desk.specs.Submit.{Submitted};
+    ghost use Rattle.script_lines.{specs.LineMeaning.{commands, line_meaning}, specs.Lines.line_bytes};
+    ghost use Rattle.site_desk.{specs.declared.roster.StationPlace.StationPlace, specs.Roster.{IsNamed, Roster}, specs.Operator.AreBoardsAt, specs.Submit.Submitted};
     ghost use Rattle.station_link.specs.Answer.{IsGivenAt};
 
     ghost roster: { Self → Roster };

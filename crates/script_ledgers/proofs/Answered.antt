@@ -1,6 +1,5 @@
 -- What is known of a written answer, if the call succeeds.
-use Rattle.std.proofs.Common.{◌≡◌, ℕ, List, [], ◌++◌, Result, Ok, Err, sym, ap, ◌∙◌}
-use Rattle.std.specs.Prelude.{IfOk, OnOk}
+use Rattle.std.{proofs.Common.{◌≡◌, ℕ, List, [], ◌++◌, Result, Ok, Err, sym, ap, ◌∙◌}, specs.Prelude.{IfOk, OnOk}}
 use Rattle.script_ledgers.specs.Script.{Script}
 
 -- if a call succeeds, what follows from what it ensures

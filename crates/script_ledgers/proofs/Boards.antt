@@ -1,33 +1,11 @@
 -- The boards of the stations of a site, and the totals of its book.
-use Rattle.std.proofs.Common.{◌≡◌, ◌≢◌, ℕ, zero, suc, ◌+◌, ◌<◌, ◌≤◌, Bool, true, false, cond, eqb, List, [], ◌∷◌, ◌++◌, Option, None, Some, All, length, map, take, get_or, refl, subst, ap, sym, ◌∙◌, bytes_eq, arith, ⊎_elim}
-use Rattle.std.specs.Prelude.{filter, slice_get, count_by}
-use Rattle.std.specs.List.{list_any, position, range_with_len}
-use Rattle.std.proofs.lemmas.Bool.{cases_eq, eq-eqb, false≢true, ne_eqb}
-use Rattle.std.proofs.lemmas.List.{length-append, length-map, map-append, take_all}
-use Rattle.std.proofs.lemmas.List.FromFn.{map-range_with_len_more}
-use Rattle.std.proofs.lemmas.List.Sums.{length-filter}
-use Rattle.std.proofs.lemmas.Option.{get_or_from_slice_get}
-use Rattle.std.proofs.lemmas.Slice.Eq.{bytes_eq-Decides}
-use Rattle.ledger_model.specs.Periods.{Periods}
-use Rattle.ledger_model.specs.declared.order.Order.{Order}
-use Rattle.ledger_model.specs.Board.{Board, board_by, figures_by, site_board, sum_of_figures}
-use Rattle.ledger_model.specs.Content.{entries}
-use Rattle.ledger_model.specs.Posts.{row_after}
-use Rattle.ledger_model.specs.World.{Station, World}
-use Rattle.board_report.specs.Named.{NamedBoard}
+use Rattle.std.{proofs.Common.{◌≡◌, ◌≢◌, ℕ, zero, suc, ◌+◌, ◌<◌, ◌≤◌, Bool, true, false, cond, eqb, List, [], ◌∷◌, ◌++◌, Option, None, Some, All, length, map, take, get_or, refl, subst, ap, sym, ◌∙◌, bytes_eq, arith, ⊎_elim}, specs.Prelude.{filter, slice_get, count_by}, specs.List.{list_any, position, range_with_len}, proofs.lemmas.Bool.{cases_eq, eq-eqb, false≢true, ne_eqb}, proofs.lemmas.List.{length-append, length-map, map-append, take_all}, proofs.lemmas.List.FromFn.map-range_with_len_more, proofs.lemmas.List.Sums.length-filter, proofs.lemmas.Option.get_or_from_slice_get, proofs.lemmas.Slice.Eq.bytes_eq-Decides}
+use Rattle.ledger_model.{specs.Periods.Periods, specs.declared.order.Order.Order, specs.Board.{Board, board_by, figures_by, site_board, sum_of_figures}, specs.Content.entries, specs.Posts.row_after, specs.World.{Station, World}}
+use Rattle.board_report.{specs.Named.NamedBoard, specs.Boards.boards_at, proofs.SiteBoards.{boards_more_no, boards_more_yes, stands}}
 use Rattle.site_book.specs.Book.{Book}
-use Rattle.site_desk.specs.declared.plan.SitePlan.{SitePlan}
-use Rattle.site_desk.specs.declared.plan.StationPlan.{StationPlan}
+use Rattle.site_desk.{specs.declared.plan.SitePlan.SitePlan, specs.declared.plan.StationPlan.StationPlan, specs.Parts.{limits_at, row_at}, specs.Plan.{has_twice, order_at}, proofs.Rows.{limits_more_no, limits_more_yes}}
 use Rattle.station_cell.specs.Cell.{Cell, Held}
-use Rattle.site_desk.specs.Parts.{limits_at, row_at}
-use Rattle.site_desk.specs.Plan.{has_twice, order_at}
-use Rattle.site_desk.proofs.Rows.{limits_more_no, limits_more_yes}
-use Rattle.script_ledgers.specs.Drafts.{Drafted, planned_world, site_name}
-use Rattle.board_report.specs.Boards.{boards_at}
-use Rattle.board_report.proofs.SiteBoards.{boards_more_no, boards_more_yes, stands}
-use Rattle.script_ledgers.specs.Running.{IsRunning, filled}
-use Rattle.script_ledgers.specs.Script.{shown_site, shown_station, stations_of}
-use Rattle.script_ledgers.proofs.Places.{neither, none_placed, some_placed}
+use Rattle.script_ledgers.{specs.Drafts.{Drafted, planned_world, site_name}, specs.Running.{IsRunning, filled}, specs.Script.{shown_site, shown_station, stations_of}, proofs.Places.{neither, none_placed, some_placed}}
 
 -- ---- the totals of a book
 

@@ -1,26 +1,10 @@
 -- Declarations: what they keep, and the script that they are seen as.
-use Rattle.std.proofs.Common.{◌≡◌, ℕ, suc, ◌+◌, ◌<◌, ◌≤◌, ◌||◌, ◌&&◌, Bool, true, false, not, cond, zero, List, [], ◌∷◌, ◌++◌, Option, None, Some, All, length, map, nat_le, nat_lt, refl, ap, sym, ◌∙◌, bytes_eq, arith}
-use Rattle.std.specs.Prelude.{sum_by}
-use Rattle.std.specs.List.{position}
-use Rattle.std.specs.Option.{is_some}
-use Rattle.std.proofs.lemmas.Bool.Decides.{nat_tests}
-use Rattle.std.proofs.lemmas.List.{length-append, length-map, map-append}
-use Rattle.std.proofs.lemmas.List.Elements.{All-append, All-cons, All-nil}
-use Rattle.std.proofs.lemmas.List.Sums.{sum_by-append, sum_by-cons}
-use Rattle.ledger_model.specs.declared.order.Order.TheVariants.{Sequence}
-use Rattle.ledger_model.specs.Limits.{Bounds}
-use Rattle.ledger_model.specs.Settling.{default_periods}
-use Rattle.ledger_model.specs.Ranges.{most_sites, most_stations, most_plan_readings}
-use Rattle.ledger_model.specs.World.{Station}
-use Rattle.site_desk.specs.declared.plan.SitePlan.{SitePlan}
-use Rattle.site_desk.specs.declared.plan.StationPlan.{StationPlan}
-use Rattle.site_desk.specs.Plan.{has_twice, is_past, site_number}
+use Rattle.std.{proofs.Common.{◌≡◌, ℕ, suc, ◌+◌, ◌<◌, ◌≤◌, ◌||◌, ◌&&◌, Bool, true, false, not, cond, zero, List, [], ◌∷◌, ◌++◌, Option, None, Some, All, length, map, nat_le, nat_lt, refl, ap, sym, ◌∙◌, bytes_eq, arith}, specs.Prelude.sum_by, specs.List.position, specs.Option.is_some, proofs.lemmas.Bool.Decides.nat_tests, proofs.lemmas.List.{length-append, length-map, map-append}, proofs.lemmas.List.Elements.{All-append, All-cons, All-nil}, proofs.lemmas.List.Sums.{sum_by-append, sum_by-cons}}
+use Rattle.ledger_model.{specs.declared.order.Order.TheVariants.Sequence, specs.Limits.Bounds, specs.Settling.default_periods, specs.Ranges.{most_sites, most_stations, most_plan_readings}, specs.World.Station}
+use Rattle.site_desk.{specs.declared.plan.SitePlan.SitePlan, specs.declared.plan.StationPlan.StationPlan, specs.Plan.{has_twice, is_past, site_number}}
 use Rattle.site_desk.specs.Plan as plan
-use Rattle.script_ledgers.specs.Drafts.{Drafted, IsPlan, planned, planned_world, site_name}
-use Rattle.script_lines.specs.declared.script_line.LineFault.TheVariants.{PlanLimit, StationTwice}
-use Rattle.script_lines.specs.Texts.{fault_line}
-use Rattle.script_ledgers.specs.Script.{declared_to, is_among, is_past_plan, joined_by, new_station, orders_with, periods_with, sites_with, station_named}
-use Rattle.script_ledgers.proofs.Places.{AreAlike, is_station, neither, none_placed, once_behind, some_placed, unnamed}
+use Rattle.script_ledgers.{specs.Drafts.{Drafted, IsPlan, planned, planned_world, site_name}, specs.Script.{declared_to, is_among, is_past_plan, joined_by, new_station, orders_with, periods_with, sites_with, station_named}, proofs.Places.{AreAlike, is_station, neither, none_placed, once_behind, some_placed, unnamed}}
+use Rattle.script_lines.{specs.declared.script_line.LineFault.TheVariants.{PlanLimit, StationTwice}, specs.Texts.fault_line}
 
 -- ---- the worlds of plans
 

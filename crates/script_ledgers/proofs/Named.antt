@@ -1,29 +1,14 @@
 -- The station of a name in running ledgers, and what is answered of it.
-use Rattle.std.proofs.Common.{◌≡◌, ℕ, ◌<◌, true, false, List, [], ◌∷◌, Option, None, Some, length, refl, subst, ap, sym, ◌∙◌, bytes_eq, arith}
-use Rattle.std.specs.Prelude.{IfSome, slice_get}
-use Rattle.std.specs.List.{position}
-use Rattle.std.proofs.lemmas.Option.{slice_get_within}
-use Rattle.ledger_model.specs.declared.answer.Answer.{Answer}
-use Rattle.ledger_model.specs.declared.command.Command.{Command}
-use Rattle.ledger_model.specs.declared.command.Command.TheVariants.{Deliver}
-use Rattle.ledger_model.specs.World.{Station, world_after}
+use Rattle.std.{proofs.Common.{◌≡◌, ℕ, ◌<◌, true, false, List, [], ◌∷◌, Option, None, Some, length, refl, subst, ap, sym, ◌∙◌, bytes_eq, arith}, specs.Prelude.{IfSome, slice_get}, specs.List.position, proofs.lemmas.Option.slice_get_within}
+use Rattle.ledger_model.{specs.declared.answer.Answer.Answer, specs.declared.command.Command.Command, specs.declared.command.Command.TheVariants.Deliver, specs.World.{Station, world_after}}
 use Rattle.site_book.specs.Book.{Book}
 use Rattle.site_desk.specs.declared.plan.StationPlan.{StationPlan}
 use Rattle.station_cell.specs.Cell.{Cell, Held}
-use Rattle.transaction_event.specs.declared.message.Message.{Message}
+use Rattle.transaction_event.{specs.declared.message.Message.Message, specs.Message.message, specs.MessageMeaning.IsMeaningOf}
 use Rattle.transaction_event.specs.declared.message.Message.TheVariants as read
-use Rattle.transaction_event.specs.Message.{message}
-use Rattle.transaction_event.specs.MessageMeaning.{IsMeaningOf}
 use Rattle.board_report.proofs.SiteBoards.{stands}
-use Rattle.script_ledgers.specs.Drafts.{Drafted, planned_world, site_name}
-use Rattle.script_ledgers.specs.Received.{TakesMessage}
-use Rattle.script_ledgers.specs.Running.{IsRunning, Settles, filled, running}
+use Rattle.script_ledgers.{specs.Drafts.{Drafted, planned_world, site_name}, specs.Received.TakesMessage, specs.Running.{IsRunning, Settles, filled, running}, specs.Script.{Script, by_meaning, commanded_to, new_station, order_named, period_named, sent_to, station_named}, proofs.Boards.at_site, proofs.Places.{is_station, unnamed}, proofs.SettledBy.{order_found, period_found}, proofs.Settling.{alike_running, planned_at, site_within, station_at}}
 use Rattle.script_lines.specs.Texts.{answer_text, ended_line}
-use Rattle.script_ledgers.specs.Script.{Script, by_meaning, commanded_to, new_station, order_named, period_named, sent_to, station_named}
-use Rattle.script_ledgers.proofs.Boards.{at_site}
-use Rattle.script_ledgers.proofs.Places.{is_station, unnamed}
-use Rattle.script_ledgers.proofs.SettledBy.{order_found, period_found}
-use Rattle.script_ledgers.proofs.Settling.{alike_running, planned_at, site_within, station_at}
 
 pub some_of : {X : Type 0} (o : Option X) (x : X) (P : X → Type 0) → o ≡ Some x → IfSome o P → P x
 some_of o x P e h = subst (λ p. IfSome p P) e h

@@ -1,22 +1,11 @@
 -- Ledgers that were just opened.
-use Rattle.std.proofs.Common.{◌≡◌, ℕ, zero, suc, List, [], ◌∷◌, Some, All, length, map, refl, subst, ap, sym, ◌∙◌, arith}
-use Rattle.std.specs.Prelude.{slice_get}
-use Rattle.std.proofs.lemmas.List.{length-map}
-use Rattle.std.proofs.lemmas.List.Sums.{sum_by-cons}
-use Rattle.std.proofs.lemmas.Option.{get_or_from_slice_get, slice_get_within}
+use Rattle.std.{proofs.Common.{◌≡◌, ℕ, zero, suc, List, [], ◌∷◌, Some, All, length, map, refl, subst, ap, sym, ◌∙◌, arith}, specs.Prelude.slice_get, proofs.lemmas.List.length-map, proofs.lemmas.List.Sums.sum_by-cons, proofs.lemmas.Option.{get_or_from_slice_get, slice_get_within}}
 use Rattle.ledger_model.specs.Content.{empty_content}
 use Rattle.site_book.specs.Book.{Book}
-use Rattle.site_desk.specs.declared.plan.SitePlan.{SitePlan}
-use Rattle.site_desk.specs.declared.plan.StationPlan.{StationPlan}
-use Rattle.station_cell.specs.Cell.{Cell, Held, Knows, new_cell, new_pass}
-use Rattle.site_desk.specs.Parts.{AreApart, AreNewBooks, AreNewCells, AreTied, limits_at, new_book, row_at}
-use Rattle.site_desk.specs.Plan.{order_at, period_at}
-use Rattle.station_cell.specs.Settle.{Holds, Tied}
+use Rattle.site_desk.{specs.declared.plan.SitePlan.SitePlan, specs.declared.plan.StationPlan.StationPlan, specs.Parts.{AreApart, AreNewBooks, AreNewCells, AreTied, limits_at, new_book, row_at}, specs.Plan.{order_at, period_at}}
+use Rattle.station_cell.{specs.Cell.{Cell, Held, Knows, new_cell, new_pass}, specs.Settle.{Holds, Tied}}
 use Rattle.board_report.proofs.SiteBoards.{some_same, stands}
-use Rattle.script_ledgers.specs.Drafts.{IsPlan, planned_world, site_name}
-use Rattle.script_ledgers.specs.Running.{IsPlaced, IsRunning, IsShown, filled, posts_in}
-use Rattle.script_ledgers.specs.Script.{new_station}
-use Rattle.script_ledgers.proofs.Enlisted.{first_given}
+use Rattle.script_ledgers.{specs.Drafts.{IsPlan, planned_world, site_name}, specs.Running.{IsPlaced, IsRunning, IsShown, filled, posts_in}, specs.Script.new_station, proofs.Enlisted.first_given}
 
 -- new cells have given no pass
 pub none_given : (sites : List SitePlan) (stations : List StationPlan) (cells : List Cell) → AreNewCells sites stations cells → All (λ c. c.counts ≡ []) cells

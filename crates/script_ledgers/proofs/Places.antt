@@ -1,9 +1,5 @@
 -- Names in lists, and their places.
-use Rattle.std.proofs.Common.{◌≡◌, ℕ, suc, ◌+◌, ◌<◌, ◌||◌, Bool, true, false, cond, List, [], ◌∷◌, ◌++◌, None, Some, length, map, get_or, refl, subst, ap, sym, ◌∙◌, bytes_eq, arith}
-use Rattle.std.specs.List.{list_any, position, position_from}
-use Rattle.std.specs.Prelude.{slice_get}
-use Rattle.std.proofs.lemmas.Iterator.Adapters.{position_from-zero}
-use Rattle.std.proofs.lemmas.Slice.Eq.{bytes_eq-Decides}
+use Rattle.std.{proofs.Common.{◌≡◌, ℕ, suc, ◌+◌, ◌<◌, ◌||◌, Bool, true, false, cond, List, [], ◌∷◌, ◌++◌, None, Some, length, map, get_or, refl, subst, ap, sym, ◌∙◌, bytes_eq, arith}, specs.List.{list_any, position, position_from}, specs.Prelude.slice_get, proofs.lemmas.Iterator.Adapters.position_from-zero, proofs.lemmas.Slice.Eq.bytes_eq-Decides}
 use Rattle.ledger_model.specs.World.{Station, World}
 use Rattle.site_desk.specs.Plan.{has_twice}
 use Rattle.script_ledgers.specs.Script.{station_named}

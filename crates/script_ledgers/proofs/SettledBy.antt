@@ -1,18 +1,9 @@
 -- Other settlement periods, or another order of readings, for a site of a plan, and the script that it is seen as.
-use Rattle.std.proofs.Common.{◌≡◌, ℕ, zero, suc, ◌+◌, true, cond, List, [], ◌∷◌, None, Some, All, length, map, get_or, slice_set, refl, ap, sym, ◌∙◌, bytes_eq, arith}
-use Rattle.std.specs.List.{position, position_from}
-use Rattle.std.proofs.lemmas.Iterator.Adapters.{position_from-zero}
-use Rattle.ledger_model.specs.Periods.{Periods}
-use Rattle.ledger_model.specs.declared.order.Order.{Order}
-use Rattle.ledger_model.specs.declared.order.Order.TheVariants.{Sequence}
-use Rattle.ledger_model.specs.Settling.{default_periods}
-use Rattle.site_desk.specs.declared.plan.SitePlan.{SitePlan}
-use Rattle.site_desk.specs.declared.plan.StationPlan.{StationPlan}
-use Rattle.site_desk.specs.Plan.{has_twice, order_at, period_at, sites_by, sites_changed, sites_in}
-use Rattle.script_lines.specs.declared.script_line.LineFault.TheVariants.{PlanLimit, UnknownSite}
-use Rattle.script_lines.specs.Texts.{fault_line}
-use Rattle.script_ledgers.specs.Drafts.{Drafted, IsPlan, planned}
-use Rattle.script_ledgers.specs.Script.{is_period, lasting, new_station, order_of, order_to, ordered_by, period_of, period_to, settled_by, site_number}
+use Rattle.std.{proofs.Common.{◌≡◌, ℕ, zero, suc, ◌+◌, true, cond, List, [], ◌∷◌, None, Some, All, length, map, get_or, slice_set, refl, ap, sym, ◌∙◌, bytes_eq, arith}, specs.List.{position, position_from}, proofs.lemmas.Iterator.Adapters.position_from-zero}
+use Rattle.ledger_model.{specs.Periods.Periods, specs.declared.order.Order.Order, specs.declared.order.Order.TheVariants.Sequence, specs.Settling.default_periods}
+use Rattle.site_desk.{specs.declared.plan.SitePlan.SitePlan, specs.declared.plan.StationPlan.StationPlan, specs.Plan.{has_twice, order_at, period_at, sites_by, sites_changed, sites_in}}
+use Rattle.script_lines.{specs.declared.script_line.LineFault.TheVariants.{PlanLimit, UnknownSite}, specs.Texts.fault_line}
+use Rattle.script_ledgers.{specs.Drafts.{Drafted, IsPlan, planned}, specs.Script.{is_period, lasting, new_station, order_of, order_to, ordered_by, period_of, period_to, settled_by, site_number}}
 
 -- a site is at one place in the plan and in the list of names
 from_alike : (name : List ℕ) (i : ℕ) (sites : List SitePlan) → position_from (bytes_eq name) i (map (λ s. s.name) sites) ≡ position_from (λ (s : SitePlan). bytes_eq name s.name) i sites

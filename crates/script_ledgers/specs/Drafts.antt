@@ -1,11 +1,7 @@
 -- How the declarations of a script are kept, and the state that they make.
 use Rattle.std.specs.Prelude.{◌≡◌, ℕ, ◌<◌, ◌≤◌, false, List, [], All, get_or, length, map, sum_by}
-use Rattle.ledger_model.specs.Limits.{Bounds}
-use Rattle.ledger_model.specs.Ranges.{most_sites, most_stations, most_plan_readings}
-use Rattle.ledger_model.specs.World.{World}
-use Rattle.site_desk.specs.Plan.{has_twice}
-use Rattle.site_desk.specs.declared.plan.SitePlan.{SitePlan}
-use Rattle.site_desk.specs.declared.plan.StationPlan.{StationPlan}
+use Rattle.ledger_model.{specs.Limits.Bounds, specs.Ranges.{most_sites, most_stations, most_plan_readings}, specs.World.World}
+use Rattle.site_desk.{specs.Plan.has_twice, specs.declared.plan.SitePlan.SitePlan, specs.declared.plan.StationPlan.StationPlan}
 use Rattle.script_ledgers.specs.Script.{Script, new_station}
 
 -- The declarations so far: the limits of the stations that follow, the sites and the stations of the plan, and the

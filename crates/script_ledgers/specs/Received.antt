@@ -1,11 +1,8 @@
 -- What a running script does with a message.
 use Rattle.std.specs.Prelude.{◌≡◌, ℕ, true, false, List, IfSome, codes, slice_get}
-use Rattle.ledger_model.specs.declared.command.Command.TheVariants.{Deliver}
-use Rattle.ledger_model.specs.Step.{answer}
-use Rattle.ledger_model.specs.World.{Station, world_after}
-use Rattle.transaction_event.specs.declared.message.Message.{Message}
+use Rattle.ledger_model.{specs.declared.command.Command.TheVariants.Deliver, specs.Step.answer, specs.World.{Station, world_after}}
+use Rattle.transaction_event.{specs.declared.message.Message.Message, specs.Reply.event_reply_bytes}
 use Rattle.transaction_event.specs.declared.message.Message.TheVariants as message
-use Rattle.transaction_event.specs.Reply.{event_reply_bytes}
 use Rattle.script_lines.specs.Texts.{ended_line}
 use Rattle.script_ledgers.specs.Script.{Script}
 

@@ -1,18 +1,10 @@
 -- How the opened ledgers of a script are kept, and the state that they make.
 use Rattle.std.specs.Prelude.{◌≡◌, ℕ, true, List, [], ◌∷◌, length, map, sum_by, Some, IfSome, slice_get}
-use Rattle.ledger_model.specs.declared.answer.Answer.{Answer}
-use Rattle.ledger_model.specs.declared.command.Command.{Command}
-use Rattle.ledger_model.specs.Step.{answer}
-use Rattle.ledger_model.specs.World.{Station, World, world_after}
+use Rattle.ledger_model.{specs.declared.answer.Answer.Answer, specs.declared.command.Command.Command, specs.Step.answer, specs.World.{Station, World, world_after}}
 use Rattle.site_book.specs.Book.{Book}
-use Rattle.site_desk.specs.declared.plan.SitePlan.{SitePlan}
-use Rattle.site_desk.specs.declared.plan.StationPlan.{StationPlan}
-use Rattle.station_cell.specs.Cell.{Cell, Held, Knows}
-use Rattle.site_desk.specs.Parts.{AreApart, limits_at, row_at}
-use Rattle.site_desk.specs.Plan.{order_at, period_at}
-use Rattle.station_cell.specs.Settle.{Holds, Tied}
-use Rattle.script_ledgers.specs.Drafts.{Drafted, IsPlan, planned_world}
-use Rattle.script_ledgers.specs.Script.{Script}
+use Rattle.site_desk.{specs.declared.plan.SitePlan.SitePlan, specs.declared.plan.StationPlan.StationPlan, specs.Parts.{AreApart, limits_at, row_at}, specs.Plan.{order_at, period_at}}
+use Rattle.station_cell.{specs.Cell.{Cell, Held, Knows}, specs.Settle.{Holds, Tied}}
+use Rattle.script_ledgers.{specs.Drafts.{Drafted, IsPlan, planned_world}, specs.Script.Script}
 
 -- The stations, with the contents of their cells.
 abbrev pub filled : World → List Cell → World

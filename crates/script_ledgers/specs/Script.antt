@@ -1,37 +1,11 @@
 -- The text of a script: a fold over its lines (this product's profile).
-use Rattle.std.specs.Prelude.{◌≡◌, ℕ, Bool, true, false, ◌&&◌, ◌||◌, ◌+◌, ◌==◌, nat_le, nat_lt, List, [], ◌∷◌, ◌++◌, codes, filter, get_or, slice_set, length, map, sum_by, if◌then◌else◌, Option, None, Some}
-use Rattle.std.specs.List.{list_any, position}
-use Rattle.std.specs.Str.{bytes_eq}
+use Rattle.std.{specs.Prelude.{◌≡◌, ℕ, Bool, true, false, ◌&&◌, ◌||◌, ◌+◌, ◌==◌, nat_le, nat_lt, List, [], ◌∷◌, ◌++◌, codes, filter, get_or, slice_set, length, map, sum_by, if◌then◌else◌, Option, None, Some}, specs.List.{list_any, position}, specs.Str.bytes_eq}
 use Rattle.energy_flow.specs.Flow.{Energy}
-use Rattle.ledger_model.specs.Periods.{Periods}
-use Rattle.ledger_model.specs.declared.command.Command.{Command}
-use Rattle.ledger_model.specs.declared.command.Command.TheVariants.{Deliver}
-use Rattle.ledger_model.specs.declared.order.Order.{Order}
-use Rattle.ledger_model.specs.declared.order.Order.TheVariants.{Sequence}
-use Rattle.ledger_model.specs.Board.{Board, board_by, figures_by, site_board}
-use Rattle.ledger_model.specs.Content.{empty_content, entries}
-use Rattle.ledger_model.specs.Energy.{energy_by}
-use Rattle.ledger_model.specs.declared.reading.Direction.TheVariants.{Import, Export}
-use Rattle.ledger_model.specs.Limits.{Bounds, default_limits}
-use Rattle.ledger_model.specs.Moment.{first_moment}
-use Rattle.ledger_model.specs.Settling.{default_periods}
-use Rattle.ledger_model.specs.declared.settle.Settle.{Settle}
-use Rattle.ledger_model.specs.Ranges.{most_transactions, most_events, most_readings, most_changes, most_sites, most_stations, most_plan_readings}
-use Rattle.ledger_model.specs.Step.{answer}
-use Rattle.ledger_model.specs.World.{Station, World, world_after}
-use Rattle.board_report.specs.Named.{NamedBoard}
-use Rattle.board_report.specs.Listing.{events_text, readings_text}
-use Rattle.board_report.specs.Texts.{board_text, energy_text, export_text, total_text}
-use Rattle.transaction_event.specs.Message.{Meaning, Event, Ready, Silence, message}
-use Rattle.transaction_event.specs.Reply.{event_reply_bytes}
-use Rattle.script_lines.specs.declared.script_line.LineFault.TheVariants.{DeclaredLate, PlanLimit, StationTwice, UnknownStation, UnknownSite, UnknownTransaction}
-use Rattle.script_lines.specs.declared.script_line.TxList.{TxList}
-use Rattle.script_lines.specs.declared.script_line.TxList.TheVariants.{Events, Readings}
-use Rattle.script_lines.specs.Lines.{Line, text_by}
-use Rattle.script_lines.specs.LineMeaning.{LineMeaning, nothing, fails, sets_limits, declares, sets_period, sets_order, sets_settle, tells, sends, commands, asks_energy, asks_export, asks_total, asks_board, lists, marks, line_meaning}
-use Rattle.script_lines.specs.Texts.{ended_line, fault_line, answer_text}
-use Rattle.station_ledger.specs.Listing.{listing_by}
-use Rattle.station_ledger.specs.declared.listing.TxListing.{TxListing}
+use Rattle.ledger_model.{specs.Periods.Periods, specs.declared.command.Command.Command, specs.declared.command.Command.TheVariants.Deliver, specs.declared.order.Order.Order, specs.declared.order.Order.TheVariants.Sequence, specs.Board.{Board, board_by, figures_by, site_board}, specs.Content.{empty_content, entries}, specs.Energy.energy_by, specs.declared.reading.Direction.TheVariants.{Import, Export}, specs.Limits.{Bounds, default_limits}, specs.Moment.first_moment, specs.Settling.default_periods, specs.declared.settle.Settle.Settle, specs.Ranges.{most_transactions, most_events, most_readings, most_changes, most_sites, most_stations, most_plan_readings}, specs.Step.answer, specs.World.{Station, World, world_after}}
+use Rattle.board_report.{specs.Named.NamedBoard, specs.Listing.{events_text, readings_text}, specs.Texts.{board_text, energy_text, export_text, total_text}}
+use Rattle.transaction_event.{specs.Message.{Meaning, Event, Ready, Silence, message}, specs.Reply.event_reply_bytes}
+use Rattle.script_lines.{specs.declared.script_line.LineFault.TheVariants.{DeclaredLate, PlanLimit, StationTwice, UnknownStation, UnknownSite, UnknownTransaction}, specs.declared.script_line.TxList.TxList, specs.declared.script_line.TxList.TheVariants.{Events, Readings}, specs.Lines.{Line, text_by}, specs.LineMeaning.{LineMeaning, nothing, fails, sets_limits, declares, sets_period, sets_order, sets_settle, tells, sends, commands, asks_energy, asks_export, asks_total, asks_board, lists, marks, line_meaning}, specs.Texts.{ended_line, fault_line, answer_text}}
+use Rattle.station_ledger.{specs.Listing.listing_by, specs.declared.listing.TxListing.TxListing}
 
 -- the state of a script: the limits of the stations that are declared next; the sites of the plan
 -- so far in the order of their first mention, each with its settlement periods and the order of its

@@ -1,17 +1,8 @@
 -- A script that is answered line by line, before and after its ledgers are opened.
-use Rattle.std.specs.Prelude.{ℕ, Bool, List, Option, None, Some, refl}
-use Rattle.std.specs.Coded.{Coded, code_by, coded×, coded_bool, coded_list, coded_ℕ}
+use Rattle.std.{specs.Prelude.{ℕ, Bool, List, Option, None, Some, refl}, specs.Coded.{Coded, code_by, coded×, coded_bool, coded_list, coded_ℕ}}
 use Rattle.ledger_model.specs.contracts.order.Order as orders
-use Rattle.ledger_model.specs.Periods.{Periods, periods_code}
-use Rattle.ledger_model.specs.declared.order.Order.{Order}
-use Rattle.ledger_model.specs.Content.{Content}
-use Rattle.ledger_model.specs.Limits.{Bounds}
-use Rattle.ledger_model.specs.World.{Station}
-use Rattle.script_ledgers.specs.declared.opened_script.OpenedScript.{OpenedScript}
-use Rattle.script_ledgers.specs.declared.script_state.Declared.{Declared}
-use Rattle.script_ledgers.specs.Drafts.{planned}
-use Rattle.script_ledgers.specs.Running.{posts_in, running}
-use Rattle.script_ledgers.specs.Script.{Script, opened_script, start}
+use Rattle.ledger_model.{specs.Periods.{Periods, periods_code}, specs.declared.order.Order.Order, specs.Content.Content, specs.Limits.Bounds, specs.World.Station}
+use Rattle.script_ledgers.{specs.declared.opened_script.OpenedScript.OpenedScript, specs.declared.script_state.Declared.Declared, specs.Drafts.planned, specs.Running.{posts_in, running}, specs.Script.{Script, opened_script, start}}
 use Rattle.site_book.specs.declared.naming.Naming.{Ghosts}
 use Rattle.station_ledger.specs.Ledger.{bounds_code, content_code}
 

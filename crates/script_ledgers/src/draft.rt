@@ -1,11 +1,7 @@
-ghost use Rattle.std.specs.Prelude.{◌≡◌, ◌<◌, false, None, Some, [], length, IfOk, IfSome, IsTrue, OnOk};
+ghost use Rattle.std.{specs.Prelude.{◌≡◌, ◌<◌, false, None, Some, [], length, IfOk, IfSome, IsTrue, OnOk}, specs.Option.is_some, specs.List.position, specs.Str.bytes_eq};
 ghost use Rattle.site_desk.specs.Plan.{sites_by, sites_in, sites_settling};
-ghost use Rattle.std.specs.Option.{is_some};
-ghost use Rattle.std.specs.List.{position};
-ghost use Rattle.std.specs.Str.{bytes_eq};
 ghost use Rattle.script_lines.specs.ScriptLines.{meaning_of};
-ghost use Rattle.script_ledgers.specs.Drafts.{planned, IsPlan};
-ghost use Rattle.script_ledgers.specs.Script.{start, declared_to, is_past_plan, is_period, joined_by, limited_to, opening, order_to, period_to, settle_to, step_by};
+ghost use Rattle.script_ledgers.{specs.Drafts.{planned, IsPlan}, specs.Script.{start, declared_to, is_past_plan, is_period, joined_by, limited_to, opening, order_to, period_to, settle_to, step_by}};
 
 use crate::listed::put_mark;
 use ledger_model::{Limits, Moment, Name, Order, Period, Periods, Settle};

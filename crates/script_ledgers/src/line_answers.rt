@@ -1,17 +1,9 @@
 //! The answers of opened ledgers to the lines of a script.
-ghost use Rattle.std.specs.Prelude.{◌≡◌, ℕ, ◌+◌, ◌<◌, ◌≤◌, ◌^◌, ◌++◌, List, [], length, true, OnOk, IfOk, slice_get, take, Some, refl};
-ghost use Rattle.std.specs.Io.KnownBytes.{Keeps};
-ghost use Rattle.std.specs.List.{position};
-ghost use Rattle.std.specs.Str.{bytes_eq};
+ghost use Rattle.std.{specs.Prelude.{◌≡◌, ℕ, ◌+◌, ◌<◌, ◌≤◌, ◌^◌, ◌++◌, List, [], length, true, OnOk, IfOk, slice_get, take, Some, refl}, specs.Io.KnownBytes.Keeps, specs.List.position, specs.Str.bytes_eq};
 ghost use Rattle.board_report.specs.Texts.{board_text};
 ghost use Rattle.message_ahead.specs.Ahead.{Asks};
-ghost use Rattle.script_lines.specs.LineMeaning.{asks_energy, asks_export, asks_total, commands, lists, sends};
-ghost use Rattle.script_lines.specs.Lines.{line_bytes};
-ghost use Rattle.script_lines.specs.ScriptLines.{meaning_of};
-ghost use Rattle.script_ledgers.specs.Received.{TakesMessageAt};
-ghost use Rattle.script_ledgers.specs.Running.{SettlesAt};
-ghost use Rattle.script_ledgers.specs.Script.{board_answer, board_of_site, line_step, step_by};
-ghost use Rattle.script_ledgers.specs.State.{posts_of, script_of};
+ghost use Rattle.script_lines.{specs.LineMeaning.{asks_energy, asks_export, asks_total, commands, lists, sends}, specs.Lines.line_bytes, specs.ScriptLines.meaning_of};
+ghost use Rattle.script_ledgers.{specs.Received.TakesMessageAt, specs.Running.SettlesAt, specs.Script.{board_answer, board_of_site, line_step, step_by}, specs.State.{posts_of, script_of}};
 ghost use Rattle.transaction_event.specs.MessageMeaning.{HasShortId, asking, with_reply};
 
 use crate::listed::{put_listed, put_mark};

@@ -1,10 +1,8 @@
 ghost use Rattle.std.specs.Prelude.{◌≡◌, ℕ, ◌<◌, ◌∷◌, [], All, length, map, true, OnOk, IfOk, None};
 ghost use Rattle.site_book.specs.Tables.{HasTable, NamedBy};
 ghost use Rattle.station_cell.specs.Cell.{Cell, new_pass};
-ghost use Rattle.site_desk.specs.Plan.{plan_fault};
-ghost use Rattle.site_desk.specs.Roster.{AreCellsOf};
-ghost use Rattle.script_ledgers.specs.Drafts.{planned};
-ghost use Rattle.script_ledgers.specs.Running.{AreTheirPasses, IsRunning, posts_in, running};
+ghost use Rattle.site_desk.{specs.Plan.plan_fault, specs.Roster.AreCellsOf};
+ghost use Rattle.script_ledgers.{specs.Drafts.planned, specs.Running.{AreTheirPasses, IsRunning, posts_in, running}};
 
 use crate::draft::Draft;
 use crate::hints::StationHints;

@@ -1,12 +1,8 @@
-ghost use Rattle.std.specs.Prelude.{◌≡◌, ℕ, ◌+◌, ◌<◌, ◌≤◌, ◌^◌, [], None, IfOk, OnOk};
-ghost use Rattle.std.specs.Io.KnownBytes.{Keeps};
-ghost use Rattle.script_ledgers.specs.Running.{AreTheirPasses, running};
-ghost use Rattle.script_ledgers.specs.Script.{line_step, opened_for, opened_script, opening, start, step_by};
-ghost use Rattle.script_lines.specs.Lines.{line_bytes};
-ghost use Rattle.script_lines.specs.ScriptLines.{meaning_of};
+ghost use Rattle.std.{specs.Prelude.{◌≡◌, ℕ, ◌+◌, ◌<◌, ◌≤◌, ◌^◌, [], None, IfOk, OnOk}, specs.Io.KnownBytes.Keeps};
+ghost use Rattle.script_ledgers.{specs.Running.{AreTheirPasses, running}, specs.Script.{line_step, opened_for, opened_script, opening, start, step_by}};
+ghost use Rattle.script_lines.{specs.Lines.line_bytes, specs.ScriptLines.meaning_of};
 ghost use Rattle.site_book.specs.Tables.{HasTable, NamedBy};
-ghost use Rattle.site_desk.specs.Plan.{plan_fault};
-ghost use Rattle.site_desk.specs.Roster.{AreCellsOf};
+ghost use Rattle.site_desk.{specs.Plan.plan_fault, specs.Roster.AreCellsOf};
 
 use crate::draft::Draft;
 use crate::opened_script::OpenedScript;

@@ -1,13 +1,6 @@
 -- How a script is cut into lines, line by line.
-use Rattle.std.proofs.Common.{◌≡◌, ◌≢◌, ℕ, ◌+◌, ◌<◌, ◌≤◌, false, List, [], ◌∷◌, ◌++◌, Some, None, cond, leb, length, take, refl, inl, inr, sym, ap, ◌∙◌, arith, append_assoc, append-nil, ne_eqb, take_all, length-take}
-use Rattle.std.proofs.lemmas.List.Elements.{All-head, All-tail}
-use Rattle.std.proofs.lemmas.Bool.{cases_lt}
-use Rattle.std.proofs.lemmas.Bool.Decides.{nat_tests}
-use Rattle.std.specs.Io.BufRead.{strip_last}
-use Rattle.script_lines.specs.declared.line_reader.LineEnd.{LineEnd}
-use Rattle.script_lines.specs.declared.line_reader.LineEnd.TheVariants.{Feed, Input}
-use Rattle.script_lines.specs.Lines.{Line, HasNoFeed, whole, ended, unended, cut, complete_lines}
-use Rattle.script_lines.specs.Reading.{line_of}
+use Rattle.std.{proofs.Common.{◌≡◌, ◌≢◌, ℕ, ◌+◌, ◌<◌, ◌≤◌, false, List, [], ◌∷◌, ◌++◌, Some, None, cond, leb, length, take, refl, inl, inr, sym, ap, ◌∙◌, arith, append_assoc, append-nil, ne_eqb, take_all, length-take}, proofs.lemmas.List.Elements.{All-head, All-tail}, proofs.lemmas.Bool.cases_lt, proofs.lemmas.Bool.Decides.nat_tests, specs.Io.BufRead.strip_last}
+use Rattle.script_lines.{specs.declared.line_reader.LineEnd.LineEnd, specs.declared.line_reader.LineEnd.TheVariants.{Feed, Input}, specs.Lines.{Line, HasNoFeed, whole, ended, unended, cut, complete_lines}, specs.Reading.line_of}
 
 module _ (last : List ℕ → List Line) (max_line_bytes : ℕ) where
   -- bytes without a line feed are part of the first line

@@ -1,9 +1,6 @@
 -- Lemmas on what a line says.
-use Rattle.std.proofs.Common.{◌≡◌, ℕ, Bool, true, false, cond, List, refl, sym, ap, ◌∙◌}
-use Rattle.std.proofs.lemmas.Str.{IsUtf8-from_is_utf8, is_utf8-from_IsUtf8}
-use Rattle.std.specs.Str.{IsUtf8, is_utf8}
-use Rattle.script_lines.specs.declared.script_line.LineFault.TheVariants.{BadLine}
-use Rattle.script_lines.specs.LineMeaning.{fails, by_text, by_words}
+use Rattle.std.{proofs.Common.{◌≡◌, ℕ, Bool, true, false, cond, List, refl, sym, ap, ◌∙◌}, proofs.lemmas.Str.{IsUtf8-from_is_utf8, is_utf8-from_IsUtf8}, specs.Str.{IsUtf8, is_utf8}}
+use Rattle.script_lines.{specs.declared.script_line.LineFault.TheVariants.BadLine, specs.LineMeaning.{fails, by_text, by_words}}
 
 -- a text is read by its words
 pub by_words-text : (bytes text : List ℕ) → text ≡ bytes → IsUtf8 bytes → by_text text ≡ by_words bytes

@@ -1,18 +1,7 @@
 -- What the line of a message says.
-use Rattle.std.proofs.Common.{◌≡◌, ℕ, ◌+◌, ◌<◌, Bool, true, false, cond, ◌&&◌, ltb, List, [], ◌∷◌, ◌++◌, None, Some, length, get_or, take, drop, refl, sym, ap, ◌∙◌, inl, inr, arith, append_assoc, length-append}
-use Rattle.std.specs.Prelude.{codes}
-use Rattle.std.specs.List.{list_all, position_or_len}
-use Rattle.std.specs.Option.{option_map_or}
-use Rattle.std.specs.Str.{IsUtf8}
-use Rattle.std.proofs.lemmas.Bool.{and_from, and_parts, cases_lt}
-use Rattle.std.proofs.lemmas.Bool.Decides.{nat_tests}
-use Rattle.std.proofs.lemmas.List.{get_or_append_left, get_or_past}
-use Rattle.std.proofs.lemmas.List.Sums.{AllPass-from_list_all, position_or_len_is}
-use Rattle.std.proofs.lemmas.Str.{IsUtf8-append, IsUtf8-from_ascii, is_utf8-from_IsUtf8}
-use Rattle.std.proofs.Math.Seq.{drop-append_seam, get_or-append_seam, take-append_seam}
+use Rattle.std.{proofs.Common.{◌≡◌, ℕ, ◌+◌, ◌<◌, Bool, true, false, cond, ◌&&◌, ltb, List, [], ◌∷◌, ◌++◌, None, Some, length, get_or, take, drop, refl, sym, ap, ◌∙◌, inl, inr, arith, append_assoc, length-append}, specs.Prelude.codes, specs.List.{list_all, position_or_len}, specs.Option.option_map_or, specs.Str.IsUtf8, proofs.lemmas.Bool.{and_from, and_parts, cases_lt}, proofs.lemmas.Bool.Decides.nat_tests, proofs.lemmas.List.{get_or_append_left, get_or_past}, proofs.lemmas.List.Sums.{AllPass-from_list_all, position_or_len_is}, proofs.lemmas.Str.{IsUtf8-append, IsUtf8-from_ascii, is_utf8-from_IsUtf8}, proofs.Math.Seq.{drop-append_seam, get_or-append_seam, take-append_seam}}
 use Rattle.ledger_model.specs.Name.{is_name, is_name_character}
-use Rattle.script_lines.specs.declared.script_line.LineFault.TheVariants.{BadLine}
-use Rattle.script_lines.specs.LineMeaning.{◌>>=◌, by_first_word, by_text, fails, is_space, line_meaning, msg_line, parted, sends}
+use Rattle.script_lines.{specs.declared.script_line.LineFault.TheVariants.BadLine, specs.LineMeaning.{◌>>=◌, by_first_word, by_text, fails, is_space, line_meaning, msg_line, parted, sends}}
 
 -- a visible byte of ASCII
 abbrev pub is_word_byte : ℕ → Bool

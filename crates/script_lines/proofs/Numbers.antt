@@ -1,11 +1,5 @@
 -- The numbers that words write.
-use Rattle.std.proofs.Common.{◌≡◌, ℕ, ◌<◌, ◌^◌, Bool, true, false, List, Option, None, Some, arith, rules, ltb-true, subst, refl, sym}
-use Rattle.std.specs.Prelude.{◌&&◌, nat_lt, if◌then◌else◌}
-use Rattle.std.specs.Char.{is_ascii_digit}
-use Rattle.std.specs.List.{list_all}
-use Rattle.std.specs.Str.Parse.{IsNumeral, digits_value, without_leading_plus}
-use Rattle.std.proofs.lemmas.Bool.{and_parts}
-use Rattle.std.proofs.lemmas.Str.Parse.{IsNumeralModel, numerals_by_value, without_leading_plus_none, not_in_digits}
+use Rattle.std.{proofs.Common.{◌≡◌, ℕ, ◌<◌, ◌^◌, Bool, true, false, List, Option, None, Some, arith, rules, ltb-true, subst, refl, sym}, specs.Prelude.{◌&&◌, nat_lt, if◌then◌else◌}, specs.Char.is_ascii_digit, specs.List.list_all, specs.Str.Parse.{IsNumeral, digits_value, without_leading_plus}, proofs.lemmas.Bool.and_parts, proofs.lemmas.Str.Parse.{IsNumeralModel, numerals_by_value, without_leading_plus_none, not_in_digits}}
 use Rattle.script_lines.specs.LineMeaning.{is_number, number}
 
 -- the test finds just the texts of digits

@@ -1,20 +1,6 @@
 -- The loop that reads one line: what it has read of the line, and how each end of it is reported.
-use Rattle.std.proofs.Common.{◌≡◌, ◌≢◌, ℕ, ◌+◌, ◌-◌, ◌≤◌, Bool, List, [], ◌∷◌, ◌++◌, Result, Option, Ok, Err, length, take, sym, ap, subst, ◌∙◌, arith, append_assoc, append-nil, take-take, take_all, length-take, length-append, zero-le, inl, inr, le_refl}
-use Rattle.std.proofs.lemmas.List.{take-append-le}
-use Rattle.std.proofs.lemmas.List.Elements.{All-nil, All-append}
-use Rattle.std.proofs.Math.Seq.{take-append-add}
-use Rattle.std.proofs.lemmas.Bool.{cases_lt}
-use Rattle.std.specs.Result.{IsErrAnd}
-use Rattle.std.specs.Io.KnownBytes.{Keeps, Consumes}
-use Rattle.std.proofs.KnownBytes.{Consumes-nil, Consumes-trans, Keeps-refl, Keeps-trans}
-use Rattle.script_lines.specs.declared.fault.ReplayFault.{ReplayFault}
-use Rattle.script_lines.specs.declared.fault.ReplayFault.TheVariants.{ReadFault, WriteFault, TooMuchInput, OutOfMemory}
-use Rattle.script_lines.specs.declared.line_reader.piece.Piece.{Piece}
-use Rattle.script_lines.specs.declared.line_reader.piece.Piece.TheVariants.{End, Beyond, Part, WholeLine}
-use Rattle.script_lines.specs.declared.line_reader.LineEnd.{LineEnd}
-use Rattle.script_lines.specs.declared.line_reader.LineEnd.TheVariants.{Feed, Input}
-use Rattle.script_lines.specs.Lines.{HasNoFeed}
-use Rattle.script_lines.specs.Reading.{TakesPiece, TakesLine}
+use Rattle.std.{proofs.Common.{◌≡◌, ◌≢◌, ℕ, ◌+◌, ◌-◌, ◌≤◌, Bool, List, [], ◌∷◌, ◌++◌, Result, Option, Ok, Err, length, take, sym, ap, subst, ◌∙◌, arith, append_assoc, append-nil, take-take, take_all, length-take, length-append, zero-le, inl, inr, le_refl}, proofs.lemmas.List.take-append-le, proofs.lemmas.List.Elements.{All-nil, All-append}, proofs.Math.Seq.take-append-add, proofs.lemmas.Bool.cases_lt, specs.Result.IsErrAnd, specs.Io.KnownBytes.{Keeps, Consumes}, proofs.KnownBytes.{Consumes-nil, Consumes-trans, Keeps-refl, Keeps-trans}}
+use Rattle.script_lines.{specs.declared.fault.ReplayFault.ReplayFault, specs.declared.fault.ReplayFault.TheVariants.{ReadFault, WriteFault, TooMuchInput, OutOfMemory}, specs.declared.line_reader.piece.Piece.Piece, specs.declared.line_reader.piece.Piece.TheVariants.{End, Beyond, Part, WholeLine}, specs.declared.line_reader.LineEnd.LineEnd, specs.declared.line_reader.LineEnd.TheVariants.{Feed, Input}, specs.Lines.HasNoFeed, specs.Reading.{TakesPiece, TakesLine}}
 
 -- a line goes on: raw was read of it, `left` of `room` may still be read, and nothing was written
 pub record PartOfLine (max_line_bytes room left : ℕ) (held : List ℕ) (r0 r1 w0 w1 : Option (List ℕ)) : Type 0 where

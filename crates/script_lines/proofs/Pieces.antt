@@ -1,19 +1,7 @@
 -- Lemmas on the bytes that one look at a reader gives.
-use Rattle.std.proofs.Common.{◌≡◌, ◌≢◌, Bool, ℕ, ◌+◌, ◌-◌, ◌<◌, ◌≤◌, min, List, [], ◌∷◌, ◌++◌, Result, Ok, Err, length, take, OnOk, OnErr, sym, ap, subst, ◌∙◌, arith, eqb-true, eq-eqb, take-take, length-take, length-take-le, get_or-take, zero-le, zero, suc, length-append, cond, eqb, false}
-use Rattle.std.proofs.lemmas.Bool.{false≢true}
-use Rattle.std.proofs.lemmas.List.{take_more, take_min}
-use Rattle.std.proofs.lemmas.List.Elements.{All-take}
-use Rattle.std.proofs.lemmas.Grind.{common_steps, get_or_default_zero}
-use Rattle.std.proofs.Math.Seq.{take-append-add, take-append_seam}
-use Rattle.std.specs.Result.{is_ok}
+use Rattle.std.{proofs.Common.{◌≡◌, ◌≢◌, Bool, ℕ, ◌+◌, ◌-◌, ◌<◌, ◌≤◌, min, List, [], ◌∷◌, ◌++◌, Result, Ok, Err, length, take, OnOk, OnErr, sym, ap, subst, ◌∙◌, arith, eqb-true, eq-eqb, take-take, length-take, length-take-le, get_or-take, zero-le, zero, suc, length-append, cond, eqb, false}, proofs.lemmas.Bool.false≢true, proofs.lemmas.List.{take_more, take_min}, proofs.lemmas.List.Elements.All-take, proofs.lemmas.Grind.{common_steps, get_or_default_zero}, proofs.Math.Seq.{take-append-add, take-append_seam}, specs.Result.is_ok, specs.declared.alloc.AllocError.AllocError}
 use Rattle.memchr.specs.Find.{Nowhere, NoneBefore, Passes, is_byte}
-use Rattle.std.specs.declared.alloc.AllocError.{AllocError}
-use Rattle.script_lines.specs.declared.fault.ReplayFault.{ReplayFault}
-use Rattle.script_lines.specs.declared.fault.ReplayFault.TheVariants.{OutOfMemory}
-use Rattle.script_lines.specs.declared.line_reader.piece.Piece.{Piece}
-use Rattle.script_lines.specs.declared.line_reader.piece.Piece.TheVariants.{Part, WholeLine}
-use Rattle.script_lines.specs.Lines.{HasNoFeed}
-use Rattle.script_lines.specs.Reading.{TakesPiece}
+use Rattle.script_lines.{specs.declared.fault.ReplayFault.ReplayFault, specs.declared.fault.ReplayFault.TheVariants.OutOfMemory, specs.declared.line_reader.piece.Piece.Piece, specs.declared.line_reader.piece.Piece.TheVariants.{Part, WholeLine}, specs.Lines.HasNoFeed, specs.Reading.TakesPiece}
 
 -- the front of a list, cut at its length at most
 pub take-min : (n : ℕ) (xs : List ℕ) → take (min (length xs) n) xs ≡ take n xs

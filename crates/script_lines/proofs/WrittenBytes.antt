@@ -1,8 +1,5 @@
 -- The loop that writes some bytes: what the writer has taken of them.
-use Rattle.std.proofs.Common.{◌≡◌, ℕ, ◌+◌, ◌-◌, List, ◌++◌, Option, take, drop, length, sym, ap, subst, arith, take_all, length-drop, take-append-drop}
-use Rattle.std.proofs.Math.Seq.{take-add}
-use Rattle.std.specs.Io.KnownBytes.{Keeps, Appends}
-use Rattle.std.proofs.KnownBytes.{Appends-trans, Appends-kept}
+use Rattle.std.{proofs.Common.{◌≡◌, ℕ, ◌+◌, ◌-◌, List, ◌++◌, Option, take, drop, length, sym, ap, subst, arith, take_all, length-drop, take-append-drop}, proofs.Math.Seq.take-add, specs.Io.KnownBytes.{Keeps, Appends}, proofs.KnownBytes.{Appends-trans, Appends-kept}}
 
 -- `&bytes[done..]`
 rest_of : (bytes : List ℕ) (done : ℕ) → take (length bytes - done) (drop done bytes) ≡ drop done bytes

@@ -1,29 +1,9 @@
 -- What a line of a script says (this product's profile).
-use Rattle.std.specs.Prelude.{ℕ, suc, Bool, not, ◌&&◌, ◌||◌, ◌==◌, ◌^◌, nat_lt, List, [], ◌∷◌, length, codes, slice_index, if◌then◌else◌, Option, None, Some}
-use Rattle.std.specs.Char.{is_ascii_digit}
-use Rattle.std.specs.List.{list_all, position_or_len, before_first, after_first}
-use Rattle.std.specs.Option.{option_map_or}
-use Rattle.std.specs.Result.{result_ok}
-use Rattle.std.specs.Str.{bytes_eq, is_utf8}
-use Rattle.std.specs.Str.Parse.{digits_value}
-use Rattle.ledger_model.specs.declared.command.Command.{Command}
-use Rattle.ledger_model.specs.declared.command.Command.TheVariants.{Void, Restore, Erase}
-use Rattle.ledger_model.specs.declared.order.Order.{Order}
-use Rattle.ledger_model.specs.declared.order.Order.TheVariants.{Sequence, Moment}
-use Rattle.ledger_model.specs.declared.settle.Settle.{Settle}
-use Rattle.ledger_model.specs.declared.settle.Settle.TheVariants.{Later, Closing, Even}
-use Rattle.ledger_model.specs.Key.{KeyName}
-use Rattle.ledger_model.specs.Name.{is_name}
-use Rattle.ledger_model.specs.Ranges.{sequence_end}
-use Rattle.ledger_model.specs.TxId.{is_tx_id, folded}
+use Rattle.std.{specs.Prelude.{ℕ, suc, Bool, not, ◌&&◌, ◌||◌, ◌==◌, ◌^◌, nat_lt, List, [], ◌∷◌, length, codes, slice_index, if◌then◌else◌, Option, None, Some}, specs.Char.is_ascii_digit, specs.List.{list_all, position_or_len, before_first, after_first}, specs.Option.option_map_or, specs.Result.result_ok, specs.Str.{bytes_eq, is_utf8}, specs.Str.Parse.digits_value}
+use Rattle.ledger_model.{specs.declared.command.Command.Command, specs.declared.command.Command.TheVariants.{Void, Restore, Erase}, specs.declared.order.Order.Order, specs.declared.order.Order.TheVariants.{Sequence, Moment}, specs.declared.settle.Settle.Settle, specs.declared.settle.Settle.TheVariants.{Later, Closing, Even}, specs.Key.KeyName, specs.Name.is_name, specs.Ranges.sequence_end, specs.TxId.{is_tx_id, folded}}
 use Rattle.reading_decimal.specs.Moment.{moment_reading}
-use Rattle.script_lines.specs.declared.script_line.LineFault.{LineFault}
-use Rattle.script_lines.specs.declared.script_line.LineFault.TheVariants.{LineTooLong, BadLine, DeclaredLate, PlanLimit, StationTwice, UnknownStation, UnknownSite, UnknownTransaction}
-use Rattle.script_lines.specs.declared.script_line.Operation.{Operation}
+use Rattle.script_lines.{specs.declared.script_line.LineFault.LineFault, specs.declared.script_line.LineFault.TheVariants.{LineTooLong, BadLine, DeclaredLate, PlanLimit, StationTwice, UnknownStation, UnknownSite, UnknownTransaction}, specs.declared.script_line.Operation.Operation, specs.declared.script_line.TxList.TxList, specs.declared.script_line.TxList.TheVariants.{Events, Readings}, specs.Lines.Line}
 use Rattle.script_lines.specs.declared.script_line.Operation.TheVariants as operation
-use Rattle.script_lines.specs.declared.script_line.TxList.{TxList}
-use Rattle.script_lines.specs.declared.script_line.TxList.TheVariants.{Events, Readings}
-use Rattle.script_lines.specs.Lines.{Line}
 
 -- what a line says: nothing, a fault, the limits of the stations that follow, a station's declaration, the length of
 -- a site's settlement periods, the order of its readings, the rule by which differences count in those periods, a

@@ -1,8 +1,5 @@
 -- How a script's bytes are cut into lines, and the text that a machine writes for the lines.
-use Rattle.std.specs.Prelude.{◌≢◌, ℕ, List, [], ◌∷◌, ◌++◌, length, nat_le, ◌==◌, if◌then◌else◌, Some, None, All}
-use Rattle.std.specs.Io.BufRead.{strip_last}
-use Rattle.std.specs.Prelude.{Option}
-use Rattle.std.specs.Option.{option_map}
+use Rattle.std.{specs.Prelude.{◌≢◌, ℕ, List, [], ◌∷◌, ◌++◌, length, nat_le, ◌==◌, if◌then◌else◌, Some, None, All, Option}, specs.Io.BufRead.strip_last, specs.Option.option_map}
 use denote.Ref.{Bor}
 
 -- the bytes of a line, or None if it is too long

@@ -1,14 +1,6 @@
 -- What one call reads of a script: a piece of a line, or a line.
-use Rattle.std.specs.Prelude.{◌≡◌, ℕ, ◌+◌, ◌-◌, ◌<◌, ◌≤◌, List, [], ◌∷◌, ◌++◌, length, take}
-use Rattle.std.specs.declared.result.Result.{Result}
-use Rattle.std.specs.declared.result.Result.TheVariants.{Ok, Err}
-use Rattle.script_lines.specs.declared.fault.ReplayFault.{ReplayFault}
-use Rattle.script_lines.specs.declared.fault.ReplayFault.TheVariants.{ReadFault, WriteFault, TooMuchInput, OutOfMemory}
-use Rattle.script_lines.specs.declared.line_reader.piece.Piece.{Piece}
-use Rattle.script_lines.specs.declared.line_reader.piece.Piece.TheVariants.{End, Beyond, Part, WholeLine}
-use Rattle.script_lines.specs.declared.line_reader.LineEnd.{LineEnd}
-use Rattle.script_lines.specs.declared.line_reader.LineEnd.TheVariants.{Feed, Input}
-use Rattle.script_lines.specs.Lines.{Line, HasNoFeed, whole, ended}
+use Rattle.std.{specs.Prelude.{◌≡◌, ℕ, ◌+◌, ◌-◌, ◌<◌, ◌≤◌, List, [], ◌∷◌, ◌++◌, length, take}, specs.declared.result.Result.Result, specs.declared.result.Result.TheVariants.{Ok, Err}}
+use Rattle.script_lines.{specs.declared.fault.ReplayFault.ReplayFault, specs.declared.fault.ReplayFault.TheVariants.{ReadFault, WriteFault, TooMuchInput, OutOfMemory}, specs.declared.line_reader.piece.Piece.Piece, specs.declared.line_reader.piece.Piece.TheVariants.{End, Beyond, Part, WholeLine}, specs.declared.line_reader.LineEnd.LineEnd, specs.declared.line_reader.LineEnd.TheVariants.{Feed, Input}, specs.Lines.{Line, HasNoFeed, whole, ended}}
 
 -- `read_piece` consumed these bytes, and `held` went from old to new
 abbrev pub TakesPiece : ℕ → ℕ → Result Piece ReplayFault → List ℕ → List ℕ → List ℕ → Type 0

@@ -1,8 +1,6 @@
 -- What a line that was read says.
 use Rattle.std.specs.Prelude.{Option}
-use Rattle.script_lines.specs.declared.script_line.ScriptLine.{ScriptLine}
-use Rattle.script_lines.specs.declared.script_line.ScriptLine.TheVariants.{Nothing, Fails, Limits, Declares, SetsPeriod, SetsOrder, SetsSettle, Tells, Sends, Commands, AsksEnergy, AsksExport, AsksTotal, AsksBoard, Lists, Marks}
-use Rattle.script_lines.specs.LineMeaning.{LineMeaning, ◌>>=◌, nothing, fails, sets_limits, declares, sets_period, sets_order, sets_settle, tells, sends, commands, asks_energy, asks_export, asks_total, asks_board, lists, marks}
+use Rattle.script_lines.{specs.declared.script_line.ScriptLine.ScriptLine, specs.declared.script_line.ScriptLine.TheVariants.{Nothing, Fails, Limits, Declares, SetsPeriod, SetsOrder, SetsSettle, Tells, Sends, Commands, AsksEnergy, AsksExport, AsksTotal, AsksBoard, Lists, Marks}, specs.LineMeaning.{LineMeaning, ◌>>=◌, nothing, fails, sets_limits, declares, sets_period, sets_order, sets_settle, tells, sends, commands, asks_energy, asks_export, asks_total, asks_board, lists, marks}}
 
 -- The meaning of a line that was read.
 abbrev pub meaning_of : ScriptLine → LineMeaning

@@ -1,11 +1,7 @@
 -- The lines that answer a script's lines (this product's profile).
-use Rattle.std.specs.Prelude.{ℕ, List, [], ◌∷◌, ◌++◌, codes}
-use Rattle.std.specs.Fmt.{decimal}
-use Rattle.ledger_model.specs.declared.answer.Answer.{Answer}
-use Rattle.ledger_model.specs.declared.answer.Answer.TheVariants.{Accepted, Repeat, Refused}
-use Rattle.ledger_model.specs.Refusal.{refusal_name}
-use Rattle.script_lines.specs.declared.script_line.LineFault.{LineFault}
-use Rattle.script_lines.specs.LineMeaning.{fault_name}
+use Rattle.std.{specs.Prelude.{ℕ, List, [], ◌∷◌, ◌++◌, codes}, specs.Fmt.decimal}
+use Rattle.ledger_model.{specs.declared.answer.Answer.Answer, specs.declared.answer.Answer.TheVariants.{Accepted, Repeat, Refused}, specs.Refusal.refusal_name}
+use Rattle.script_lines.{specs.declared.script_line.LineFault.LineFault, specs.LineMeaning.fault_name}
 
 -- a line with this text
 abbrev pub ended_line : List ℕ → List ℕ

@@ -1,6 +1,4 @@
-use Rattle.std.specs.Prelude.{◌≡◌, List, ℕ, ◌++◌}
-use Rattle.std.specs.declared.result.Result.{Result}
-use Rattle.std.specs.declared.result.Result.TheVariants.{Ok, Err}
+use Rattle.std.{specs.Prelude.{◌≡◌, List, ℕ, ◌++◌}, specs.declared.result.Result.Result, specs.declared.result.Result.TheVariants.{Ok, Err}}
 
 -- All of these bytes were written, or after an error their front, which may be all of them.
 abbrev pub WritesFront : {T E : Type 0} → Result T E → List ℕ → List ℕ → Type 0

@@ -1,8 +1,5 @@
-ghost use Rattle.std.specs.Prelude.{◌≡◌, ℕ, ◌<◌, ◌≤◌, ◌+◌, ◌^◌, List, [], length, OnSome};
-ghost use Rattle.std.specs.Io.KnownBytes.{Keeps, Consumes, IsAtEnd};
-ghost use Rattle.std.specs.Io.BufRead.{strip_last};
-ghost use Rattle.script_lines.specs.Lines.{line_bytes};
-ghost use Rattle.script_lines.specs.Reading.{TakesLine, line_of};
+ghost use Rattle.std.{specs.Prelude.{◌≡◌, ℕ, ◌<◌, ◌≤◌, ◌+◌, ◌^◌, List, [], length, OnSome}, specs.Io.KnownBytes.{Keeps, Consumes, IsAtEnd}, specs.Io.BufRead.strip_last};
+ghost use Rattle.script_lines.{specs.Lines.line_bytes, specs.Reading.{TakesLine, line_of}};
 
 mod piece;
 

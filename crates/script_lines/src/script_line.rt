@@ -1,9 +1,5 @@
-ghost use Rattle.std.specs.Prelude.{◌≡◌, false, option_map, codes};
-ghost use Rattle.std.specs.Char.{is_ascii_digit};
-ghost use Rattle.std.specs.List.{list_all};
-ghost use Rattle.std.specs.Str.{bytes_eq};
-ghost use Rattle.script_lines.specs.Lines.{line_bytes};
-ghost use Rattle.script_lines.specs.ScriptLines.{meaning_of, meaning_of_form};
+ghost use Rattle.std.{specs.Prelude.{◌≡◌, false, option_map, codes}, specs.Char.is_ascii_digit, specs.List.list_all, specs.Str.bytes_eq};
+ghost use Rattle.script_lines.{specs.Lines.line_bytes, specs.ScriptLines.{meaning_of, meaning_of_form}};
 ghost use Rattle.script_lines.specs.LineMeaning as spec;
 
 use ledger_model::{Command, Key, Moment, Name, Order, Settle, TxId};

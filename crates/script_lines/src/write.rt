@@ -1,6 +1,5 @@
 //! Writing bytes to their end.
-ghost use Rattle.std.specs.Prelude.{ℕ, List};
-ghost use Rattle.std.specs.Io.KnownBytes.{Appends};
+ghost use Rattle.std.{specs.Prelude.{ℕ, List}, specs.Io.KnownBytes.Appends};
 ghost use Rattle.script_lines.specs.Writing.{WritesFront};
 
 use std::io::Write;

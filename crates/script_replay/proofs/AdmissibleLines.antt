@@ -1,20 +1,8 @@
 -- The commands that lines ask are admissible.
-use Rattle.std.proofs.Common.{◌≡◌, ℕ, Bool, true, false, cond, List, [], ◌∷◌, Option, None, Some, ltb-true, refl}
-use Rattle.std.specs.Prelude.{◌&&◌, ◌==◌, nat_lt, codes}
-use Rattle.std.specs.Str.{bytes_eq, is_utf8}
-use Rattle.std.proofs.lemmas.Bool.{and_parts}
-use Rattle.ledger_model.specs.Admissible.{IsAdmissible}
-use Rattle.ledger_model.specs.Key.{KeyName, IsKeyName}
-use Rattle.ledger_model.specs.Ranges.{sequence_end}
-use Rattle.ledger_model.specs.TxId.{is_tx_id, folded}
-use Rattle.ledger_model.proofs.Ids.{IsFoldedId-folded}
-use Rattle.script_lines.specs.declared.script_line.LineFault.TheVariants.{BadLine}
-use Rattle.script_lines.specs.declared.script_line.Operation.{Operation}
+use Rattle.std.{proofs.Common.{◌≡◌, ℕ, Bool, true, false, cond, List, [], ◌∷◌, Option, None, Some, ltb-true, refl}, specs.Prelude.{◌&&◌, ◌==◌, nat_lt, codes}, specs.Str.{bytes_eq, is_utf8}, proofs.lemmas.Bool.and_parts}
+use Rattle.ledger_model.{specs.Admissible.IsAdmissible, specs.Key.{KeyName, IsKeyName}, specs.Ranges.sequence_end, specs.TxId.{is_tx_id, folded}, proofs.Ids.IsFoldedId-folded}
+use Rattle.script_lines.{specs.declared.script_line.LineFault.TheVariants.BadLine, specs.declared.script_line.Operation.Operation, specs.declared.script_line.TxList.TxList, specs.declared.script_line.TxList.TheVariants.{Events, Readings}, specs.Lines.Line, specs.LineMeaning.{LineMeaning, ◌>>=◌, nothing, fails, sets_limits, declares, sets_period, sets_order, sets_settle, tells, sends, commands, asks_energy, asks_export, asks_total, asks_board, lists, marks, by_bytes, by_first_word, by_words, command_line, command_of, key, list_line, tx_id, limits_line, line_meaning, moment, msg_line, name, now_line, number, order_line, order_word, settle_line, settle_word, parted, period_line, question_line, station_line, words}}
 use Rattle.script_lines.specs.declared.script_line.Operation.TheVariants as operation
-use Rattle.script_lines.specs.declared.script_line.TxList.{TxList}
-use Rattle.script_lines.specs.declared.script_line.TxList.TheVariants.{Events, Readings}
-use Rattle.script_lines.specs.Lines.{Line}
-use Rattle.script_lines.specs.LineMeaning.{LineMeaning, ◌>>=◌, nothing, fails, sets_limits, declares, sets_period, sets_order, sets_settle, tells, sends, commands, asks_energy, asks_export, asks_total, asks_board, lists, marks, by_bytes, by_first_word, by_words, command_line, command_of, key, list_line, tx_id, limits_line, line_meaning, moment, msg_line, name, now_line, number, order_line, order_word, settle_line, settle_word, parted, period_line, question_line, station_line, words}
 
 -- a command that the line asks is admissible
 abbrev pub IsFine : LineMeaning → Type 0

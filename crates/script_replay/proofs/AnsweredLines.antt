@@ -1,27 +1,8 @@
 -- The loops over lines: what was read and answered so far, and how each end of a loop is reported.
-use Rattle.std.proofs.Common.{◌≡◌, ℕ, ◌+◌, ◌-◌, ◌<◌, ◌≤◌, false, List, [], ◌∷◌, ◌++◌, Result, Option, Ok, Err, Some, None, IsSome, cond, leb, length, take, refl, sym, ap, subst, ◌∙◌, arith, append_assoc, append-nil, length-append, length-take, inl, inr}
-use Rattle.std.proofs.Math.Seq.{take-append-add}
-use Rattle.std.proofs.lemmas.Bool.Decides.{nat_tests}
-use Rattle.std.specs.Result.{IsErrAnd}
-use Rattle.std.specs.Prelude.{OnSome}
-use Rattle.std.specs.Io.KnownBytes.{Keeps, Consumes, Appends, IsAtEnd}
-use Rattle.std.proofs.KnownBytes.{Consumes-kept, Consumes-nil, Consumes-trans, Appends-nil, Appends-trans, Appends-kept}
-use Rattle.script_lines.specs.declared.fault.ReplayFault.{ReplayFault}
-use Rattle.script_lines.specs.declared.fault.ReplayFault.TheVariants.{ReadFault, WriteFault, TooMuchInput, OutOfMemory}
-use Rattle.script_lines.specs.declared.line_reader.LineEnd.{LineEnd}
-use Rattle.script_lines.specs.declared.line_reader.LineEnd.TheVariants.{Feed, Input}
-use Rattle.script_lines.specs.Lines.{Line, HasNoFeed, ended, unended, cut, complete_lines, lines_of, text_by}
-use Rattle.script_ledgers.specs.Ranges.{longest_script}
-use Rattle.script_ledgers.specs.Script.{Script, line_step, script_text, start}
-use Rattle.script_replay.specs.Outcome.{IsReplay, Replays, WritesFrontOf, Began, AnsweredBy}
-use Rattle.script_lines.specs.Ranges.{longest_line}
-use Rattle.script_lines.specs.Reading.{TakesLine, line_of, line_read}
-use Rattle.std.specs.Io.BufRead.{strip_last}
-use Rattle.std.proofs.lemmas.Bool.{cases_lt, false≢true}
-use Rattle.script_replay.specs.Answering.{Replies, StopsAtLine}
-use Rattle.script_lines.proofs.PartOfLine.{passed_on}
-use Rattle.script_lines.proofs.Pieces.{front_has_none, but_last}
-use Rattle.script_lines.proofs.Cuts.{cut-open, cut-ended, cut-unended, complete-unended, kept_line_of, unended_whole, none_kept, all_kept}
+use Rattle.std.{proofs.Common.{◌≡◌, ℕ, ◌+◌, ◌-◌, ◌<◌, ◌≤◌, false, List, [], ◌∷◌, ◌++◌, Result, Option, Ok, Err, Some, None, IsSome, cond, leb, length, take, refl, sym, ap, subst, ◌∙◌, arith, append_assoc, append-nil, length-append, length-take, inl, inr}, proofs.Math.Seq.take-append-add, proofs.lemmas.Bool.Decides.nat_tests, specs.Result.IsErrAnd, specs.Prelude.OnSome, specs.Io.KnownBytes.{Keeps, Consumes, Appends, IsAtEnd}, proofs.KnownBytes.{Consumes-kept, Consumes-nil, Consumes-trans, Appends-nil, Appends-trans, Appends-kept}, specs.Io.BufRead.strip_last, proofs.lemmas.Bool.{cases_lt, false≢true}}
+use Rattle.script_lines.{specs.declared.fault.ReplayFault.ReplayFault, specs.declared.fault.ReplayFault.TheVariants.{ReadFault, WriteFault, TooMuchInput, OutOfMemory}, specs.declared.line_reader.LineEnd.LineEnd, specs.declared.line_reader.LineEnd.TheVariants.{Feed, Input}, specs.Lines.{Line, HasNoFeed, ended, unended, cut, complete_lines, lines_of, text_by}, specs.Ranges.longest_line, specs.Reading.{TakesLine, line_of, line_read}, proofs.PartOfLine.passed_on, proofs.Pieces.{front_has_none, but_last}, proofs.Cuts.{cut-open, cut-ended, cut-unended, complete-unended, kept_line_of, unended_whole, none_kept, all_kept}}
+use Rattle.script_ledgers.{specs.Ranges.longest_script, specs.Script.{Script, line_step, script_text, start}}
+use Rattle.script_replay.{specs.Outcome.{IsReplay, Replays, WritesFrontOf, Began, AnsweredBy}, specs.Answering.{Replies, StopsAtLine}}
 
 -- what follows lines that were answered
 module _ (T all_read : Type 0) (old now : List Line → List ℕ) (max_line_bytes room left : ℕ) (done front : List ℕ)

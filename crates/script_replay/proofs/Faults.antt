@@ -1,19 +1,10 @@
 -- A line with a fault changes no plan, content or moment.
 use Rattle.std.proofs.Common.{◌≡◌, ℕ, Bool, true, false, cond, List, [], ◌∷◌, Option, None, Some, refl, ap, arith}
-use Rattle.ledger_model.specs.declared.answer.Answer.{Answer}
-use Rattle.ledger_model.specs.declared.answer.Answer.TheVariants.{Accepted, Repeat, Refused}
-use Rattle.ledger_model.specs.declared.command.Command.{Command}
-use Rattle.ledger_model.specs.declared.order.Order.{Order}
-use Rattle.ledger_model.specs.World.{Station}
-use Rattle.transaction_event.specs.Message.{Meaning, Event, Ready, Silence, message}
-use Rattle.transaction_event.specs.Reply.{event_reply_bytes}
-use Rattle.script_lines.specs.declared.script_line.LineFault.{LineFault}
-use Rattle.script_lines.specs.declared.script_line.LineFault.TheVariants.{DeclaredLate, PlanLimit}
+use Rattle.ledger_model.{specs.declared.answer.Answer.Answer, specs.declared.answer.Answer.TheVariants.{Accepted, Repeat, Refused}, specs.declared.command.Command.Command, specs.declared.order.Order.Order, specs.World.Station, specs.Periods.Periods}
+use Rattle.transaction_event.{specs.Message.{Meaning, Event, Ready, Silence, message}, specs.Reply.event_reply_bytes}
+use Rattle.script_lines.{specs.declared.script_line.LineFault.LineFault, specs.declared.script_line.LineFault.TheVariants.{DeclaredLate, PlanLimit}, specs.Texts.{answer_text, ended_line, fault_line}, specs.LineMeaning.{LineMeaning, nothing, fails, sets_limits, declares, sets_period, sets_order, sets_settle, tells, sends, commands, asks_energy, asks_export, asks_total, asks_board, lists, marks, line_meaning}}
 use Rattle.script_replay.specs.Laws.{FaultsChangeNothing}
-use Rattle.script_lines.specs.Texts.{answer_text, ended_line, fault_line}
-use Rattle.ledger_model.specs.Periods.{Periods}
 use Rattle.script_ledgers.specs.Script.{Script, are_limits, by_meaning, commanded_to, declared_to, is_past_plan, is_period, joined_by, lasting, limited_to, order_to, ordered_by, period_to, sent_to, settle_to, settled_by, settling, site_number, station_named, step_by}
-use Rattle.script_lines.specs.LineMeaning.{LineMeaning, nothing, fails, sets_limits, declares, sets_period, sets_order, sets_settle, tells, sends, commands, asks_energy, asks_export, asks_total, asks_board, lists, marks, line_meaning}
 
 -- nothing has changed but whether the ledgers are opened
 abbrev Same : Script → Script × List ℕ → Type 0

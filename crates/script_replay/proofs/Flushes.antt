@@ -1,9 +1,6 @@
 -- A replay whose last flush failed.
-use Rattle.std.proofs.Common.{◌≡◌, ℕ, List, [], Result, Ok, Err, OnOk, sym, subst, ◌∙◌, inr, append-nil}
-use Rattle.std.specs.Result.{result_and}
-use Rattle.script_lines.specs.declared.fault.ReplayFault.{ReplayFault}
-use Rattle.script_lines.specs.declared.fault.ReplayFault.TheVariants.{WriteFault}
-use Rattle.script_lines.specs.Lines.{Line}
+use Rattle.std.{proofs.Common.{◌≡◌, ℕ, List, [], Result, Ok, Err, OnOk, sym, subst, ◌∙◌, inr, append-nil}, specs.Result.result_and}
+use Rattle.script_lines.{specs.declared.fault.ReplayFault.ReplayFault, specs.declared.fault.ReplayFault.TheVariants.WriteFault, specs.Lines.Line}
 use Rattle.script_replay.specs.Outcome.{Replays}
 
 module _ (all_read : Type 0) (text : List Line → List ℕ) (max_line_bytes limit : ℕ) (read written : List ℕ) where

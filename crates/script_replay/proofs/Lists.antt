@@ -1,17 +1,8 @@
 -- What lists of transactions show of a station's energies.
-use Rattle.std.proofs.Common.{◌≡◌, ℕ, ◌==◌, List, [], ◌∷◌, ◌++◌, refl, sym, ap, ◌∙◌}
-use Rattle.std.specs.List.{filter, flat_map}
-use Rattle.std.proofs.lemmas.Grind.{flat_map-append}
+use Rattle.std.{proofs.Common.{◌≡◌, ℕ, ◌==◌, List, [], ◌∷◌, ◌++◌, refl, sym, ap, ◌∙◌}, specs.List.{filter, flat_map}, proofs.lemmas.Grind.flat_map-append}
 use Rattle.energy_flow.specs.Flow.{Energy}
-use Rattle.ledger_model.specs.Content.{Entry, live, transactions_of}
-use Rattle.ledger_model.specs.Energy.{Pair, energy_over, followed, pairs_by, parts_of, parts_over}
-use Rattle.ledger_model.specs.Parts.{Part, energy_of_parts}
-use Rattle.ledger_model.specs.Periods.{Periods}
-use Rattle.ledger_model.specs.declared.order.Order.{Order}
-use Rattle.ledger_model.specs.declared.reading.Direction.{Direction}
-use Rattle.ledger_model.specs.declared.reading.Direction.TheVariants.{Import, Export}
-use Rattle.station_ledger.specs.Listing.{placed_by}
-use Rattle.station_ledger.proofs.Sharing.{placed_readings}
+use Rattle.ledger_model.{specs.Content.{Entry, live, transactions_of}, specs.Energy.{Pair, energy_over, followed, pairs_by, parts_of, parts_over}, specs.Parts.{Part, energy_of_parts}, specs.Periods.Periods, specs.declared.order.Order.Order, specs.declared.reading.Direction.Direction, specs.declared.reading.Direction.TheVariants.{Import, Export}}
+use Rattle.station_ledger.{specs.Listing.placed_by, proofs.Sharing.placed_readings}
 use Rattle.script_replay.specs.Laws.{ListedPairsMakeEnergies, ListedPartsMakePeriods, listed_pairs}
 
 -- the pairs of a list are those of the definition

@@ -1,25 +1,10 @@
 -- Scripts that leave the stations of a site the same live events.
-use Rattle.std.proofs.Common.{◌≡◌, ℕ, true, false, cond, List, [], ◌∷◌, ◌++◌, None, Some, map, refl, sym, ap, ◌∙◌, ⊎_elim, bytes_eq}
-use Rattle.std.specs.List.{flat_map}
-use Rattle.std.proofs.lemmas.Bool.{cases_Bool}
-use Rattle.std.proofs.lemmas.Slice.Eq.{bytes_eq-Decides}
+use Rattle.std.{proofs.Common.{◌≡◌, ℕ, true, false, cond, List, [], ◌∷◌, ◌++◌, None, Some, map, refl, sym, ap, ◌∙◌, ⊎_elim, bytes_eq}, specs.List.flat_map, proofs.lemmas.Bool.cases_Bool, proofs.lemmas.Slice.Eq.bytes_eq-Decides}
 use Rattle.board_report.specs.Named.{NamedBoard}
-use Rattle.ledger_model.specs.Periods.{Periods}
-use Rattle.ledger_model.specs.Settling.{default_periods}
-use Rattle.ledger_model.specs.declared.order.Order.{Order}
-use Rattle.ledger_model.specs.declared.reading.Direction.{Direction}
-use Rattle.ledger_model.specs.declared.reading.Direction.TheVariants.{Import, Export}
-use Rattle.ledger_model.specs.Board.{Board, board_by, figures_by, flows_under, plus_figures, site_board, sum_of_figures}
-use Rattle.ledger_model.specs.BoardLaws.{with_voided}
-use Rattle.ledger_model.specs.Content.{entries, live}
-use Rattle.ledger_model.specs.Energy.{energy_by, rising}
-use Rattle.ledger_model.specs.World.{Station, World}
-use Rattle.ledger_model.proofs.LiveEvents.{live_alone}
-use Rattle.script_lines.specs.LineMeaning.{asks_energy, asks_export, line_meaning}
-use Rattle.script_lines.specs.Lines.{Line}
+use Rattle.ledger_model.{specs.Periods.Periods, specs.Settling.default_periods, specs.declared.order.Order.Order, specs.declared.reading.Direction.Direction, specs.declared.reading.Direction.TheVariants.{Import, Export}, specs.Board.{Board, board_by, figures_by, flows_under, plus_figures, site_board, sum_of_figures}, specs.BoardLaws.with_voided, specs.Content.{entries, live}, specs.Energy.{energy_by, rising}, specs.World.{Station, World}, proofs.LiveEvents.live_alone}
+use Rattle.script_lines.{specs.LineMeaning.{asks_energy, asks_export, line_meaning}, specs.Lines.Line}
 use Rattle.script_ledgers.specs.Script.{board_of_site, energy_line, export_line, order_named, period_named, shown_site, shown_station, station_named, stations_of}
-use Rattle.script_replay.specs.LiveLaws.{after, AgreeAt, IsAtAgreed, LiveEventsMakeBoards, LiveEventsMakeEnergies, LiveEventsMakeTotals, board_but_voided, figures_but_voided}
-use Rattle.script_replay.proofs.ReachedStations.{Kept, boards_are_from_scratch, energy_is_from_scratch, export_is_from_scratch, kept_from_start, totals_are_from_scratch}
+use Rattle.script_replay.{specs.LiveLaws.{after, AgreeAt, IsAtAgreed, LiveEventsMakeBoards, LiveEventsMakeEnergies, LiveEventsMakeTotals, board_but_voided, figures_but_voided}, proofs.ReachedStations.{Kept, boards_are_from_scratch, energy_is_from_scratch, export_is_from_scratch, kept_from_start, totals_are_from_scratch}}
 
 -- ---- boards
 

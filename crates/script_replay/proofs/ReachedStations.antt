@@ -1,31 +1,11 @@
 -- What any lines keep of a script's stations.
-use Rattle.std.proofs.Common.{◌≡◌, ℕ, suc, ◌+◌, Bool, true, false, cond, List, [], ◌∷◌, ◌++◌, Option, None, Some, refl, sym, ap, subst, ◌∙◌, arith}
-use Rattle.std.specs.Str.{bytes_eq}
-use Rattle.std.proofs.lemmas.Slice.Eq.{bytes_eq-Decides}
-use Rattle.ledger_model.specs.declared.answer.Answer.{Answer}
-use Rattle.ledger_model.specs.declared.answer.Answer.TheVariants.{Accepted, Repeat, Refused}
-use Rattle.ledger_model.specs.declared.command.Command.{Command}
-use Rattle.ledger_model.specs.declared.command.Command.TheVariants.{Deliver}
-use Rattle.ledger_model.specs.declared.order.Order.{Order}
-use Rattle.ledger_model.specs.Admissible.{IsAdmissible}
-use Rattle.ledger_model.specs.Content.{Content}
-use Rattle.ledger_model.specs.Laws.{IsAccepted}
-use Rattle.ledger_model.specs.Limits.{Bounds}
-use Rattle.ledger_model.specs.Step.{Reached, answer, content_after, step}
-use Rattle.ledger_model.specs.World.{Station, World, station_after, world_after}
-use Rattle.ledger_model.proofs.ReachedContents.{is_counted}
-use Rattle.transaction_event.specs.Message.{Meaning, Event, Ready, Silence, message}
-use Rattle.transaction_event.specs.Request.{Request}
-use Rattle.transaction_event.proofs.AdmissibleRequests.{each_delivery_is_admissible}
-use Rattle.script_replay.specs.Laws.{StationsAreReached, EnergyIsFromScratch, ExportIsFromScratch, ListsAreFromScratch, TotalsAreFromScratch, BoardsAreFromScratch}
-use Rattle.script_lines.specs.Lines.{Line}
-use Rattle.script_lines.specs.Texts.{fault_line}
-use Rattle.ledger_model.specs.Periods.{Periods}
+use Rattle.std.{proofs.Common.{◌≡◌, ℕ, suc, ◌+◌, Bool, true, false, cond, List, [], ◌∷◌, ◌++◌, Option, None, Some, refl, sym, ap, subst, ◌∙◌, arith}, specs.Str.bytes_eq, proofs.lemmas.Slice.Eq.bytes_eq-Decides}
+use Rattle.ledger_model.{specs.declared.answer.Answer.Answer, specs.declared.answer.Answer.TheVariants.{Accepted, Repeat, Refused}, specs.declared.command.Command.Command, specs.declared.command.Command.TheVariants.Deliver, specs.declared.order.Order.Order, specs.Admissible.IsAdmissible, specs.Content.Content, specs.Laws.IsAccepted, specs.Limits.Bounds, specs.Step.{Reached, answer, content_after, step}, specs.World.{Station, World, station_after, world_after}, proofs.ReachedContents.is_counted, specs.Periods.Periods}
+use Rattle.transaction_event.{specs.Message.{Meaning, Event, Ready, Silence, message}, specs.Request.Request, proofs.AdmissibleRequests.each_delivery_is_admissible}
+use Rattle.script_replay.{specs.Laws.{StationsAreReached, EnergyIsFromScratch, ExportIsFromScratch, ListsAreFromScratch, TotalsAreFromScratch, BoardsAreFromScratch}, proofs.AdmissibleLines.{IsFine, fine_line}}
+use Rattle.script_lines.{specs.Lines.Line, specs.Texts.fault_line, specs.LineMeaning.{LineMeaning, nothing, fails, sets_limits, declares, sets_period, sets_order, sets_settle, tells, sends, commands, asks_energy, asks_export, asks_total, asks_board, lists, marks, line_meaning}, specs.declared.script_line.LineFault.TheVariants.{DeclaredLate, PlanLimit, UnknownSite}}
 use Rattle.script_ledgers.specs.Script.{Script, are_limits, by_meaning, commanded_to, declared_to, energy_answer, export_answer, is_among, is_past_plan, is_period, joined_by, lasting, limited_to, line_step, new_station, order_named, order_to, ordered_by, period_named, period_to, sent_to, settle_to, settled_by, settling, shown_site, site_number, start, station_named, stations_of, step_by, total_answer, script_after, list_answer}
 use Rattle.board_report.specs.Texts.{board_text}
-use Rattle.script_lines.specs.LineMeaning.{LineMeaning, nothing, fails, sets_limits, declares, sets_period, sets_order, sets_settle, tells, sends, commands, asks_energy, asks_export, asks_total, asks_board, lists, marks, line_meaning}
-use Rattle.script_lines.specs.declared.script_line.LineFault.TheVariants.{DeclaredLate, PlanLimit, UnknownSite}
-use Rattle.script_replay.proofs.AdmissibleLines.{IsFine, fine_line}
 
 -- ---- one ledger
 

@@ -1,24 +1,10 @@
 -- The world after lines is the run of the commands that they ask.
-use Rattle.std.proofs.Common.{◌≡◌, ℕ, Bool, true, false, cond, List, [], ◌∷◌, ◌++◌, Option, None, Some, All, bytes_eq, refl, sym, ap, subst, ◌∙◌, append-nil, append_assoc, suc, arith}
-use Rattle.std.proofs.lemmas.Bool.{false≢true}
-use Rattle.std.proofs.lemmas.List.{map-append}
-use Rattle.std.proofs.lemmas.List.Elements.{All-append, All-cons, All-nil}
-use Rattle.ledger_model.specs.declared.command.Command.{Command}
-use Rattle.ledger_model.specs.declared.command.Command.TheVariants.{Deliver}
-use Rattle.ledger_model.specs.declared.order.Order.{Order}
-use Rattle.ledger_model.specs.Content.{empty_content}
-use Rattle.ledger_model.specs.World.{Station, World, Happens, run, station_after, world_after}
-use Rattle.ledger_model.specs.WorldLaws.{AreReordered, IsDelivery}
-use Rattle.ledger_model.proofs.Runs.{reordered_runs, run_append}
+use Rattle.std.{proofs.Common.{◌≡◌, ℕ, Bool, true, false, cond, List, [], ◌∷◌, ◌++◌, Option, None, Some, All, bytes_eq, refl, sym, ap, subst, ◌∙◌, append-nil, append_assoc, suc, arith}, proofs.lemmas.Bool.false≢true, proofs.lemmas.List.map-append, proofs.lemmas.List.Elements.{All-append, All-cons, All-nil}}
+use Rattle.ledger_model.{specs.declared.command.Command.Command, specs.declared.command.Command.TheVariants.Deliver, specs.declared.order.Order.Order, specs.Content.empty_content, specs.World.{Station, World, Happens, run, station_after, world_after}, specs.WorldLaws.{AreReordered, IsDelivery}, proofs.Runs.{reordered_runs, run_append}, specs.Periods.Periods}
 use Rattle.transaction_event.specs.Message.{Meaning, Event, Ready, Silence, message}
-use Rattle.script_lines.specs.declared.script_line.LineFault.TheVariants.{DeclaredLate, PlanLimit}
-use Rattle.script_replay.specs.Laws.{asked_by, asked_of, commanded_by, emptied, happened, sent_by, IsNoOperation, OrderChangesNoBoard, UnacceptedChangesNothing, WorldsAreRuns}
-use Rattle.script_lines.specs.Lines.{Line}
-use Rattle.script_lines.specs.LineMeaning.{LineMeaning, nothing, fails, sets_limits, declares, sets_period, sets_order, sets_settle, tells, sends, commands, asks_energy, asks_export, asks_total, asks_board, lists, marks, line_meaning}
-use Rattle.script_lines.specs.Texts.{fault_line}
-use Rattle.ledger_model.specs.Periods.{Periods}
+use Rattle.script_lines.{specs.declared.script_line.LineFault.TheVariants.{DeclaredLate, PlanLimit}, specs.Lines.Line, specs.LineMeaning.{LineMeaning, nothing, fails, sets_limits, declares, sets_period, sets_order, sets_settle, tells, sends, commands, asks_energy, asks_export, asks_total, asks_board, lists, marks, line_meaning}, specs.Texts.fault_line}
+use Rattle.script_replay.{specs.Laws.{asked_by, asked_of, commanded_by, emptied, happened, sent_by, IsNoOperation, OrderChangesNoBoard, UnacceptedChangesNothing, WorldsAreRuns}, proofs.ReachedStations.{kept_from_start, same_world}}
 use Rattle.script_ledgers.specs.Script.{KeepsSites, Script, start, are_limits, board_answer, by_meaning, commanded_to, declared_to, is_past_plan, is_period, joined_by, lasting, limited_to, line_step, order_to, ordered_by, period_to, sent_to, settle_to, settled_by, settling, site_number, station_named, step_by, script_after}
-use Rattle.script_replay.proofs.ReachedStations.{kept_from_start, same_world}
 
 -- ---- stations without events
 

@@ -1,18 +1,6 @@
 -- The board of a site shows the sums over its stations.
-use Rattle.std.proofs.Common.{◌≡◌, ℕ, List, [], ◌∷◌, ◌++◌, All, map, refl, ap, subst, ◌∙◌}
-use Rattle.std.specs.List.{flat_map}
-use Rattle.std.proofs.lemmas.List.Elements.{All-cons, All-nil}
-use Rattle.ledger_model.specs.Periods.{Periods}
-use Rattle.ledger_model.specs.Board.{Board, Flowed, board_by, flows_under, figures_by, site_board}
-use Rattle.ledger_model.specs.BoardLaws.{AreSums, sum_of_energies}
-use Rattle.ledger_model.specs.declared.reading.Direction.{Direction}
-use Rattle.ledger_model.specs.declared.reading.Direction.TheVariants.{Import, Export}
-use Rattle.ledger_model.specs.Content.{entries}
-use Rattle.ledger_model.specs.Energy.{energy_in_by, rising}
-use Rattle.ledger_model.specs.World.{Station, World}
-use Rattle.ledger_model.specs.declared.order.Order.{Order}
-use Rattle.ledger_model.proofs.EnergyLemmas.{site_quarter}
-use Rattle.ledger_model.proofs.FigureLemmas.{site-AreSums}
+use Rattle.std.{proofs.Common.{◌≡◌, ℕ, List, [], ◌∷◌, ◌++◌, All, map, refl, ap, subst, ◌∙◌}, specs.List.flat_map, proofs.lemmas.List.Elements.{All-cons, All-nil}}
+use Rattle.ledger_model.{specs.Periods.Periods, specs.Board.{Board, Flowed, board_by, flows_under, figures_by, site_board}, specs.BoardLaws.{AreSums, sum_of_energies}, specs.declared.reading.Direction.Direction, specs.declared.reading.Direction.TheVariants.{Import, Export}, specs.Content.entries, specs.Energy.{energy_in_by, rising}, specs.World.{Station, World}, specs.declared.order.Order.Order, proofs.EnergyLemmas.site_quarter, proofs.FigureLemmas.site-AreSums}
 use Rattle.script_replay.specs.Laws.{SitesAreSums, sums_in}
 use Rattle.script_ledgers.specs.Script.{shown_station}
 

@@ -1,10 +1,6 @@
 -- How much of a line's answer is written.
-use Rattle.std.specs.Prelude.{◌≡◌, ℕ, List, [], ◌∷◌, ◌++◌}
-use Rattle.std.specs.declared.result.Result.{Result}
-use Rattle.std.specs.declared.result.Result.TheVariants.{Ok, Err}
-use Rattle.script_lines.specs.declared.fault.ReplayFault.{ReplayFault}
-use Rattle.script_lines.specs.declared.fault.ReplayFault.TheVariants.{ReadFault, WriteFault, TooMuchInput, OutOfMemory}
-use Rattle.script_lines.specs.Lines.{Line}
+use Rattle.std.{specs.Prelude.{◌≡◌, ℕ, List, [], ◌∷◌, ◌++◌}, specs.declared.result.Result.Result, specs.declared.result.Result.TheVariants.{Ok, Err}}
+use Rattle.script_lines.{specs.declared.fault.ReplayFault.ReplayFault, specs.declared.fault.ReplayFault.TheVariants.{ReadFault, WriteFault, TooMuchInput, OutOfMemory}, specs.Lines.Line}
 
 -- `reply` is the text of `line`, and `new` that of the lines after it
 abbrev pub Replies : (List Line → List ℕ) → (List Line → List ℕ) → Line → List ℕ → Type 0

@@ -1,34 +1,13 @@
 -- What the text of a script means, in the subject's own words.
-use Rattle.std.specs.Prelude.{◌≡◌, ℕ, ◌==◌, true, List, [], ◌∷◌, ◌++◌, ⊤, All, filter, map, Option, None, Some, IsPermutation}
-use Rattle.std.specs.List.{flat_map}
-use Rattle.ledger_model.specs.Periods.{Periods}
-use Rattle.ledger_model.specs.declared.command.Command.{Command}
-use Rattle.ledger_model.specs.declared.command.Command.TheVariants.{Deliver}
-use Rattle.ledger_model.specs.declared.order.Order.{Order}
-use Rattle.ledger_model.specs.Board.{figures_by}
-use Rattle.ledger_model.specs.BoardLaws.{AreSums, sum_of_energies}
-use Rattle.ledger_model.specs.Content.{Entry, empty_content, entries, live, transactions_of}
-use Rattle.ledger_model.specs.Parts.{energy_of_parts}
-use Rattle.ledger_model.specs.declared.reading.Direction.{Direction}
-use Rattle.ledger_model.specs.declared.reading.Direction.TheVariants.{Import, Export}
+use Rattle.std.{specs.Prelude.{◌≡◌, ℕ, ◌==◌, true, List, [], ◌∷◌, ◌++◌, ⊤, All, filter, map, Option, None, Some, IsPermutation}, specs.List.flat_map}
+use Rattle.ledger_model.{specs.Periods.Periods, specs.declared.command.Command.Command, specs.declared.command.Command.TheVariants.Deliver, specs.declared.order.Order.Order, specs.Board.figures_by, specs.BoardLaws.{AreSums, sum_of_energies}, specs.Content.{Entry, empty_content, entries, live, transactions_of}, specs.Parts.energy_of_parts, specs.declared.reading.Direction.Direction, specs.declared.reading.Direction.TheVariants.{Import, Export}, specs.ByDirection.in_each, specs.declared.by_direction.ByDirection.ByDirection, specs.Energy.{Pair, energy_by, energy_in_by, energy_over, followed, parts_over}, specs.Laws.IsAccepted, specs.Step.{Reached, answer}, specs.World.{Station, World, Happens, run}, specs.WorldLaws.{accepted_deliveries, commands_on}}
 use Rattle.energy_flow.specs.Flow.{Energy}
-use Rattle.ledger_model.specs.ByDirection.{in_each}
-use Rattle.ledger_model.specs.declared.by_direction.ByDirection.{ByDirection}
-use Rattle.ledger_model.specs.Energy.{Pair, energy_by, energy_in_by, energy_over, followed, parts_over}
-use Rattle.ledger_model.specs.Laws.{IsAccepted}
-use Rattle.ledger_model.specs.Step.{Reached, answer}
-use Rattle.ledger_model.specs.World.{Station, World, Happens, run}
-use Rattle.ledger_model.specs.WorldLaws.{accepted_deliveries, commands_on}
 use Rattle.board_report.specs.Texts.{board_text, total_text}
 use Rattle.transaction_event.specs.Message.{Meaning, Event, Ready, Silence, message}
-use Rattle.script_lines.specs.declared.script_line.LineFault.{LineFault}
-use Rattle.script_lines.specs.declared.script_line.TxList.{TxList}
-use Rattle.script_lines.specs.Lines.{Line, lines_of}
-use Rattle.script_lines.specs.Texts.{ended_line, fault_line}
+use Rattle.script_lines.{specs.declared.script_line.LineFault.LineFault, specs.declared.script_line.TxList.TxList, specs.Lines.{Line, lines_of}, specs.Texts.{ended_line, fault_line}, specs.LineMeaning.{LineMeaning, nothing, fails, sets_limits, declares, sets_period, sets_order, sets_settle, tells, sends, commands, asks_energy, asks_export, asks_total, asks_board, lists, marks, line_meaning}}
 use Rattle.reading_index.specs.declared.placed.PlacedReading.{PlacedReading}
 use Rattle.station_ledger.specs.Listing.{listing_by, placed_by}
 use Rattle.script_ledgers.specs.Script.{KeepsSites, Script, start, line_step, script_text, script_after, station_named, stations_of, is_among, energy_line, export_line, listed, order_named, period_named, shown_site}
-use Rattle.script_lines.specs.LineMeaning.{LineMeaning, nothing, fails, sets_limits, declares, sets_period, sets_order, sets_settle, tells, sends, commands, asks_energy, asks_export, asks_total, asks_board, lists, marks, line_meaning}
 
 -- the text of no bytes is empty
 abbrev pub AnEmptyScriptWritesNothing : Type 0

@@ -1,14 +1,8 @@
 -- The answers of two scripts after which the stations of a site have the same live events.
 use Rattle.std.specs.Prelude.{◌≡◌, ℕ, true, List, ◌⊎◌, map, Some}
-use Rattle.board_report.specs.Named.{NamedBoard}
-use Rattle.board_report.specs.Texts.{board_text, total_text}
-use Rattle.ledger_model.specs.declared.figures.Figures.{Figures}
-use Rattle.ledger_model.specs.BoardLaws.{with_voided}
-use Rattle.ledger_model.specs.Content.{entries, live}
-use Rattle.ledger_model.specs.World.{Station}
-use Rattle.script_lines.specs.LineMeaning.{asks_board, asks_energy, asks_export, asks_total, line_meaning}
-use Rattle.script_lines.specs.Lines.{Line}
-use Rattle.script_lines.specs.Texts.{ended_line}
+use Rattle.board_report.{specs.Named.NamedBoard, specs.Texts.{board_text, total_text}}
+use Rattle.ledger_model.{specs.declared.figures.Figures.Figures, specs.BoardLaws.with_voided, specs.Content.{entries, live}, specs.World.Station}
+use Rattle.script_lines.{specs.LineMeaning.{asks_board, asks_energy, asks_export, asks_total, line_meaning}, specs.Lines.Line, specs.Texts.ended_line}
 use Rattle.script_ledgers.specs.Script.{Script, board_of_site, is_among, line_step, order_named, period_named, script_after, start, station_named, stations_of}
 
 -- the state at a script's end

@@ -1,14 +1,7 @@
 -- The bytes that a replay has read and written when it ends.
-use Rattle.std.specs.Prelude.{◌≡◌, ℕ, ◌+◌, ◌-◌, ◌<◌, ◌≤◌, ◌⊎◌, List, [], ◌++◌, length, take, OnSome, Option}
-use Rattle.std.specs.Io.KnownBytes.{Appends, Consumes, IsAtEnd}
-use Rattle.std.specs.declared.result.Result.{Result}
-use Rattle.std.specs.declared.result.Result.TheVariants.{Ok, Err}
-use Rattle.script_lines.specs.declared.fault.ReplayFault.{ReplayFault}
-use Rattle.script_lines.specs.declared.fault.ReplayFault.TheVariants.{ReadFault, WriteFault, TooMuchInput, OutOfMemory}
-use Rattle.script_lines.specs.Lines.{Line, cut, complete_lines, lines_of}
-use Rattle.script_lines.specs.Ranges.{longest_line}
-use Rattle.script_ledgers.specs.Ranges.{longest_script}
-use Rattle.script_ledgers.specs.Script.{start, script_text}
+use Rattle.std.{specs.Prelude.{◌≡◌, ℕ, ◌+◌, ◌-◌, ◌<◌, ◌≤◌, ◌⊎◌, List, [], ◌++◌, length, take, OnSome, Option}, specs.Io.KnownBytes.{Appends, Consumes, IsAtEnd}, specs.declared.result.Result.Result, specs.declared.result.Result.TheVariants.{Ok, Err}}
+use Rattle.script_lines.{specs.declared.fault.ReplayFault.ReplayFault, specs.declared.fault.ReplayFault.TheVariants.{ReadFault, WriteFault, TooMuchInput, OutOfMemory}, specs.Lines.{Line, cut, complete_lines, lines_of}, specs.Ranges.longest_line}
+use Rattle.script_ledgers.{specs.Ranges.longest_script, specs.Script.{start, script_text}}
 
 -- `written` is a front of the text of the complete lines or, if all of the input was read, of the text of all lines
 abbrev pub WritesFrontOf : Type 0 → (List Line → List ℕ) → ℕ → List ℕ → List ℕ → Type 0

@@ -1,15 +1,8 @@
 -- The result of a replay of a whole input: its output, its exit status, and its report on standard
 -- error.
-use Rattle.std.specs.Prelude.{◌≡◌, ℕ, List, [], ◌++◌, Option, None, Some, OnOk, OnSome, codes}
-use Rattle.std.specs.Io.KnownBytes.{Appends, IsAtEnd, append_known}
-use Rattle.std.specs.declared.result.Result.{Result}
-use Rattle.std.specs.declared.result.Result.TheVariants.{Ok, Err}
-use Rattle.script_lines.specs.declared.fault.ReplayFault.{ReplayFault}
-use Rattle.script_lines.specs.declared.fault.ReplayFault.TheVariants.{ReadFault, WriteFault, TooMuchInput, OutOfMemory}
-use Rattle.script_lines.specs.Texts.{ended_line}
-use Rattle.script_lines.specs.Writing.{WritesFront}
-use Rattle.script_replay.specs.Outcome.{IsReplay}
-use Rattle.script_replay.specs.declared.whole.Ended.{Ended}
+use Rattle.std.{specs.Prelude.{◌≡◌, ℕ, List, [], ◌++◌, Option, None, Some, OnOk, OnSome, codes}, specs.Io.KnownBytes.{Appends, IsAtEnd, append_known}, specs.declared.result.Result.Result, specs.declared.result.Result.TheVariants.{Ok, Err}}
+use Rattle.script_lines.{specs.declared.fault.ReplayFault.ReplayFault, specs.declared.fault.ReplayFault.TheVariants.{ReadFault, WriteFault, TooMuchInput, OutOfMemory}, specs.Texts.ended_line, specs.Writing.WritesFront}
+use Rattle.script_replay.{specs.Outcome.IsReplay, specs.declared.whole.Ended.Ended}
 
 -- The output took the text of a replay of this input, except for bytes that a buffer kept. After Ok the input is at its
 -- end and the buffer kept nothing.

@@ -1,6 +1,5 @@
 //! The buffers of a program's input and output.
-ghost use Rattle.std.specs.Prelude.{◌≡◌, ◌⊎◌, [], IfOk};
-ghost use Rattle.std.specs.Io.Buffered.{reader_buffer, reader_inner, reader_remaining, writer_buffer, writer_contents, writer_inner};
+ghost use Rattle.std.{specs.Prelude.{◌≡◌, ◌⊎◌, [], IfOk}, specs.Io.Buffered.{reader_buffer, reader_inner, reader_remaining, writer_buffer, writer_contents, writer_inner}};
 
 use std::io::{BufReader, BufWriter, Read, Result, Write};
 use std::thread;

@@ -1,6 +1,5 @@
 //! Laws of a script's text. Each function's contract is the law; the functions do nothing.
-ghost use Rattle.script_replay.specs.LiveLaws.{LiveEventsMakeBoards, LiveEventsMakeEnergies, LiveEventsMakeTotals};
-ghost use Rattle.script_replay.specs.Laws.{AnEmptyScriptWritesNothing, FaultsChangeNothing, StationsAreReached, EnergyIsFromScratch, ExportIsFromScratch, ListedPairsMakeEnergies, ListedPartsMakePeriods, ListsAreFromScratch, TotalsAreFromScratch, BoardsAreFromScratch, SitesAreSums, WorldsAreRuns, UnacceptedChangesNothing, OrderChangesNoBoard};
+ghost use Rattle.script_replay.{specs.LiveLaws.{LiveEventsMakeBoards, LiveEventsMakeEnergies, LiveEventsMakeTotals}, specs.Laws.{AnEmptyScriptWritesNothing, FaultsChangeNothing, StationsAreReached, EnergyIsFromScratch, ExportIsFromScratch, ListedPairsMakeEnergies, ListedPartsMakePeriods, ListsAreFromScratch, TotalsAreFromScratch, BoardsAreFromScratch, SitesAreSums, WorldsAreRuns, UnacceptedChangesNothing, OrderChangesNoBoard}};
 
 /// The text of an empty script is empty.
 pub fn empty_script()

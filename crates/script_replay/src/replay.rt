@@ -1,8 +1,6 @@
-ghost use Rattle.std.specs.Prelude.{◌≡◌, ℕ, ◌+◌, ◌<◌, ◌≤◌, ◌^◌, List, OnOk, OnSome};
-ghost use Rattle.std.specs.Io.KnownBytes.{Appends, IsAtEnd};
+ghost use Rattle.std.{specs.Prelude.{◌≡◌, ℕ, ◌+◌, ◌<◌, ◌≤◌, ◌^◌, List, OnOk, OnSome}, specs.Io.KnownBytes.{Appends, IsAtEnd}};
 ghost use Rattle.script_lines.specs.Lines.{line_bytes};
-ghost use Rattle.script_replay.specs.Answering.{WritesLine};
-ghost use Rattle.script_replay.specs.Outcome.{IsReplay};
+ghost use Rattle.script_replay.{specs.Answering.WritesLine, specs.Outcome.IsReplay};
 ghost use Rattle.site_book.specs.Tables.{HasTable, NamedBy};
 ghost use Rattle.script_ledgers.specs.Script.{script_text};
 

@@ -1,6 +1,4 @@
-ghost use Rattle.std.specs.Prelude.{ℕ, ◌<◌, ◌≡◌, [], OnOk, OnSome};
-ghost use Rattle.std.specs.Io.Buffered.{writer_buffer, writer_contents};
-ghost use Rattle.std.specs.Io.KnownBytes.{IsAtEnd};
+ghost use Rattle.std.{specs.Prelude.{ℕ, ◌<◌, ◌≡◌, [], OnOk, OnSome}, specs.Io.Buffered.{writer_buffer, writer_contents}, specs.Io.KnownBytes.IsAtEnd};
 ghost use Rattle.script_replay.specs.Outcome.{IsReplay};
 
 use crate::replay::replay_lines;

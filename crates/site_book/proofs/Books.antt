@@ -1,21 +1,7 @@
 -- What a post does to a book's rows and totals.
-use Rattle.std.proofs.Common.{◌≡◌, ◌≢◌, ℕ, zero, suc, ◌<◌, List, [], ◌∷◌, ◌++◌, length, map, set, Some, get_or, refl, ap, sym, ◌∙◌, subst, ⊎_elim, length-set}
-use Rattle.std.specs.Prelude.{slice_get, All}
-use Rattle.std.proofs.lemmas.Bool.{cases_eq}
-use Rattle.std.proofs.lemmas.List.Elements.{All-push}
-use Rattle.std.proofs.lemmas.Option.{slice_get_within, get_or_from_slice_get}
-use Rattle.std.proofs.Math.Seq.{map-set_same}
-use Rattle.ledger_model.specs.declared.figures.Figures.{Figures}
-use Rattle.ledger_model.specs.Figures.{AreWithin}
-use Rattle.ledger_model.specs.Limits.{Bounds}
-use Rattle.ledger_model.specs.Board.{plus_figures}
-use Rattle.ledger_model.specs.Posts.{Post, row_after, totals_after}
-use Rattle.ledger_model.proofs.PostLemmas.{row-push_same, row-push_other, totals-push}
-use Rattle.site_book.specs.declared.row.BookRow.{BookRow}
-use Rattle.site_book.specs.Book.{Admits, ArePlanned}
-use Rattle.site_book.specs.Kept.{AreRows}
-use Rattle.site_book.proofs.Named.{get_else, get_here}
-use Rattle.site_book.proofs.Totals.{plus-cancel}
+use Rattle.std.{proofs.Common.{◌≡◌, ◌≢◌, ℕ, zero, suc, ◌<◌, List, [], ◌∷◌, ◌++◌, length, map, set, Some, get_or, refl, ap, sym, ◌∙◌, subst, ⊎_elim, length-set}, specs.Prelude.{slice_get, All}, proofs.lemmas.Bool.cases_eq, proofs.lemmas.List.Elements.All-push, proofs.lemmas.Option.{slice_get_within, get_or_from_slice_get}, proofs.Math.Seq.map-set_same}
+use Rattle.ledger_model.{specs.declared.figures.Figures.Figures, specs.Figures.AreWithin, specs.Limits.Bounds, specs.Board.plus_figures, specs.Posts.{Post, row_after, totals_after}, proofs.PostLemmas.{row-push_same, row-push_other, totals-push}}
+use Rattle.site_book.{specs.declared.row.BookRow.BookRow, specs.Book.{Admits, ArePlanned}, specs.Kept.AreRows, proofs.Named.{get_else, get_here}, proofs.Totals.plus-cancel}
 
 -- the row of limits that are there
 row_at : (rows : List BookRow) (k : ℕ) (b : Bounds) → slice_get (map (λ r. r.limits) rows) k ≡ Some b → (r : BookRow) × (slice_get rows k ≡ Some r) × (r.limits ≡ b)

@@ -5,13 +5,9 @@ use mathlib.Core.Logic.{dite}
 use native.Mathlib.Decide.{ℕ_discrete}
 use lib.ListN.{get_elem?}
 use lib.Seq.{set-get_or}
-use Rattle.atomic_table.specs.Table.{State, Me, keeps, Allows, Splits, Joins}
-use Rattle.atomic_table.proofs.Lists.{at_set, at_snoc, set_again}
+use Rattle.atomic_table.{specs.Table.{State, Me, keeps, Allows, Splits, Joins}, proofs.Lists.{at_set, at_snoc, set_again}}
 use Rattle.ledger_model.specs.Posts.{Post}
-use Rattle.site_book.specs.declared.table.View.{View}
-use Rattle.site_book.specs.Prefix.{IsPrefix}
-use Rattle.site_book.specs.Rule.{version_of, words_of, Fits, KeptAt, Kept, writing, seeing, looking}
-use Rattle.site_book.proofs.Prefixes.{prefix_self, prefix_none, prefix_trans, prefix_shorter, prefix_whole, prefix_length, prefix_next}
+use Rattle.site_book.{specs.declared.table.View.View, specs.Prefix.IsPrefix, specs.Rule.{version_of, words_of, Fits, KeptAt, Kept, writing, seeing, looking}, proofs.Prefixes.{prefix_self, prefix_none, prefix_trans, prefix_shorter, prefix_whole, prefix_length, prefix_next}}
 
 off : false ≡ true → ⊥
 off e = true≢false (sym e)

@@ -1,8 +1,5 @@
 -- Tables of sites, and what names them.
-use Rattle.std.proofs.Common.{◌≡◌, ℕ, zero, suc, ◌+◌, ◌<◌, ◌≤◌, ◌≢◌, get_or, IsTrue, List, [], ◌∷◌, ◌++◌, length, set, Some, None, ⊎_elim, refl, ap, sym, ◌∙◌, arith}
-use Rattle.std.specs.Prelude.{Option, is_some, slice_get}
-use Rattle.std.proofs.lemmas.Option.{slice_get_read, slice_get_past}
-use Rattle.std.proofs.lemmas.Bool.{cases_eq, false≢true}
+use Rattle.std.{proofs.Common.{◌≡◌, ℕ, zero, suc, ◌+◌, ◌<◌, ◌≤◌, ◌≢◌, get_or, IsTrue, List, [], ◌∷◌, ◌++◌, length, set, Some, None, ⊎_elim, refl, ap, sym, ◌∙◌, arith}, specs.Prelude.{Option, is_some, slice_get}, proofs.lemmas.Option.{slice_get_read, slice_get_past}, proofs.lemmas.Bool.{cases_eq, false≢true}}
 use Rattle.atomic_table.specs.Seated.{TableId}
 use Rattle.site_book.specs.Tables.{Unopened, HasTable, NamedBy, names_of}
 

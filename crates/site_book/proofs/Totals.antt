@@ -1,18 +1,8 @@
 -- Figures as sums: they fit their words.
-use Rattle.std.proofs.Common.{◌≡◌, ℕ, suc, ◌+◌, ◌*◌, ◌≤◌, List, [], ◌∷◌, length, map, Some, refl, ap, sym, ◌∙◌, subst, arith}
-use Rattle.std.specs.Prelude.{sum_by, slice_get}
-use Rattle.std.specs.List.{range_with_len}
-use Rattle.std.proofs.lemmas.List.Sums.{sum_by-cons}
+use Rattle.std.{proofs.Common.{◌≡◌, ℕ, suc, ◌+◌, ◌*◌, ◌≤◌, List, [], ◌∷◌, length, map, Some, refl, ap, sym, ◌∙◌, subst, arith}, specs.Prelude.{sum_by, slice_get}, specs.List.range_with_len, proofs.lemmas.List.Sums.sum_by-cons}
 use lib.ListN.{length-map}
-use Rattle.ledger_model.specs.Ranges.{most_plan_readings}
-use Rattle.ledger_model.specs.declared.figures.Figures.{Figures}
-use Rattle.ledger_model.specs.Figures.{AreWithin}
-use Rattle.ledger_model.specs.Board.{plus_figures, sum_of_figures}
-use Rattle.ledger_model.specs.Posts.{Post, row_after, totals_after}
-use Rattle.ledger_model.proofs.PostLemmas.{totals-rows}
-use Rattle.site_book.specs.declared.row.BookRow.{BookRow}
-use Rattle.site_book.specs.Kept.{AreRows}
-use Rattle.site_book.specs.Sums.{AreAtMost, AreWords}
+use Rattle.ledger_model.{specs.Ranges.most_plan_readings, specs.declared.figures.Figures.Figures, specs.Figures.AreWithin, specs.Board.{plus_figures, sum_of_figures}, specs.Posts.{Post, row_after, totals_after}, proofs.PostLemmas.totals-rows}
+use Rattle.site_book.{specs.declared.row.BookRow.BookRow, specs.Kept.AreRows, specs.Sums.{AreAtMost, AreWords}}
 
 -- what the figures of so many stations with so many readings can be
 record AreUnder (stations readings : ℕ) (f : Figures) : Type 0 where

@@ -1,9 +1,5 @@
 use Rattle.std.specs.Prelude.{◌≡◌, ℕ, ◌≤◌, List, length, Some, slice_get, sum_by}
-use Rattle.ledger_model.specs.declared.figures.Figures.{Figures}
-use Rattle.ledger_model.specs.Figures.{AreWithin}
-use Rattle.ledger_model.specs.Limits.{Bounds}
-use Rattle.ledger_model.specs.Ranges.{most_stations, most_plan_readings}
-use Rattle.ledger_model.specs.Posts.{Post}
+use Rattle.ledger_model.{specs.declared.figures.Figures.Figures, specs.Figures.AreWithin, specs.Limits.Bounds, specs.Ranges.{most_stations, most_plan_readings}, specs.Posts.Post}
 
 -- A site's book: the site's number, the limits of the station of each row, and all posts, first to last.
 pub record Book : Type 0 where

@@ -1,12 +1,7 @@
 use Rattle.std.specs.Prelude.{◌≡◌, ℕ, ◌<◌, false, List, [], map, length, Some, slice_get, All}
-use Rattle.atomic_table.specs.Table.{Me}
-use Rattle.atomic_table.specs.Seated.{TableId}
-use Rattle.ledger_model.specs.declared.figures.Figures.{Figures}
-use Rattle.ledger_model.specs.Posts.{Post, row_after, totals_after}
-use Rattle.site_book.specs.declared.table.View.{View}
-use Rattle.site_book.specs.declared.row.BookRow.{BookRow}
-use Rattle.site_book.specs.Book.{ArePlanned}
-use Rattle.site_book.specs.Rule.{writing, seeing}
+use Rattle.atomic_table.{specs.Table.Me, specs.Seated.TableId}
+use Rattle.ledger_model.{specs.declared.figures.Figures.Figures, specs.Posts.{Post, row_after, totals_after}}
+use Rattle.site_book.{specs.declared.table.View.View, specs.declared.row.BookRow.BookRow, specs.Book.ArePlanned, specs.Rule.{writing, seeing}}
 
 -- What a seat knows, and the slots that it holds: a book's table has none.
 abbrev pub Seated : Type 0

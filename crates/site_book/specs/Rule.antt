@@ -2,11 +2,8 @@ use Rattle.std.specs.Prelude.{◌≡◌, ℕ, ◌+◌, ◌*◌, ◌≤◌, true,
 use mathlib.Core.Option.{some}
 use lib.ListN.{get_elem?}
 use Rattle.atomic_table.specs.Table.{State, Step, Me}
-use Rattle.ledger_model.specs.declared.figures.Figures.{Figures}
-use Rattle.ledger_model.specs.Figures.{no_figures}
-use Rattle.ledger_model.specs.Posts.{Post, totals_after}
-use Rattle.site_book.specs.Prefix.{IsPrefix}
-use Rattle.site_book.specs.declared.table.View.{View}
+use Rattle.ledger_model.{specs.declared.figures.Figures.Figures, specs.Figures.no_figures, specs.Posts.{Post, totals_after}}
+use Rattle.site_book.{specs.Prefix.IsPrefix, specs.declared.table.View.View}
 
 -- The figures as the words after the version have them.
 abbrev pub numbers_of : Figures → List ℕ

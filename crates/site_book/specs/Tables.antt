@@ -1,5 +1,4 @@
-use Rattle.std.specs.Prelude.{◌≡◌, ℕ, zero, suc, List, [], ◌∷◌, Option, Some, None, slice_get}
-use Rattle.std.specs.Coded.{Coded, coded_list, coded_option}
+use Rattle.std.{specs.Prelude.{◌≡◌, ℕ, zero, suc, List, [], ◌∷◌, Option, Some, None, slice_get}, specs.Coded.{Coded, coded_list, coded_option}}
 use Rattle.atomic_table.specs.Seated.{TableId, table_id_coded}
 
 -- The table of each site, if no book has taken it yet.

@@ -1,11 +1,6 @@
-ghost use Rattle.std.specs.Prelude.{◌≡◌, ◌↔◌, ◌<◌, ◌^◌, [], ◌∷◌, ◌++◌, length, map, IsTrue, IfOk, OnOk, OnErr, None, Some, slice_get, slice_set, replicate, All};
-ghost use Rattle.std.specs.List.{range_with_len};
-ghost use Rattle.ledger_model.specs.Board.{sum_of_figures};
-ghost use Rattle.ledger_model.specs.Figures.{no_figures};
-ghost use Rattle.ledger_model.specs.Posts.{row_after, totals_after};
-ghost use Rattle.site_book.specs.Book.{ArePlanned, Admits, known};
-ghost use Rattle.site_book.specs.Prefix.{IsPrefix};
-ghost use Rattle.site_book.specs.Tables.{HasTable, NamedBy};
+ghost use Rattle.std.{specs.Prelude.{◌≡◌, ◌↔◌, ◌<◌, ◌^◌, [], ◌∷◌, ◌++◌, length, map, IsTrue, IfOk, OnOk, OnErr, None, Some, slice_get, slice_set, replicate, All}, specs.List.range_with_len};
+ghost use Rattle.ledger_model.{specs.Board.sum_of_figures, specs.Figures.no_figures, specs.Posts.{row_after, totals_after}};
+ghost use Rattle.site_book.{specs.Book.{ArePlanned, Admits, known}, specs.Prefix.IsPrefix, specs.Tables.{HasTable, NamedBy}};
 
 use crate::naming::Naming;
 use crate::rounds::announce;
@@ -34,10 +29,8 @@ pub struct SiteBook<J: Naming> {
 }
 
 impl<J: Naming> Model for SiteBook<J> {
-    ghost use Rattle.std.specs.Prelude.{map};
-    ghost use Rattle.std.specs.Arc.{arc_value};
-    ghost use Rattle.site_book.specs.Book.{Book};
-    ghost use Rattle.site_book.specs.Kept.{IsBook};
+    ghost use Rattle.std.{specs.Prelude.map, specs.Arc.arc_value};
+    ghost use Rattle.site_book.{specs.Book.Book, specs.Kept.IsBook};
 
     ghost Value = { Book };
 

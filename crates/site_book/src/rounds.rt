@@ -1,7 +1,6 @@
 //! The steps on all nine totals, one after the other.
 ghost use Rattle.std.specs.Prelude.{◌≡◌, ◌+◌, ◌*◌, ◌<◌, ◌^◌, [], ◌∷◌, ◌++◌, length};
-ghost use Rattle.site_book.specs.Kept.{Sits};
-ghost use Rattle.site_book.specs.Rule.{numbers_of, shown, writing, looking};
+ghost use Rattle.site_book.{specs.Kept.Sits, specs.Rule.{numbers_of, shown, writing, looking}};
 
 use crate::steps::{close_post, load_total, open_post, store_total};
 use crate::table::{TableSeat, ThePost, Words};

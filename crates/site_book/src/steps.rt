@@ -1,8 +1,6 @@
 //! The single steps on a site's table. Each contract says what its seat knows then.
 ghost use Rattle.std.specs.Prelude.{◌≡◌, ℕ, ◌+◌, ◌*◌, ◌%◌, ◌<◌, ◌≤◌, ◌^◌, false, List, [], ◌∷◌, ◌++◌, length, slice_index};
-ghost use Rattle.site_book.specs.Kept.{Sits};
-ghost use Rattle.site_book.specs.Prefix.{IsPrefix};
-ghost use Rattle.site_book.specs.Rule.{shown, writing, seeing, looking, HasSeen};
+ghost use Rattle.site_book.{specs.Kept.Sits, specs.Prefix.IsPrefix, specs.Rule.{shown, writing, seeing, looking, HasSeen}};
 
 use crate::table::{
     Checks, Closes, Grows, Keeps, Loads, Looks, Opens, Recalls, Shares, Stores, TableSeat, TakesIn,

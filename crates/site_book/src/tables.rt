@@ -1,8 +1,5 @@
-ghost use Rattle.std.specs.Prelude.{◌≡◌, ◌↔◌, ℕ, ◌<◌, [], length, IsTrue, IfOk, OnErr, Some, None, slice_get, slice_set, replicate};
-ghost use Rattle.std.specs.Arc.{arc_value};
-ghost use Rattle.site_book.specs.Book.{known};
-ghost use Rattle.site_book.specs.Kept.{IsUnused};
-ghost use Rattle.site_book.specs.Tables.{HasTable};
+ghost use Rattle.std.{specs.Prelude.{◌≡◌, ◌↔◌, ℕ, ◌<◌, [], length, IsTrue, IfOk, OnErr, Some, None, slice_get, slice_set, replicate}, specs.Arc.arc_value};
+ghost use Rattle.site_book.{specs.Book.known, specs.Kept.IsUnused, specs.Tables.HasTable};
 
 use crate::naming::Naming;
 use crate::steps::share;

@@ -17,8 +17,7 @@ pub struct Told<J: Naming> {
 }
 
 impl<J: Naming> Model for Told<J> {
-    ghost use Rattle.site_book.specs.Book.{Known, known};
-    ghost use Rattle.site_book.specs.Kept.{IsTold};
+    ghost use Rattle.site_book.{specs.Book.{Known, known}, specs.Kept.IsTold};
 
     ghost Value = { Known };
 

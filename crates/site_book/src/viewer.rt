@@ -1,10 +1,6 @@
-ghost use Rattle.std.specs.Prelude.{◌≡◌, ◌⊎◌, [], length};
-ghost use Rattle.std.specs.Arc.{arc_value};
+ghost use Rattle.std.{specs.Prelude.{◌≡◌, ◌⊎◌, [], length}, specs.Arc.arc_value};
 ghost use Rattle.ledger_model.specs.Posts.{totals_after};
-ghost use Rattle.site_book.specs.Book.{known};
-ghost use Rattle.site_book.specs.Kept.{Sits};
-ghost use Rattle.site_book.specs.Prefix.{IsPrefix};
-ghost use Rattle.site_book.specs.Rule.{numbers_of, seeing};
+ghost use Rattle.site_book.{specs.Book.known, specs.Kept.Sits, specs.Prefix.IsPrefix, specs.Rule.{numbers_of, seeing}};
 
 use crate::naming::Naming;
 use crate::rounds::gather;
@@ -29,8 +25,7 @@ pub struct Viewer<J: Naming> {
 
 impl<J: Naming> Model for Viewer<J> {
     ghost use Rattle.std.specs.Arc.{arc_value};
-    ghost use Rattle.site_book.specs.Book.{Known, known};
-    ghost use Rattle.site_book.specs.Kept.{IsViewer};
+    ghost use Rattle.site_book.{specs.Book.{Known, known}, specs.Kept.IsViewer};
 
     ghost Value = { Known };
 

@@ -1,13 +1,7 @@
 -- One station more in a plan.
-use Rattle.std.proofs.Common.{◌≡◌, ℕ, zero, suc, ◌+◌, ◌<◌, ◌||◌, Bool, true, false, nat_le, nat_lt, List, [], ◌∷◌, ◌++◌, Option, None, Some, length, take, drop, slice_index_or, slice_set, refl, ap, ◌∙◌, arith}
-use Rattle.std.specs.Prelude.{sum_by}
-use Rattle.std.proofs.lemmas.Bool.Decides.{nat_tests}
-use Rattle.ledger_model.specs.Limits.{Bounds}
-use Rattle.ledger_model.specs.Periods.{Periods}
-use Rattle.ledger_model.specs.Ranges.{most_sites, most_stations, most_plan_readings}
-use Rattle.site_desk.specs.declared.plan.SitePlan.{SitePlan}
-use Rattle.site_desk.specs.declared.plan.StationPlan.{StationPlan}
-use Rattle.site_desk.specs.Plan.{is_past, period_at, sites_changed}
+use Rattle.std.{proofs.Common.{◌≡◌, ℕ, zero, suc, ◌+◌, ◌<◌, ◌||◌, Bool, true, false, nat_le, nat_lt, List, [], ◌∷◌, ◌++◌, Option, None, Some, length, take, drop, slice_index_or, slice_set, refl, ap, ◌∙◌, arith}, specs.Prelude.sum_by, proofs.lemmas.Bool.Decides.nat_tests}
+use Rattle.ledger_model.{specs.Limits.Bounds, specs.Periods.Periods, specs.Ranges.{most_sites, most_stations, most_plan_readings}}
+use Rattle.site_desk.{specs.declared.plan.SitePlan.SitePlan, specs.declared.plan.StationPlan.StationPlan, specs.Plan.{is_past, period_at, sites_changed}}
 
 second : (a b : Bool) → (a || b) ≡ false → b ≡ false
 second true b e = cc e

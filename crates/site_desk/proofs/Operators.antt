@@ -1,26 +1,10 @@
 -- What an operator reads of a running desk: the boards of a site, one station after the other, and their sums.
-use Rattle.std.proofs.Common.{◌≡◌, ◌≢◌, ℕ, zero, suc, ◌+◌, ◌<◌, ◌⊎◌, inl, inr, ⊎_elim, Bool, true, false, cond, eqb, eqb-true, List, [], ◌∷◌, ◌++◌, Some, length, length-append, slice_get, map, option_map, Result, Ok, Err, take, get_or, refl, ap, sym, ◌∙◌, subst, arith}
-use Rattle.std.proofs.lemmas.List.Sums.{count_by_more_no, count_by_more_yes}
-use Rattle.std.specs.Prelude.{filter}
-use Rattle.std.proofs.lemmas.Bool.{eqb-false}
-use Rattle.std.proofs.lemmas.List.{take_more, append-nil}
-use Rattle.std.specs.Prelude.{All, IfOk, OnOk}
-use Rattle.std.proofs.lemmas.List.Elements.{All-head, All-tail, filter-append}
-use Rattle.std.proofs.lemmas.Option.{get_or_from_slice_get, slice_get-get_or, slice_get-map, slice_get_within}
-use Rattle.ledger_model.specs.declared.figures.Figures.{Figures}
+use Rattle.std.{proofs.Common.{◌≡◌, ◌≢◌, ℕ, zero, suc, ◌+◌, ◌<◌, ◌⊎◌, inl, inr, ⊎_elim, Bool, true, false, cond, eqb, eqb-true, List, [], ◌∷◌, ◌++◌, Some, length, length-append, slice_get, map, option_map, Result, Ok, Err, take, get_or, refl, ap, sym, ◌∙◌, subst, arith}, proofs.lemmas.List.Sums.{count_by_more_no, count_by_more_yes}, specs.Prelude.{filter, All, IfOk, OnOk}, proofs.lemmas.Bool.eqb-false, proofs.lemmas.List.{take_more, append-nil}, proofs.lemmas.List.Elements.{All-head, All-tail, filter-append}, proofs.lemmas.Option.{get_or_from_slice_get, slice_get-get_or, slice_get-map, slice_get_within}}
+use Rattle.ledger_model.{specs.declared.figures.Figures.Figures, specs.Board.{Board, board_by}, specs.Content.{Content, entries}, specs.Limits.Bounds, specs.Periods.Periods, specs.Step.Reached, specs.declared.order.Order.Order}
 use Rattle.energy_flow.specs.Flow.{Energy}
-use Rattle.ledger_model.specs.Board.{Board, board_by}
-use Rattle.ledger_model.specs.Content.{Content, entries}
-use Rattle.ledger_model.specs.Limits.{Bounds}
-use Rattle.ledger_model.specs.Periods.{Periods}
-use Rattle.ledger_model.specs.Step.{Reached}
-use Rattle.ledger_model.specs.declared.order.Order.{Order}
-use Rattle.station_ledger.specs.Listing.{listing_by}
-use Rattle.station_ledger.specs.declared.listing.TxListing.{TxListing}
-use Rattle.site_desk.specs.declared.roster.StationPlace.{StationPlace}
+use Rattle.station_ledger.{specs.Listing.listing_by, specs.declared.listing.TxListing.TxListing}
+use Rattle.site_desk.{specs.declared.roster.StationPlace.StationPlace, specs.Operator.{AreBoardsAt, AreBoardsOf, AreNotedBoards, AreTotalsOfName, AreTotalsWithin, IsAmong, IsBoardAt, IsBoardOfCell, IsListingOfName, IsListingWithin, IsNotedBoard, before_at}, specs.Roster.{IsNamed, StandsAt}}
 use Rattle.station_cell.specs.Cell.{Cell}
-use Rattle.site_desk.specs.Operator.{AreBoardsAt, AreBoardsOf, AreNotedBoards, AreTotalsOfName, AreTotalsWithin, IsAmong, IsBoardAt, IsBoardOfCell, IsListingOfName, IsListingWithin, IsNotedBoard, before_at}
-use Rattle.site_desk.specs.Roster.{IsNamed, StandsAt}
 
 -- one board more, of one place more
 boards_push : (places : List StationPlace) (p : StationPlace) (boards : List (List ℕ × Board)) (b : List ℕ × Board)

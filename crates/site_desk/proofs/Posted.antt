@@ -1,26 +1,9 @@
 -- That rows are tied once the figures of cells that took commands before are posted in new books.
-use Rattle.std.proofs.Common.{◌≡◌, ◌≢◌, ℕ, zero, suc, ◌+◌, ◌<◌, ◌≤◌, List, [], ◌∷◌, ◌++◌, length, set, Some, None, refl, ap, sym, ◌∙◌, subst, ⊎_elim, arith}
-use Rattle.std.specs.Prelude.{slice_get}
-use Rattle.std.proofs.lemmas.Bool.{cases_eq}
-use Rattle.std.proofs.lemmas.List.{length_push}
-use Rattle.ledger_model.specs.declared.answer.Answer.TheVariants.{Accepted}
-use Rattle.ledger_model.specs.Board.{figures_by}
-use Rattle.ledger_model.specs.Content.{entries}
-use Rattle.ledger_model.specs.Posts.{row_after}
-use Rattle.ledger_model.proofs.PostLemmas.{row-push_same}
-use Rattle.site_book.specs.Book.{Book}
-use Rattle.site_book.proofs.Named.{get_else, get_here}
-use Rattle.station_cell.specs.Cell.{Cell}
-use Rattle.station_cell.specs.Settle.{Tied}
-use Rattle.station_cell.proofs.Settled.{tied_beside}
-use Rattle.std.proofs.lemmas.Option.{slice_get_within}
-use Rattle.site_desk.specs.declared.plan.SitePlan.{SitePlan}
-use Rattle.site_desk.specs.declared.plan.StationPlan.{StationPlan}
-use Rattle.site_desk.specs.Parts.{AreApart, AreBooksOf, AreHeld, AreNewBooks, AreRowsKept, HaveFewPosts, IsHeld, IsTied, limits_at, new_book, row_at}
-use Rattle.site_desk.specs.Plan.{plan_fault}
-use Rattle.site_desk.specs.Roster.{AreCellsOf, StandsAt, new_place}
-use Rattle.site_desk.proofs.NewParts.{planned_sites}
-use Rattle.site_desk.proofs.Ties.{limits_row, rows_apart}
+use Rattle.std.{proofs.Common.{◌≡◌, ◌≢◌, ℕ, zero, suc, ◌+◌, ◌<◌, ◌≤◌, List, [], ◌∷◌, ◌++◌, length, set, Some, None, refl, ap, sym, ◌∙◌, subst, ⊎_elim, arith}, specs.Prelude.slice_get, proofs.lemmas.Bool.cases_eq, proofs.lemmas.List.length_push, proofs.lemmas.Option.slice_get_within}
+use Rattle.ledger_model.{specs.declared.answer.Answer.TheVariants.Accepted, specs.Board.figures_by, specs.Content.entries, specs.Posts.row_after, proofs.PostLemmas.row-push_same}
+use Rattle.site_book.{specs.Book.Book, proofs.Named.{get_else, get_here}}
+use Rattle.station_cell.{specs.Cell.Cell, specs.Settle.Tied, proofs.Settled.tied_beside}
+use Rattle.site_desk.{specs.declared.plan.SitePlan.SitePlan, specs.declared.plan.StationPlan.StationPlan, specs.Parts.{AreApart, AreBooksOf, AreHeld, AreNewBooks, AreRowsKept, HaveFewPosts, IsHeld, IsTied, limits_at, new_book, row_at}, specs.Plan.plan_fault, specs.Roster.{AreCellsOf, StandsAt, new_place}, proofs.NewParts.planned_sites, proofs.Ties.{limits_row, rows_apart}}
 
 pub some_book : (x y : Book) → Some x ≡ Some y → x ≡ y
 some_book x y h = cc

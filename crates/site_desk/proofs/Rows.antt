@@ -1,10 +1,6 @@
 -- Rows and limits of a plan's stations, one station after the other.
-use Rattle.std.proofs.Common.{◌≡◌, ◌≢◌, ℕ, ◌+◌, ◌<◌, true, false, cond, eqb, List, [], ◌∷◌, ◌++◌, length, map, take, get_or, ap, sym, ◌∙◌}
-use Rattle.std.specs.Prelude.{filter}
-use Rattle.std.proofs.lemmas.Bool.{eq-eqb, ne_eqb}
-use Rattle.std.proofs.lemmas.List.{take_more}
-use Rattle.site_desk.specs.declared.plan.StationPlan.{StationPlan}
-use Rattle.site_desk.specs.Parts.{limits_at}
+use Rattle.std.{proofs.Common.{◌≡◌, ◌≢◌, ℕ, ◌+◌, ◌<◌, true, false, cond, eqb, List, [], ◌∷◌, ◌++◌, length, map, take, get_or, ap, sym, ◌∙◌}, specs.Prelude.filter, proofs.lemmas.Bool.{eq-eqb, ne_eqb}, proofs.lemmas.List.take_more}
+use Rattle.site_desk.{specs.declared.plan.StationPlan.StationPlan, specs.Parts.limits_at}
 
 -- one station more, of the site
 limits-push : (xs : List StationPlan) (site : ℕ) (s : StationPlan) → s.site ≡ site → limits_at (xs ++ s ∷ []) site ≡ limits_at xs site ++ s.limits ∷ []

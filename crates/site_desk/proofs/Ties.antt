@@ -1,25 +1,9 @@
 -- That rows are tied when the parts of a plan are opened, and stay so.
-use Rattle.std.proofs.Common.{◌≡◌, ◌≢◌, ℕ, zero, suc, ◌+◌, ◌<◌, Bool, true, false, cond, eqb, List, [], ◌∷◌, length, map, take, set, Some, None, refl, ap, sym, ◌∙◌, subst, ⊎_elim, arith}
-use Rattle.std.specs.Prelude.{filter, slice_get}
-use Rattle.std.proofs.lemmas.Bool.{cases_eq, eq-eqb}
-use Rattle.std.proofs.lemmas.List.Sums.{sum_by-cons}
-use Rattle.std.proofs.lemmas.Option.{slice_get_within}
-use Rattle.ledger_model.specs.declared.answer.Answer.{Answer}
-use Rattle.ledger_model.specs.declared.command.Command.{Command}
-use Rattle.ledger_model.specs.Board.{figures_by}
-use Rattle.ledger_model.specs.Limits.{default_limits}
-use Rattle.ledger_model.specs.Step.{answer}
-use Rattle.ledger_model.proofs.ListedRuns.{entries_from_empty}
-use Rattle.site_book.specs.Book.{Book}
-use Rattle.site_book.proofs.Named.{get_else, get_here}
-use Rattle.site_desk.specs.declared.plan.SitePlan.{SitePlan}
-use Rattle.site_desk.specs.declared.plan.StationPlan.{StationPlan}
-use Rattle.station_cell.specs.Cell.{Cell, Held, new_cell}
-use Rattle.site_desk.specs.Parts.{AreApart, AreNewBooks, AreNewCells, AreTied, IsTied, limits_at, new_book, row_at}
-use Rattle.site_desk.specs.Plan.{order_at, period_at, plan_fault}
-use Rattle.station_cell.specs.Settle.{Tied, cell_after, posts_after}
-use Rattle.site_desk.proofs.NewParts.{planned_sites}
-use Rattle.station_cell.proofs.Settled.{tied_after, tied_beside}
+use Rattle.std.{proofs.Common.{◌≡◌, ◌≢◌, ℕ, zero, suc, ◌+◌, ◌<◌, Bool, true, false, cond, eqb, List, [], ◌∷◌, length, map, take, set, Some, None, refl, ap, sym, ◌∙◌, subst, ⊎_elim, arith}, specs.Prelude.{filter, slice_get}, proofs.lemmas.Bool.{cases_eq, eq-eqb}, proofs.lemmas.List.Sums.sum_by-cons, proofs.lemmas.Option.slice_get_within}
+use Rattle.ledger_model.{specs.declared.answer.Answer.Answer, specs.declared.command.Command.Command, specs.Board.figures_by, specs.Limits.default_limits, specs.Step.answer, proofs.ListedRuns.entries_from_empty}
+use Rattle.site_book.{specs.Book.Book, proofs.Named.{get_else, get_here}}
+use Rattle.site_desk.{specs.declared.plan.SitePlan.SitePlan, specs.declared.plan.StationPlan.StationPlan, specs.Parts.{AreApart, AreNewBooks, AreNewCells, AreTied, IsTied, limits_at, new_book, row_at}, specs.Plan.{order_at, period_at, plan_fault}, proofs.NewParts.planned_sites}
+use Rattle.station_cell.{specs.Cell.{Cell, Held, new_cell}, specs.Settle.{Tied, cell_after, posts_after}, proofs.Settled.{tied_after, tied_beside}}
 
 -- the row of a later station
 row_later : (x : StationPlan) (xs : List StationPlan) (site k : ℕ) → row_at (x ∷ xs) site (suc k) ≡ cond (eqb x.site site) 1 0 + row_at xs site k

@@ -1,8 +1,5 @@
 -- A loop that looks for a name that occurs twice.
-use Rattle.std.proofs.Common.{◌≡◌, ℕ, zero, suc, ◌+◌, ◌-◌, take, ◌<◌, ◌≤◌, ◌||◌, Bool, true, false, List, [], ◌∷◌, length, map, drop, get_or, refl, ap, sym, ◌∙◌, arith, bytes_eq}
-use Rattle.std.specs.List.{list_any}
-use Rattle.std.proofs.lemmas.List.{drop_more, drop_all, take_rest}
-use Rattle.std.specs.Prelude.{Some, if◌then◌else◌}
+use Rattle.std.{proofs.Common.{◌≡◌, ℕ, zero, suc, ◌+◌, ◌-◌, take, ◌<◌, ◌≤◌, ◌||◌, Bool, true, false, List, [], ◌∷◌, length, map, drop, get_or, refl, ap, sym, ◌∙◌, arith, bytes_eq}, specs.List.list_any, proofs.lemmas.List.{drop_more, drop_all, take_rest}, specs.Prelude.{Some, if◌then◌else◌}}
 use Rattle.site_desk.specs.Plan.{first_twice, has_twice}
 
 any-map : {X Y : Type 0} (p : Y → Bool) (f : X → Y) (xs : List X) → list_any p (map f xs) ≡ list_any (λ x. p (f x)) xs

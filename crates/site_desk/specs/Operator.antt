@@ -1,22 +1,10 @@
 -- The parts of a running desk that an operator reads.
 use Rattle.std.specs.Prelude.{◌≡◌, ℕ, ◌==◌, ⊤, List, [], ◌∷◌, count_by, filter, take, Some, slice_get}
 use Rattle.energy_flow.specs.Flow.{Energy}
-use Rattle.ledger_model.specs.declared.figures.Figures.{Figures}
-use Rattle.ledger_model.specs.declared.order.Order.{Order}
-use Rattle.ledger_model.specs.Board.{Board, board_by, figures_by}
-use Rattle.ledger_model.specs.declared.reading.Direction.TheVariants.{Import, Export}
-use Rattle.ledger_model.specs.Energy.{energy_by}
-use Rattle.ledger_model.specs.Content.{Content, entries}
-use Rattle.ledger_model.specs.Figures.{AreWithin}
-use Rattle.ledger_model.specs.Limits.{Bounds}
-use Rattle.ledger_model.specs.Periods.{Periods}
-use Rattle.ledger_model.specs.Step.{Reached}
-use Rattle.site_desk.specs.declared.roster.StationPlace.{StationPlace}
-use Rattle.site_desk.specs.Roster.{IsNamed, StandsAt}
+use Rattle.ledger_model.{specs.declared.figures.Figures.Figures, specs.declared.order.Order.Order, specs.Board.{Board, board_by, figures_by}, specs.declared.reading.Direction.TheVariants.{Import, Export}, specs.Energy.energy_by, specs.Content.{Content, entries}, specs.Figures.AreWithin, specs.Limits.Bounds, specs.Periods.Periods, specs.Step.Reached}
+use Rattle.site_desk.{specs.declared.roster.StationPlace.StationPlace, specs.Roster.{IsNamed, StandsAt}, specs.Submit.IsBoardWithin}
 use Rattle.station_cell.specs.Cell.{Cell}
-use Rattle.station_ledger.specs.Listing.{listing_by}
-use Rattle.station_ledger.specs.declared.listing.TxListing.{TxListing}
-use Rattle.site_desk.specs.Submit.{IsBoardWithin}
+use Rattle.station_ledger.{specs.Listing.listing_by, specs.declared.listing.TxListing.TxListing}
 
 -- Some content that accepted commands reach under these limits has these figures and these imported
 -- and exported energies, in this order of readings.

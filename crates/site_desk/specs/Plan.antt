@@ -1,18 +1,6 @@
-use Rattle.std.specs.Prelude.{ℕ, zero, suc, slice_get, Bool, false, not, ◌+◌, ◌&&◌, ◌||◌, nat_le, nat_lt, List, [], ◌∷◌, ◌++◌, map, length, sum_by, Option, None, Some, if◌then◌else◌, codes}
-use Rattle.std.specs.List.{list_all, list_any}
-use Rattle.std.specs.Option.{is_some}
-use Rattle.std.specs.Str.{bytes_eq}
-use Rattle.ledger_model.specs.declared.order.Order.{Order}
-use Rattle.ledger_model.specs.declared.order.Order.TheVariants.{Sequence}
-use Rattle.ledger_model.specs.Limits.{Bounds}
-use Rattle.ledger_model.specs.Periods.{Periods}
-use Rattle.ledger_model.specs.declared.settle.Settle.{Settle}
-use Rattle.ledger_model.specs.Settling.{default_periods}
-use Rattle.ledger_model.specs.Ranges.{most_sites, most_stations, most_plan_readings}
-use Rattle.site_desk.specs.declared.plan.SitePlan.{SitePlan}
-use Rattle.site_desk.specs.declared.plan.StationPlan.{StationPlan}
-use Rattle.site_desk.specs.declared.fault.DeskFault.{DeskFault}
-use Rattle.site_desk.specs.declared.fault.DeskFault.TheVariants.{PlanLimit, StationTwice}
+use Rattle.std.{specs.Prelude.{ℕ, zero, suc, slice_get, Bool, false, not, ◌+◌, ◌&&◌, ◌||◌, nat_le, nat_lt, List, [], ◌∷◌, ◌++◌, map, length, sum_by, Option, None, Some, if◌then◌else◌, codes}, specs.List.{list_all, list_any}, specs.Option.is_some, specs.Str.bytes_eq}
+use Rattle.ledger_model.{specs.declared.order.Order.Order, specs.declared.order.Order.TheVariants.Sequence, specs.Limits.Bounds, specs.Periods.Periods, specs.declared.settle.Settle.Settle, specs.Settling.default_periods, specs.Ranges.{most_sites, most_stations, most_plan_readings}}
+use Rattle.site_desk.{specs.declared.plan.SitePlan.SitePlan, specs.declared.plan.StationPlan.StationPlan, specs.declared.fault.DeskFault.DeskFault, specs.declared.fault.DeskFault.TheVariants.{PlanLimit, StationTwice}}
 
 -- How many viewers a site may have.
 abbrev pub most_viewers : ℕ

@@ -1,9 +1,7 @@
 //! What a desk compares before it is closed.
 ghost use Rattle.std.specs.Prelude.{◌≡◌, ◌≢◌, IsTrue, IfNone, IfSome, length, map};
 ghost use Rattle.ledger_model.specs.Board.{plus_figures};
-ghost use Rattle.site_desk.specs.Close.{AreAllPasses, AreSummed, AreViewed, AreWhole, IsClosable, IsCounted, IsPlaced, IsSummed, IsWhole, changes_of, figures_at, figures_with, passes_of};
-ghost use Rattle.site_desk.specs.Parts.{IsTied};
-ghost use Rattle.site_desk.specs.declared.fault.CloseFault.{CloseFault};
+ghost use Rattle.site_desk.{specs.Close.{AreAllPasses, AreSummed, AreViewed, AreWhole, IsClosable, IsCounted, IsPlaced, IsSummed, IsWhole, changes_of, figures_at, figures_with, passes_of}, specs.Parts.IsTied, specs.declared.fault.CloseFault.CloseFault};
 
 use crate::fault::CloseFault;
 use crate::has_cell::HasCell;

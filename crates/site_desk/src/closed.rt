@@ -1,7 +1,5 @@
 ghost use Rattle.std.specs.Prelude.{◌≡◌, ◌<◌, length, Some, slice_get};
-ghost use Rattle.ledger_model.specs.Board.{figures_by};
-ghost use Rattle.ledger_model.specs.Content.{entries};
-ghost use Rattle.ledger_model.specs.Posts.{totals_after};
+ghost use Rattle.ledger_model.{specs.Board.figures_by, specs.Content.entries, specs.Posts.totals_after};
 ghost use Rattle.site_book.specs.Book.{Book};
 ghost use Rattle.station_cell.specs.Cell.{Cell};
 ghost use Rattle.site_desk.specs.Parts.{AreTied};

@@ -1,21 +1,7 @@
-ghost use Rattle.std.specs.Prelude.{◌≡◌, ◌≢◌, ◌↔◌, ℕ, ◌<◌, All, length, map, IfOk, IfErr, IfSome, OnOk, None, Some, false, is_some, nat_lt, slice_get, vec_len};
-ghost use Rattle.std.specs.List.{list_any};
-ghost use Rattle.std.specs.Str.{bytes_eq};
-ghost use Rattle.ledger_model.specs.declared.answer.Answer.{Answer};
-ghost use Rattle.ledger_model.specs.declared.answer.Refusal.{Refusal};
+ghost use Rattle.std.{specs.Prelude.{◌≡◌, ◌≢◌, ◌↔◌, ℕ, ◌<◌, All, length, map, IfOk, IfErr, IfSome, OnOk, None, Some, false, is_some, nat_lt, slice_get, vec_len}, specs.List.list_any, specs.Str.bytes_eq};
+ghost use Rattle.ledger_model.{specs.declared.answer.Answer.Answer, specs.declared.answer.Refusal.Refusal, specs.Board.sum_of_figures};
 ghost use Rattle.site_book.specs.Tables.{HasTable, NamedBy};
-ghost use Rattle.site_desk.specs.declared.fault.BoardFault.{BoardFault};
-ghost use Rattle.site_desk.specs.declared.fault.CloseFault.{CloseFault};
-ghost use Rattle.site_desk.specs.declared.fault.DeskFault.{DeskFault};
-ghost use Rattle.site_desk.specs.declared.fault.EnlistFault.{EnlistFault};
-ghost use Rattle.site_desk.specs.declared.roster.StationPlace.{StationPlace};
-ghost use Rattle.site_desk.specs.Close.{IsClosable, Saw};
-ghost use Rattle.site_desk.specs.Parts.{AreTied, new_viewers};
-ghost use Rattle.site_desk.specs.Plan.{plan_fault};
-ghost use Rattle.site_desk.specs.Roster.{AreNewPlaces, IsNamed};
-ghost use Rattle.ledger_model.specs.Board.{sum_of_figures};
-ghost use Rattle.site_desk.specs.Operator.{AreBoardsAt, AreNotedBoards, AreTotalsOfName, IsListingOfName};
-ghost use Rattle.site_desk.specs.Submit.{IsBoardOfName, IsUnchanged, Submitted};
+ghost use Rattle.site_desk.{specs.declared.fault.BoardFault.BoardFault, specs.declared.fault.CloseFault.CloseFault, specs.declared.fault.DeskFault.DeskFault, specs.declared.fault.EnlistFault.EnlistFault, specs.declared.roster.StationPlace.StationPlace, specs.Close.{IsClosable, Saw}, specs.Parts.{AreTied, new_viewers}, specs.Plan.plan_fault, specs.Roster.{AreNewPlaces, IsNamed}, specs.Operator.{AreBoardsAt, AreNotedBoards, AreTotalsOfName, IsListingOfName}, specs.Submit.{IsBoardOfName, IsUnchanged, Submitted}};
 
 use crate::checks::fault_of;
 use crate::closed::{CloseRefused, Closed};

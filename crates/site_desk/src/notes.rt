@@ -6,8 +6,7 @@ use std::sync::{MutexGuard, Wait};
 /// ([`Desk::site_boards_by`](crate::Desk::site_boards_by)). `notes` is what the note says of each
 /// cell.
 pub trait Notes<C: HasCell, N> {
-    ghost use Rattle.std.specs.Prelude.{IfOk, All};
-    ghost use Rattle.std.specs.Sync.Mutex.{mutex_guard_value};
+    ghost use Rattle.std.{specs.Prelude.{IfOk, All}, specs.Sync.Mutex.mutex_guard_value};
     ghost use Rattle.station_cell.specs.Cell.{Cell};
 
     ghost notes: { Self → N → Cell → Type 0 };

@@ -1,10 +1,8 @@
 //! The parts of a running desk that an operator reads: the totals of a station, and the boards of a site at
 //! one moment.
-ghost use Rattle.std.specs.Prelude.{◌≡◌, ◌≢◌, ◌++◌, ◌∷◌, [], List, ℕ, Err, IfOk, IfSome, OnOk, map};
-ghost use Rattle.site_desk.specs.declared.fault.BoardFault.{BoardFault};
+ghost use Rattle.std.{specs.Prelude.{◌≡◌, ◌≢◌, ◌++◌, ◌∷◌, [], List, ℕ, Err, IfOk, IfSome, OnOk, map}, specs.Sync.Mutex.mutex_guard_value};
+ghost use Rattle.site_desk.{specs.declared.fault.BoardFault.BoardFault, specs.Operator.{AreBoardsAt, AreNotedBoards, AreTotalsWithin, IsAmong, IsBoardAt, IsBoardOfCell, IsListingWithin}};
 ghost use Rattle.ledger_model.specs.Board.{Board, sum_of_figures};
-ghost use Rattle.std.specs.Sync.Mutex.{mutex_guard_value};
-ghost use Rattle.site_desk.specs.Operator.{AreBoardsAt, AreNotedBoards, AreTotalsWithin, IsAmong, IsBoardAt, IsBoardOfCell, IsListingWithin};
 ghost use Rattle.station_cell.specs.Cell.{Cell};
 
 use crate::checks::plus;

@@ -1,12 +1,7 @@
 ghost use Rattle.std.specs.Prelude.{◌≡◌, ◌↔◌, ℕ, ◌<◌, ◌≤◌, ◌^◌, [], ◌∷◌, ◌++◌, length, map, IfOk, OnOk, None, Some};
-ghost use Rattle.ledger_model.specs.Board.{figures_by};
-ghost use Rattle.ledger_model.specs.Content.{entries};
-ghost use Rattle.site_book.specs.Book.{ArePlanned, known};
-ghost use Rattle.site_book.specs.Tables.{HasTable, NamedBy};
-ghost use Rattle.site_desk.specs.declared.fault.DeskFault.{DeskFault};
-ghost use Rattle.site_desk.specs.Parts.{AreApart, AreBooksOf, AreHeld, AreNewBooks, AreNewCells, AreRowsKept, AreTied, HaveFewPosts, limits_at, new_viewers, row_at, viewed_by};
-ghost use Rattle.site_desk.specs.Plan.{plan_fault};
-ghost use Rattle.site_desk.specs.Roster.{AreCellsOf};
+ghost use Rattle.ledger_model.{specs.Board.figures_by, specs.Content.entries};
+ghost use Rattle.site_book.{specs.Book.{ArePlanned, known}, specs.Tables.{HasTable, NamedBy}};
+ghost use Rattle.site_desk.{specs.declared.fault.DeskFault.DeskFault, specs.Parts.{AreApart, AreBooksOf, AreHeld, AreNewBooks, AreNewCells, AreRowsKept, AreTied, HaveFewPosts, limits_at, new_viewers, row_at, viewed_by}, specs.Plan.plan_fault, specs.Roster.AreCellsOf};
 ghost use Rattle.station_cell.specs.Settle.{Holds};
 
 use crate::fault::DeskFault;

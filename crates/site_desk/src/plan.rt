@@ -1,7 +1,4 @@
-ghost use Rattle.std.specs.Prelude.{◌≡◌, ◌≤◌, ◌<◌, ◌*◌, IfSome, ◌++◌, ◌∷◌, [], false, None, Some, map, sum_by, length, nat_le, nat_lt};
-ghost use Rattle.std.specs.List.{list_all, list_any, position};
-ghost use Rattle.std.specs.Option.{is_some};
-ghost use Rattle.std.specs.Str.{bytes_eq};
+ghost use Rattle.std.{specs.Prelude.{◌≡◌, ◌≤◌, ◌<◌, ◌*◌, IfSome, ◌++◌, ◌∷◌, [], false, None, Some, map, sum_by, length, nat_le, nat_lt}, specs.List.{list_all, list_any, position}, specs.Option.is_some, specs.Str.bytes_eq};
 ghost use Rattle.ledger_model.specs.Ranges.{most_sites};
 ghost use Rattle.site_desk.specs.Plan.{blank_name, first_twice, has_twice, is_past, is_within_limits, most_viewers, order_at, period_at, plan_fault, site_number, sites_by, sites_in, sites_settling, sites_with, stations_with};
 
@@ -212,8 +209,7 @@ impl Plan {
 
 impl Default for SitePlan {
     ghost use Rattle.std.specs.Prelude.{◌≡◌};
-    ghost use Rattle.ledger_model.specs.Settling.{default_periods};
-    ghost use Rattle.ledger_model.specs.declared.order.Order.TheVariants.{Sequence};
+    ghost use Rattle.ledger_model.{specs.Settling.default_periods, specs.declared.order.Order.TheVariants.Sequence};
     ghost use Rattle.site_desk.specs.Plan.{blank_name};
 
     ghost is_default = { λ s. s ≡ record { name = blank_name; viewers = 0; period = default_periods; order = Sequence } };

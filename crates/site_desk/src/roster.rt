@@ -1,7 +1,5 @@
 //! The places of a desk's stations, which need no lock.
-ghost use Rattle.std.specs.Prelude.{◌≡◌, ◌≤◌, length, IfOk, IfSome, is_some};
-ghost use Rattle.std.specs.List.{list_any};
-ghost use Rattle.std.specs.Str.{bytes_eq};
+ghost use Rattle.std.{specs.Prelude.{◌≡◌, ◌≤◌, length, IfOk, IfSome, is_some}, specs.List.list_any, specs.Str.bytes_eq};
 ghost use Rattle.site_desk.specs.Roster.{AreNewPlaces, IsNamed};
 
 use crate::parts::row_of;

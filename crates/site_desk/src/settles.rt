@@ -12,8 +12,7 @@ use std::sync::{Mutex, Wait};
 /// of this number and place, and of the book's `Told`.
 pub trait Settles<J: Naming, C, N> {
     ghost use Rattle.std.specs.Prelude.{ℕ, Option};
-    ghost use Rattle.ledger_model.specs.declared.answer.Answer.{Answer};
-    ghost use Rattle.ledger_model.specs.declared.command.Command.{Command};
+    ghost use Rattle.ledger_model.{specs.declared.answer.Answer.Answer, specs.declared.command.Command.Command};
     ghost use Rattle.site_book.specs.Book.{Known};
     ghost use Rattle.site_desk.specs.declared.roster.StationPlace.{StationPlace};
 

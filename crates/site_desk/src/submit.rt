@@ -1,11 +1,8 @@
 ghost use Rattle.std.specs.Prelude.{◌≡◌, IsNone, IsTrue, IfOk, IfSome};
-ghost use Rattle.ledger_model.specs.Board.{board_by};
-ghost use Rattle.ledger_model.specs.Content.{entries};
-ghost use Rattle.ledger_model.specs.Figures.{AreWithin};
-ghost use Rattle.site_desk.specs.Roster.{StandsAt};
+ghost use Rattle.ledger_model.{specs.Board.board_by, specs.Content.entries, specs.Figures.AreWithin};
+ghost use Rattle.site_desk.{specs.Roster.StandsAt, specs.Submit.{CanJudge, CanSettle, IsBoardWithin, Submitted, TellsOf}};
 ghost use Rattle.station_cell.specs.Settle.{cell_after};
 ghost use Rattle.station_ledger.specs.Judged.{IsJudged};
-ghost use Rattle.site_desk.specs.Submit.{CanJudge, CanSettle, IsBoardWithin, Submitted, TellsOf};
 
 use crate::roster::{Located, StationPlace};
 use ledger_model::{Answer, Command, Refusal};

@@ -1,6 +1,5 @@
 -- The parts of a block may cross threads as its values and its allocator may.
-use Rattle.std.specs.Prelude.{ℕ, ◌+◌, List, [], ◌∷◌, Option, Some, None}
-use Rattle.std.specs.Mem.{type_size}
+use Rattle.std.{specs.Prelude.{ℕ, ◌+◌, List, [], ◌∷◌, Option, Some, None}, specs.Mem.type_size}
 use base.Fraction.{full_share}
 use base.Shift.{Keyless}
 use denote.RattleType.{RattleType}

@@ -1,9 +1,6 @@
 -- The rows that the two loops over a block make: links from the last place down, and places emptied from the first up.
 use Rattle.std.proofs.Common.{◌≡◌, ℕ, zero, suc, ◌+◌, ◌-◌, ◌<◌, ◌≤◌, List, [], ◌∷◌, ◌++◌, length, get_or, set, drop, replicate, Option, Some, None, refl, sym, ap, ◌∙◌, arith}
-use Rattle.slot_arena.specs.declared.slot.Slot.{Slot}
-use Rattle.slot_arena.specs.declared.slot.Slot.TheVariants.{Free}
-use Rattle.slot_arena.specs.Place.{Holds}
-use Rattle.slot_arena.specs.Free.{AreMade, values_in, links}
+use Rattle.slot_arena.{specs.declared.slot.Slot.Slot, specs.declared.slot.Slot.TheVariants.Free, specs.Place.Holds, specs.Free.{AreMade, values_in, links}}
 
 module _ {X : Type 0} where
   -- A link written into the last empty place is before the others.

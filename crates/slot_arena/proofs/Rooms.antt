@@ -24,8 +24,7 @@ use denote.Struct.Struct.{Shape, Struct, within}
 use denote.Struct.Owning.{shape}
 use denote.Struct.Declared as Declared
 use denote.Struct.Tuple.{Tuple, tuple_type}
-use Rattle.std.specs.Prelude.{Option, Some, None}
-use Rattle.std.specs.Mem.{type_size}
+use Rattle.std.{specs.Prelude.{Option, Some, None}, specs.Mem.type_size}
 use Rattle.core.proofs.mem.Param.{El, R, el_x, elτ, one}
 use Rattle.std_alloc.proofs.RcSteps.{Good, word}
 use Rattle.slot_arena.specs.Owned.{place_at, places_at, place_lent, places_lent}

@@ -1,7 +1,6 @@
 -- A `&` to the owner of a row of places is made of `&`s to the values in it, place by place.
 use Prim.Native.Nat.{ℕ, ◌+◌}
-use Rattle.std.specs.Prelude.{List, [], ◌∷◌, Option, Some, None}
-use Rattle.std.specs.Mem.{type_size}
+use Rattle.std.{specs.Prelude.{List, [], ◌∷◌, Option, Some, None}, specs.Mem.type_size}
 use seplogic.Ra.Ura.{Ura}
 use base.Fml.{Lft, Incl, ftrue, ffalse}
 use types.Logic.{Logic}

@@ -1,15 +1,6 @@
 -- The thread of free slots is kept by each step of an arena.
-use Rattle.std.proofs.Common.{◌≡◌, ℕ, zero, suc, ◌+◌, ◌-◌, ◌<◌, ◌≤◌, true, cond, List, [], ◌∷◌, length, get_or, set, replicate, Option, Some, None, is_some, refl, sym, ap, ◌∙◌, subst, arith, length-set}
-use Rattle.std.proofs.lemmas.List.{map-set, get_or-set_same, get_or-set_other}
-use Rattle.std.proofs.lemmas.List.Sums.{sum_by-set, sum_by-cons}
-use Rattle.slot_arena.specs.declared.slot.Slot.{Slot}
-use Rattle.slot_arena.specs.declared.slot.Slot.TheVariants.{Free, Held}
-use Rattle.slot_arena.specs.Slots.{HoldsValue, LinksOn}
-use Rattle.slot_arena.specs.declared.arena.TheConstants.{MAX_SLOTS}
-use Rattle.slot_arena.specs.Arena.{value_at, IsHeld, held_count}
-use Rattle.slot_arena.specs.Free.{IsApart, AreApart, value_in, values_in, IsThread, AreMade, IsThreaded, links}
-use Rattle.slot_arena.proofs.Rooms.{holding_within}
-use Rattle.slot_arena.proofs.Fresh.{length-links, links_at, links_made, links_values}
+use Rattle.std.{proofs.Common.{◌≡◌, ℕ, zero, suc, ◌+◌, ◌-◌, ◌<◌, ◌≤◌, true, cond, List, [], ◌∷◌, length, get_or, set, replicate, Option, Some, None, is_some, refl, sym, ap, ◌∙◌, subst, arith, length-set}, proofs.lemmas.List.{map-set, get_or-set_same, get_or-set_other}, proofs.lemmas.List.Sums.{sum_by-set, sum_by-cons}}
+use Rattle.slot_arena.{specs.declared.slot.Slot.Slot, specs.declared.slot.Slot.TheVariants.{Free, Held}, specs.Slots.{HoldsValue, LinksOn}, specs.declared.arena.TheConstants.MAX_SLOTS, specs.Arena.{value_at, IsHeld, held_count}, specs.Free.{IsApart, AreApart, value_in, values_in, IsThread, AreMade, IsThreaded, links}, proofs.Rooms.holding_within, proofs.Fresh.{length-links, links_at, links_made, links_values}}
 
 module _ {X : Type 0} where
   -- One where the option holds a value, else nothing.

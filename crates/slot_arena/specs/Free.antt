@@ -1,9 +1,6 @@
 -- How the free slots of a block are threaded.
 use Rattle.std.specs.Prelude.{◌≡◌, ℕ, ◌+◌, ◌≤◌, zero, suc, get_or, length, map, List, [], ◌∷◌, Option, Some, None}
-use Rattle.slot_arena.specs.declared.slot.Slot.{Slot}
-use Rattle.slot_arena.specs.declared.slot.Slot.TheVariants.{Free, Held}
-use Rattle.slot_arena.specs.declared.arena.TheConstants.{MAX_SLOTS}
-use Rattle.slot_arena.specs.Arena.{held_count}
+use Rattle.slot_arena.{specs.declared.slot.Slot.Slot, specs.declared.slot.Slot.TheVariants.{Free, Held}, specs.declared.arena.TheConstants.MAX_SLOTS, specs.Arena.held_count}
 
 -- The number is not in the list.
 abbrev pub IsApart : ℕ → List ℕ → Type 0

@@ -1,8 +1,6 @@
 -- What the places end as, once a `&mut` into one of them has ended.
-use Rattle.std.specs.Prelude.{ℕ, List, slice_set, Option, Some}
-use Rattle.std.specs.Borrow.{Fml, RattleType, MutBor, Lends}
-use Rattle.slot_arena.specs.declared.block.Places.{Places}
-use Rattle.slot_arena.specs.contracts.block.Places.{the_row}
+use Rattle.std.{specs.Prelude.{ℕ, List, slice_set, Option, Some}, specs.Borrow.{Fml, RattleType, MutBor, Lends}}
+use Rattle.slot_arena.{specs.declared.block.Places.Places, specs.contracts.block.Places.the_row}
 
 -- The same places with another row.
 abbrev pub with_row : {X : Type 0} → Places X → List (Option X) → Places X

@@ -1,8 +1,6 @@
 -- What a held slot ends as, once a `&mut` to its value has ended.
 use Rattle.std.specs.Borrow.{Fml, RattleType, MutBor, Lends}
-use Rattle.slot_arena.specs.declared.slot.Slot.{Slot}
-use Rattle.slot_arena.specs.declared.slot.Slot.TheVariants.{Held}
-use Rattle.slot_arena.specs.contracts.slot.Slot.{the_row}
+use Rattle.slot_arena.{specs.declared.slot.Slot.Slot, specs.declared.slot.Slot.TheVariants.Held, specs.contracts.slot.Slot.the_row}
 
 -- The slot holds the last value written through r.
 abbrev pub lends_held : (R : RattleType) → MutBor (Slot R.Denot) → MutBor R.Denot → Fml

@@ -1,6 +1,5 @@
 -- What an arena ends as, once a `&mut` to one of its values has ended.
-use Rattle.std.specs.Prelude.{ℕ, List, slice_set, Option, Some}
-use Rattle.std.specs.Borrow.{Fml, RattleType, MutBor, Lends}
+use Rattle.std.{specs.Prelude.{ℕ, List, slice_set, Option, Some}, specs.Borrow.{Fml, RattleType, MutBor, Lends}}
 use Rattle.slot_arena.specs.contracts.arena.SlotArena.{the_row}
 
 -- The id has the last value written through r, and all else stays the same.

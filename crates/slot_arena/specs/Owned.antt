@@ -1,6 +1,5 @@
 -- What the owner of a block's places owns and lends, for values of the row R.
-use Rattle.std.specs.Prelude.{ℕ, ◌+◌, ◌*◌, ◌^◌, List, [], ◌∷◌, length, Option, Some, None}
-use Rattle.std.specs.Mem.{type_size}
+use Rattle.std.{specs.Prelude.{ℕ, ◌+◌, ◌*◌, ◌^◌, List, [], ◌∷◌, length, Option, Some, None}, specs.Mem.type_size}
 use base.Fraction.{full_share}
 use base.Fml.{Lft, Fml, ftrue, ffalse, fsep, flt, froom}
 use mir.Syntax.{Ty, ty_array}

@@ -1,7 +1,6 @@
 -- What the places of an arena's block hold.
 use Rattle.std.specs.Prelude.{◌≡◌, ℕ, get_or, List, Option, Some, None}
-use Rattle.slot_arena.specs.declared.slot.Slot.{Slot}
-use Rattle.slot_arena.specs.declared.slot.Slot.TheVariants.{Free, Held}
+use Rattle.slot_arena.{specs.declared.slot.Slot.Slot, specs.declared.slot.Slot.TheVariants.{Free, Held}}
 
 module _ {X : Type 0} where
   -- The slot holds a value.

@@ -1,5 +1,4 @@
-ghost use Rattle.std.specs.Prelude.{◌≡◌, ◌-◌, ◌<◌, ◌≤◌, ◌↔◌, Some, None, length, replicate, slice_set, IfOk, IfErr, IsErr, OnErr, IsTrue};
-ghost use Rattle.std.specs.Borrow.{sem};
+ghost use Rattle.std.{specs.Prelude.{◌≡◌, ◌-◌, ◌<◌, ◌≤◌, ◌↔◌, Some, None, length, replicate, slice_set, IfOk, IfErr, IsErr, OnErr, IsTrue}, specs.Borrow.sem};
 ghost use Rattle.slot_arena.specs.Arena.{value_at, IsHeld, held_count, IsFull};
 
 use crate::block::{Lease, Places, Start, release, reserve};

@@ -1,12 +1,10 @@
 //! One raw block from the allocator, as a row of places that are each empty or hold a value. Only
 //! the six functions here touch the pointer, and their contracts say what makes that safe.
-ghost use Rattle.std.specs.Prelude.{◌≡◌, ℕ, ◌<◌, List, Option, Some, None, length, replicate, get_or, slice_set, IfOk, ⊤};
-ghost use Rattle.std.specs.Borrow.{sem};
+ghost use Rattle.std.{specs.Prelude.{◌≡◌, ℕ, ◌<◌, List, Option, Some, None, length, replicate, get_or, slice_set, IfOk, ⊤}, specs.Borrow.sem};
 ghost use Rattle.std_alloc.specs.Vec.Ownership.{FitsInBlock};
 ghost use base.Fml.{ftrue};
 ghost use denote.RawPtr.{Ptr};
-ghost use Rattle.slot_arena.specs.Place.{Holds};
-ghost use Rattle.slot_arena.specs.Owned.{owned_places, lent_places, owned_lease};
+ghost use Rattle.slot_arena.{specs.Place.Holds, specs.Owned.{owned_places, lent_places, owned_lease}};
 
 use std::alloc::{AllocError, Allocator};
 use std::marker::{Model, PhantomData, Send, Sync};

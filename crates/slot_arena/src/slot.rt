@@ -1,9 +1,6 @@
 //! What is in one place of an arena's block, and the steps on one place.
-ghost use Rattle.std.specs.Prelude.{◌≡◌, Some, None, length, replicate, get_or, slice_set};
-ghost use Rattle.std.specs.Borrow.{sem};
-ghost use Rattle.slot_arena.specs.Slots.{HoldsValue, LinksOn, IsHolding};
-ghost use Rattle.slot_arena.specs.Free.{AreMade, links};
-ghost use Rattle.slot_arena.specs.LentSlot.{lends_held};
+ghost use Rattle.std.{specs.Prelude.{◌≡◌, Some, None, length, replicate, get_or, slice_set}, specs.Borrow.sem};
+ghost use Rattle.slot_arena.{specs.Slots.{HoldsValue, LinksOn, IsHolding}, specs.Free.{AreMade, links}, specs.LentSlot.lends_held};
 
 use crate::block::{Places, Start};
 

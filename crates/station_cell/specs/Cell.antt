@@ -1,11 +1,6 @@
-use Rattle.std.specs.Prelude.{◌≡◌, ◌≢◌, ℕ, ◌≤◌, List, [], length, sum, Some, slice_get, refl}
-use Rattle.std.specs.Coded.{Coded, code_by, coded×, coded_list, coded_ℕ}
-use Rattle.ledger_model.specs.Periods.{Periods, periods_code}
-use Rattle.ledger_model.specs.declared.order.Order.{Order}
+use Rattle.std.{specs.Prelude.{◌≡◌, ◌≢◌, ℕ, ◌≤◌, List, [], length, sum, Some, slice_get, refl}, specs.Coded.{Coded, code_by, coded×, coded_list, coded_ℕ}}
+use Rattle.ledger_model.{specs.Periods.{Periods, periods_code}, specs.declared.order.Order.Order, specs.Limits.Bounds, specs.Content.{Content, empty_content}, specs.Step.Reached}
 use Rattle.ledger_model.specs.contracts.order.Order as orders
-use Rattle.ledger_model.specs.Limits.{Bounds}
-use Rattle.ledger_model.specs.Content.{Content, empty_content}
-use Rattle.ledger_model.specs.Step.{Reached}
 use Rattle.station_ledger.specs.Ledger.{bounds_code, content_code}
 
 -- How many passes a station may give out.

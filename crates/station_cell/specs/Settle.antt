@@ -1,11 +1,5 @@
 use Rattle.std.specs.Prelude.{◌≡◌, ℕ, ◌+◌, ◌≤◌, List, [], ◌∷◌, ◌++◌, Option, None, Some, slice_get, slice_set}
-use Rattle.ledger_model.specs.declared.answer.Answer.{Answer}
-use Rattle.ledger_model.specs.declared.answer.Answer.TheVariants.{Accepted, Repeat, Refused}
-use Rattle.ledger_model.specs.declared.command.Command.{Command}
-use Rattle.ledger_model.specs.Board.{figures_by}
-use Rattle.ledger_model.specs.Content.{entries}
-use Rattle.ledger_model.specs.Posts.{Post, row_after}
-use Rattle.ledger_model.specs.Step.{answer, step}
+use Rattle.ledger_model.{specs.declared.answer.Answer.Answer, specs.declared.answer.Answer.TheVariants.{Accepted, Repeat, Refused}, specs.declared.command.Command.Command, specs.Board.figures_by, specs.Content.entries, specs.Posts.{Post, row_after}, specs.Step.{answer, step}}
 use Rattle.site_book.specs.Book.{Book, Known, known}
 use Rattle.station_cell.specs.Cell.{Cell, Held, Knows}
 use Rattle.station_ledger.specs.Spent.{most_spent}

@@ -1,9 +1,7 @@
 ghost use Rattle.std.specs.Prelude.{◌≡◌, ◌≤◌, ◌+◌, ◌↔◌, ◌++◌, ◌∷◌, [], length, sum, IsTrue, IsErr, IfOk, OnOk, OnErr};
 ghost use Rattle.ledger_model.specs.Step.{Reached, answer};
-ghost use Rattle.station_cell.specs.Cell.{IsInService, Knows, most_passes, new_cell, new_pass, no_station};
-ghost use Rattle.station_cell.specs.Settle.{cell_after, pass_after};
-ghost use Rattle.station_ledger.specs.Judged.{IsJudged};
-ghost use Rattle.station_ledger.specs.Spent.{most_spent};
+ghost use Rattle.station_cell.{specs.Cell.{IsInService, Knows, most_passes, new_cell, new_pass, no_station}, specs.Settle.{cell_after, pass_after}};
+ghost use Rattle.station_ledger.{specs.Judged.IsJudged, specs.Spent.most_spent};
 
 use crate::fault::TooManyPasses;
 use crate::pass::Pass;

@@ -1,27 +1,8 @@
 -- The lines of a board are within what a station's readings can show.
-use Rattle.std.proofs.Common.{◌==◌, ℕ, ◌≤◌, List, [], ◌∷◌, map, inl, inr, refl, arith}
-use Rattle.std.specs.List.{All}
-use Rattle.std.proofs.lemmas.List.Elements.{All-nil, All-cons}
+use Rattle.std.{proofs.Common.{◌==◌, ℕ, ◌≤◌, List, [], ◌∷◌, map, inl, inr, refl, arith}, specs.List.All, proofs.lemmas.List.Elements.{All-nil, All-cons}}
 use Rattle.energy_flow.specs.Flow.{Energy}
-use Rattle.ledger_model.specs.declared.by_direction.ByDirection.{ByDirection}
-use Rattle.ledger_model.specs.Periods.{Periods}
-use Rattle.ledger_model.specs.Board.{Flowed, board_by}
-use Rattle.ledger_model.specs.Content.{Entry}
-use Rattle.ledger_model.specs.Energy.{all_pairs_by, flows_in_by, flows_of_by, energy_by, energy_in_by, energy_of_by, parts_of_both, parts_over, quarters_by}
-use Rattle.ledger_model.specs.Parts.{Part}
-use Rattle.ledger_model.proofs.PartLemmas.{parts_down, parts_up}
-use Rattle.ledger_model.specs.Evse.{energy_at_by, evses, flows_at_by}
-use Rattle.ledger_model.specs.declared.order.Order.{Order}
-use Rattle.ledger_model.specs.declared.reading.Direction.{Direction}
-use Rattle.ledger_model.specs.declared.reading.Direction.TheVariants.{Import, Export}
-use Rattle.ledger_model.specs.Limits.{Bounds}
-use Rattle.ledger_model.specs.Quarter.{IsPeriod, IsQuarterOf}
-use Rattle.ledger_model.specs.BoardLaws.{IsIn}
-use Rattle.ledger_model.proofs.Callers.{rising-IsIn}
-use Rattle.station_ledger.specs.Lines.{IsStationFlow, AreStationFlows, AreStationLines}
-use Rattle.station_ledger.specs.Sums.{AreAllowed}
-use Rattle.station_ledger.proofs.Timely.{in_period}
-use Rattle.station_ledger.proofs.Bounded.{few_up, few_down, evse_up_le, evse_down_le, own_up_le, own_down_le, part_le}
+use Rattle.ledger_model.{specs.declared.by_direction.ByDirection.ByDirection, specs.Periods.Periods, specs.Board.{Flowed, board_by}, specs.Content.Entry, specs.Energy.{all_pairs_by, flows_in_by, flows_of_by, energy_by, energy_in_by, energy_of_by, parts_of_both, parts_over, quarters_by}, specs.Parts.Part, proofs.PartLemmas.{parts_down, parts_up}, specs.Evse.{energy_at_by, evses, flows_at_by}, specs.declared.order.Order.Order, specs.declared.reading.Direction.Direction, specs.declared.reading.Direction.TheVariants.{Import, Export}, specs.Limits.Bounds, specs.Quarter.{IsPeriod, IsQuarterOf}, specs.BoardLaws.IsIn, proofs.Callers.rising-IsIn}
+use Rattle.station_ledger.{specs.Lines.{IsStationFlow, AreStationFlows, AreStationLines}, specs.Sums.AreAllowed, proofs.Timely.in_period, proofs.Bounded.{few_up, few_down, evse_up_le, evse_down_le, own_up_le, own_down_le, part_le}}
 
 module _ (order : Order) (limits : Bounds) (es : List Entry) (within : AreAllowed order limits es) where
   small : (d : Direction) (e : Energy) → e.up ≤ (energy_by order d es).up → e.down ≤ (energy_by order d es).down → IsStationFlow e

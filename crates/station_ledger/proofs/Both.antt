@@ -1,21 +1,9 @@
 -- Pairs of both directions, those of one after those of the other.
-use Rattle.std.proofs.Common.{ℕ, ◌≡◌, List, ◌++◌, length, refl, sym, ap, ◌∙◌, arith}
-use Rattle.std.proofs.lemmas.List.{append_assoc}
+use Rattle.std.{proofs.Common.{ℕ, ◌≡◌, List, ◌++◌, length, refl, sym, ap, ◌∙◌, arith}, proofs.lemmas.List.append_assoc}
 use Rattle.energy_flow.specs.Flow.{Energy}
-use Rattle.ledger_model.proofs.Directions.{each_way}
-use Rattle.ledger_model.specs.Periods.{Periods}
-use Rattle.ledger_model.specs.ByDirection.{in_direction}
-use Rattle.ledger_model.specs.declared.reading.Direction.{Direction}
-use Rattle.ledger_model.specs.declared.reading.Direction.TheVariants.{Import, Export}
-use Rattle.ledger_model.specs.Board.{Flowed}
-use Rattle.ledger_model.specs.Energy.{Pair}
-use Rattle.quarter_table.specs.Table.{Table}
-use Rattle.quarter_table.specs.Pairs.{rows_of}
-use Rattle.station_ledger.specs.declared.pairs.Way.{Way}
-use Rattle.station_ledger.specs.declared.pairs.Way.TheVariants.{Coming, Going}
-use Rattle.station_ledger.specs.Quarters.{IsSumOf, DidMove, DidMoveBoth, MayMove, MayMoveBoth, both_length, both_quartered, quartered, rows_moved}
-use Rattle.station_ledger.proofs.Rows.{room_fewer, rows_more, rows_less}
-use Rattle.station_ledger.proofs.Walks.{rows_moved-append}
+use Rattle.ledger_model.{proofs.Directions.each_way, specs.Periods.Periods, specs.ByDirection.in_direction, specs.declared.reading.Direction.Direction, specs.declared.reading.Direction.TheVariants.{Import, Export}, specs.Board.Flowed, specs.Energy.Pair}
+use Rattle.quarter_table.{specs.Table.Table, specs.Pairs.rows_of}
+use Rattle.station_ledger.{specs.declared.pairs.Way.Way, specs.declared.pairs.Way.TheVariants.{Coming, Going}, specs.Quarters.{IsSumOf, DidMove, DidMoveBoth, MayMove, MayMoveBoth, both_length, both_quartered, quartered, rows_moved}, proofs.Rows.{room_fewer, rows_more, rows_less}, proofs.Walks.rows_moved-append}
 
 regrouped : (period : Periods) (ps : Direction → List Pair) (others : List Flowed)
     → rows_of (both_quartered period ps ++ others) ≡ rows_of (quartered period Import (ps Import) ++ (quartered period Export (ps Export) ++ others))

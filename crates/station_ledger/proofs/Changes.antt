@@ -1,34 +1,9 @@
 -- What an event that comes or goes changes: the pairs of each direction that go and come, and what its transaction
 -- counts for.
 use Rattle.std.proofs.Common.{◌≡◌, ℕ, ◌+◌, ◌≤◌, zero, suc, List, [], ◌∷◌, Option, length, refl, sym, ap, subst, ◌∙◌, arith}
-use Rattle.ledger_model.specs.declared.order.Order.{Order}
-use Rattle.ledger_model.specs.declared.order.Order.TheVariants.{Sequence}
-use Rattle.ledger_model.specs.declared.reading.Direction.{Direction}
-use Rattle.ledger_model.specs.declared.reading.Direction.TheVariants.{Import, Export}
-use Rattle.ledger_model.specs.Content.{Entry, Stored}
-use Rattle.ledger_model.specs.ByDirection.{in_direction}
-use Rattle.ledger_model.specs.declared.by_direction.ByDirection.{ByDirection}
-use Rattle.ledger_model.specs.Deltas.{across, pairs_between, before_key, behind_key, came_by, gone_by, kept_by, if_read, most_for}
-use Rattle.ledger_model.specs.Energy.{Pair}
-use Rattle.ledger_model.specs.Event.{MeterReading, toward}
-use Rattle.ledger_model.specs.Key.{KeyName}
-use Rattle.ledger_model.specs.Limits.{Bounds}
-use Rattle.ledger_model.specs.Ranges.{most_event_readings}
-use Rattle.ledger_model.proofs.Callers.{few_moved, few_toward}
-use Rattle.event_chain.specs.Chains.{Chained, stored}
-use Rattle.station_ledger.specs.declared.pairs.Way.{Way}
-use Rattle.station_ledger.specs.declared.pairs.Way.TheVariants.{Coming, Going}
-use Rattle.station_ledger.specs.Moved.{IsMoved}
-use Rattle.station_ledger.specs.Quarters.{both_length, readings_at}
-use Rattle.event_chain.specs.Room.{readings_under}
-use Rattle.event_chain.specs.Sides.{AreSides, side_if}
-use Rattle.event_chain.specs.declared.around.Sides.{Sides}
-use Rattle.station_ledger.specs.Runs.{by_way}
-use Rattle.station_ledger.specs.Spent.{most_at}
-use Rattle.station_ledger.specs.Sides.{has_some, sides_across, sides_between}
-use Rattle.station_ledger.specs.Sums.{AreAllowed, IsTurning}
-use Rattle.station_ledger.proofs.Moved.{moved_more, moved_back}
-use Rattle.station_ledger.proofs.Trades.{IsTraded, traded}
+use Rattle.ledger_model.{specs.declared.order.Order.Order, specs.declared.order.Order.TheVariants.Sequence, specs.declared.reading.Direction.Direction, specs.declared.reading.Direction.TheVariants.{Import, Export}, specs.Content.{Entry, Stored}, specs.ByDirection.in_direction, specs.declared.by_direction.ByDirection.ByDirection, specs.Deltas.{across, pairs_between, before_key, behind_key, came_by, gone_by, kept_by, if_read, most_for}, specs.Energy.Pair, specs.Event.{MeterReading, toward}, specs.Key.KeyName, specs.Limits.Bounds, specs.Ranges.most_event_readings, proofs.Callers.{few_moved, few_toward}}
+use Rattle.event_chain.{specs.Chains.{Chained, stored}, specs.Room.readings_under, specs.Sides.{AreSides, side_if}, specs.declared.around.Sides.Sides}
+use Rattle.station_ledger.{specs.declared.pairs.Way.Way, specs.declared.pairs.Way.TheVariants.{Coming, Going}, specs.Moved.IsMoved, specs.Quarters.{both_length, readings_at}, specs.Runs.by_way, specs.Spent.most_at, specs.Sides.{has_some, sides_across, sides_between}, specs.Sums.{AreAllowed, IsTurning}, proofs.Moved.{moved_more, moved_back}, proofs.Trades.{IsTraded, traded}}
 
 -- A change of a transaction's live events, with the pairs of each direction that go and come by sequence.
 pub record IsChange (limits : Bounds) (tx : List ℕ) (es new : List Entry) (gone came : Direction → List Pair) (most : ℕ) : Type 0 where

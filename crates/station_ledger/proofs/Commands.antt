@@ -1,47 +1,10 @@
 -- What each command leaves for the sums to do.
-use Rattle.std.proofs.Common.{not, IfSome, ◌≡◌, ◌==◌, ◌&&◌, ℕ, ◌+◌, ◌<◌, ◌≤◌, Bool, true, false, cond, List, Option, Some, None, map, length, refl, sym, ap, subst, ◌∙◌, arith}
-use Rattle.std.specs.List.{filter, filter_map, flat_map, count_by, sum_by}
+use Rattle.std.{proofs.Common.{not, IfSome, ◌≡◌, ◌==◌, ◌&&◌, ℕ, ◌+◌, ◌<◌, ◌≤◌, Bool, true, false, cond, List, Option, Some, None, map, length, refl, sym, ap, subst, ◌∙◌, arith}, specs.List.{filter, filter_map, flat_map, count_by, sum_by}, specs.FinMap.find}
 use Rattle.std.specs.FinMap as finite
-use Rattle.std.specs.FinMap.{find}
-use Rattle.ledger_model.specs.declared.command.Command.{Command}
-use Rattle.ledger_model.specs.declared.command.Command.TheVariants.{Deliver, Void, Restore, Erase}
-use Rattle.ledger_model.specs.declared.order.Order.{Order}
-use Rattle.ledger_model.specs.declared.order.Order.TheVariants.{Sequence, Moment}
-use Rattle.ledger_model.specs.Complete.{starts_and_ends}
-use Rattle.ledger_model.specs.Content.{Entry, Stored, live, transactions_of}
-use Rattle.ledger_model.specs.ByDirection.{in_direction, in_each}
-use Rattle.ledger_model.specs.declared.by_direction.ByDirection.{ByDirection}
-use Rattle.ledger_model.specs.Deltas.{IsOneMore, before_key, behind_key, own_events, most_for}
-use Rattle.ledger_model.specs.Energy.{energy_over, followed}
-use Rattle.ledger_model.specs.Event.{EventContent, MeterReading, toward}
-use Rattle.ledger_model.specs.declared.reading.Direction.{Direction}
-use Rattle.ledger_model.specs.declared.reading.Direction.TheVariants.{Import, Export}
-use Rattle.ledger_model.specs.Evse.{first_or_zero}
-use Rattle.ledger_model.specs.Gaps.{missing}
-use Rattle.ledger_model.specs.InTime.{in_order, in_time}
-use Rattle.ledger_model.specs.Key.{KeyName, key_cmp}
-use Rattle.ledger_model.specs.Limits.{Bounds}
-use Rattle.ledger_model.specs.Ranges.{most_event_readings}
-use Rattle.ledger_model.specs.Step.{marked, marked_at, events_after}
-use Rattle.ledger_model.proofs.Callers.{delivered_more, restored_more, voided_less, erased_same, entries_after_is, voided_delivered, voided_restored, voided_voided, voided_erased}
-use Rattle.ledger_model.proofs.LedgerLemmas.{inserted_there}
-use Rattle.event_chain.specs.declared.answers.Found.TheVariants.{Live, Voided}
-use Rattle.event_chain.specs.Chains.{Chained, stored}
-use Rattle.event_chain.specs.Room.{found_of, readings_under}
+use Rattle.ledger_model.{specs.declared.command.Command.Command, specs.declared.command.Command.TheVariants.{Deliver, Void, Restore, Erase}, specs.declared.order.Order.Order, specs.declared.order.Order.TheVariants.{Sequence, Moment}, specs.Complete.starts_and_ends, specs.Content.{Entry, Stored, live, transactions_of}, specs.ByDirection.{in_direction, in_each}, specs.declared.by_direction.ByDirection.ByDirection, specs.Deltas.{IsOneMore, before_key, behind_key, own_events, most_for}, specs.Energy.{energy_over, followed}, specs.Event.{EventContent, MeterReading, toward}, specs.declared.reading.Direction.Direction, specs.declared.reading.Direction.TheVariants.{Import, Export}, specs.Evse.first_or_zero, specs.Gaps.missing, specs.InTime.{in_order, in_time}, specs.Key.{KeyName, key_cmp}, specs.Limits.Bounds, specs.Ranges.most_event_readings, specs.Step.{marked, marked_at, events_after}, proofs.Callers.{delivered_more, restored_more, voided_less, erased_same, entries_after_is, voided_delivered, voided_restored, voided_voided, voided_erased}, proofs.LedgerLemmas.inserted_there}
+use Rattle.event_chain.{specs.declared.answers.Found.TheVariants.{Live, Voided}, specs.Chains.{Chained, stored}, specs.Room.{found_of, readings_under}, specs.Sides.AreSides, specs.declared.around.Sides.Sides}
 use Rattle.quarter_table.specs.Pairs.{rows_of}
-use Rattle.station_ledger.specs.declared.by_moment.ByMoment.{ByMoment}
-use Rattle.station_ledger.specs.declared.pairs.Way.{Way}
-use Rattle.station_ledger.specs.declared.pairs.Way.TheVariants.{Coming, Going}
-use Rattle.station_ledger.specs.declared.sums.Sums.{Sums}
-use Rattle.station_ledger.specs.ByMoment.{AreByMoment, ranked}
-use Rattle.station_ledger.specs.Kept.{CanDo, voided_in}
-use Rattle.station_ledger.specs.Quarters.{HasEvent, both_quartered, readings_at}
-use Rattle.event_chain.specs.Sides.{AreSides}
-use Rattle.event_chain.specs.declared.around.Sides.{Sides}
-use Rattle.station_ledger.specs.Sides.{has_some}
-use Rattle.station_ledger.specs.Spent.{most_in_runs, most_spent, most_turned, most_under}
-use Rattle.station_ledger.specs.Sums.{AreAllowed, AreSummed, AreTurning, IsTurning, order_in}
-use Rattle.station_ledger.proofs.Moved.{kept_same}
+use Rattle.station_ledger.{specs.declared.by_moment.ByMoment.ByMoment, specs.declared.pairs.Way.Way, specs.declared.pairs.Way.TheVariants.{Coming, Going}, specs.declared.sums.Sums.Sums, specs.ByMoment.{AreByMoment, ranked}, specs.Kept.{CanDo, voided_in}, specs.Quarters.{HasEvent, both_quartered, readings_at}, specs.Sides.has_some, specs.Spent.{most_in_runs, most_spent, most_turned, most_under}, specs.Sums.{AreAllowed, AreSummed, AreTurning, IsTurning, order_in}, proofs.Moved.kept_same}
 
 -- an event that was found
 pub record IsFound (o : Option Stored) (voided : Bool) : Type 0 where

@@ -1,15 +1,8 @@
 -- What is missing between live numbers, by the first, the last and how many there are.
-use Rattle.std.proofs.Common.{◌≡◌, ◌==◌, ◌&&◌, Bool, true, false, cond, ℕ, suc, ◌+◌, ◌-◌, ◌<◌, List, [], ◌∷◌, Some, None, length, slice_get, refl, sym, ap, ◌∙◌, arith}
-use Rattle.std.proofs.lemmas.Bool.{eq-eqb, ne_eqb}
+use Rattle.std.{proofs.Common.{◌≡◌, ◌==◌, ◌&&◌, Bool, true, false, cond, ℕ, suc, ◌+◌, ◌-◌, ◌<◌, List, [], ◌∷◌, Some, None, length, slice_get, refl, sym, ap, ◌∙◌, arith}, proofs.lemmas.Bool.{eq-eqb, ne_eqb}}
 use Rattle.energy_flow.specs.Flow.{Energy}
-use Rattle.ledger_model.specs.declared.by_direction.ByDirection.{ByDirection}
-use Rattle.ledger_model.specs.Content.{Entry, live_of}
+use Rattle.ledger_model.{specs.declared.by_direction.ByDirection.ByDirection, specs.Content.{Entry, live_of}, specs.Board.last_or_zero, specs.BoardLaws.AreRising, specs.Evse.first_or_zero, specs.Gaps.missing, proofs.GapLemmas.missing-fills}
 use Rattle.station_ledger.specs.Standing.{standing_with, kept_with}
-use Rattle.ledger_model.specs.Board.{last_or_zero}
-use Rattle.ledger_model.specs.BoardLaws.{AreRising}
-use Rattle.ledger_model.specs.Evse.{first_or_zero}
-use Rattle.ledger_model.specs.Gaps.{missing}
-use Rattle.ledger_model.proofs.GapLemmas.{missing-fills}
 
 pub first_is : (ns : List ℕ) (n : ℕ) → slice_get ns 0 ≡ Some n → (first_or_zero ns ≡ n) × (0 < length ns)
 first_is [] n h = cc

@@ -1,23 +1,8 @@
 -- The lines of the EVSEs from their sums, number by number.
-use Rattle.std.proofs.Common.{◌≡◌, ◌==◌, ◌⊎◌, inl, inr, ⊎_elim, ℕ, zero, suc, ◌+◌, ◌<◌, ◌≤◌, nat_lt, Bool, true, false, cond, List, [], ◌∷◌, ◌++◌, length, map, refl, sym, ap, subst, ◌∙◌, arith}
-use Rattle.std.specs.List.{filter}
-use Rattle.std.proofs.lemmas.Bool.{eq-eqb, lt-ltb, le-ltb, ltb-true}
-use Rattle.std.proofs.lemmas.Bool.Decides.{Decides-eqb}
-use Rattle.std.proofs.lemmas.List.{append-nil, map-append}
-use Rattle.ledger_model.specs.declared.order.Order.{Order}
+use Rattle.std.{proofs.Common.{◌≡◌, ◌==◌, ◌⊎◌, inl, inr, ⊎_elim, ℕ, zero, suc, ◌+◌, ◌<◌, ◌≤◌, nat_lt, Bool, true, false, cond, List, [], ◌∷◌, ◌++◌, length, map, refl, sym, ap, subst, ◌∙◌, arith}, specs.List.filter, proofs.lemmas.Bool.{eq-eqb, lt-ltb, le-ltb, ltb-true}, proofs.lemmas.Bool.Decides.Decides-eqb, proofs.lemmas.List.{append-nil, map-append}}
+use Rattle.ledger_model.{specs.declared.order.Order.Order, specs.declared.by_direction.ByDirection.ByDirection, specs.Board.Flowed, specs.BoardLaws.{AreRising, IsIn}, specs.Content.{Entry, live, transactions_of}, specs.Evse.{evse_of, evses, flows_at_by, transactions_at}, specs.Ranges.greatest_evse, proofs.EnergyLemmas.{evses_rise, evses_shown}}
 use Rattle.energy_flow.specs.Flow.{Energy}
-use Rattle.ledger_model.specs.declared.by_direction.ByDirection.{ByDirection}
-use Rattle.ledger_model.specs.Board.{Flowed}
-use Rattle.ledger_model.specs.BoardLaws.{AreRising, IsIn}
-use Rattle.ledger_model.specs.Content.{Entry, live, transactions_of}
-use Rattle.ledger_model.specs.Evse.{evse_of, evses, flows_at_by, transactions_at}
-use Rattle.ledger_model.specs.Ranges.{greatest_evse}
-use Rattle.ledger_model.proofs.EnergyLemmas.{evses_rise, evses_shown}
-use Rattle.station_ledger.specs.declared.totals.EvseSum.{EvseSum}
-use Rattle.station_ledger.specs.Moved.{sum_at}
-use Rattle.station_ledger.specs.Numbered.{AreNumbered}
-use Rattle.station_ledger.specs.Sums.{AreEvseSums}
-use Rattle.station_ledger.proofs.Numbered.{evse_few}
+use Rattle.station_ledger.{specs.declared.totals.EvseSum.EvseSum, specs.Moved.sum_at, specs.Numbered.AreNumbered, specs.Sums.AreEvseSums, proofs.Numbered.evse_few}
 
 -- the number, where its EVSE has a transaction
 abbrev pub shown_at : List EvseSum → ℕ → List ℕ

@@ -1,31 +1,8 @@
 -- A live event that comes or goes where the readings are by sequence, and where they are by moment.
-use Rattle.std.proofs.Common.{◌≡◌, Bool, true, false, cond, List, [], ◌∷◌, ◌++◌, Option, Some, None, IfSome, refl, sym, ap, subst, ◌∙◌}
-use Rattle.std.specs.List.{filter}
-use Rattle.std.specs.Ordering.{is_lt}
-use Rattle.std.specs.declared.cmp.Ordering.{Ordering}
-use Rattle.std.specs.declared.cmp.Ordering.TheVariants.{Less, Equal, Greater}
-use Rattle.std.proofs.lemmas.List.{append-nil}
-use Rattle.std.proofs.lemmas.List.Elements.{filter-append}
-use Rattle.ledger_model.specs.declared.by_direction.ByDirection.{ByDirection}
-use Rattle.ledger_model.specs.declared.order.Order.TheVariants.{Moment}
-use Rattle.ledger_model.specs.Content.{Entry, Stored, live}
-use Rattle.ledger_model.specs.Deltas.{IsOneMore, before_key, behind_key}
-use Rattle.ledger_model.specs.Key.{KeyName, key_cmp}
-use Rattle.ledger_model.specs.Limits.{Bounds}
-use Rattle.ledger_model.proofs.Callers.{turned}
-use Rattle.event_chain.specs.Chains.{Chained, stored}
-use Rattle.event_chain.specs.Room.{readings_under}
-use Rattle.event_chain.specs.declared.around.Sides.{Sides}
-use Rattle.station_ledger.specs.declared.by_moment.ByMoment.{ByMoment}
-use Rattle.station_ledger.specs.declared.sums.Sums.{Sums}
-use Rattle.station_ledger.specs.declared.pairs.Way.{Way}
-use Rattle.station_ledger.specs.declared.pairs.Way.TheVariants.{Coming, Going}
-use Rattle.station_ledger.specs.ByMoment.{AreByMoment}
-use Rattle.station_ledger.specs.Exchange.{IsMove}
-use Rattle.station_ledger.specs.Spent.{most_at}
-use Rattle.station_ledger.specs.Runs.{by_way}
-use Rattle.station_ledger.specs.Sums.{AreAllowed, AreQuarterRows, AreTurning, IsTurning, order_in, order_of}
-use Rattle.station_ledger.proofs.Changes.{IsChange, came_sides, gone_sides, turned_pairs}
+use Rattle.std.{proofs.Common.{◌≡◌, Bool, true, false, cond, List, [], ◌∷◌, ◌++◌, Option, Some, None, IfSome, refl, sym, ap, subst, ◌∙◌}, specs.List.filter, specs.Ordering.is_lt, specs.declared.cmp.Ordering.Ordering, specs.declared.cmp.Ordering.TheVariants.{Less, Equal, Greater}, proofs.lemmas.List.append-nil, proofs.lemmas.List.Elements.filter-append}
+use Rattle.ledger_model.{specs.declared.by_direction.ByDirection.ByDirection, specs.declared.order.Order.TheVariants.Moment, specs.Content.{Entry, Stored, live}, specs.Deltas.{IsOneMore, before_key, behind_key}, specs.Key.{KeyName, key_cmp}, specs.Limits.Bounds, proofs.Callers.turned}
+use Rattle.event_chain.{specs.Chains.{Chained, stored}, specs.Room.readings_under, specs.declared.around.Sides.Sides}
+use Rattle.station_ledger.{specs.declared.by_moment.ByMoment.ByMoment, specs.declared.sums.Sums.Sums, specs.declared.pairs.Way.Way, specs.declared.pairs.Way.TheVariants.{Coming, Going}, specs.ByMoment.AreByMoment, specs.Exchange.IsMove, specs.Spent.most_at, specs.Runs.by_way, specs.Sums.{AreAllowed, AreQuarterRows, AreTurning, IsTurning, order_in, order_of}, proofs.Changes.{IsChange, came_sides, gone_sides, turned_pairs}}
 
 -- what passes a test passes it again
 again : {X : Type 0} (p : X → Bool) (xs : List X) → filter p (filter p xs) ≡ filter p xs

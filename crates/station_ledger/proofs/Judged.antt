@@ -1,14 +1,6 @@
 -- The answer to a delivery under a key that has an event.
-use Rattle.std.proofs.Common.{◌≡◌, Bool, ◌↔◌, IsTrue, cond, Option, Some, ap, ◌∙◌}
-use Rattle.std.proofs.lemmas.Bool.Decides.{same_from_decides}
-use Rattle.ledger_model.specs.declared.answer.Answer.TheVariants.{Repeat, Refused}
-use Rattle.ledger_model.specs.declared.answer.Refusal.TheVariants.{ConflictingEvent}
-use Rattle.ledger_model.specs.Event.{EventContent}
-use Rattle.ledger_model.specs.Key.{KeyName}
-use Rattle.ledger_model.specs.Limits.{Bounds}
-use Rattle.ledger_model.specs.Content.{Content, Stored}
-use Rattle.ledger_model.specs.Step.{answer_to_deliver}
-use Rattle.ledger_model.proofs.Callers.{same_event-Decides}
+use Rattle.std.{proofs.Common.{◌≡◌, Bool, ◌↔◌, IsTrue, cond, Option, Some, ap, ◌∙◌}, proofs.lemmas.Bool.Decides.same_from_decides}
+use Rattle.ledger_model.{specs.declared.answer.Answer.TheVariants.{Repeat, Refused}, specs.declared.answer.Refusal.TheVariants.ConflictingEvent, specs.Event.EventContent, specs.Key.KeyName, specs.Limits.Bounds, specs.Content.{Content, Stored}, specs.Step.answer_to_deliver, proofs.Callers.same_event-Decides}
 
 -- the answer where an event is under the key
 pub answer_known : (limits : Bounds) (c : Content) (key : KeyName) (event : EventContent) (stored : Stored) (found : Option Stored) (same : Bool)

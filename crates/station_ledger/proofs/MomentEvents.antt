@@ -1,26 +1,11 @@
 -- The readings by moment once an event's came or went.
-use Rattle.std.proofs.Common.{◌≡◌, ◌==◌, ℕ, zero, suc, ◌≤◌, true, false, not, List, [], Option, Some, None, is_some, length, refl, sym, ap, subst, ◌∙◌, ⊎_elim, arith, vec_capacity}
-use Rattle.std.specs.List.{flat_map}
-use Rattle.std.specs.Str.{bytes_eq}
-use Rattle.std.specs.Ordering.{eq_by_cmp}
-use Rattle.transaction_map.specs.Map.{id_cmp}
-use Rattle.transaction_map.proofs.Rising.{equal_ids}
-use Rattle.std.proofs.lemmas.Bool.{ne_eqb, cases_eq, cases_Bool}
-use Rattle.std.proofs.lemmas.Slice.Eq.{bytes_eq-Decides}
-use Rattle.event_chain.specs.declared.row.TableRow.{TableRow}
+use Rattle.std.{proofs.Common.{◌≡◌, ◌==◌, ℕ, zero, suc, ◌≤◌, true, false, not, List, [], Option, Some, None, is_some, length, refl, sym, ap, subst, ◌∙◌, ⊎_elim, arith, vec_capacity}, specs.List.flat_map, specs.Str.bytes_eq, specs.Ordering.eq_by_cmp, proofs.lemmas.Bool.{ne_eqb, cases_eq, cases_Bool}, proofs.lemmas.Slice.Eq.bytes_eq-Decides}
+use Rattle.transaction_map.{specs.Map.id_cmp, proofs.Rising.equal_ids}
+use Rattle.event_chain.{specs.declared.row.TableRow.TableRow, specs.Table.{IsFresh, Table, row_of}}
 use Rattle.event_chain.specs.Table as table
-use Rattle.event_chain.specs.Table.{IsFresh, Table, row_of}
-use Rattle.ledger_model.specs.declared.reading.Direction.{Direction}
-use Rattle.ledger_model.specs.Content.{Entry, live, live_of, transactions_of}
-use Rattle.ledger_model.specs.InTime.{in_time}
-use Rattle.ledger_model.specs.Limits.{Bounds}
-use Rattle.ledger_model.specs.Ranges.{most_event_readings}
-use Rattle.reading_index.specs.Ranks.{owner}
-use Rattle.reading_index.specs.Timed.{Timed, AreRising, owned}
-use Rattle.station_ledger.specs.ByMoment.{live_readings, ranked, timed_of, AreByMoment, AreSlots, IsSlotGiven}
-use Rattle.station_ledger.specs.declared.by_moment.ByMoment.{ByMoment}
-use Rattle.station_ledger.proofs.MomentRanks.{at}
-use Rattle.station_ledger.proofs.Moved.{none_long}
+use Rattle.ledger_model.{specs.declared.reading.Direction.Direction, specs.Content.{Entry, live, live_of, transactions_of}, specs.InTime.in_time, specs.Limits.Bounds, specs.Ranges.most_event_readings}
+use Rattle.reading_index.{specs.Ranks.owner, specs.Timed.{Timed, AreRising, owned}}
+use Rattle.station_ledger.{specs.ByMoment.{live_readings, ranked, timed_of, AreByMoment, AreSlots, IsSlotGiven}, specs.declared.by_moment.ByMoment.ByMoment, proofs.MomentRanks.at, proofs.Moved.none_long}
 
 some_same : {X : Type 0} (x y : X) → Some x ≡ Some y → x ≡ y
 some_same x y e = cc

@@ -1,16 +1,8 @@
 -- The readings of an event listed by rank, one after the other.
-use Rattle.std.proofs.Common.{◌≡◌, ℕ, zero, suc, ◌+◌, ◌^◌, ◌<◌, ◌≤◌, cond, not, List, [], ◌∷◌, ◌++◌, length, take, drop, get_or, refl, sym, ap, subst, ◌∙◌, arith}
-use Rattle.std.specs.List.{AllByRecursion}
-use Rattle.std.proofs.lemmas.Bool.{lt-ltb, le-ltb}
-use Rattle.ledger_model.specs.Event.{MeterReading}
-use Rattle.ledger_model.specs.InTime.{put_in_time}
-use Rattle.ledger_model.specs.Ranges.{most_event_readings}
-use Rattle.ledger_model.proofs.Callers.{AreFrom}
-use Rattle.reading_index.specs.Ranks.{rank}
-use Rattle.reading_index.specs.Timed.{Timed, from_on, in_front, AreAbove, AreRising, AreBelow}
-use Rattle.station_ledger.specs.ByMoment.{ranked_from}
-use Rattle.station_ledger.proofs.MomentLists.{each_put, from_after, none_has, AreApart, IsAfter}
-use Rattle.station_ledger.proofs.MomentRanks.{at, length-put, put-ranked}
+use Rattle.std.{proofs.Common.{◌≡◌, ℕ, zero, suc, ◌+◌, ◌^◌, ◌<◌, ◌≤◌, cond, not, List, [], ◌∷◌, ◌++◌, length, take, drop, get_or, refl, sym, ap, subst, ◌∙◌, arith}, specs.List.AllByRecursion, proofs.lemmas.Bool.{lt-ltb, le-ltb}}
+use Rattle.ledger_model.{specs.Event.MeterReading, specs.InTime.put_in_time, specs.Ranges.most_event_readings, proofs.Callers.AreFrom}
+use Rattle.reading_index.{specs.Ranks.rank, specs.Timed.{Timed, from_on, in_front, AreAbove, AreRising, AreBelow}}
+use Rattle.station_ledger.{specs.ByMoment.ranked_from, proofs.MomentLists.{each_put, from_after, none_has, AreApart, IsAfter}, proofs.MomentRanks.{at, length-put, put-ranked}}
 
 -- Where those in front of a place are below a rank and the others are not, the place is the rank's.
 cut : (k : ℕ) (front back : List Timed) → AreBelow k front → AreFrom at k back → (front ≡ in_front k (front ++ back)) × (back ≡ from_on k (front ++ back))

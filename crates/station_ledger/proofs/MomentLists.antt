@@ -1,29 +1,9 @@
 -- The readings of an event and of a transaction by rank.
-use Rattle.std.proofs.Common.{◌≡◌, ℕ, ◌+◌, ◌*◌, ◌^◌, ◌<◌, ◌≤◌, Bool, true, false, cond, not, List, [], ◌∷◌, ◌++◌, length, map, refl, sym, ap, subst, ◌∙◌, ⊎_elim, eqb, nat_lt, bytes_eq, arith}
-use Rattle.std.specs.List.{AllByRecursion, All, filter, flat_map, sum_by}
-use Rattle.std.proofs.lemmas.Bool.{cases_lt, cases_eq, eq-eqb, ne_eqb, lt-ltb, le-ltb, or_from, true≢false}
-use Rattle.std.proofs.lemmas.Grind.{flat_map-append}
-use Rattle.std.proofs.lemmas.List.{map-append}
-use Rattle.std.proofs.lemmas.List.Elements.{recursion_from_All}
-use Rattle.std.proofs.lemmas.List.Sums.{sum_by-append, sum_by-cons}
+use Rattle.std.{proofs.Common.{◌≡◌, ℕ, ◌+◌, ◌*◌, ◌^◌, ◌<◌, ◌≤◌, Bool, true, false, cond, not, List, [], ◌∷◌, ◌++◌, length, map, refl, sym, ap, subst, ◌∙◌, ⊎_elim, eqb, nat_lt, bytes_eq, arith}, specs.List.{AllByRecursion, All, filter, flat_map, sum_by}, proofs.lemmas.Bool.{cases_lt, cases_eq, eq-eqb, ne_eqb, lt-ltb, le-ltb, or_from, true≢false}, proofs.lemmas.Grind.flat_map-append, proofs.lemmas.List.map-append, proofs.lemmas.List.Elements.recursion_from_All, proofs.lemmas.List.Sums.{sum_by-append, sum_by-cons}}
 use Rattle.ledger_model.specs.BoardLaws as laws
-use Rattle.ledger_model.specs.declared.order.Order.TheVariants.{Moment}
-use Rattle.ledger_model.specs.declared.reading.Direction.{Direction}
-use Rattle.ledger_model.specs.Content.{Entry, live, live_of}
-use Rattle.ledger_model.specs.Deltas.{before_key, behind_key, own_events, IsOneMore}
-use Rattle.ledger_model.specs.Energy.{readings_by}
-use Rattle.ledger_model.specs.Event.{IsMeterReading, MeterReading, same_direction, toward}
-use Rattle.ledger_model.specs.Gaps.{numbers_of}
-use Rattle.ledger_model.specs.InTime.{in_time, put_in_time}
-use Rattle.ledger_model.specs.ReadingOrder.{Numbered, numbered, numbered_by}
-use Rattle.ledger_model.proofs.Callers.{AreEntries, AreForeign, AreOwn, IsEntry, few_toward, in_time-map, live_else, live_with, live_without, numbered_readings, own_before_key, own_behind_key, put-behind, put-front}
-use Rattle.reading_index.specs.Ranks.{number_of, owner, owner_of, rank}
-use Rattle.reading_index.specs.Timed.{Timed, has_rank, placed_at, without, AreAbove, AreRising}
-use Rattle.reading_index.specs.declared.placed.PlacedReading.{PlacedReading}
-use Rattle.station_ledger.specs.ByMoment.{bare, live_readings, put_each, ranked, ranked_from, take_each, timed_of}
-use Rattle.station_ledger.specs.Runs.{own_timed}
-use Rattle.station_ledger.specs.Listing.{placed, placed_by, placed_from}
-use Rattle.station_ledger.proofs.MomentRanks.{at, number_of-rank, owner_of-rank, length-put, place_of-rank, put-ranked}
+use Rattle.ledger_model.{specs.declared.order.Order.TheVariants.Moment, specs.declared.reading.Direction.Direction, specs.Content.{Entry, live, live_of}, specs.Deltas.{before_key, behind_key, own_events, IsOneMore}, specs.Energy.readings_by, specs.Event.{IsMeterReading, MeterReading, same_direction, toward}, specs.Gaps.numbers_of, specs.InTime.{in_time, put_in_time}, specs.ReadingOrder.{Numbered, numbered, numbered_by}, proofs.Callers.{AreEntries, AreForeign, AreOwn, IsEntry, few_toward, in_time-map, live_else, live_with, live_without, numbered_readings, own_before_key, own_behind_key, put-behind, put-front}}
+use Rattle.reading_index.{specs.Ranks.{number_of, owner, owner_of, rank}, specs.Timed.{Timed, has_rank, placed_at, without, AreAbove, AreRising}, specs.declared.placed.PlacedReading.PlacedReading}
+use Rattle.station_ledger.{specs.ByMoment.{bare, live_readings, put_each, ranked, ranked_from, take_each, timed_of}, specs.Runs.own_timed, specs.Listing.{placed, placed_by, placed_from}, proofs.MomentRanks.{at, number_of-rank, owner_of-rank, length-put, place_of-rank, put-ranked}}
 
 -- What is so of each reading is so of each by rank.
 module _ (P : Timed → Type 0) where

@@ -1,40 +1,10 @@
 -- An event whose readings come to an index by moment, or go from it: both directions.
-use Rattle.std.proofs.Common.{◌≡◌, ℕ, ◌+◌, ◌*◌, ◌<◌, ◌≤◌, ◌^◌, ◌⊎◌, true, false, cond, not, List, [], ◌∷◌, length, refl, sym, ap, subst, ◌∙◌, arith}
-use Rattle.std.specs.List.{AllByRecursion}
+use Rattle.std.{proofs.Common.{◌≡◌, ℕ, ◌+◌, ◌*◌, ◌<◌, ◌≤◌, ◌^◌, ◌⊎◌, true, false, cond, not, List, [], ◌∷◌, length, refl, sym, ap, subst, ◌∙◌, arith}, specs.List.AllByRecursion}
 use Rattle.event_chain.specs.Chains.{Chained}
-use Rattle.ledger_model.specs.Periods.{Periods}
-use Rattle.ledger_model.specs.Board.{Flowed}
-use Rattle.ledger_model.specs.Content.{Entry, Stored}
-use Rattle.ledger_model.specs.declared.order.Order.TheVariants.{Moment}
-use Rattle.ledger_model.specs.declared.reading.Direction.{Direction}
-use Rattle.ledger_model.specs.declared.reading.Direction.TheVariants.{Import, Export}
-use Rattle.ledger_model.specs.Deltas.{IsOneMore, before_key, behind_key}
-use Rattle.ledger_model.specs.Energy.{Pair, all_pairs_by}
-use Rattle.ledger_model.specs.Event.{MeterReading, same_direction, toward}
-use Rattle.ledger_model.specs.Key.{KeyName}
-use Rattle.ledger_model.specs.Ranges.{most_event_readings}
-use Rattle.ledger_model.specs.Step.{readings_stored}
-use Rattle.ledger_model.proofs.Bounds.{IsEntry}
-use Rattle.ledger_model.proofs.Callers.{few_toward}
-use Rattle.ledger_model.specs.InTime.{runs}
-use Rattle.quarter_table.specs.Pairs.{rows_of}
-use Rattle.quarter_table.specs.Table.{Table}
-use Rattle.reading_index.specs.Ranks.{owner}
-use Rattle.reading_index.specs.Timed.{Timed, TimedReadings, AreRising, owned}
-use Rattle.station_ledger.specs.ByMoment.{live_readings, listed_of, put_each, ranked, ranked_from, take_each, timed_of}
-use Rattle.station_ledger.specs.declared.by_moment.Moved.{Moved}
-use Rattle.station_ledger.specs.Quarters.{IsWork, both_quartered, readings_at}
-use Rattle.station_ledger.specs.declared.pairs.Way.{Way}
-use Rattle.station_ledger.specs.declared.pairs.Way.TheVariants.{Coming, Going}
-use Rattle.station_ledger.specs.Runs.{by_way, came_of, gone_of, moved_each, moved_index, own_timed, pairs_among, side, AreApart, AreExchanged, AreMoved, AreToMove, CanMove, HaveMoved, HavePlace}
-use Rattle.station_ledger.specs.Sums.{AreAllowed}
-use Rattle.station_ledger.proofs.Bounded.{part_le}
-use Rattle.station_ledger.proofs.MomentIndexes.{AreOf, fewer-take_each, own_puttable, owned-put_each, owned-put_each_else, owned-take_each, owned-take_each_else, ranked-put_each, ranked-take_each}
-use Rattle.station_ledger.proofs.MomentLists.{come, go, it_in_range, length-listed, listed-owned, listed-ranked, listed_each, live_readings-more, stand_foreign}
-use Rattle.station_ledger.proofs.MomentRanks.{owner-apart}
-use Rattle.station_ledger.proofs.MomentRuns.{length-put_each}
-use Rattle.station_ledger.proofs.Rows.{other}
-use Rattle.station_ledger.proofs.MomentSides.{apart_moving, others_in, rest_of, rows_moved}
+use Rattle.ledger_model.{specs.Periods.Periods, specs.Board.Flowed, specs.Content.{Entry, Stored}, specs.declared.order.Order.TheVariants.Moment, specs.declared.reading.Direction.Direction, specs.declared.reading.Direction.TheVariants.{Import, Export}, specs.Deltas.{IsOneMore, before_key, behind_key}, specs.Energy.{Pair, all_pairs_by}, specs.Event.{MeterReading, same_direction, toward}, specs.Key.KeyName, specs.Ranges.most_event_readings, specs.Step.readings_stored, proofs.Bounds.IsEntry, proofs.Callers.few_toward, specs.InTime.runs}
+use Rattle.quarter_table.{specs.Pairs.rows_of, specs.Table.Table}
+use Rattle.reading_index.{specs.Ranks.owner, specs.Timed.{Timed, TimedReadings, AreRising, owned}}
+use Rattle.station_ledger.{specs.ByMoment.{live_readings, listed_of, put_each, ranked, ranked_from, take_each, timed_of}, specs.declared.by_moment.Moved.Moved, specs.Quarters.{IsWork, both_quartered, readings_at}, specs.declared.pairs.Way.Way, specs.declared.pairs.Way.TheVariants.{Coming, Going}, specs.Runs.{by_way, came_of, gone_of, moved_each, moved_index, own_timed, pairs_among, side, AreApart, AreExchanged, AreMoved, AreToMove, CanMove, HaveMoved, HavePlace}, specs.Sums.AreAllowed, proofs.Bounded.part_le, proofs.MomentIndexes.{AreOf, fewer-take_each, own_puttable, owned-put_each, owned-put_each_else, owned-take_each, owned-take_each_else, ranked-put_each, ranked-take_each}, proofs.MomentLists.{come, go, it_in_range, length-listed, listed-owned, listed-ranked, listed_each, live_readings-more, stand_foreign}, proofs.MomentRanks.owner-apart, proofs.MomentRuns.length-put_each, proofs.Rows.other, proofs.MomentSides.{apart_moving, others_in, rest_of, rows_moved}}
 
 -- Two lists of pairs, by direction.
 abbrev pub of_both : List Pair → List Pair → Direction → List Pair

@@ -1,15 +1,8 @@
 -- Readings by rank: what a rank says, and how lists by rank change.
-use Rattle.std.proofs.Common.{◌≡◌, ℕ, ◌+◌, ◌*◌, ◌/◌, ◌%◌, ◌^◌, ◌<◌, ◌≤◌, Bool, true, false, cond, not, ◌||◌, List, [], ◌∷◌, ◌++◌, length, refl, sym, ap, subst, ◌∙◌, ⊎_elim, eqb, arith}
-use Rattle.std.specs.List.{filter}
-use Rattle.std.proofs.lemmas.Nat.{div-mul-add, mod-mul-add}
-use Rattle.std.proofs.lemmas.Bool.{cases_lt, cases_eq, eq-eqb, ne_eqb, eqb-false, lt-ltb, le-ltb, or_parts}
-use Rattle.ledger_model.specs.declared.reading.Direction.{Direction}
-use Rattle.ledger_model.specs.declared.reading.Direction.TheVariants.{Import, Export}
-use Rattle.ledger_model.specs.InTime.{put_in_time, AreInTime}
-use Rattle.ledger_model.proofs.Callers.{put-behind, put-front, put-passed}
-use Rattle.reading_index.specs.Ranks.{number_of, owner, owner_of, place_of, rank}
+use Rattle.std.{proofs.Common.{◌≡◌, ℕ, ◌+◌, ◌*◌, ◌/◌, ◌%◌, ◌^◌, ◌<◌, ◌≤◌, Bool, true, false, cond, not, ◌||◌, List, [], ◌∷◌, ◌++◌, length, refl, sym, ap, subst, ◌∙◌, ⊎_elim, eqb, arith}, specs.List.filter, proofs.lemmas.Nat.{div-mul-add, mod-mul-add}, proofs.lemmas.Bool.{cases_lt, cases_eq, eq-eqb, ne_eqb, eqb-false, lt-ltb, le-ltb, or_parts}}
+use Rattle.ledger_model.{specs.declared.reading.Direction.Direction, specs.declared.reading.Direction.TheVariants.{Import, Export}, specs.InTime.{put_in_time, AreInTime}, proofs.Callers.{put-behind, put-front, put-passed}}
+use Rattle.reading_index.{specs.Ranks.{number_of, owner, owner_of, place_of, rank}, specs.Timed.{Timed, from_on, has_rank, in_front, owned, without, AreAbove, AreRising}}
 use Rattle.key_index.proofs.Orders.{above_less}
-use Rattle.reading_index.specs.Timed.{Timed, from_on, has_rank, in_front, owned, without, AreAbove, AreRising}
 
 abbrev pub at : Timed → ℕ
 at t = t.0

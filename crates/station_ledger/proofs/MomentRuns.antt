@@ -1,36 +1,12 @@
 -- An event's readings that come or go, run by run.
-use Rattle.std.proofs.Common.{◌≡◌, ℕ, ◌+◌, ◌*◌, ◌<◌, ◌≤◌, ◌⊎◌, inl, inr, true, false, cond, not, nat_lt, eqb, List, [], ◌∷◌, ◌++◌, Option, None, Some, length, take, drop, get_or, refl, sym, ap, subst, ◌∙◌, ⊎_elim, arith, append_assoc, length-append}
-use Rattle.std.specs.List.{AllByRecursion}
-use Rattle.std.proofs.lemmas.Bool.{cases_lt, cases_eq, lt-ltb, le-ltb}
-use Rattle.std.proofs.lemmas.List.{append-nil, length-map}
+use Rattle.std.{proofs.Common.{◌≡◌, ℕ, ◌+◌, ◌*◌, ◌<◌, ◌≤◌, ◌⊎◌, inl, inr, true, false, cond, not, nat_lt, eqb, List, [], ◌∷◌, ◌++◌, Option, None, Some, length, take, drop, get_or, refl, sym, ap, subst, ◌∙◌, ⊎_elim, arith, append_assoc, length-append}, specs.List.AllByRecursion, proofs.lemmas.Bool.{cases_lt, cases_eq, lt-ltb, le-ltb}, proofs.lemmas.List.{append-nil, length-map}}
 use Rattle.energy_flow.specs.Flow.{CanPlus, Energy, no_energy, plus}
-use Rattle.ledger_model.specs.Periods.{Periods}
-use Rattle.ledger_model.specs.Board.{Flowed}
-use Rattle.ledger_model.specs.Deltas.{pairs_between, first_reading, last_reading}
-use Rattle.ledger_model.specs.declared.reading.Direction.{Direction}
-use Rattle.ledger_model.specs.Energy.{Pair, energy_over}
-use Rattle.ledger_model.specs.Event.{MeterReading}
-use Rattle.ledger_model.specs.InTime.{put_in_time, runs}
-use Rattle.ledger_model.specs.Ranges.{greatest_reading, most_event_readings, most_readings}
-use Rattle.ledger_model.proofs.Callers.{AreForeign, AreOwn, few_between}
+use Rattle.ledger_model.{specs.Periods.Periods, specs.Board.Flowed, specs.Deltas.{pairs_between, first_reading, last_reading}, specs.declared.reading.Direction.Direction, specs.Energy.{Pair, energy_over}, specs.Event.MeterReading, specs.InTime.{put_in_time, runs}, specs.Ranges.{greatest_reading, most_event_readings, most_readings}, proofs.Callers.{AreForeign, AreOwn, few_between}}
 use Rattle.event_chain.specs.declared.around.Sides.{Sides}
-use Rattle.quarter_table.specs.Pairs.{rows_of, rows_with}
-use Rattle.quarter_table.specs.Table.{Table}
-use Rattle.quarter_table.proofs.Several.{made_with}
-use Rattle.reading_index.specs.Ranks.{number_of, owner_of}
+use Rattle.quarter_table.{specs.Pairs.{rows_of, rows_with}, specs.Table.Table, proofs.Several.made_with}
+use Rattle.reading_index.{specs.Ranks.{number_of, owner_of}, specs.Timed.{Timed, first_of, from_on, in_front, last_of, owned, AreAbove, AreRising, AreBelow}, proofs.Listed.filter-ranked}
 use Rattle.key_index.proofs.Orders.{above_less, rising_parts, below_more, below_both}
-use Rattle.reading_index.specs.Timed.{Timed, first_of, from_on, in_front, last_of, owned, AreAbove, AreRising, AreBelow}
-use Rattle.station_ledger.specs.ByMoment.{bare, bare_one, beyond, fits, fitting, put_each}
-use Rattle.station_ledger.specs.Quarters.{HasRoom, HoldsPairs, IsTableMoved, IsWork, quartered}
-use Rattle.station_ledger.specs.declared.by_moment.Moved.{Moved}
-use Rattle.station_ledger.specs.declared.pairs.Way.{Way}
-use Rattle.station_ledger.specs.declared.pairs.Way.TheVariants.{Coming, Going}
-use Rattle.station_ledger.specs.Runs.{came_of, gap_of, gone_of, own_timed, pairs_among, run_pairs, AreApart, AreExchanged, AreFew, AreSwapped, HasRoomWithout}
-use Rattle.reading_index.proofs.Listed.{filter-ranked}
-use Rattle.station_ledger.proofs.MomentRanks.{at, length-put, parted}
-use Rattle.station_ledger.proofs.MomentWalks.{AreInFront, AreOver, FirstFails, LastFails, few_more, fitting-beyond, fitting-front, followed_fewer, first_bare, foreign_first, foreign_last, foreign_parts, has_room, in_front-append, in_front-under, last-append, last_bare, last_behind, moved_in, one_run_more, own_parts, put_each-append, put_each-before, put_each-row, put_each-under, ranked-apart, three_down, three_up, with_run}
-use Rattle.station_ledger.proofs.Rows.{rows_less}
-use Rattle.station_ledger.proofs.Walks.{first_and_rest}
+use Rattle.station_ledger.{specs.ByMoment.{bare, bare_one, beyond, fits, fitting, put_each}, specs.Quarters.{HasRoom, HoldsPairs, IsTableMoved, IsWork, quartered}, specs.declared.by_moment.Moved.Moved, specs.declared.pairs.Way.Way, specs.declared.pairs.Way.TheVariants.{Coming, Going}, specs.Runs.{came_of, gap_of, gone_of, own_timed, pairs_among, run_pairs, AreApart, AreExchanged, AreFew, AreSwapped, HasRoomWithout}, proofs.MomentRanks.{at, length-put, parted}, proofs.MomentWalks.{AreInFront, AreOver, FirstFails, LastFails, few_more, fitting-beyond, fitting-front, followed_fewer, first_bare, foreign_first, foreign_last, foreign_parts, has_room, in_front-append, in_front-under, last-append, last_bare, last_behind, moved_in, one_run_more, own_parts, put_each-append, put_each-before, put_each-row, put_each-under, ranked-apart, three_down, three_up, with_run}, proofs.Rows.rows_less, proofs.Walks.first_and_rest}
 
 -- As many readings more.
 pub length-put_each : (xs ts : List Timed) → length (put_each xs ts) ≡ length ts + length xs

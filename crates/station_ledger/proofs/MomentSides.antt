@@ -1,50 +1,10 @@
 -- One more live event or less, its readings by rank: its pairs of each direction beside the others of the station.
-use Rattle.std.proofs.Common.{◌≡◌, ℕ, ◌+◌, ◌*◌, ◌≤◌, ◌⊎◌, Bool, false, cond, not, ◌&&◌, List, [], ◌∷◌, ◌++◌, length, map, refl, sym, ap, subst, ◌∙◌, ⊎_elim, arith, length-append}
-use Rattle.std.specs.List.{filter, flat_map, list_any, sum_by}
-use Rattle.std.specs.Str.{bytes_eq}
-use Rattle.std.proofs.lemmas.List.Sums.{sum_by-append, sum_by-cons}
+use Rattle.std.{proofs.Common.{◌≡◌, ℕ, ◌+◌, ◌*◌, ◌≤◌, ◌⊎◌, Bool, false, cond, not, ◌&&◌, List, [], ◌∷◌, ◌++◌, length, map, refl, sym, ap, subst, ◌∙◌, ⊎_elim, arith, length-append}, specs.List.{filter, flat_map, list_any, sum_by}, specs.Str.bytes_eq, proofs.lemmas.List.Sums.{sum_by-append, sum_by-cons}}
 use Rattle.energy_flow.specs.Flow.{Energy, plus}
-use Rattle.ledger_model.proofs.Directions.{each_way}
-use Rattle.ledger_model.specs.Periods.{Periods}
-use Rattle.ledger_model.specs.declared.order.Order.TheVariants.{Moment}
-use Rattle.ledger_model.specs.declared.reading.Direction.{Direction}
-use Rattle.ledger_model.specs.declared.reading.Direction.TheVariants.{Import, Export}
-use Rattle.ledger_model.specs.Board.{Flowed}
-use Rattle.ledger_model.specs.BoardLaws.{AreRising}
-use Rattle.ledger_model.specs.ByDirection.{in_direction, flows_toward}
-use Rattle.ledger_model.specs.Content.{Entry, live, transactions_of}
-use Rattle.ledger_model.specs.Deltas.{before_key, behind_key, IsOneMore}
-use Rattle.ledger_model.specs.Energy.{Pair, all_pairs_by, difference, energy_by, energy_of_by, energy_over, followed, pairs_by, quarter_of}
-use Rattle.ledger_model.specs.Event.{MeterReading, toward}
-use Rattle.ledger_model.specs.Gaps.{numbers_of}
-use Rattle.ledger_model.specs.InTime.{in_time, runs, runs_behind}
-use Rattle.ledger_model.specs.Limits.{Bounds}
-use Rattle.ledger_model.specs.Ranges.{greatest_reading, most_readings}
-use Rattle.ledger_model.specs.ReadingOrder.{is_own, numbered_by}
-use Rattle.ledger_model.proofs.Bounds.{AreEntries-filter}
-use Rattle.ledger_model.proofs.Callers.{AreEntries, IsEntry, few_toward, own_numbered, station_moves, sum_by-flat_map, sum_by-map, transaction_moves}
-use Rattle.ledger_model.proofs.SumsByTransaction.{sum_by_one}
-use Rattle.ledger_model.proofs.TransactionLemmas.{any-map}
-use Rattle.quarter_table.specs.Pairs.{rows_of}
-use Rattle.quarter_table.specs.Table.{Table}
-use Rattle.quarter_table.proofs.Made.{made_alike}
-use Rattle.reading_index.specs.Ranks.{number_of, owner}
-use Rattle.reading_index.specs.Timed.{Timed}
-use Rattle.station_ledger.specs.declared.by_moment.Moved.{Moved}
-use Rattle.station_ledger.specs.ByMoment.{put_each, ranked, timed_of}
-use Rattle.station_ledger.specs.Moved.{IsExchanged}
-use Rattle.station_ledger.specs.Quarters.{both_quartered, quartered}
-use Rattle.station_ledger.specs.declared.pairs.Way.{Way}
-use Rattle.station_ledger.specs.declared.pairs.Way.TheVariants.{Coming, Going}
-use Rattle.station_ledger.specs.Runs.{AreApart, AreExchanged, AreFew, by_way, came_of, gone_of, own_timed, pairs_among}
-use Rattle.station_ledger.specs.Spent.{most_by_moment, most_in_runs}
-use Rattle.station_ledger.specs.Sums.{AreAllowed}
-use Rattle.station_ledger.proofs.Bounded.{few_down, few_pairs, few_up}
-use Rattle.station_ledger.proofs.MomentLists.{bare-timed, come, foreign, length-listed, listed-owned, listed-own, listed-ranked, numbered-timed, timed-ranked}
-use Rattle.station_ledger.proofs.MomentRuns.{length-put_each}
-use Rattle.station_ledger.proofs.MomentWalks.{followed_fewer}
-use Rattle.station_ledger.proofs.Moved.{none_live}
-use Rattle.station_ledger.proofs.Rows.{long, other, each_toward, up_append, down_append, up_quartered, down_quartered}
+use Rattle.ledger_model.{proofs.Directions.each_way, specs.Periods.Periods, specs.declared.order.Order.TheVariants.Moment, specs.declared.reading.Direction.Direction, specs.declared.reading.Direction.TheVariants.{Import, Export}, specs.Board.Flowed, specs.BoardLaws.AreRising, specs.ByDirection.{in_direction, flows_toward}, specs.Content.{Entry, live, transactions_of}, specs.Deltas.{before_key, behind_key, IsOneMore}, specs.Energy.{Pair, all_pairs_by, difference, energy_by, energy_of_by, energy_over, followed, pairs_by, quarter_of}, specs.Event.{MeterReading, toward}, specs.Gaps.numbers_of, specs.InTime.{in_time, runs, runs_behind}, specs.Limits.Bounds, specs.Ranges.{greatest_reading, most_readings}, specs.ReadingOrder.{is_own, numbered_by}, proofs.Bounds.AreEntries-filter, proofs.Callers.{AreEntries, IsEntry, few_toward, own_numbered, station_moves, sum_by-flat_map, sum_by-map, transaction_moves}, proofs.SumsByTransaction.sum_by_one, proofs.TransactionLemmas.any-map}
+use Rattle.quarter_table.{specs.Pairs.rows_of, specs.Table.Table, proofs.Made.made_alike}
+use Rattle.reading_index.{specs.Ranks.{number_of, owner}, specs.Timed.Timed}
+use Rattle.station_ledger.{specs.declared.by_moment.Moved.Moved, specs.ByMoment.{put_each, ranked, timed_of}, specs.Moved.IsExchanged, specs.Quarters.{both_quartered, quartered}, specs.declared.pairs.Way.Way, specs.declared.pairs.Way.TheVariants.{Coming, Going}, specs.Runs.{AreApart, AreExchanged, AreFew, by_way, came_of, gone_of, own_timed, pairs_among}, specs.Spent.{most_by_moment, most_in_runs}, specs.Sums.AreAllowed, proofs.Bounded.{few_down, few_pairs, few_up}, proofs.MomentLists.{bare-timed, come, foreign, length-listed, listed-owned, listed-own, listed-ranked, numbered-timed, timed-ranked}, proofs.MomentRuns.length-put_each, proofs.MomentWalks.followed_fewer, proofs.Moved.none_live, proofs.Rows.{long, other, each_toward, up_append, down_append, up_quartered, down_quartered}}
 
 -- The pairs of a direction of the transactions other than one.
 abbrev pub others_in : Direction → List ℕ → List Entry → List Pair

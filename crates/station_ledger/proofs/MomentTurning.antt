@@ -1,45 +1,12 @@
 -- One live event that comes or goes: its readings come to those by moment, or go from them.
-use Rattle.std.proofs.Common.{◌≡◌, ◌==◌, ℕ, ◌+◌, ◌<◌, ◌≤◌, inl, inr, true, cond, not, List, [], ◌∷◌, Option, None, is_some, length, refl, sym, ap, subst, ◌∙◌, arith, length-append, vec_capacity, false, Some}
-use Rattle.std.proofs.lemmas.Bool.{ne_eqb}
-use Rattle.event_chain.specs.Chains.{Chained, stored}
+use Rattle.std.{proofs.Common.{◌≡◌, ◌==◌, ℕ, ◌+◌, ◌<◌, ◌≤◌, inl, inr, true, cond, not, List, [], ◌∷◌, Option, None, is_some, length, refl, sym, ap, subst, ◌∙◌, arith, length-append, vec_capacity, false, Some}, proofs.lemmas.Bool.ne_eqb, specs.Str.bytes_eq, specs.Cmp.eq_by_cmp_equiv, proofs.lemmas.Bool.Decides.Decides-eqb}
+use Rattle.event_chain.{specs.Chains.{Chained, stored}, specs.Table.{Table as Slots, row_of, TxRow, without_row}, specs.declared.row.TableRow.TableRow}
 use Rattle.event_chain.specs.Table as table
-use Rattle.event_chain.specs.Table.{Table as Slots, row_of, TxRow, without_row}
-use Rattle.ledger_model.specs.Periods.{Periods}
-use Rattle.ledger_model.specs.Content.{Entry, live, live_of, transactions_of, has_transaction}
-use Rattle.ledger_model.specs.declared.order.Order.TheVariants.{Moment}
-use Rattle.ledger_model.specs.declared.reading.Direction.{Direction}
-use Rattle.ledger_model.specs.declared.reading.Direction.TheVariants.{Import, Export}
-use Rattle.ledger_model.specs.Deltas.{IsOneMore, before_key, behind_key, own_events}
-use Rattle.ledger_model.specs.Energy.{Pair, all_pairs_by}
-use Rattle.ledger_model.specs.Key.{KeyName}
-use Rattle.ledger_model.specs.Ranges.{most_event_readings}
-use Rattle.ledger_model.proofs.Callers.{live_else, live_with, transactions_more}
-use Rattle.quarter_table.specs.Pairs.{rows_of}
-use Rattle.quarter_table.specs.Table.{Table}
-use Rattle.reading_index.specs.Ranks.{owner}
-use Rattle.reading_index.specs.Timed.{Timed, TimedReadings, AreRising, owned}
-use Rattle.station_ledger.specs.ByMoment.{put_each, ranked, timed_of, AreByMoment, IsSlotGiven, live_readings, listed_of}
-use Rattle.station_ledger.specs.declared.by_moment.ByMoment.{ByMoment}
-use Rattle.station_ledger.specs.declared.by_moment.Moved.{Moved}
-use Rattle.station_ledger.specs.Moved.{IsExchanged}
-use Rattle.station_ledger.specs.Quarters.{IsWork, both_quartered, readings_at}
-use Rattle.station_ledger.specs.Spent.{most_in_runs}
-use Rattle.station_ledger.specs.Sums.{AreQuarterRows}
-use Rattle.station_ledger.proofs.MomentEvents.{IsTurned, by_moment_next, side_before, not_tied, by_moment_gone}
-use Rattle.station_ledger.proofs.MomentLists.{timed_else}
-use Rattle.station_ledger.proofs.Moved.{has_own, none_long}
-use Rattle.std.specs.Str.{bytes_eq}
-use Rattle.std.specs.Cmp.{eq_by_cmp_equiv}
-use Rattle.std.proofs.lemmas.Bool.Decides.{Decides-eqb}
-use Rattle.event_chain.specs.declared.row.TableRow.{TableRow}
-use Rattle.transaction_map.proofs.Found.{found_out, length_out}
-use Rattle.transaction_map.proofs.Rising.{id_total}
-use Rattle.station_ledger.specs.declared.pairs.Way.{Way}
-use Rattle.station_ledger.specs.declared.pairs.Way.TheVariants.{Coming, Going}
-use Rattle.station_ledger.specs.Exchange.{IsMove}
-use Rattle.station_ledger.specs.Runs.{by_way, side, AreMoved, CanMove, HavePlace}
-use Rattle.station_ledger.proofs.MomentMoves.{IsLong, of_both, sides_apart, slots_apart, few_listed, can_move, grown, have_place, listed_is, long, moved_else, moved_long, moved_own, moved_pairs, moved_ranked, moved_rows, moved_work, room_more}
-use Rattle.station_ledger.proofs.MomentSides.{exchanged_both, spent_both}
+use Rattle.ledger_model.{specs.Periods.Periods, specs.Content.{Entry, live, live_of, transactions_of, has_transaction}, specs.declared.order.Order.TheVariants.Moment, specs.declared.reading.Direction.Direction, specs.declared.reading.Direction.TheVariants.{Import, Export}, specs.Deltas.{IsOneMore, before_key, behind_key, own_events}, specs.Energy.{Pair, all_pairs_by}, specs.Key.KeyName, specs.Ranges.most_event_readings, proofs.Callers.{live_else, live_with, transactions_more}}
+use Rattle.quarter_table.{specs.Pairs.rows_of, specs.Table.Table}
+use Rattle.reading_index.{specs.Ranks.owner, specs.Timed.{Timed, TimedReadings, AreRising, owned}}
+use Rattle.station_ledger.{specs.ByMoment.{put_each, ranked, timed_of, AreByMoment, IsSlotGiven, live_readings, listed_of}, specs.declared.by_moment.ByMoment.ByMoment, specs.declared.by_moment.Moved.Moved, specs.Moved.IsExchanged, specs.Quarters.{IsWork, both_quartered, readings_at}, specs.Spent.most_in_runs, specs.Sums.AreQuarterRows, proofs.MomentEvents.{IsTurned, by_moment_next, side_before, not_tied, by_moment_gone}, proofs.MomentLists.timed_else, proofs.Moved.{has_own, none_long}, specs.declared.pairs.Way.Way, specs.declared.pairs.Way.TheVariants.{Coming, Going}, specs.Exchange.IsMove, specs.Runs.{by_way, side, AreMoved, CanMove, HavePlace}, proofs.MomentMoves.{IsLong, of_both, sides_apart, slots_apart, few_listed, can_move, grown, have_place, listed_is, long, moved_else, moved_long, moved_own, moved_pairs, moved_ranked, moved_rows, moved_work, room_more}, proofs.MomentSides.{exchanged_both, spent_both}}
+use Rattle.transaction_map.{proofs.Found.{found_out, length_out}, proofs.Rising.id_total}
 
 -- a transaction with this event has a live one
 has_live : (less more : List Entry) (front : List Entry) (e : Entry) (back : List Entry) → IsOneMore less more front e back → not (length (live_of e.0.tx more) == 0) ≡ true

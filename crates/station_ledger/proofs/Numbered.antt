@@ -1,14 +1,6 @@
 -- Numbers of entries that are in range: of a transaction, and of its EVSE.
-use Rattle.std.proofs.Common.{ℕ, ◌<◌, ◌≤◌, Bool, true, false, not, cond, List, [], ◌∷◌, Option, Some, None, map, arith}
-use Rattle.std.specs.List.{cons_option, filter, filter_map}
-use Rattle.std.specs.Str.{bytes_eq}
-use Rattle.std.specs.Prelude.{IfSome}
-use Rattle.ledger_model.specs.Board.{last_or_zero}
-use Rattle.ledger_model.specs.Content.{Entry, live, live_of}
-use Rattle.ledger_model.specs.Evse.{evse_of, first_or_zero}
-use Rattle.ledger_model.specs.Gaps.{numbers_of}
-use Rattle.ledger_model.specs.Ranges.{greatest_evse, sequence_end}
-use Rattle.ledger_model.proofs.Callers.{AreEntries}
+use Rattle.std.{proofs.Common.{ℕ, ◌<◌, ◌≤◌, Bool, true, false, not, cond, List, [], ◌∷◌, Option, Some, None, map, arith}, specs.List.{cons_option, filter, filter_map}, specs.Str.bytes_eq, specs.Prelude.IfSome}
+use Rattle.ledger_model.{specs.Board.last_or_zero, specs.Content.{Entry, live, live_of}, specs.Evse.{evse_of, first_or_zero}, specs.Gaps.numbers_of, specs.Ranges.{greatest_evse, sequence_end}, proofs.Callers.AreEntries}
 use Rattle.station_ledger.specs.Numbered.{AreNumbered}
 
 -- entries in range have numbers in range

@@ -1,29 +1,9 @@
 -- What is kept of a transaction, when one more live event comes.
-use Rattle.std.proofs.Common.{◌≡◌, ◌==◌, ℕ, zero, suc, ◌+◌, ◌<◌, ◌≤◌, Bool, true, false, cond, List, [], ◌∷◌, ◌++◌, Option, None, Some, IfSome, length, map, slice_get, unwrap_or, refl, sym, ap, ◌∙◌, subst, arith, length-append}
-use Rattle.std.specs.List.{filter_map, cons_option}
-use Rattle.std.proofs.lemmas.List.{length-map, map-append}
+use Rattle.std.{proofs.Common.{◌≡◌, ◌==◌, ℕ, zero, suc, ◌+◌, ◌<◌, ◌≤◌, Bool, true, false, cond, List, [], ◌∷◌, ◌++◌, Option, None, Some, IfSome, length, map, slice_get, unwrap_or, refl, sym, ap, ◌∙◌, subst, arith, length-append}, specs.List.{filter_map, cons_option}, proofs.lemmas.List.{length-map, map-append}}
 use Rattle.energy_flow.specs.Flow.{Energy}
-use Rattle.ledger_model.specs.declared.by_direction.ByDirection.{ByDirection}
-use Rattle.ledger_model.specs.Board.{last_or_zero}
-use Rattle.ledger_model.specs.BoardLaws.{AreRising}
-use Rattle.ledger_model.specs.Content.{Entry, Stored, live_of}
-use Rattle.ledger_model.specs.Deltas.{own_events, before_key, behind_key}
-use Rattle.ledger_model.specs.Event.{EventContent}
-use Rattle.ledger_model.specs.Evse.{first_or_zero}
-use Rattle.ledger_model.specs.Gaps.{numbers_of, missing}
-use Rattle.ledger_model.specs.Key.{KeyName}
-use Rattle.ledger_model.proofs.Callers.{live_with, live_without}
-use Rattle.ledger_model.proofs.GapLemmas.{missing-fills}
-use Rattle.event_chain.specs.Chains.{Chained, stored}
-use Rattle.station_ledger.specs.declared.pairs.Way.{Way}
-use Rattle.station_ledger.specs.declared.pairs.Way.TheVariants.{Coming, Going}
-use Rattle.station_ledger.specs.declared.standing.Standing.{Standing}
-use Rattle.station_ledger.specs.Standing.{standing_with, kept_with}
-use Rattle.event_chain.specs.declared.around.Sides.{Sides}
-use Rattle.station_ledger.specs.Coming.{IsOneLess}
-use Rattle.station_ledger.specs.Quarters.{HasEvent}
-use Rattle.station_ledger.specs.Sums.{IsTurning}
-use Rattle.station_ledger.proofs.EndNumbers.{first_is}
+use Rattle.ledger_model.{specs.declared.by_direction.ByDirection.ByDirection, specs.Board.last_or_zero, specs.BoardLaws.AreRising, specs.Content.{Entry, Stored, live_of}, specs.Deltas.{own_events, before_key, behind_key}, specs.Event.EventContent, specs.Evse.first_or_zero, specs.Gaps.{numbers_of, missing}, specs.Key.KeyName, proofs.Callers.{live_with, live_without}, proofs.GapLemmas.missing-fills}
+use Rattle.event_chain.{specs.Chains.{Chained, stored}, specs.declared.around.Sides.Sides}
+use Rattle.station_ledger.{specs.declared.pairs.Way.Way, specs.declared.pairs.Way.TheVariants.{Coming, Going}, specs.declared.standing.Standing.Standing, specs.Standing.{standing_with, kept_with}, specs.Coming.IsOneLess, specs.Quarters.HasEvent, specs.Sums.IsTurning, proofs.EndNumbers.first_is}
 
 -- The last of two lists.
 last_both : (ns : List ℕ) (m : ℕ) (ms : List ℕ) → last_or_zero (ns ++ m ∷ ms) ≡ last_or_zero (m ∷ ms)

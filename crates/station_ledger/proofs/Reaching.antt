@@ -1,24 +1,7 @@
 -- What reached events are allowed to be, and what an accepted command reaches.
-use Rattle.std.proofs.Common.{◌≡◌, ℕ, suc, ◌+◌, ◌≤◌, cond, List, [], ◌∷◌, Some, length, sym, ap, subst, ◌∙◌, arith}
-use Rattle.std.specs.FinMap.{find}
-use Rattle.std.specs.Ordering.{is_eq}
-use Rattle.std.specs.declared.cmp.Ordering.{Ordering}
-use Rattle.std.specs.declared.cmp.Ordering.TheVariants.{Less, Equal, Greater}
-use Rattle.ledger_model.specs.declared.answer.Answer.{Answer}
-use Rattle.ledger_model.specs.declared.answer.Answer.TheVariants.{Accepted}
-use Rattle.ledger_model.specs.declared.command.Command.{Command}
-use Rattle.ledger_model.specs.declared.order.Order.{Order}
-use Rattle.ledger_model.specs.Admissible.{IsAdmissible}
-use Rattle.ledger_model.specs.Content.{Content, Entry, Stored, entries}
-use Rattle.ledger_model.specs.Key.{KeyName, key_cmp}
-use Rattle.ledger_model.specs.Laws.{IsAccepted}
-use Rattle.ledger_model.specs.Limits.{Bounds}
-use Rattle.ledger_model.specs.Ranges.{most_event_readings, most_events, most_readings, most_transactions}
-use Rattle.ledger_model.specs.Step.{Reached, answer, content_after, events_after, step}
-use Rattle.ledger_model.proofs.Callers.{AreEntries, AreKept-reached, figures_within, is_counted}
-use Rattle.ledger_model.proofs.NumberLemmas.{numbers-AreRising}
-use Rattle.station_ledger.specs.Sums.{AreAllowed}
-use Rattle.station_ledger.proofs.Timely.{pairs_in_time}
+use Rattle.std.{proofs.Common.{◌≡◌, ℕ, suc, ◌+◌, ◌≤◌, cond, List, [], ◌∷◌, Some, length, sym, ap, subst, ◌∙◌, arith}, specs.FinMap.find, specs.Ordering.is_eq, specs.declared.cmp.Ordering.Ordering, specs.declared.cmp.Ordering.TheVariants.{Less, Equal, Greater}}
+use Rattle.ledger_model.{specs.declared.answer.Answer.Answer, specs.declared.answer.Answer.TheVariants.Accepted, specs.declared.command.Command.Command, specs.declared.order.Order.Order, specs.Admissible.IsAdmissible, specs.Content.{Content, Entry, Stored, entries}, specs.Key.{KeyName, key_cmp}, specs.Laws.IsAccepted, specs.Limits.Bounds, specs.Ranges.{most_event_readings, most_events, most_readings, most_transactions}, specs.Step.{Reached, answer, content_after, events_after, step}, proofs.Callers.{AreEntries, AreKept-reached, figures_within, is_counted}, proofs.NumberLemmas.numbers-AreRising}
+use Rattle.station_ledger.{specs.Sums.AreAllowed, proofs.Timely.pairs_in_time}
 
 -- what is under a key has few readings
 few_readings_at : (key : KeyName) (s : Stored) (es : List Entry) → AreEntries es → find key_cmp key es ≡ Some s → length s.event.readings ≤ most_event_readings

@@ -1,35 +1,11 @@
 -- All sums after the pairs of one event came or went.
-use Rattle.std.proofs.Common.{◌≡◌, ◌≤◌, ℕ, List, Option, None, Some, IfSome, sym, ap, subst, ◌∙◌, arith}
-use Rattle.std.specs.FinMap.{find}
+use Rattle.std.{proofs.Common.{◌≡◌, ◌≤◌, ℕ, List, Option, None, Some, IfSome, sym, ap, subst, ◌∙◌, arith}, specs.FinMap.find}
 use Rattle.energy_flow.specs.Flow.{Energy, plus}
-use Rattle.ledger_model.specs.Periods.{Periods}
-use Rattle.ledger_model.specs.ByDirection.{in_direction, in_each, plus_flows, minus_flows}
-use Rattle.ledger_model.proofs.Directions.{each_is}
-use Rattle.ledger_model.specs.declared.by_direction.ByDirection.{ByDirection}
-use Rattle.ledger_model.specs.declared.order.Order.TheVariants.{Sequence}
-use Rattle.ledger_model.specs.declared.reading.Direction.{Direction}
-use Rattle.ledger_model.specs.declared.reading.Direction.TheVariants.{Import, Export}
-use Rattle.ledger_model.specs.Content.{Entry}
-use Rattle.ledger_model.specs.Energy.{Pair, energy_by, energy_of_by, flows_of_by}
-use Rattle.ledger_model.specs.Key.{KeyName}
-use Rattle.ledger_model.specs.Limits.{Bounds}
-use Rattle.event_chain.specs.Chains.{Chained, stored}
-use Rattle.event_chain.specs.declared.around.Sides.{Sides}
+use Rattle.ledger_model.{specs.Periods.Periods, specs.ByDirection.{in_direction, in_each, plus_flows, minus_flows}, proofs.Directions.each_is, specs.declared.by_direction.ByDirection.ByDirection, specs.declared.order.Order.TheVariants.Sequence, specs.declared.reading.Direction.Direction, specs.declared.reading.Direction.TheVariants.{Import, Export}, specs.Content.Entry, specs.Energy.{Pair, energy_by, energy_of_by, flows_of_by}, specs.Key.KeyName, specs.Limits.Bounds}
+use Rattle.event_chain.{specs.Chains.{Chained, stored}, specs.declared.around.Sides.Sides}
 use Rattle.quarter_table.specs.Table.{Table}
 use Rattle.transaction_map.specs.Map.{Mapped, id_cmp}
-use Rattle.station_ledger.specs.declared.pairs.Way.{Way}
-use Rattle.station_ledger.specs.declared.pairs.Way.TheVariants.{Coming, Going}
-use Rattle.station_ledger.specs.declared.standing.Standing.{Standing}
-use Rattle.station_ledger.specs.declared.sums.Sums.{Sums}
-use Rattle.station_ledger.specs.ByMoment.{AreByMoment}
-use Rattle.station_ledger.specs.Moved.{CanExchange, IsExchanged, IsMoved, flows_in}
-use Rattle.station_ledger.specs.Quarters.{HasRoom, HoldsBoth, IsSumOf, IsTableMoved, both_length, both_quartered}
-use Rattle.station_ledger.specs.Standing.{kept_of, kept_with}
-use Rattle.station_ledger.specs.Sums.{AreAllowed, AreCounts, AreEvseSums, ArePairsMoved, AreQuarterRows, AreStanding, AreSummed, AreTurning, CanReplace, IsReplaced, order_in, order_of}
-use Rattle.station_ledger.proofs.Bounded.{own_up_le, own_down_le}
-use Rattle.station_ledger.proofs.Changes.{IsChange, turned_moved}
-use Rattle.station_ledger.proofs.Stands.{own_flow, was_kept, place, stands, room_at, counts_at, sums_stand, have_room, do_count, counts_stand}
-use Rattle.station_ledger.proofs.Trades.{station_exchanged, own_exchanged, may_exchange, is_left, holds, room, filled}
+use Rattle.station_ledger.{specs.declared.pairs.Way.Way, specs.declared.pairs.Way.TheVariants.{Coming, Going}, specs.declared.standing.Standing.Standing, specs.declared.sums.Sums.Sums, specs.ByMoment.AreByMoment, specs.Moved.{CanExchange, IsExchanged, IsMoved, flows_in}, specs.Quarters.{HasRoom, HoldsBoth, IsSumOf, IsTableMoved, both_length, both_quartered}, specs.Standing.{kept_of, kept_with}, specs.Sums.{AreAllowed, AreCounts, AreEvseSums, ArePairsMoved, AreQuarterRows, AreStanding, AreSummed, AreTurning, CanReplace, IsReplaced, order_in, order_of}, proofs.Bounded.{own_up_le, own_down_le}, proofs.Changes.{IsChange, turned_moved}, proofs.Stands.{own_flow, was_kept, place, stands, room_at, counts_at, sums_stand, have_room, do_count, counts_stand}, proofs.Trades.{station_exchanged, own_exchanged, may_exchange, is_left, holds, room, filled}}
 
 -- what follows from what holds of a value, if there is one
 pub if_some : {X : Type 0} {P Q : X → Type 0} (o : Option X) → ((x : X) → P x → Q x) → IfSome o P → IfSome o Q

@@ -1,49 +1,11 @@
 -- What a board finds of readings that are shared by time.
-use Rattle.std.proofs.Common.{◌≡◌, ℕ, ◌+◌, ◌==◌, ◌<◌, Bool, true, false, cond, T, List, [], ◌∷◌, ◌++◌, Option, None, Some, length, map, append-nil, refl, sym, ap, ◌∙◌, arith, slice_get, take, drop, not, is_some, append_assoc, ◌⊎◌, ⊎_elim}
-use Rattle.std.specs.List.{AllByRecursion, filter, flat_map}
+use Rattle.std.{proofs.Common.{◌≡◌, ℕ, ◌+◌, ◌==◌, ◌<◌, Bool, true, false, cond, T, List, [], ◌∷◌, ◌++◌, Option, None, Some, length, map, append-nil, refl, sym, ap, ◌∙◌, arith, slice_get, take, drop, not, is_some, append_assoc, ◌⊎◌, ⊎_elim}, specs.List.{AllByRecursion, filter, flat_map}, specs.FinMap.find, specs.FinMap.Entries.below_all, specs.Ordering.eq_by_cmp, specs.Prelude.slice_index, proofs.lemmas.Bool.ne_eqb, specs.Str.bytes_eq, proofs.lemmas.Grind.flat_map-append, proofs.lemmas.List.{flat_map_more, map-append, take_more}, proofs.lemmas.Option.{get_or_from_slice_get, slice_get_within}, proofs.lemmas.Slice.Eq.bytes_eq-Decides}
 use Rattle.std.specs.FinMap as finite
-use Rattle.std.specs.FinMap.{find}
-use Rattle.std.specs.FinMap.Entries.{below_all}
-use Rattle.std.specs.Ordering.{eq_by_cmp}
-use Rattle.std.specs.Prelude.{slice_index}
-use Rattle.std.proofs.lemmas.Bool.{ne_eqb}
-use Rattle.event_chain.specs.Table.{Table, row_of}
-use Rattle.ledger_model.specs.InTime.{in_time}
-use Rattle.ledger_model.specs.Limits.{Bounds}
-use Rattle.ledger_model.specs.declared.order.Order.{Order}
-use Rattle.ledger_model.specs.declared.order.Order.TheVariants.{Sequence, Moment}
-use Rattle.ledger_model.specs.declared.reading.Direction.TheVariants.{Import, Export}
-use Rattle.quarter_table.proofs.Several.{made_with, rows_with-append}
-use Rattle.station_ledger.specs.ByMoment.{AreSlots}
-use Rattle.std.specs.Str.{bytes_eq}
-use Rattle.std.proofs.lemmas.Grind.{flat_map-append}
-use Rattle.std.proofs.lemmas.List.{flat_map_more, map-append, take_more}
-use Rattle.std.proofs.lemmas.Option.{get_or_from_slice_get, slice_get_within}
-use Rattle.std.proofs.lemmas.Slice.Eq.{bytes_eq-Decides}
-use Rattle.event_chain.specs.Chains.{Chained, stored}
-use Rattle.event_chain.specs.Room.{readings_under}
-use Rattle.event_chain.proofs.Decided.{key_test}
-use Rattle.ledger_model.specs.Content.{Entry, live, live_of}
-use Rattle.ledger_model.specs.Deltas.{across, pairs_between}
-use Rattle.ledger_model.specs.Energy.{Pair, followed, parts_of, parts_over, readings_by}
-use Rattle.ledger_model.specs.Entries.{IsRising}
-use Rattle.ledger_model.specs.Event.{MeterReading, toward}
-use Rattle.ledger_model.specs.Gaps.{numbers_of}
-use Rattle.ledger_model.specs.Key.{key_cmp}
-use Rattle.ledger_model.specs.declared.reading.Direction.{Direction}
-use Rattle.ledger_model.proofs.Callers.{find_below, first, in_time-map, second}
-use Rattle.ledger_model.specs.ByDirection.{flows_toward}
-use Rattle.ledger_model.specs.Parts.{Part}
-use Rattle.ledger_model.specs.declared.settle.Settle.{Settle}
-use Rattle.ledger_model.specs.declared.settle.Settle.TheVariants.{Later, Closing, Even}
-use Rattle.quarter_table.specs.declared.row.QuarterRow.{QuarterRow}
-use Rattle.quarter_table.specs.Pairs.{parts_toward, rows_of, rows_with}
+use Rattle.event_chain.{specs.Table.{Table, row_of}, specs.Chains.{Chained, stored}, specs.Room.readings_under, proofs.Decided.key_test}
+use Rattle.ledger_model.{specs.InTime.in_time, specs.Limits.Bounds, specs.declared.order.Order.Order, specs.declared.order.Order.TheVariants.{Sequence, Moment}, specs.declared.reading.Direction.TheVariants.{Import, Export}, specs.Content.{Entry, live, live_of}, specs.Deltas.{across, pairs_between}, specs.Energy.{Pair, followed, parts_of, parts_over, readings_by}, specs.Entries.IsRising, specs.Event.{MeterReading, toward}, specs.Gaps.numbers_of, specs.Key.key_cmp, specs.declared.reading.Direction.Direction, proofs.Callers.{find_below, first, in_time-map, second}, specs.ByDirection.flows_toward, specs.Parts.Part, specs.declared.settle.Settle.Settle, specs.declared.settle.Settle.TheVariants.{Later, Closing, Even}}
+use Rattle.quarter_table.{proofs.Several.{made_with, rows_with-append}, specs.declared.row.QuarterRow.QuarterRow, specs.Pairs.{parts_toward, rows_of, rows_with}}
+use Rattle.station_ledger.{specs.ByMoment.AreSlots, specs.Listing.{placed, placed_by, placed_from}, specs.Numbered.{AreNumbered, AreNumbers}, specs.Quarters.readings_at, specs.Shares.{evenly, with_shares}, proofs.Numbered.live_numbered}
 use Rattle.reading_index.specs.declared.placed.PlacedReading.{PlacedReading}
-use Rattle.station_ledger.specs.Listing.{placed, placed_by, placed_from}
-use Rattle.station_ledger.specs.Numbered.{AreNumbered, AreNumbers}
-use Rattle.station_ledger.specs.Quarters.{readings_at}
-use Rattle.station_ledger.specs.Shares.{evenly, with_shares}
-use Rattle.station_ledger.proofs.Numbered.{live_numbered}
 
 -- Shares of more pairs are added behind those of the first.
 pub shares-append : (length : ℕ) (d : Direction) (ps qs : List Pair) (rows : List QuarterRow) → with_shares length d (ps ++ qs) rows ≡ with_shares length d qs (with_shares length d ps rows)

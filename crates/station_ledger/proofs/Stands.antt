@@ -1,32 +1,9 @@
 -- A transaction with another standing, in all sums.
-use Rattle.std.proofs.Common.{◌≡◌, ℕ, ◌+◌, ◌-◌, ◌<◌, ◌≤◌, Bool, true, false, cond, List, Option, Some, None, is_some, length, refl, sym, ap, subst, ◌∙◌, arith}
-use Rattle.std.specs.Str.{bytes_eq}
-use Rattle.std.specs.FinMap.{find}
-use Rattle.std.specs.Ordering.{eq_by_cmp}
-use Rattle.std.proofs.lemmas.Slice.Eq.{bytes_eq-Decides}
+use Rattle.std.{proofs.Common.{◌≡◌, ℕ, ◌+◌, ◌-◌, ◌<◌, ◌≤◌, Bool, true, false, cond, List, Option, Some, None, is_some, length, refl, sym, ap, subst, ◌∙◌, arith}, specs.Str.bytes_eq, specs.FinMap.find, specs.Ordering.eq_by_cmp, proofs.lemmas.Slice.Eq.bytes_eq-Decides, specs.Cmp.eq_by_cmp_equiv}
 use Rattle.energy_flow.specs.Flow.{Energy, plus, minus, CanPlus, CanMinus}
-use Rattle.ledger_model.specs.declared.figures.Figures.{Figures}
-use Rattle.ledger_model.specs.ByDirection.{in_direction}
-use Rattle.ledger_model.specs.Content.{Entry, live, transactions_of}
-use Rattle.ledger_model.specs.Energy.{energy_of_by}
-use Rattle.ledger_model.specs.Evse.{energy_at_by, transactions_at}
-use Rattle.ledger_model.specs.declared.order.Order.{Order}
-use Rattle.ledger_model.specs.declared.reading.Direction.{Direction}
-use Rattle.ledger_model.specs.declared.reading.Direction.TheVariants.{Import, Export}
-use Rattle.ledger_model.specs.Limits.{Bounds}
-use Rattle.ledger_model.specs.Ranges.{greatest_evse}
-use Rattle.transaction_map.specs.Map.{Mapped, AreRising, id_cmp}
-use Rattle.transaction_map.proofs.Rising.{equal_ids, id_total}
-use Rattle.std.specs.Cmp.{eq_by_cmp_equiv}
-use Rattle.transaction_map.proofs.Found.{found_put, found_out, rising_put, rising_out, length_put, length_out}
-use Rattle.station_ledger.specs.declared.standing.Standing.{Standing}
-use Rattle.station_ledger.specs.declared.totals.EvseSum.{EvseSum}
-use Rattle.station_ledger.specs.Standing.{kept_of}
-use Rattle.station_ledger.specs.Moved.{live_in, one_in, complete_in, missing_in, flows_in, one_at, flows_at, IsMoved}
-use Rattle.station_ledger.specs.Moved.{sum_at, with_one, without_one, with_figures, without_figures, HasRoomAt, CountsAt, HaveRoom, DoCount}
-use Rattle.station_ledger.specs.Sums.{AreStanding, AreEvseSums, AreCounts, AreAllowed, keep}
-use Rattle.station_ledger.proofs.Moved.{live_kept, missing_kept, flow_in_kept, kept_same, one_in_le, complete_in_le, one_at_le, flow_at_le}
-use Rattle.station_ledger.proofs.Bounded.{few_up, few_down, live_le, at_evse_le, evse_up_le, evse_down_le, own_up_le, own_down_le, own_missing_le}
+use Rattle.ledger_model.{specs.declared.figures.Figures.Figures, specs.ByDirection.in_direction, specs.Content.{Entry, live, transactions_of}, specs.Energy.energy_of_by, specs.Evse.{energy_at_by, transactions_at}, specs.declared.order.Order.Order, specs.declared.reading.Direction.Direction, specs.declared.reading.Direction.TheVariants.{Import, Export}, specs.Limits.Bounds, specs.Ranges.greatest_evse}
+use Rattle.transaction_map.{specs.Map.{Mapped, AreRising, id_cmp}, proofs.Rising.{equal_ids, id_total}, proofs.Found.{found_put, found_out, rising_put, rising_out, length_put, length_out}}
+use Rattle.station_ledger.{specs.declared.standing.Standing.Standing, specs.declared.totals.EvseSum.EvseSum, specs.Standing.kept_of, specs.Moved.{live_in, one_in, complete_in, missing_in, flows_in, one_at, flows_at, IsMoved, sum_at, with_one, without_one, with_figures, without_figures, HasRoomAt, CountsAt, HaveRoom, DoCount}, specs.Sums.{AreStanding, AreEvseSums, AreCounts, AreAllowed, keep}, proofs.Moved.{live_kept, missing_kept, flow_in_kept, kept_same, one_in_le, complete_in_le, one_at_le, flow_at_le}, proofs.Bounded.{few_up, few_down, live_le, at_evse_le, evse_up_le, evse_down_le, own_up_le, own_down_le, own_missing_le}}
 
 -- what is found where a transaction's row was written or taken out
 found_keep : (u tx : List ℕ) (o : Option Standing) (rows : List (List ℕ × Standing)) → find id_cmp u (keep tx o rows) ≡ cond (eq_by_cmp id_cmp u tx) o (find id_cmp u rows)

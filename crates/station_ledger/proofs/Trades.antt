@@ -1,31 +1,9 @@
 -- Pairs that go and pairs that come, while the others are kept, and what they move.
-use Rattle.std.proofs.Common.{◌≡◌, ℕ, ◌+◌, ◌-◌, ◌*◌, ◌≤◌, List, [], ◌∷◌, ◌++◌, length, refl, sym, ap, ◌∙◌, arith, length-append}
-use Rattle.std.specs.List.{sum_by}
-use Rattle.std.proofs.lemmas.List.Sums.{sum_by-append, sum_by-cons}
+use Rattle.std.{proofs.Common.{◌≡◌, ℕ, ◌+◌, ◌-◌, ◌*◌, ◌≤◌, List, [], ◌∷◌, ◌++◌, length, refl, sym, ap, ◌∙◌, arith, length-append}, specs.List.sum_by, proofs.lemmas.List.Sums.{sum_by-append, sum_by-cons}}
 use Rattle.energy_flow.specs.Flow.{Energy, plus, minus, CanPlus, CanMinus}
-use Rattle.ledger_model.specs.ByDirection.{in_direction}
-use Rattle.ledger_model.specs.Periods.{Periods}
-use Rattle.ledger_model.specs.Content.{Entry}
-use Rattle.ledger_model.specs.Deltas.{IsOneMore, came_by, gone_by, kept_by}
-use Rattle.ledger_model.specs.Energy.{Pair, difference, energy, energy_by, energy_of, energy_over, pairs, pairs_of}
-use Rattle.ledger_model.specs.declared.order.Order.{Order}
-use Rattle.ledger_model.specs.declared.order.Order.TheVariants.{Sequence}
-use Rattle.ledger_model.specs.declared.reading.Direction.{Direction}
-use Rattle.ledger_model.specs.declared.reading.Direction.TheVariants.{Import, Export}
-use Rattle.ledger_model.specs.Limits.{Bounds}
-use Rattle.ledger_model.specs.Ranges.{greatest_reading, most_readings}
-use Rattle.ledger_model.proofs.Callers.{less_kept, more_kept, transaction_moved}
-use Rattle.quarter_table.specs.Table.{Table}
-use Rattle.quarter_table.specs.Pairs.{rows_of, rows_with, total}
-use Rattle.quarter_table.proofs.Several.{made_with, one_side, both_sides}
-use Rattle.quarter_table.proofs.Made.{made_alike}
-use Rattle.station_ledger.specs.declared.pairs.Way.{Way}
-use Rattle.station_ledger.specs.declared.pairs.Way.TheVariants.{Coming, Going}
-use Rattle.station_ledger.specs.Quarters.{HasRoom, HoldsBoth, IsTableMoved, both_length, both_quartered, quartered}
-use Rattle.station_ledger.specs.Runs.{by_way}
-use Rattle.station_ledger.specs.Sums.{AreAllowed, AreQuarterRows}
-use Rattle.station_ledger.proofs.Bounded.{few_up, few_down, few_pairs}
-use Rattle.station_ledger.proofs.Rows.{long, rows_less, up_append, down_append, up_quartered, down_quartered}
+use Rattle.ledger_model.{specs.ByDirection.in_direction, specs.Periods.Periods, specs.Content.Entry, specs.Deltas.{IsOneMore, came_by, gone_by, kept_by}, specs.Energy.{Pair, difference, energy, energy_by, energy_of, energy_over, pairs, pairs_of}, specs.declared.order.Order.Order, specs.declared.order.Order.TheVariants.Sequence, specs.declared.reading.Direction.Direction, specs.declared.reading.Direction.TheVariants.{Import, Export}, specs.Limits.Bounds, specs.Ranges.{greatest_reading, most_readings}, proofs.Callers.{less_kept, more_kept, transaction_moved}}
+use Rattle.quarter_table.{specs.Table.Table, specs.Pairs.{rows_of, rows_with, total}, proofs.Several.{made_with, one_side, both_sides}, proofs.Made.made_alike}
+use Rattle.station_ledger.{specs.declared.pairs.Way.Way, specs.declared.pairs.Way.TheVariants.{Coming, Going}, specs.Quarters.{HasRoom, HoldsBoth, IsTableMoved, both_length, both_quartered, quartered}, specs.Runs.by_way, specs.Sums.{AreAllowed, AreQuarterRows}, proofs.Bounded.{few_up, few_down, few_pairs}, proofs.Rows.{long, rows_less, up_append, down_append, up_quartered, down_quartered}}
 
 -- The pairs of a direction before and after, and those of one transaction.
 pub record IsTraded (d : Direction) (tx : List ℕ) (es new : List Entry) (gone came kept : List Pair) : Type 0 where

@@ -1,22 +1,10 @@
 -- The live readings of a station by moment.
-use Rattle.std.specs.Prelude.{◌≡◌, ◌==◌, ℕ, ◌+◌, ◌≤◌, Bool, true, false, not, is_some, nat_lt, List, [], ◌∷◌, Option, None, Some, if◌then◌else◌, length, option_map, sum_by, vec_capacity}
-use Rattle.std.specs.List.{flat_map}
-use Rattle.std.specs.Str.{bytes_eq}
-use Rattle.event_chain.specs.Chains.{Chained}
-use Rattle.event_chain.specs.declared.row.TableRow.{TableRow}
-use Rattle.event_chain.specs.Table.{IsFresh, Table, row_of}
-use Rattle.ledger_model.specs.declared.reading.Direction.{Direction}
-use Rattle.ledger_model.specs.Content.{Entry, live, live_of, transactions_of}
-use Rattle.ledger_model.specs.Event.{MeterReading, toward}
-use Rattle.ledger_model.specs.InTime.{in_time, put_in_time}
-use Rattle.ledger_model.specs.Key.{KeyName}
-use Rattle.ledger_model.specs.Limits.{Bounds}
-use Rattle.ledger_model.specs.Ranges.{most_event_readings}
-use Rattle.reading_index.specs.Ranks.{owner, rank}
-use Rattle.reading_index.specs.Timed.{Timed, AreRising, has_rank, owned, without}
+use Rattle.std.{specs.Prelude.{◌≡◌, ◌==◌, ℕ, ◌+◌, ◌≤◌, Bool, true, false, not, is_some, nat_lt, List, [], ◌∷◌, Option, None, Some, if◌then◌else◌, length, option_map, sum_by, vec_capacity}, specs.List.flat_map, specs.Str.bytes_eq}
+use Rattle.event_chain.{specs.Chains.Chained, specs.declared.row.TableRow.TableRow, specs.Table.{IsFresh, Table, row_of}}
+use Rattle.ledger_model.{specs.declared.reading.Direction.Direction, specs.Content.{Entry, live, live_of, transactions_of}, specs.Event.{MeterReading, toward}, specs.InTime.{in_time, put_in_time}, specs.Key.KeyName, specs.Limits.Bounds, specs.Ranges.most_event_readings}
+use Rattle.reading_index.{specs.Ranks.{owner, rank}, specs.Timed.{Timed, AreRising, has_rank, owned, without}}
 pub use Rattle.reading_index.specs.Timed.{bare}
-use Rattle.station_ledger.specs.declared.by_moment.ByMoment.{ByMoment}
-use Rattle.station_ledger.specs.Quarters.{readings_at}
+use Rattle.station_ledger.{specs.declared.by_moment.ByMoment.ByMoment, specs.Quarters.readings_at}
 
 -- Readings of an event in one direction, in the order sent, each with its rank: by owner, moment,
 -- the event's number, and place, beginning at the given place.

@@ -1,8 +1,6 @@
 -- The standing of a transaction, and one live event that came since.
 use Rattle.std.specs.Prelude.{◌≡◌, ℕ, ◌+◌, ◌<◌, ◌≤◌, List, Some, length, slice_get}
-use Rattle.ledger_model.specs.Content.{Entry, live_of}
-use Rattle.ledger_model.specs.Evse.{evse_of}
-use Rattle.ledger_model.specs.Gaps.{numbers_of, missing}
+use Rattle.ledger_model.{specs.Content.{Entry, live_of}, specs.Evse.evse_of, specs.Gaps.{numbers_of, missing}}
 use Rattle.station_ledger.specs.declared.standing.Standing.{Standing}
 
 -- The standing of a transaction before the live event of a number came that names no EVSE, compared with its events

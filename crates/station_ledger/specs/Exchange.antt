@@ -1,21 +1,9 @@
 -- Readings by moment, and one live event that comes or goes.
 use Rattle.std.specs.Prelude.{◌≡◌, ◌≤◌, List, length}
-use Rattle.ledger_model.specs.Periods.{Periods}
-use Rattle.ledger_model.specs.declared.order.Order.TheVariants.{Moment}
-use Rattle.ledger_model.specs.declared.reading.Direction.{Direction}
-use Rattle.ledger_model.specs.Content.{Entry, Stored}
-use Rattle.ledger_model.specs.Deltas.{IsOneMore, before_key, behind_key}
-use Rattle.ledger_model.specs.Event.{toward}
-use Rattle.ledger_model.specs.Key.{KeyName}
-use Rattle.ledger_model.specs.Ranges.{most_event_readings}
+use Rattle.ledger_model.{specs.Periods.Periods, specs.declared.order.Order.TheVariants.Moment, specs.declared.reading.Direction.Direction, specs.Content.{Entry, Stored}, specs.Deltas.{IsOneMore, before_key, behind_key}, specs.Event.toward, specs.Key.KeyName, specs.Ranges.most_event_readings}
 use Rattle.event_chain.specs.Chains.{Chained, stored}
 use Rattle.quarter_table.specs.Table.{Table}
-use Rattle.station_ledger.specs.declared.by_moment.ByMoment.{ByMoment}
-use Rattle.station_ledger.specs.declared.pairs.Way.{Way}
-use Rattle.station_ledger.specs.ByMoment.{AreByMoment}
-use Rattle.station_ledger.specs.Quarters.{readings_at}
-use Rattle.station_ledger.specs.Runs.{by_way}
-use Rattle.station_ledger.specs.Sums.{AreAllowed, AreQuarterRows}
+use Rattle.station_ledger.{specs.declared.by_moment.ByMoment.ByMoment, specs.declared.pairs.Way.Way, specs.ByMoment.AreByMoment, specs.Quarters.readings_at, specs.Runs.by_way, specs.Sums.{AreAllowed, AreQuarterRows}}
 
 -- One live event comes to the chains, or goes from them: the chains have the events with it, or those without it. The
 -- readings by moment and the periods are those of the events before.

@@ -1,12 +1,6 @@
 use Rattle.std.specs.Prelude.{◌≡◌, ℕ, ◌+◌, ◌<◌, ◌≤◌, ◌^◌}
-use Rattle.ledger_model.specs.declared.answer.Answer.{Answer}
-use Rattle.ledger_model.specs.declared.command.Command.{Command}
-use Rattle.ledger_model.specs.Admissible.{IsAdmissible}
-use Rattle.ledger_model.specs.Content.{Content}
-use Rattle.ledger_model.specs.Limits.{Bounds}
-use Rattle.ledger_model.specs.Step.{Reached, answer, step}
-use Rattle.station_ledger.specs.Ledger.{Ledger}
-use Rattle.station_ledger.specs.Spent.{IsSpent, most_spent}
+use Rattle.ledger_model.{specs.declared.answer.Answer.Answer, specs.declared.command.Command.Command, specs.Admissible.IsAdmissible, specs.Content.Content, specs.Limits.Bounds, specs.Step.{Reached, answer, step}}
+use Rattle.station_ledger.{specs.Ledger.Ledger, specs.Spent.{IsSpent, most_spent}}
 
 -- A ledger with these limits and this content gives this answer to the command. The command's parts are in range.
 pub record IsJudged (limits : Bounds) (c : Content) (command : Command) (a : Answer) : Type 0 where

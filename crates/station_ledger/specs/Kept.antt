@@ -1,18 +1,9 @@
 -- What a ledger keeps.
 use Rattle.std.specs.Prelude.{◌≡◌, ℕ, ◌≤◌, Some, None, length, count_by}
 use Rattle.std.specs.FinMap as finite
-use Rattle.ledger_model.specs.declared.command.Command.{Command}
-use Rattle.ledger_model.specs.declared.command.Command.TheVariants.{Deliver, Void, Restore, Erase}
-use Rattle.ledger_model.specs.Content.{Content}
-use Rattle.ledger_model.specs.Limits.{Bounds}
-use Rattle.ledger_model.specs.Ranges.{most_events, most_readings, most_transactions}
-use Rattle.ledger_model.specs.Step.{Reached, events_after}
-use Rattle.event_chain.specs.declared.answers.Found.TheVariants.{Live, Voided}
-use Rattle.event_chain.specs.declared.answers.Room.TheVariants.{Fits}
-use Rattle.event_chain.specs.Chains.{Chained, stored}
-use Rattle.event_chain.specs.Room.{found_of, room_of}
-use Rattle.station_ledger.specs.declared.sums.Sums.{Sums}
-use Rattle.station_ledger.specs.Sums.{AreAllowed, AreSummed, order_in}
+use Rattle.ledger_model.{specs.declared.command.Command.Command, specs.declared.command.Command.TheVariants.{Deliver, Void, Restore, Erase}, specs.Content.Content, specs.Limits.Bounds, specs.Ranges.{most_events, most_readings, most_transactions}, specs.Step.{Reached, events_after}}
+use Rattle.event_chain.{specs.declared.answers.Found.TheVariants.{Live, Voided}, specs.declared.answers.Room.TheVariants.Fits, specs.Chains.{Chained, stored}, specs.Room.{found_of, room_of}}
+use Rattle.station_ledger.{specs.declared.sums.Sums.Sums, specs.Sums.{AreAllowed, AreSummed, order_in}}
 
 -- The content that chains show after so many changes.
 abbrev pub content_in : Chained → ℕ → Content

@@ -1,14 +1,6 @@
-use Rattle.std.specs.Prelude.{ℕ, Bool, refl}
-use Rattle.std.specs.Coded.{Coded, code_by, coded×, coded_bool, coded_ℕ}
+use Rattle.std.{specs.Prelude.{ℕ, Bool, refl}, specs.Coded.{Coded, code_by, coded×, coded_bool, coded_ℕ}, specs.FinMap.FinMap}
 use Rattle.std.specs.FinMap as finite
-use Rattle.std.specs.FinMap.{FinMap}
-use Rattle.ledger_model.specs.Periods.{Periods, periods_code}
-use Rattle.ledger_model.specs.contracts.event.Event.{the_row}
-use Rattle.ledger_model.specs.Event.{EventContent}
-use Rattle.ledger_model.specs.Key.{key_cmp, key_code}
-use Rattle.ledger_model.specs.Limits.{Bounds}
-use Rattle.ledger_model.specs.Content.{Content, Stored}
-use Rattle.ledger_model.specs.declared.order.Order.{Order}
+use Rattle.ledger_model.{specs.Periods.{Periods, periods_code}, specs.contracts.event.Event.the_row, specs.Event.EventContent, specs.Key.{key_cmp, key_code}, specs.Limits.Bounds, specs.Content.{Content, Stored}, specs.declared.order.Order.Order}
 use Rattle.ledger_model.specs.contracts.order.Order as orders
 
 -- A station's ledger: its limits, its settlement periods, the order in which it takes the readings of

@@ -1,11 +1,7 @@
 -- What a board's lines can show.
 use Rattle.std.specs.Prelude.{ℕ, ◌*◌, ◌<◌, ◌≤◌, List, All}
 use Rattle.energy_flow.specs.Flow.{Energy}
-use Rattle.ledger_model.specs.Periods.{Periods}
-use Rattle.ledger_model.specs.Board.{Flowed}
-use Rattle.ledger_model.specs.declared.by_direction.ByDirection.{ByDirection}
-use Rattle.ledger_model.specs.Quarter.{IsQuarterOf}
-use Rattle.ledger_model.specs.Ranges.{greatest_reading, most_readings, sequence_end}
+use Rattle.ledger_model.{specs.Periods.Periods, specs.Board.Flowed, specs.declared.by_direction.ByDirection.ByDirection, specs.Quarter.IsQuarterOf, specs.Ranges.{greatest_reading, most_readings, sequence_end}}
 
 -- Energy that the readings of one station can show.
 pub record IsStationFlow (flow : Energy) : Type 0 where

@@ -1,22 +1,9 @@
 -- The events and readings of a transaction, as a question for them shows them.
-use Rattle.std.specs.Prelude.{◌≡◌, ℕ, ◌+◌, List, [], ◌∷◌}
-use Rattle.std.specs.List.{flat_map}
+use Rattle.std.{specs.Prelude.{◌≡◌, ℕ, ◌+◌, List, [], ◌∷◌}, specs.List.flat_map}
 use Rattle.event_chain.specs.EventLines.{events_of}
-use Rattle.ledger_model.specs.Content.{Entry, live_of}
-use Rattle.ledger_model.specs.Energy.{flows_of_by}
-use Rattle.ledger_model.specs.Event.{MeterReading, toward}
-use Rattle.ledger_model.specs.InTime.{in_order}
-use Rattle.ledger_model.specs.Periods.{Periods}
-use Rattle.ledger_model.specs.declared.order.Order.{Order}
-use Rattle.ledger_model.specs.declared.reading.Direction.{Direction}
-use Rattle.ledger_model.specs.declared.reading.Direction.TheVariants.{Import, Export}
+use Rattle.ledger_model.{specs.Content.{Entry, live_of}, specs.Energy.flows_of_by, specs.Event.{MeterReading, toward}, specs.InTime.in_order, specs.Periods.Periods, specs.declared.order.Order.Order, specs.declared.reading.Direction.Direction, specs.declared.reading.Direction.TheVariants.{Import, Export}, specs.Limits.Bounds, specs.declared.order.Order.TheVariants.Moment}
 use Rattle.reading_index.specs.declared.placed.PlacedReading.{PlacedReading}
-use Rattle.ledger_model.specs.Limits.{Bounds}
-use Rattle.ledger_model.specs.declared.order.Order.TheVariants.{Moment}
-use Rattle.station_ledger.specs.ByMoment.{AreByMoment}
-use Rattle.station_ledger.specs.Sums.{AreAllowed}
-use Rattle.station_ledger.specs.declared.by_moment.ByMoment.{ByMoment}
-use Rattle.station_ledger.specs.declared.listing.TxListing.{TxListing}
+use Rattle.station_ledger.{specs.ByMoment.AreByMoment, specs.Sums.AreAllowed, specs.declared.by_moment.ByMoment.ByMoment, specs.declared.listing.TxListing.TxListing}
 
 -- Readings of an event, in the order sent, each with the event's number and its place, beginning at the given place.
 abbrev pub placed_from : ℕ → ℕ → List MeterReading → List PlacedReading

@@ -1,21 +1,8 @@
 -- What changes with one transaction's live events.
-use Rattle.std.specs.Prelude.{◌≡◌, ℕ, ◌+◌, ◌-◌, ◌*◌, ◌<◌, ◌≤◌, ◌^◌, ◌==◌, false, unwrap_or, slice_get, if◌then◌else◌, List, Option, None, Some, length, count_by, sum_by}
-use Rattle.std.specs.Str.{bytes_eq}
+use Rattle.std.{specs.Prelude.{◌≡◌, ℕ, ◌+◌, ◌-◌, ◌*◌, ◌<◌, ◌≤◌, ◌^◌, ◌==◌, false, unwrap_or, slice_get, if◌then◌else◌, List, Option, None, Some, length, count_by, sum_by}, specs.Str.bytes_eq}
 use Rattle.energy_flow.specs.Flow.{Energy, plus}
-use Rattle.ledger_model.specs.declared.reading.Direction.{Direction}
-use Rattle.ledger_model.specs.Complete.{is_complete}
-use Rattle.ledger_model.specs.Content.{Entry, live, live_of, transactions_of}
-use Rattle.ledger_model.specs.declared.order.Order.{Order}
-use Rattle.ledger_model.specs.Evse.{energy_at_by, flows_at_by, transactions_at}
-use Rattle.ledger_model.specs.ByDirection.{in_direction, no_flows, plus_flows, minus_flows, CanPlusFlows, CanMinusFlows}
-use Rattle.ledger_model.specs.declared.by_direction.ByDirection.{ByDirection}
-use Rattle.ledger_model.specs.Energy.{energy_by, energy_of_by}
-use Rattle.ledger_model.specs.Ranges.{greatest_reading, most_readings}
-use Rattle.ledger_model.specs.Gaps.{numbers_of, missing}
-use Rattle.ledger_model.specs.declared.figures.Figures.{Figures}
-use Rattle.station_ledger.specs.declared.totals.EvseSum.{EvseSum}
-use Rattle.station_ledger.specs.declared.standing.Standing.{Standing}
-use Rattle.station_ledger.specs.Standing.{kept_of}
+use Rattle.ledger_model.{specs.declared.reading.Direction.Direction, specs.Complete.is_complete, specs.Content.{Entry, live, live_of, transactions_of}, specs.declared.order.Order.Order, specs.Evse.{energy_at_by, flows_at_by, transactions_at}, specs.ByDirection.{in_direction, no_flows, plus_flows, minus_flows, CanPlusFlows, CanMinusFlows}, specs.declared.by_direction.ByDirection.ByDirection, specs.Energy.{energy_by, energy_of_by}, specs.Ranges.{greatest_reading, most_readings}, specs.Gaps.{numbers_of, missing}, specs.declared.figures.Figures.Figures}
+use Rattle.station_ledger.{specs.declared.totals.EvseSum.EvseSum, specs.declared.standing.Standing.Standing, specs.Standing.kept_of}
 
 -- The part of a transaction in the figures; nothing if it has no live event.
 abbrev pub live_in : Option Standing → ℕ

@@ -1,10 +1,5 @@
 use Rattle.std.specs.Prelude.{ℕ, ◌+◌, Bool, ◌&&◌, not, nat_le, nat_lt, if◌then◌else◌, List, length}
-use Rattle.ledger_model.specs.declared.answer.Answer.{Answer}
-use Rattle.ledger_model.specs.declared.answer.Answer.TheVariants.{Refused}
-use Rattle.ledger_model.specs.declared.answer.Refusal.TheVariants.{TooManyTransactions, EventsFull, ReadingsFull}
-use Rattle.ledger_model.specs.Limits.{Bounds}
-use Rattle.ledger_model.specs.Content.{Content, Entry, entries, transactions_of, has_transaction}
-use Rattle.ledger_model.specs.Step.{readings_stored, accepted_within_limit}
+use Rattle.ledger_model.{specs.declared.answer.Answer.Answer, specs.declared.answer.Answer.TheVariants.Refused, specs.declared.answer.Refusal.TheVariants.{TooManyTransactions, EventsFull, ReadingsFull}, specs.Limits.Bounds, specs.Content.{Content, Entry, entries, transactions_of, has_transaction}, specs.Step.{readings_stored, accepted_within_limit}}
 
 -- The transaction is new, and as many as the limits allow are stored.
 abbrev pub is_transaction_too_many : Bounds → List Entry → List ℕ → Bool

@@ -1,7 +1,6 @@
 -- Entries with numbers in range.
 use Rattle.std.specs.Prelude.{ℕ, ◌<◌, ◌≤◌, List, [], ◌∷◌, IfSome}
-use Rattle.ledger_model.specs.Content.{Entry}
-use Rattle.ledger_model.specs.Ranges.{greatest_evse, sequence_end}
+use Rattle.ledger_model.{specs.Content.Entry, specs.Ranges.{greatest_evse, sequence_end}}
 
 -- The number of the event is in range, and that of the EVSE if it names one.
 pub record IsNumbered (e : Entry) : Type 0 where

@@ -1,24 +1,11 @@
 -- The rows of pairs, each pair given by its settlement period and its difference.
-use Rattle.station_ledger.specs.declared.pairs.Way.{Way}
-use Rattle.station_ledger.specs.declared.pairs.Way.TheVariants.{Coming, Going}
+use Rattle.station_ledger.{specs.declared.pairs.Way.Way, specs.declared.pairs.Way.TheVariants.{Coming, Going}}
 use Rattle.std.specs.Prelude.{◌≡◌, ℕ, ◌+◌, ◌*◌, ◌≤◌, false, List, ◌++◌, Some, length}
 use Rattle.std.specs.FinMap as finite
-use Rattle.event_chain.specs.Chains.{Chained}
-use Rattle.event_chain.specs.Room.{readings_under}
+use Rattle.event_chain.{specs.Chains.Chained, specs.Room.readings_under}
 use Rattle.energy_flow.specs.Flow.{Energy}
-use Rattle.ledger_model.specs.Periods.{Periods}
-use Rattle.ledger_model.specs.ByDirection.{in_direction}
-use Rattle.ledger_model.specs.declared.by_direction.ByDirection.{ByDirection}
-use Rattle.ledger_model.specs.declared.reading.Direction.{Direction}
-use Rattle.ledger_model.specs.declared.reading.Direction.TheVariants.{Import, Export}
-use Rattle.ledger_model.specs.Board.{Flowed}
-use Rattle.ledger_model.specs.Energy.{Pair, energy_over}
-use Rattle.ledger_model.specs.Event.{EventContent, MeterReading}
-use Rattle.ledger_model.specs.Key.{KeyName}
-use Rattle.ledger_model.specs.Ranges.{greatest_reading, most_readings}
-use Rattle.quarter_table.specs.declared.row.QuarterRow.{QuarterRow}
-use Rattle.quarter_table.specs.Table.{Table}
-use Rattle.quarter_table.specs.Pairs.{rows_of, rows_with, rows_without, flows_of, total}
+use Rattle.ledger_model.{specs.Periods.Periods, specs.ByDirection.in_direction, specs.declared.by_direction.ByDirection.ByDirection, specs.declared.reading.Direction.Direction, specs.declared.reading.Direction.TheVariants.{Import, Export}, specs.Board.Flowed, specs.Energy.{Pair, energy_over}, specs.Event.{EventContent, MeterReading}, specs.Key.KeyName, specs.Ranges.{greatest_reading, most_readings}}
+use Rattle.quarter_table.{specs.declared.row.QuarterRow.QuarterRow, specs.Table.Table, specs.Pairs.{rows_of, rows_with, rows_without, flows_of, total}}
 
 -- A difference of two readings: neither its rise nor its fall is more than a reading can show.
 pub record IsDifference (flow : Energy) : Type 0 where

@@ -1,26 +1,11 @@
 -- An event's readings among the others of its transaction, run by run.
-use Rattle.std.specs.Prelude.{◌≡◌, ◌==◌, ℕ, ◌+◌, ◌*◌, ◌≤◌, Bool, List, [], ◌++◌, Option, length}
-use Rattle.std.specs.List.{AllByRecursion}
+use Rattle.std.{specs.Prelude.{◌≡◌, ◌==◌, ℕ, ◌+◌, ◌*◌, ◌≤◌, Bool, List, [], ◌++◌, Option, length}, specs.List.AllByRecursion}
 use Rattle.energy_flow.specs.Flow.{Energy}
-use Rattle.ledger_model.specs.Periods.{Periods}
-use Rattle.ledger_model.specs.Board.{Flowed}
-use Rattle.ledger_model.specs.Deltas.{pairs_between}
-use Rattle.ledger_model.specs.declared.reading.Direction.{Direction}
-use Rattle.ledger_model.specs.ByDirection.{in_direction, flows_toward}
-use Rattle.ledger_model.specs.Energy.{Pair, energy_over, followed}
-use Rattle.ledger_model.specs.InTime.{runs}
-use Rattle.ledger_model.specs.Ranges.{greatest_reading, most_event_readings, most_readings}
-use Rattle.ledger_model.proofs.RunLemmas.{AreForeign, AreOwn}
-use Rattle.quarter_table.specs.Pairs.{rows_of, total}
-use Rattle.quarter_table.specs.Table.{Table}
+use Rattle.ledger_model.{specs.Periods.Periods, specs.Board.Flowed, specs.Deltas.pairs_between, specs.declared.reading.Direction.Direction, specs.ByDirection.{in_direction, flows_toward}, specs.Energy.{Pair, energy_over, followed}, specs.InTime.runs, specs.Ranges.{greatest_reading, most_event_readings, most_readings}, proofs.RunLemmas.{AreForeign, AreOwn}}
+use Rattle.quarter_table.{specs.Pairs.{rows_of, total}, specs.Table.Table}
 use Rattle.event_chain.specs.declared.around.Sides.{Sides}
-use Rattle.reading_index.specs.Ranks.{number_of, owner, owner_of}
-use Rattle.reading_index.specs.Timed.{Timed, TimedReadings, AreRising, owned}
-use Rattle.station_ledger.specs.declared.by_moment.Moved.{Moved}
-use Rattle.station_ledger.specs.declared.pairs.Way.{Way}
-use Rattle.station_ledger.specs.declared.pairs.Way.TheVariants.{Coming, Going}
-use Rattle.station_ledger.specs.ByMoment.{bare, bare_one, put_each, take_each, ArePuttable}
-use Rattle.station_ledger.specs.Quarters.{HasRoom, DidMove, IsTableMoved, IsWork, quartered}
+use Rattle.reading_index.{specs.Ranks.{number_of, owner, owner_of}, specs.Timed.{Timed, TimedReadings, AreRising, owned}}
+use Rattle.station_ledger.{specs.declared.by_moment.Moved.Moved, specs.declared.pairs.Way.Way, specs.declared.pairs.Way.TheVariants.{Coming, Going}, specs.ByMoment.{bare, bare_one, put_each, take_each, ArePuttable}, specs.Quarters.{HasRoom, DidMove, IsTableMoved, IsWork, quartered}}
 
 -- Whether a reading belongs to the event of this number.
 abbrev pub own_timed : ℕ → Timed → Bool

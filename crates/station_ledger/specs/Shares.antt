@@ -1,11 +1,7 @@
 -- Rows with the shares of differences.
 use Rattle.std.specs.Prelude.{ℕ, List}
-use Rattle.ledger_model.specs.Periods.{Periods}
-use Rattle.ledger_model.specs.declared.reading.Direction.{Direction}
-use Rattle.ledger_model.specs.declared.settle.Settle.TheVariants.{Even}
-use Rattle.ledger_model.specs.Energy.{Pair, parts_over}
-use Rattle.quarter_table.specs.declared.row.QuarterRow.{QuarterRow}
-use Rattle.quarter_table.specs.Pairs.{parts_toward, rows_with}
+use Rattle.ledger_model.{specs.Periods.Periods, specs.declared.reading.Direction.Direction, specs.declared.settle.Settle.TheVariants.Even, specs.Energy.{Pair, parts_over}}
+use Rattle.quarter_table.{specs.declared.row.QuarterRow.QuarterRow, specs.Pairs.{parts_toward, rows_with}}
 
 -- Settlement periods of so many seconds, among which differences are shared.
 abbrev pub evenly : ℕ → Periods

@@ -1,14 +1,7 @@
 -- The pairs at an event's place, direction by direction.
 use Rattle.std.specs.Prelude.{Bool, List, is_some}
-use Rattle.ledger_model.specs.ByDirection.{in_direction}
-use Rattle.ledger_model.specs.declared.by_direction.ByDirection.{ByDirection}
-use Rattle.ledger_model.specs.declared.reading.Direction.{Direction}
-use Rattle.ledger_model.specs.Deltas.{across, first_reading, pairs_between}
-use Rattle.ledger_model.specs.Energy.{Pair}
-use Rattle.ledger_model.specs.Event.{MeterReading}
-use Rattle.ledger_model.specs.Key.{KeyName}
-use Rattle.event_chain.specs.Chains.{Chained}
-use Rattle.event_chain.specs.declared.around.Sides.{Sides}
+use Rattle.ledger_model.{specs.ByDirection.in_direction, specs.declared.by_direction.ByDirection.ByDirection, specs.declared.reading.Direction.Direction, specs.Deltas.{across, first_reading, pairs_between}, specs.Energy.Pair, specs.Event.MeterReading, specs.Key.KeyName}
+use Rattle.event_chain.{specs.Chains.Chained, specs.declared.around.Sides.Sides}
 use Rattle.station_ledger.specs.Quarters.{readings_at}
 
 -- The pair across the place, in each direction.

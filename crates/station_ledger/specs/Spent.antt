@@ -1,24 +1,8 @@
-use Rattle.std.specs.Prelude.{◌≡◌, ℕ, ◌+◌, ◌*◌, ◌≤◌, List, Option, None, Some, filter, length}
+use Rattle.std.{specs.Prelude.{◌≡◌, ℕ, ◌+◌, ◌*◌, ◌≤◌, List, Option, None, Some, filter, length}, specs.FinMap.FinMap}
 use Rattle.std.specs.FinMap as finite
-use Rattle.std.specs.FinMap.{FinMap}
-use Rattle.ledger_model.specs.declared.command.Command.{Command}
-use Rattle.ledger_model.specs.declared.command.Command.TheVariants.{Deliver, Void, Restore, Erase}
-use Rattle.ledger_model.specs.declared.reading.Direction.{Direction}
-use Rattle.ledger_model.specs.declared.reading.Direction.TheVariants.{Import, Export}
-use Rattle.ledger_model.specs.declared.order.Order.{Order}
-use Rattle.ledger_model.specs.declared.order.Order.TheVariants.{Sequence, Moment}
-use Rattle.ledger_model.specs.Deltas.{most_for}
-use Rattle.ledger_model.specs.Event.{MeterReading, toward}
-use Rattle.ledger_model.specs.Key.{KeyName, key_cmp}
-use Rattle.ledger_model.specs.Content.{Entry, Stored}
-use Rattle.ledger_model.specs.ReadingOrder.{is_own, numbered_by, runs_of}
-use Rattle.ledger_model.specs.Step.{events_after}
+use Rattle.ledger_model.{specs.declared.command.Command.Command, specs.declared.command.Command.TheVariants.{Deliver, Void, Restore, Erase}, specs.declared.reading.Direction.Direction, specs.declared.reading.Direction.TheVariants.{Import, Export}, specs.declared.order.Order.Order, specs.declared.order.Order.TheVariants.{Sequence, Moment}, specs.Deltas.most_for, specs.Event.{MeterReading, toward}, specs.Key.{KeyName, key_cmp}, specs.Content.{Entry, Stored}, specs.ReadingOrder.{is_own, numbered_by, runs_of}, specs.Step.events_after, specs.declared.answer.Answer.Answer, specs.declared.answer.Answer.TheVariants.{Accepted, Repeat, Refused}}
 use Rattle.event_chain.specs.Chains.{Chained, stored}
-use Rattle.station_ledger.specs.declared.pairs.Way.{Way}
-use Rattle.station_ledger.specs.Quarters.{readings_at}
-use Rattle.station_ledger.specs.Runs.{by_way}
-use Rattle.ledger_model.specs.declared.answer.Answer.{Answer}
-use Rattle.ledger_model.specs.declared.answer.Answer.TheVariants.{Accepted, Repeat, Refused}
+use Rattle.station_ledger.{specs.declared.pairs.Way.Way, specs.Quarters.readings_at, specs.Runs.by_way}
 
 -- The count of work only grows, and stays the same if nothing was accepted.
 abbrev pub IsSpent : Answer → ℕ → ℕ → Type 0

@@ -1,15 +1,7 @@
 -- The standing of a transaction with a live event.
 use Rattle.std.specs.Prelude.{ℕ, Bool, true, false, ◌&&◌, ◌==◌, if◌then◌else◌, List, Option, None, Some, length, slice_get, unwrap_or}
 use Rattle.energy_flow.specs.Flow.{Energy}
-use Rattle.ledger_model.specs.declared.by_direction.ByDirection.{ByDirection}
-use Rattle.ledger_model.specs.Content.{Entry, live_of}
-use Rattle.ledger_model.specs.Complete.{is_complete}
-use Rattle.ledger_model.specs.declared.kind.Kind.{Kind}
-use Rattle.ledger_model.specs.declared.kind.Kind.TheVariants.{Started, Ended}
-use Rattle.ledger_model.specs.declared.order.Order.{Order}
-use Rattle.ledger_model.specs.Energy.{flows_of_by}
-use Rattle.ledger_model.specs.Evse.{evse_of}
-use Rattle.ledger_model.specs.Gaps.{numbers_of, missing}
+use Rattle.ledger_model.{specs.declared.by_direction.ByDirection.ByDirection, specs.Content.{Entry, live_of}, specs.Complete.is_complete, specs.declared.kind.Kind.Kind, specs.declared.kind.Kind.TheVariants.{Started, Ended}, specs.declared.order.Order.Order, specs.Energy.flows_of_by, specs.Evse.evse_of, specs.Gaps.{numbers_of, missing}}
 use Rattle.station_ledger.specs.declared.standing.Standing.{Standing}
 
 -- A transaction's standing, with these energies.

@@ -1,48 +1,12 @@
 -- The sums over a station's live events.
-use Rattle.std.specs.Prelude.{◌≡◌, ℕ, ◌+◌, ◌<◌, ◌≤◌, true, false, not, List, Option, None, Some, All, IfSome, length, count_by, sum_by}
-use Rattle.std.specs.List.{filter}
-use Rattle.std.specs.Ordering.{eq_by_cmp}
+use Rattle.std.{specs.Prelude.{◌≡◌, ℕ, ◌+◌, ◌<◌, ◌≤◌, true, false, not, List, Option, None, Some, All, IfSome, length, count_by, sum_by}, specs.List.filter, specs.Ordering.eq_by_cmp, specs.FinMap.{find, put}}
 use Rattle.std.specs.FinMap as finite
-use Rattle.std.specs.FinMap.{find, put}
-use Rattle.ledger_model.specs.Periods.{Periods}
-use Rattle.ledger_model.specs.declared.figures.Figures.{Figures}
-use Rattle.ledger_model.specs.declared.order.Order.{Order}
-use Rattle.ledger_model.specs.Board.{figures_by}
-use Rattle.ledger_model.specs.Complete.{is_complete}
-use Rattle.ledger_model.specs.Content.{Entry, Stored, live, transactions_of}
-use Rattle.ledger_model.specs.ByDirection.{in_direction}
-use Rattle.ledger_model.specs.declared.by_direction.ByDirection.{ByDirection}
-use Rattle.ledger_model.specs.Deltas.{IsOneMore, before_key, behind_key}
-use Rattle.ledger_model.specs.Energy.{all_pairs_by, energy_by}
-use Rattle.ledger_model.specs.declared.reading.Direction.{Direction}
-use Rattle.ledger_model.specs.Event.{toward}
+use Rattle.ledger_model.{specs.Periods.Periods, specs.declared.figures.Figures.Figures, specs.declared.order.Order.Order, specs.Board.figures_by, specs.Complete.is_complete, specs.Content.{Entry, Stored, live, transactions_of}, specs.ByDirection.in_direction, specs.declared.by_direction.ByDirection.ByDirection, specs.Deltas.{IsOneMore, before_key, behind_key}, specs.Energy.{all_pairs_by, energy_by}, specs.declared.reading.Direction.Direction, specs.Event.toward, specs.Figures.AreWithin, specs.Key.{KeyName, key_cmp}, specs.Step.readings_stored, proofs.Callers.AreEntries, specs.Gaps.{numbers_of, missing}, specs.Limits.Bounds, specs.Moment.IsMoment, specs.Ranges.{greatest_evse, most_event_readings, most_events, most_readings, most_transactions}, specs.declared.order.Order.TheVariants.{Sequence, Moment}}
 use Rattle.ledger_model.specs.BoardLaws as laws
-use Rattle.ledger_model.specs.Figures.{AreWithin}
-use Rattle.ledger_model.specs.Key.{KeyName, key_cmp}
-use Rattle.ledger_model.specs.Step.{readings_stored}
-use Rattle.ledger_model.proofs.Callers.{AreEntries}
-use Rattle.event_chain.specs.Chains.{Chained, stored}
-use Rattle.ledger_model.specs.Gaps.{numbers_of, missing}
-use Rattle.ledger_model.specs.Limits.{Bounds}
-use Rattle.ledger_model.specs.Moment.{IsMoment}
-use Rattle.ledger_model.specs.Ranges.{greatest_evse, most_event_readings, most_events, most_readings, most_transactions}
-use Rattle.quarter_table.specs.Table.{Table}
-use Rattle.quarter_table.specs.Pairs.{rows_of, station_flows_by}
+use Rattle.event_chain.{specs.Chains.{Chained, stored}, specs.Sides.AreSides, specs.declared.around.Sides.Sides}
+use Rattle.quarter_table.{specs.Table.Table, specs.Pairs.{rows_of, station_flows_by}}
 use Rattle.transaction_map.specs.Map.{Mapped, AreRising, id_cmp}
-use Rattle.ledger_model.specs.declared.order.Order.TheVariants.{Sequence, Moment}
-use Rattle.station_ledger.specs.declared.by_moment.ByMoment.{ByMoment}
-use Rattle.station_ledger.specs.ByMoment.{AreByMoment}
-use Rattle.station_ledger.specs.declared.standing.Standing.{Standing}
-use Rattle.station_ledger.specs.declared.sums.Sums.{Sums}
-use Rattle.station_ledger.specs.declared.totals.Change.{Change}
-use Rattle.station_ledger.specs.declared.totals.EvseSum.{EvseSum}
-use Rattle.station_ledger.specs.Moved.{sum_at, evse_sum, with_one, without_one, with_figures, without_figures, HasRoomAt, CountsAt, HaveRoom, DoCount}
-use Rattle.station_ledger.specs.declared.pairs.Way.{Way}
-use Rattle.station_ledger.specs.Runs.{by_way}
-use Rattle.event_chain.specs.Sides.{AreSides}
-use Rattle.event_chain.specs.declared.around.Sides.{Sides}
-use Rattle.station_ledger.specs.Sides.{has_some}
-use Rattle.station_ledger.specs.Standing.{kept_of}
+use Rattle.station_ledger.{specs.declared.by_moment.ByMoment.ByMoment, specs.ByMoment.AreByMoment, specs.declared.standing.Standing.Standing, specs.declared.sums.Sums.Sums, specs.declared.totals.Change.Change, specs.declared.totals.EvseSum.EvseSum, specs.Moved.{sum_at, evse_sum, with_one, without_one, with_figures, without_figures, HasRoomAt, CountsAt, HaveRoom, DoCount}, specs.declared.pairs.Way.Way, specs.Runs.by_way, specs.Sides.has_some, specs.Standing.kept_of}
 
 -- Each transaction with a live event has a standing, and no other.
 pub record AreStanding (order : Order) (limits : Bounds) (es : List Entry) (kept : Mapped Standing) : Type 0 where

@@ -1,6 +1,5 @@
 use Rattle.std.specs.Prelude.{length}
-use Rattle.ledger_model.specs.Content.{Content, entries, transactions_of}
-use Rattle.ledger_model.specs.Step.{readings_stored}
+use Rattle.ledger_model.{specs.Content.{Content, entries, transactions_of}, specs.Step.readings_stored}
 use Rattle.station_ledger.specs.declared.used.UsedLimits.{UsedLimits}
 
 -- How much of each limit a content uses.

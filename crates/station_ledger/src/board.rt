@@ -1,6 +1,5 @@
 ghost use Rattle.std.specs.Prelude.{◌≡◌, ◌<◌, All};
-ghost use Rattle.ledger_model.specs.Quarter.{IsQuarterOf};
-ghost use Rattle.ledger_model.specs.Ranges.{sequence_end};
+ghost use Rattle.ledger_model.{specs.Quarter.IsQuarterOf, specs.Ranges.sequence_end};
 ghost use Rattle.station_ledger.specs.Lines.{AreStationFlows};
 
 use energy_flow::Flow;

@@ -1,22 +1,9 @@
 //! The live readings of a station by moment, and how one event changes their pairs.
 ghost use Rattle.std.specs.Prelude.{◌≡◌, ◌≢◌, ◌≤◌, ◌<◌, ◌+◌, ◌*◌, ◌^◌, ℕ, List, [], None, IfOk, drop, length, take, vec_capacity, vec_len};
-ghost use Rattle.event_chain.specs.Chains.{stored};
-ghost use Rattle.event_chain.specs.Table.{row_of, without_row, AreSlotted};
-ghost use Rattle.ledger_model.specs.Board.{Flowed};
-ghost use Rattle.ledger_model.specs.Content.{Entry, live_of};
-ghost use Rattle.ledger_model.specs.Deltas.{across, pairs_between};
-ghost use Rattle.ledger_model.specs.InTime.{put_in_time};
-ghost use Rattle.ledger_model.specs.Ranges.{most_event_readings, most_readings};
-ghost use Rattle.ledger_model.specs.declared.order.Order.TheVariants.{Moment};
+ghost use Rattle.event_chain.{specs.Chains.stored, specs.Table.{row_of, without_row, AreSlotted}};
+ghost use Rattle.ledger_model.{specs.Board.Flowed, specs.Content.{Entry, live_of}, specs.Deltas.{across, pairs_between}, specs.InTime.put_in_time, specs.Ranges.{most_event_readings, most_readings}, specs.declared.order.Order.TheVariants.Moment};
 ghost use Rattle.reading_index.specs.Timed.{from_on, in_front, AreRising};
-ghost use Rattle.station_ledger.specs.ByMoment.{bare, bare_one, beyond, fits, fitting, listed_of, put_each, take_each, IsSlotGiven, AreByMoment, ArePuttable};
-ghost use Rattle.station_ledger.specs.declared.pairs.Way.TheVariants.{Coming, Going};
-ghost use Rattle.station_ledger.specs.Exchange.{IsMove};
-ghost use Rattle.station_ledger.specs.Moved.{IsExchanged};
-ghost use Rattle.station_ledger.specs.Quarters.{HoldsPairs, IsWork, DidMove, MayMove, readings_at};
-ghost use Rattle.station_ledger.specs.Runs.{by_way, came_of, gap_of, gone_of, run_pairs, AreMoved, AreSwapped, AreToMove, CanMove, HasRoomWithout, TheyMove};
-ghost use Rattle.station_ledger.specs.Spent.{most_in_runs};
-ghost use Rattle.station_ledger.specs.Sums.{AreQuarterRows};
+ghost use Rattle.station_ledger.{specs.ByMoment.{bare, bare_one, beyond, fits, fitting, listed_of, put_each, take_each, IsSlotGiven, AreByMoment, ArePuttable}, specs.declared.pairs.Way.TheVariants.{Coming, Going}, specs.Exchange.IsMove, specs.Moved.IsExchanged, specs.Quarters.{HoldsPairs, IsWork, DidMove, MayMove, readings_at}, specs.Runs.{by_way, came_of, gap_of, gone_of, run_pairs, AreMoved, AreSwapped, AreToMove, CanMove, HasRoomWithout, TheyMove}, specs.Spent.most_in_runs, specs.Sums.AreQuarterRows};
 
 use crate::pairs::{Energies, Way, move_across};
 use energy_flow::{Flow, Work};

@@ -1,18 +1,7 @@
 ghost use Rattle.std.specs.Prelude.{◌≡◌, ◌+◌, ◌<◌, ◌≤◌, ◌^◌, IfOk};
 ghost use Rattle.std.specs.FinMap as finite;
-ghost use Rattle.ledger_model.specs.Ranges.{most_event_readings};
-ghost use Rattle.ledger_model.specs.Content.{empty_content, entries};
-ghost use Rattle.ledger_model.specs.declared.reading.Direction.TheVariants.{Import, Export};
-ghost use Rattle.ledger_model.specs.Energy.{energy_by};
-ghost use Rattle.ledger_model.specs.Evse.{energy_at_by};
-ghost use Rattle.ledger_model.specs.Figures.{AreWithin};
-ghost use Rattle.ledger_model.specs.Board.{board_by, figures_by};
-ghost use Rattle.ledger_model.specs.Step.{Reached, answer, answer_to_deliver, answer_to_void, answer_to_voided, accepted_within_limit, step};
-ghost use Rattle.station_ledger.specs.Judged.{IsApplied, IsJudged};
-ghost use Rattle.station_ledger.specs.Listing.{listing_by};
-ghost use Rattle.station_ledger.specs.New.{answer_to_new};
-ghost use Rattle.station_ledger.specs.Spent.{IsSpent, most_spent};
-ghost use Rattle.station_ledger.specs.Used.{used_limits};
+ghost use Rattle.ledger_model.{specs.Ranges.most_event_readings, specs.Content.{empty_content, entries}, specs.declared.reading.Direction.TheVariants.{Import, Export}, specs.Energy.energy_by, specs.Evse.energy_at_by, specs.Figures.AreWithin, specs.Board.{board_by, figures_by}, specs.Step.{Reached, answer, answer_to_deliver, answer_to_void, answer_to_voided, accepted_within_limit, step}};
+ghost use Rattle.station_ledger.{specs.Judged.{IsApplied, IsJudged}, specs.Listing.listing_by, specs.New.answer_to_new, specs.Spent.{IsSpent, most_spent}, specs.Used.used_limits};
 
 use crate::board::StationBoard;
 use crate::judgement::Judgement;
@@ -41,9 +30,7 @@ pub struct StationLedger {
 }
 
 impl Model for StationLedger {
-    ghost use Rattle.station_ledger.specs.Ledger.{Ledger, ledger_code};
-    ghost use Rattle.station_ledger.specs.Kept.{content_in, IsKept};
-    ghost use Rattle.station_ledger.specs.Sums.{order_in};
+    ghost use Rattle.station_ledger.{specs.Ledger.{Ledger, ledger_code}, specs.Kept.{content_in, IsKept}, specs.Sums.order_in};
 
     ghost Value = { Ledger };
 

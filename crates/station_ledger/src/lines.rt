@@ -1,18 +1,10 @@
 //! The lines of a board, from the sums over a station's live events.
-ghost use Rattle.std.specs.Prelude.{◌≡◌, ◌+◌, List, Some, IfOk, length, map};
-ghost use Rattle.std.specs.FinMap.{find};
+ghost use Rattle.std.{specs.Prelude.{◌≡◌, ◌+◌, List, Some, IfOk, length, map}, specs.FinMap.find};
 ghost use Rattle.event_chain.specs.Chains.{stored};
-ghost use Rattle.ledger_model.specs.Board.{board_by, figures_by, shown_by};
-ghost use Rattle.ledger_model.specs.Evse.{flows_at_by, evses as evses_of};
-ghost use Rattle.ledger_model.specs.Content.{Entry, live, transactions_of};
-ghost use Rattle.ledger_model.specs.declared.order.Order.{Order};
-ghost use Rattle.ledger_model.specs.Gaps.{gaps, numbers_of};
-ghost use Rattle.ledger_model.specs.Ranges.{greatest_evse};
+ghost use Rattle.ledger_model.{specs.Board.{board_by, figures_by, shown_by}, specs.Evse.{flows_at_by, evses as evses_of}, specs.Content.{Entry, live, transactions_of}, specs.declared.order.Order.Order, specs.Gaps.{gaps, numbers_of}, specs.Ranges.greatest_evse};
 ghost use Rattle.quarter_table.specs.Pairs.{line_of};
-ghost use Rattle.station_ledger.specs.Numbered.{AreNumbered};
+ghost use Rattle.station_ledger.{specs.Numbered.AreNumbered, specs.Standing.standing_by, specs.Sums.{AreAllowed, AreEvseSums, AreStanding, AreSummed, order_in}};
 ghost use Rattle.transaction_map.specs.Map.{id_cmp};
-ghost use Rattle.station_ledger.specs.Standing.{standing_by};
-ghost use Rattle.station_ledger.specs.Sums.{AreAllowed, AreEvseSums, AreStanding, AreSummed, order_in};
 
 use crate::board::{EvseLine, QuarterLine, StationBoard, TxLine};
 use crate::shares::shared_rows;

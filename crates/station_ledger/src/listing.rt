@@ -1,19 +1,8 @@
 //! The events and readings of a transaction.
-ghost use Rattle.std.specs.Prelude.{◌≡◌, ◌++◌, All, List, IfOk, IfSome};
-ghost use Rattle.std.specs.List.{flat_map};
+ghost use Rattle.std.{specs.Prelude.{◌≡◌, ◌++◌, All, List, IfOk, IfSome}, specs.List.flat_map};
 ghost use Rattle.event_chain.specs.Chains.{stored};
-ghost use Rattle.ledger_model.specs.Content.{Entry};
-ghost use Rattle.ledger_model.specs.Energy.{flows_of_by, parts_of};
-ghost use Rattle.ledger_model.specs.Limits.{Bounds};
-ghost use Rattle.ledger_model.specs.Quarter.{IsQuarterOf};
-ghost use Rattle.ledger_model.specs.declared.order.Order.{Order};
-ghost use Rattle.ledger_model.specs.declared.order.Order.TheVariants.{Sequence};
-ghost use Rattle.ledger_model.specs.declared.reading.Direction.TheVariants.{Export, Import};
-ghost use Rattle.station_ledger.specs.ByMoment.{AreByMoment};
-ghost use Rattle.station_ledger.specs.Listing.{AreListedByMoment, IsByMoment, listing_by, placed_by, placed_from};
-ghost use Rattle.station_ledger.specs.Numbered.{AreNumbered, AreNumbers};
-ghost use Rattle.station_ledger.specs.Quarters.{readings_at};
-ghost use Rattle.station_ledger.specs.Sums.{AreAllowed, AreStanding, AreSummed, order_in};
+ghost use Rattle.ledger_model.{specs.Content.Entry, specs.Energy.{flows_of_by, parts_of}, specs.Limits.Bounds, specs.Quarter.IsQuarterOf, specs.declared.order.Order.Order, specs.declared.order.Order.TheVariants.Sequence, specs.declared.reading.Direction.TheVariants.{Export, Import}};
+ghost use Rattle.station_ledger.{specs.ByMoment.AreByMoment, specs.Listing.{AreListedByMoment, IsByMoment, listing_by, placed_by, placed_from}, specs.Numbered.{AreNumbered, AreNumbers}, specs.Quarters.readings_at, specs.Sums.{AreAllowed, AreStanding, AreSummed, order_in}};
 
 use crate::by_moment::ByMoment;
 use crate::sums::Sums;

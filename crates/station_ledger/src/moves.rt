@@ -1,14 +1,8 @@
 //! The changes of an accepted command to the events and their sums.
 ghost use Rattle.std.specs.Prelude.{◌≡◌};
-ghost use Rattle.event_chain.specs.Chains.{stored};
-ghost use Rattle.event_chain.specs.Sides.{AreSides};
-ghost use Rattle.ledger_model.specs.ByDirection.{in_direction};
-ghost use Rattle.ledger_model.specs.declared.reading.Direction.{Direction};
-ghost use Rattle.ledger_model.specs.declared.command.Command.TheVariants.{Deliver, Erase, Restore, Void};
-ghost use Rattle.station_ledger.specs.Kept.{CanDo, IsDone};
-ghost use Rattle.station_ledger.specs.Quarters.{IsWork};
-ghost use Rattle.station_ledger.specs.Spent.{most_spent};
-ghost use Rattle.station_ledger.specs.Sums.{order_in};
+ghost use Rattle.event_chain.{specs.Chains.stored, specs.Sides.AreSides};
+ghost use Rattle.ledger_model.{specs.ByDirection.in_direction, specs.declared.reading.Direction.Direction, specs.declared.command.Command.TheVariants.{Deliver, Erase, Restore, Void}};
+ghost use Rattle.station_ledger.{specs.Kept.{CanDo, IsDone}, specs.Quarters.IsWork, specs.Spent.most_spent, specs.Sums.order_in};
 
 use crate::pairs::Way;
 use crate::sums::{Sums, turn_event};

@@ -1,11 +1,7 @@
 //! Pairs of readings put into the table of periods, and taken out of it.
 ghost use Rattle.std.specs.Prelude.{◌≡◌, ◌≤◌, length, IfSome, Some};
-ghost use Rattle.ledger_model.specs.Deltas.{across, pairs_between};
-ghost use Rattle.ledger_model.specs.Ranges.{most_readings};
-ghost use Rattle.ledger_model.specs.declared.reading.Direction.{Direction};
-ghost use Rattle.ledger_model.specs.Event.{toward};
-ghost use Rattle.station_ledger.specs.Quarters.{both_length, readings_at, DidMove, DidMoveBoth, MayMove, MayMoveBoth};
-ghost use Rattle.station_ledger.specs.Sides.{sides_across, sides_between};
+ghost use Rattle.ledger_model.{specs.Deltas.{across, pairs_between}, specs.Ranges.most_readings, specs.declared.reading.Direction.Direction, specs.Event.toward};
+ghost use Rattle.station_ledger.{specs.Quarters.{both_length, readings_at, DidMove, DidMoveBoth, MayMove, MayMoveBoth}, specs.Sides.{sides_across, sides_between}};
 
 use energy_flow::{Flow, Work, difference};
 use event_chain::{Around, Chains, Sides};

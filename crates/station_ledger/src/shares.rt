@@ -2,13 +2,9 @@
 //! is made, from the readings: nothing of it is kept.
 ghost use Rattle.std.specs.Prelude.{◌≡◌, Some, IfOk, IfSome, map};
 ghost use Rattle.event_chain.specs.Chains.{stored};
-ghost use Rattle.ledger_model.specs.Deltas.{across};
-ghost use Rattle.ledger_model.specs.Energy.{all_pairs_by, followed};
+ghost use Rattle.ledger_model.{specs.Deltas.across, specs.Energy.{all_pairs_by, followed}};
 ghost use Rattle.quarter_table.specs.Pairs.{board_flows_by, rows_of};
-ghost use Rattle.station_ledger.specs.ByMoment.{AreByMoment};
-ghost use Rattle.station_ledger.specs.Numbered.{AreNumbered};
-ghost use Rattle.station_ledger.specs.Shares.{evenly, with_shares};
-ghost use Rattle.station_ledger.specs.Sums.{AreAllowed, AreStanding, order_in};
+ghost use Rattle.station_ledger.{specs.ByMoment.AreByMoment, specs.Numbered.AreNumbered, specs.Shares.{evenly, with_shares}, specs.Sums.{AreAllowed, AreStanding, order_in}};
 
 use crate::listing::readings_in_order;
 use crate::sums::Sums;

@@ -1,10 +1,8 @@
 //! The standing of each transaction, kept so that no figure needs a walk.
 ghost use Rattle.std.specs.Prelude.{◌≡◌, ◌<◌, ◌≤◌, None, IfSome};
 ghost use Rattle.event_chain.specs.Chains.{stored};
-ghost use Rattle.ledger_model.specs.Complete.{kinds_of, is_complete, starts_and_ends as start_and_end};
-ghost use Rattle.ledger_model.specs.Gaps.{numbers_of, missing};
-ghost use Rattle.station_ledger.specs.Coming.{IsOneLess};
-ghost use Rattle.station_ledger.specs.Standing.{kept_with, standing_with, starts_and_ends_by};
+ghost use Rattle.ledger_model.{specs.Complete.{kinds_of, is_complete, starts_and_ends as start_and_end}, specs.Gaps.{numbers_of, missing}};
+ghost use Rattle.station_ledger.{specs.Coming.IsOneLess, specs.Standing.{kept_with, standing_with, starts_and_ends_by}};
 
 use crate::pairs::Energies;
 use energy_flow::Flow;

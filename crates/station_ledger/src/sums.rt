@@ -1,18 +1,9 @@
 //! The sums over a station's live events, kept so that no figure needs a walk.
-ghost use Rattle.std.specs.Prelude.{◌≡◌, ℕ, ◌+◌, ◌<◌, List, [], None, length, IfOk, IfSome};
-ghost use Rattle.std.specs.FinMap.{find};
+ghost use Rattle.std.{specs.Prelude.{◌≡◌, ℕ, ◌+◌, ◌<◌, List, [], None, length, IfOk, IfSome}, specs.FinMap.find};
 ghost use Rattle.event_chain.specs.Chains.{stored};
-ghost use Rattle.ledger_model.specs.ByDirection.{no_flows, plus_flows, minus_flows};
-ghost use Rattle.ledger_model.specs.Content.{Entry};
-ghost use Rattle.ledger_model.specs.Figures.{no_figures};
-ghost use Rattle.ledger_model.specs.Ranges.{greatest_evse};
-ghost use Rattle.transaction_map.specs.Map.{id_cmp};
-ghost use Rattle.transaction_map.specs.Places.{IsAt};
-ghost use Rattle.station_ledger.specs.Moved.{sum_at, CanExchange, IsExchanged, flows_in};
-ghost use Rattle.station_ledger.specs.Quarters.{HasEvent, IsWork};
-ghost use Rattle.station_ledger.specs.ByMoment.{AreByMoment};
-ghost use Rattle.station_ledger.specs.Spent.{most_turned};
-ghost use Rattle.station_ledger.specs.Sums.{keep, order_in, order_of, AreSummed, AreAllowed, ArePairsMoved, AreQuarterRows, AreTurning, CanReplace, IsReplaced};
+ghost use Rattle.ledger_model.{specs.ByDirection.{no_flows, plus_flows, minus_flows}, specs.Content.Entry, specs.Figures.no_figures, specs.Ranges.greatest_evse};
+ghost use Rattle.transaction_map.{specs.Map.id_cmp, specs.Places.IsAt};
+ghost use Rattle.station_ledger.{specs.Moved.{sum_at, CanExchange, IsExchanged, flows_in}, specs.Quarters.{HasEvent, IsWork}, specs.ByMoment.AreByMoment, specs.Spent.most_turned, specs.Sums.{keep, order_in, order_of, AreSummed, AreAllowed, ArePairsMoved, AreQuarterRows, AreTurning, CanReplace, IsReplaced}};
 
 use crate::by_moment::{ByMoment, Exchange, move_event};
 use crate::pairs::{Energies, Way, move_both, move_gap};

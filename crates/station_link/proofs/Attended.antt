@@ -1,16 +1,11 @@
 -- Texts of a session, one after the other.
-use Rattle.std.proofs.Common.{◌≡◌, ℕ, Bool, true, false, List, [], ◌∷◌, ◌++◌, Option, None, Some, refl, sym, subst, ap, ◌∙◌, append-nil, append_assoc, slice_get}
-use Rattle.std.specs.Prelude.{All}
-use Rattle.std.proofs.lemmas.List.Elements.{All-append, All-cons, All-nil}
-use Rattle.ledger_model.specs.declared.answer.Answer.{Answer}
-use Rattle.ledger_model.specs.declared.command.Command.{Command}
+use Rattle.std.{proofs.Common.{◌≡◌, ℕ, Bool, true, false, List, [], ◌∷◌, ◌++◌, Option, None, Some, refl, sym, subst, ap, ◌∙◌, append-nil, append_assoc, slice_get}, specs.Prelude.All, proofs.lemmas.List.Elements.{All-append, All-cons, All-nil}}
+use Rattle.ledger_model.{specs.declared.answer.Answer.Answer, specs.declared.command.Command.Command}
 use Rattle.site_book.specs.Book.{Known}
 use Rattle.site_desk.specs.declared.roster.StationPlace.{StationPlace}
 use Rattle.station_cell.specs.Cell.{Held}
-use Rattle.station_link.specs.Answer.{Answers, AnswersMeaning, IsDelivered, IsNextPass}
-use Rattle.station_link.specs.Attended.{AreAnswered, IsAnswered, IsAttended, Text, if_seen, seen_with}
-use Rattle.transaction_event.specs.Message.{Meaning, Event, Ready, Silence, message}
-use Rattle.transaction_event.specs.Request.{Request}
+use Rattle.station_link.{specs.Answer.{Answers, AnswersMeaning, IsDelivered, IsNextPass}, specs.Attended.{AreAnswered, IsAnswered, IsAttended, Text, if_seen, seen_with}}
+use Rattle.transaction_event.{specs.Message.{Meaning, Event, Ready, Silence, message}, specs.Request.Request}
 
 module _ {M : Type 0} (gives : ℕ → StationPlace → Command → Answer → Option Known → Option M → Type 0) (stations : List StationPlace) where
   -- what came with the texts of two lists

@@ -1,19 +1,10 @@
 -- What a desk answers to the delivery of an event.
-use Rattle.std.proofs.Common.{◌≡◌, List, Option, None, Some, Result, Ok, Err, true, refl, sym, subst, arith, slice_get}
-use Rattle.std.specs.Prelude.{IfOk, OnErr}
-use Rattle.ledger_model.specs.declared.answer.Answer.{Answer}
-use Rattle.ledger_model.specs.declared.answer.Answer.TheVariants.{Accepted, Repeat, Refused}
-use Rattle.ledger_model.specs.declared.answer.Refusal.TheVariants.{ConflictingEvent, TooManyTransactions, EventsFull, ReadingsFull, NoSuchEvent, AlreadyVoided, NotVoided, ChangesExhausted}
-use Rattle.ledger_model.specs.declared.command.Command.{Command}
-use Rattle.ledger_model.specs.declared.command.Command.TheVariants.{Deliver}
-use Rattle.ledger_model.specs.Event.{EventContent}
-use Rattle.ledger_model.specs.Key.{KeyName}
+use Rattle.std.{proofs.Common.{◌≡◌, List, Option, None, Some, Result, Ok, Err, true, refl, sym, subst, arith, slice_get}, specs.Prelude.{IfOk, OnErr}}
+use Rattle.ledger_model.{specs.declared.answer.Answer.Answer, specs.declared.answer.Answer.TheVariants.{Accepted, Repeat, Refused}, specs.declared.answer.Refusal.TheVariants.{ConflictingEvent, TooManyTransactions, EventsFull, ReadingsFull, NoSuchEvent, AlreadyVoided, NotVoided, ChangesExhausted}, specs.declared.command.Command.Command, specs.declared.command.Command.TheVariants.Deliver, specs.Event.EventContent, specs.Key.KeyName}
 use Rattle.site_book.specs.Book.{Known}
-use Rattle.site_desk.specs.declared.roster.StationPlace.{StationPlace}
+use Rattle.site_desk.{specs.declared.roster.StationPlace.StationPlace, specs.Submit.{IsAnswered, IsUnchanged, Submitted}}
 use Rattle.station_cell.specs.Cell.{Held}
-use Rattle.site_desk.specs.Submit.{IsAnswered, IsUnchanged, Submitted}
-use Rattle.transaction_event.specs.Laws.{EachDeliveryIsAnswered}
-use Rattle.transaction_event.specs.Reply.{answers_delivery}
+use Rattle.transaction_event.{specs.Laws.EachDeliveryIsAnswered, specs.Reply.answers_delivery}
 use Rattle.station_link.specs.Answer.{IsNextPass, IsSubmitted}
 
 -- an answer of the step to a delivery has a reply

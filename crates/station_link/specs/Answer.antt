@@ -1,21 +1,11 @@
 -- The answer to a station's text, and the changes that it makes.
 use Rattle.std.specs.Prelude.{◌≡◌, ℕ, ◌+◌, ◌≤◌, Bool, true, false, List, Option, None, Some, slice_get}
-use Rattle.ledger_model.specs.declared.answer.Answer.{Answer}
-use Rattle.ledger_model.specs.declared.answer.Answer.TheVariants.{Refused}
-use Rattle.ledger_model.specs.declared.answer.Refusal.TheVariants.{ChangesExhausted}
-use Rattle.ledger_model.specs.declared.command.Command.{Command}
-use Rattle.ledger_model.specs.declared.command.Command.TheVariants.{Deliver}
-use Rattle.ledger_model.specs.Event.{EventContent}
-use Rattle.ledger_model.specs.Key.{KeyName}
+use Rattle.ledger_model.{specs.declared.answer.Answer.Answer, specs.declared.answer.Answer.TheVariants.Refused, specs.declared.answer.Refusal.TheVariants.ChangesExhausted, specs.declared.command.Command.Command, specs.declared.command.Command.TheVariants.Deliver, specs.Event.EventContent, specs.Key.KeyName}
 use Rattle.ocppj_frame.specs.Frame.{frame}
 use Rattle.site_book.specs.Book.{Known}
-use Rattle.site_desk.specs.declared.roster.StationPlace.{StationPlace}
+use Rattle.site_desk.{specs.declared.roster.StationPlace.StationPlace, specs.Submit.{IsUnchanged, Submitted}}
 use Rattle.station_cell.specs.Cell.{Held}
-use Rattle.site_desk.specs.Submit.{IsUnchanged, Submitted}
-use Rattle.transaction_event.specs.Message.{Meaning, Event, Ready, Silence, message}
-use Rattle.transaction_event.specs.MessageMeaning.{IsMemoryReply}
-use Rattle.transaction_event.specs.Reply.{event_reply_bytes}
-use Rattle.transaction_event.specs.Request.{Request}
+use Rattle.transaction_event.{specs.Message.{Meaning, Event, Ready, Silence, message}, specs.MessageMeaning.IsMemoryReply, specs.Reply.event_reply_bytes, specs.Request.Request}
 
 -- The text is a message that asks, at some moment, to deliver this event.
 pub record Asks (text : List ℕ) (key : KeyName) (event : EventContent) : Type 0 where

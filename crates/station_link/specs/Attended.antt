@@ -1,14 +1,11 @@
 -- What came with the answers to the texts of a session.
 use Rattle.std.specs.Prelude.{◌≡◌, ℕ, Bool, List, [], ◌∷◌, ◌++◌, Option, None, Some}
-use Rattle.ledger_model.specs.declared.answer.Answer.{Answer}
-use Rattle.ledger_model.specs.declared.command.Command.{Command}
-use Rattle.ledger_model.specs.declared.command.Command.TheVariants.{Deliver}
+use Rattle.ledger_model.{specs.declared.answer.Answer.Answer, specs.declared.command.Command.Command, specs.declared.command.Command.TheVariants.Deliver}
 use Rattle.site_book.specs.Book.{Known}
 use Rattle.site_desk.specs.declared.roster.StationPlace.{StationPlace}
 use Rattle.station_cell.specs.Cell.{Held}
 use Rattle.station_link.specs.Answer.{Answers, IsNextPass}
-use Rattle.transaction_event.specs.Message.{Event, message}
-use Rattle.transaction_event.specs.Request.{Request}
+use Rattle.transaction_event.{specs.Message.{Event, message}, specs.Request.Request}
 
 -- A list of the value, if there is one; else none.
 abbrev pub if_seen : {M : Type 0} → Option M → List M

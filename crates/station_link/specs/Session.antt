@@ -1,7 +1,6 @@
 -- How sessions end.
 use Rattle.std.specs.Prelude.{ℕ, ⊤, ◌⊎◌}
-use Rattle.station_link.specs.declared.ending.Why.{Why}
-use Rattle.station_link.specs.declared.ending.Why.TheVariants.{PeerClosed, ReadFault, WriteFault, HandshakeFailed, UnknownStation, NotOcpp, BinaryMessage, OutOfMemory, MessagesSpent, TooManyPasses, Replaced, ServerCloses}
+use Rattle.station_link.{specs.declared.ending.Why.Why, specs.declared.ending.Why.TheVariants.{PeerClosed, ReadFault, WriteFault, HandshakeFailed, UnknownStation, NotOcpp, BinaryMessage, OutOfMemory, MessagesSpent, TooManyPasses, Replaced, ServerCloses}}
 
 -- How many messages a session takes (this product's profile).
 abbrev pub most_messages : ℕ

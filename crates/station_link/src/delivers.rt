@@ -29,8 +29,7 @@ pub trait Delivers {
     type Seen: Drop + Send;
 
     ghost use Rattle.std.specs.Prelude.{◌≡◌, ℕ, List, Option, IfOk, OnErr};
-    ghost use Rattle.ledger_model.specs.declared.answer.Answer.{Answer};
-    ghost use Rattle.ledger_model.specs.declared.command.Command.{Command};
+    ghost use Rattle.ledger_model.{specs.declared.answer.Answer.Answer, specs.declared.command.Command.Command};
     ghost use Rattle.site_desk.specs.declared.roster.StationPlace.{StationPlace};
     ghost use Rattle.site_book.specs.Book.{Known};
     ghost use Rattle.station_link.specs.Answer.{Asks, IsGivenAt, IsSubmitted};

@@ -1,7 +1,6 @@
 //! How sessions end.
 ghost use Rattle.std.specs.Prelude.{◌≡◌, ◌≢◌, Some, None};
-ghost use Rattle.station_link.specs.declared.ending.Why.{Why};
-ghost use Rattle.station_link.specs.Session.{MayHavePass};
+ghost use Rattle.station_link.{specs.declared.ending.Why.Why, specs.Session.MayHavePass};
 
 use tungstenite::{CloseCode, Error};
 use websocket::error::ProtocolError;

@@ -1,7 +1,6 @@
 //! What a handshake sees of a client's request, and which requests the desk lets in.
 ghost use Rattle.std.specs.Prelude.{IfOk, IfErr, true, Some};
-ghost use Rattle.station_link.specs.Request.{IsAdmitted, IsAsked, IsPathOf, IsRefusal};
-ghost use Rattle.station_link.specs.Session.{MayLackPass};
+ghost use Rattle.station_link.{specs.Request.{IsAdmitted, IsAsked, IsPathOf, IsRefusal}, specs.Session.MayLackPass};
 
 use crate::ending::Why;
 use http::{HeaderMap, HeaderName, HeaderValue, Request, Response};

@@ -1,9 +1,7 @@
 //! A session: one connection of a station, from its handshake to its end.
 ghost use Rattle.std.specs.Prelude.{◌≡◌, ◌≢◌, ◌≤◌, ◌<◌, ◌+◌, ◌++◌, [], All, IsNone, IsSome, IfErr, IfSome, None, Some, length, slice_get, vec_capacity, vec_len};
 ghost use Rattle.site_desk.specs.declared.roster.StationPlace.{StationPlace};
-ghost use Rattle.station_link.specs.declared.ending.Why.{Why};
-ghost use Rattle.station_link.specs.Attended.{IsAnswered, IsAttended, if_seen};
-ghost use Rattle.station_link.specs.Session.{MayEnd, MayHavePass, MayLackPass, most_messages};
+ghost use Rattle.station_link.{specs.declared.ending.Why.Why, specs.Attended.{IsAnswered, IsAttended, if_seen}, specs.Session.{MayEnd, MayHavePass, MayLackPass, most_messages}};
 
 use crate::answer::{Replied, put_answer};
 use crate::attendant::{Attendant, Nobody};

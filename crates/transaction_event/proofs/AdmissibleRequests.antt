@@ -1,43 +1,12 @@
 -- What a message means can be delivered to a ledger: the parts of a request are in their ranges.
-use Rattle.std.proofs.Common.{◌≡◌, ℕ, ◌-◌, ◌<◌, ◌≤◌, Bool, true, false, List, [], ◌∷◌, ◌++◌, length, Result, Option, Ok, Err, Some, None, IfSome, ℤ, pos, negsuc, refl, ap, subst, arith, leb-true, ltb-true, length-append}
-use Rattle.std.specs.Prelude.{◌≢◌, ◌&&◌, not, All, nat_le, nat_lt, unsigned_abs, if◌then◌else◌, codes}
-use Rattle.std.specs.Int.Signed.{le_z}
-use Rattle.std.specs.Option.{ok_or}
-use Rattle.std.proofs.lemmas.Bool.{and_parts}
-use Rattle.std.proofs.lemmas.List.Elements.{All-nil, All-cons, All-append}
+use Rattle.std.{proofs.Common.{◌≡◌, ℕ, ◌-◌, ◌<◌, ◌≤◌, Bool, true, false, List, [], ◌∷◌, ◌++◌, length, Result, Option, Ok, Err, Some, None, IfSome, ℤ, pos, negsuc, refl, ap, subst, arith, leb-true, ltb-true, length-append}, specs.Prelude.{◌≢◌, ◌&&◌, not, All, nat_le, nat_lt, unsigned_abs, if◌then◌else◌, codes}, specs.Int.Signed.le_z, specs.Option.ok_or, proofs.lemmas.Bool.and_parts, proofs.lemmas.List.Elements.{All-nil, All-cons, All-append}, specs.Float.Numeral.numeral_digits, specs.Str.Parse.digits_value}
 use Rattle.serde_json.specs.Data.{Data}
 use Rattle.marked_json.specs.Reading.{text_of, number_of, items_of}
 use Rattle.jiff.specs.Words.{Error, parse_timestamp}
-use Rattle.reading_decimal.specs.declared.decimal.DecimalFault.{DecimalFault}
-use Rattle.reading_decimal.specs.declared.decimal.DecimalFault.TheVariants.{NotADecimal, TooLong, ExponentRange, Negative, TooLarge}
-use Rattle.reading_decimal.specs.declared.decimal.Unit.{Unit as EnergyUnit}
-use Rattle.reading_decimal.specs.declared.moment.MomentFault.{MomentFault}
-use Rattle.std.specs.Float.Numeral.{numeral_digits}
-use Rattle.std.specs.Str.Parse.{digits_value}
-use Rattle.reading_decimal.specs.Decimal.{mwh_reading, within_register, mwh, parts, is_decimal, is_negative, longest_decimal, greatest_exponent}
-use Rattle.reading_decimal.specs.Moment.{moment_within, moment_reading}
-use Rattle.ledger_model.specs.declared.command.Command.TheVariants.{Deliver}
-use Rattle.ledger_model.specs.Admissible.{IsAdmissible}
-use Rattle.ledger_model.specs.declared.reading.Direction.{Direction}
-use Rattle.ledger_model.specs.Event.{MeterReading, IsMeterReading, IsEventContent}
-use Rattle.ledger_model.specs.Key.{KeyName, IsKeyName}
-use Rattle.ledger_model.specs.Moment.{IsMoment, is_moment, first_moment, moments_end}
-use Rattle.ledger_model.specs.Ranges.{sequence_end, greatest_evse, greatest_reading, most_event_readings}
-use Rattle.ledger_model.specs.TxId.{IsFoldedId, is_tx_id, folded}
-use Rattle.ledger_model.proofs.Ids.{IsFoldedId-folded}
-use Rattle.ocppj_frame.specs.declared.action.Action.TheVariants.{BootNotification, Heartbeat, StatusNotification, MeterValues, TransactionEvent}
-use Rattle.ocppj_frame.specs.Frame.{Frame, Called, Silence, Ready, frame}
-use Rattle.transaction_event.specs.declared.fault.PayloadFault.{PayloadFault}
-use Rattle.transaction_event.specs.declared.fault.PayloadFault.TheVariants.{Range}
-use Rattle.transaction_event.specs.Steps.{Checked, ◌>>=◌, checked_map, for_each}
-use Rattle.transaction_event.specs.Member.{object_of, required, optional}
-use Rattle.transaction_event.specs.Integer.{integer_of, within, required_integer}
-use Rattle.transaction_event.specs.Timestamp.{moment, moment_named, timestamp}
-use Rattle.transaction_event.specs.Readings.{one_more}
-use Rattle.transaction_event.specs.Sampled.{decimal, counts, sampled_mwh, if_counted, sample}
-use Rattle.transaction_event.specs.Scale.{scale_of}
-use Rattle.transaction_event.specs.MeterValues.{meter_value, meter_values}
-use Rattle.transaction_event.specs.Request.{Request, kind_of, tx_named, key_of, evse_number, evse_of, has_token, request_of, event_reading}
+use Rattle.reading_decimal.{specs.declared.decimal.DecimalFault.DecimalFault, specs.declared.decimal.DecimalFault.TheVariants.{NotADecimal, TooLong, ExponentRange, Negative, TooLarge}, specs.declared.decimal.Unit.Unit as EnergyUnit, specs.declared.moment.MomentFault.MomentFault, specs.Decimal.{mwh_reading, within_register, mwh, parts, is_decimal, is_negative, longest_decimal, greatest_exponent}, specs.Moment.{moment_within, moment_reading}}
+use Rattle.ledger_model.{specs.declared.command.Command.TheVariants.Deliver, specs.Admissible.IsAdmissible, specs.declared.reading.Direction.Direction, specs.Event.{MeterReading, IsMeterReading, IsEventContent}, specs.Key.{KeyName, IsKeyName}, specs.Moment.{IsMoment, is_moment, first_moment, moments_end}, specs.Ranges.{sequence_end, greatest_evse, greatest_reading, most_event_readings}, specs.TxId.{IsFoldedId, is_tx_id, folded}, proofs.Ids.IsFoldedId-folded}
+use Rattle.ocppj_frame.{specs.declared.action.Action.TheVariants.{BootNotification, Heartbeat, StatusNotification, MeterValues, TransactionEvent}, specs.Frame.{Frame, Called, Silence, Ready, frame}}
+use Rattle.transaction_event.{specs.declared.fault.PayloadFault.PayloadFault, specs.declared.fault.PayloadFault.TheVariants.Range, specs.Steps.{Checked, ◌>>=◌, checked_map, for_each}, specs.Member.{object_of, required, optional}, specs.Integer.{integer_of, within, required_integer}, specs.Timestamp.{moment, moment_named, timestamp}, specs.Readings.one_more, specs.Sampled.{decimal, counts, sampled_mwh, if_counted, sample}, specs.Scale.scale_of, specs.MeterValues.{meter_value, meter_values}, specs.Request.{Request, kind_of, tx_named, key_of, evse_number, evse_of, has_token, request_of, event_reading}}
 use Rattle.transaction_event.specs.Message as meaning
 
 -- what checks that pass one after the other gave

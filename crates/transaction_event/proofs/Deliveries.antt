@@ -1,17 +1,8 @@
 -- The answers to deliveries.
-use Rattle.std.proofs.Common.{◌≡◌, Bool, true, false, refl, length, ◌+◌}
-use Rattle.std.specs.Prelude.{Option, None, Some, not, ◌&&◌, nat_le, nat_lt, if◌then◌else◌}
+use Rattle.std.{proofs.Common.{◌≡◌, Bool, true, false, refl, length, ◌+◌}, specs.Prelude.{Option, None, Some, not, ◌&&◌, nat_le, nat_lt, if◌then◌else◌}}
 use Rattle.std.specs.FinMap as finite
-use Rattle.ledger_model.specs.declared.answer.Answer.{Answer}
-use Rattle.ledger_model.specs.declared.answer.Answer.TheVariants.{Accepted, Repeat, Refused}
-use Rattle.ledger_model.specs.declared.answer.Refusal.TheVariants.{ConflictingEvent, TooManyTransactions, EventsFull, ReadingsFull, ChangesExhausted}
-use Rattle.ledger_model.specs.Key.{KeyName}
-use Rattle.ledger_model.specs.Event.{EventContent, same_event}
-use Rattle.ledger_model.specs.Limits.{Bounds}
-use Rattle.ledger_model.specs.Content.{Content, Stored, entries, transactions_of, has_transaction}
-use Rattle.ledger_model.specs.Step.{answer_to_deliver, readings_stored, accepted_within_limit}
-use Rattle.transaction_event.specs.Laws.{EachDeliveryIsAnswered}
-use Rattle.transaction_event.specs.Reply.{answers_delivery}
+use Rattle.ledger_model.{specs.declared.answer.Answer.Answer, specs.declared.answer.Answer.TheVariants.{Accepted, Repeat, Refused}, specs.declared.answer.Refusal.TheVariants.{ConflictingEvent, TooManyTransactions, EventsFull, ReadingsFull, ChangesExhausted}, specs.Key.KeyName, specs.Event.{EventContent, same_event}, specs.Limits.Bounds, specs.Content.{Content, Stored, entries, transactions_of, has_transaction}, specs.Step.{answer_to_deliver, readings_stored, accepted_within_limit}}
+use Rattle.transaction_event.{specs.Laws.EachDeliveryIsAnswered, specs.Reply.answers_delivery}
 
 either : (b : Bool) (x y : Answer) → answers_delivery x ≡ true → answers_delivery y ≡ true → answers_delivery (if b then x else y) ≡ true
 either true x y left right = left

@@ -1,7 +1,6 @@
 -- Where more is needed among items, seen from the first of them.
 use Rattle.std.proofs.Common.{◌≡◌, List, ◌∷◌, Ok, sym, subst, inl, inr}
-use Rattle.transaction_event.specs.Steps.{Checked}
-use Rattle.transaction_event.specs.Growth.{GrowsAmong}
+use Rattle.transaction_event.{specs.Steps.Checked, specs.Growth.GrowsAmong}
 
 -- more is needed at the first item
 pub grows_here : {A B : Type 0} (step : B → A → Checked B) (Grows : B → A → Type 0) (so_far : B) (all items : List A) (item : A) → all ≡ item ∷ items

@@ -1,17 +1,7 @@
 -- The tokens that `parse` takes as integers.
-use Rattle.std.proofs.Common.{◌≡◌, ◌≢◌, ℕ, ◌<◌, Bool, true, false, cond, List, length, drop, get_or, arith, rules, ltb-true, ℤ, FitsSigned, w64, refl, sym, ◌∙◌}
-use Rattle.std.specs.Prelude.{◌==◌, ◌&&◌, nat_lt, slice_index, Ok, Err, if◌then◌else◌}
-use Rattle.std.specs.Char.{is_ascii_digit}
-use Rattle.std.specs.List.{list_all}
-use Rattle.std.specs.Int.Signed.{le_z}
-use Rattle.std.specs.Str.Parse.{IsNumeral, digits_value, without_leading_plus, without_leading_sign, signed_digits_value}
-use Rattle.std.proofs.lemmas.Bool.{and_parts}
-use Rattle.std.proofs.lemmas.Int.{ints}
-use Rattle.std.proofs.lemmas.Str.Parse.{IsNumeralModel, numerals_by_value, without_leading_plus_none, not_in_digits}
-use Rattle.transaction_event.specs.declared.fault.PayloadFault.TheVariants.{Range}
-use Rattle.transaction_event.specs.Steps.{Checked}
+use Rattle.std.{proofs.Common.{◌≡◌, ◌≢◌, ℕ, ◌<◌, Bool, true, false, cond, List, length, drop, get_or, arith, rules, ltb-true, ℤ, FitsSigned, w64, refl, sym, ◌∙◌}, specs.Prelude.{◌==◌, ◌&&◌, nat_lt, slice_index, Ok, Err, if◌then◌else◌}, specs.Char.is_ascii_digit, specs.List.list_all, specs.Int.Signed.le_z, specs.Str.Parse.{IsNumeral, digits_value, without_leading_plus, without_leading_sign, signed_digits_value}, proofs.lemmas.Bool.and_parts, proofs.lemmas.Int.ints, proofs.lemmas.Str.Parse.{IsNumeralModel, numerals_by_value, without_leading_plus_none, not_in_digits}}
+use Rattle.transaction_event.{specs.declared.fault.PayloadFault.TheVariants.Range, specs.Steps.Checked, specs.Integer.{integer_within, within}}
 use Rattle.reading_decimal.specs.Integer.{is_integer}
-use Rattle.transaction_event.specs.Integer.{integer_within, within}
 
 -- the test finds just the texts of digits
 digits : IsNumeralModel (λ ds. list_all is_ascii_digit ds ≡ true) (digits_value 10)

@@ -1,17 +1,9 @@
 -- Which replies report OutOfMemory.
-use Rattle.std.proofs.Common.{◌≡◌, ◌≢◌, Bool, true, false, inl, inr, ◌∙◌, ℕ, List, sym, ap, arith, codes, refl}
-use Rattle.std.specs.Prelude.{IsTrue, ◌↔◌, Err}
+use Rattle.std.{proofs.Common.{◌≡◌, ◌≢◌, Bool, true, false, inl, inr, ◌∙◌, ℕ, List, sym, ap, arith, codes, refl}, specs.Prelude.{IsTrue, ◌↔◌, Err}}
 use Rattle.serde_json.specs.Data.{Data}
-use Rattle.ocppj_frame.specs.declared.action.Action.TheVariants.{BootNotification, Heartbeat, StatusNotification, MeterValues, TransactionEvent}
-use Rattle.ocppj_frame.specs.Frame.{Frame, Called, Silence, Ready}
-use Rattle.ocppj_frame.proofs.Replies.{other_last_letter}
-use Rattle.transaction_event.specs.declared.fault.PayloadFault.{PayloadFault}
-use Rattle.transaction_event.specs.declared.fault.PayloadFault.TheVariants.{Format, Missing, WrongType, Range, TooManyReadings, Decimal, Moment, OutOfMemory}
-use Rattle.transaction_event.specs.Request.{event_reading}
-use Rattle.transaction_event.specs.Growth.{PayloadGrows}
+use Rattle.ocppj_frame.{specs.declared.action.Action.TheVariants.{BootNotification, Heartbeat, StatusNotification, MeterValues, TransactionEvent}, specs.Frame.{Frame, Called, Silence, Ready}, proofs.Replies.other_last_letter}
+use Rattle.transaction_event.{specs.declared.fault.PayloadFault.PayloadFault, specs.declared.fault.PayloadFault.TheVariants.{Format, Missing, WrongType, Range, TooManyReadings, Decimal, Moment, OutOfMemory}, specs.Request.event_reading, specs.Growth.PayloadGrows, specs.MessageMeaning.{Answers, IsMemoryReply}, specs.Reply.{fault_code, fault_reply, memory_reply}}
 use Rattle.transaction_event.specs.Message as meaning
-use Rattle.transaction_event.specs.MessageMeaning.{Answers, IsMemoryReply}
-use Rattle.transaction_event.specs.Reply.{fault_code, fault_reply, memory_reply}
 
 -- such a reply reports only OutOfMemory
 pub told_by_memory_alone : (id other : List ℕ) (fault : PayloadFault) → fault_reply id fault ≡ memory_reply other → fault ≡ OutOfMemory

@@ -1,7 +1,6 @@
 -- The faults of a payload by number and name.
 use Rattle.std.specs.Prelude.{ℕ, List, codes}
-use Rattle.transaction_event.specs.declared.fault.PayloadFault.{PayloadFault}
-use Rattle.transaction_event.specs.declared.fault.PayloadFault.TheVariants.{Format, Missing, WrongType, Range, TooManyReadings, Decimal, Moment, OutOfMemory}
+use Rattle.transaction_event.{specs.declared.fault.PayloadFault.PayloadFault, specs.declared.fault.PayloadFault.TheVariants.{Format, Missing, WrongType, Range, TooManyReadings, Decimal, Moment, OutOfMemory}}
 
 -- The number of a fault, from 1 to 8.
 abbrev pub fault_number : PayloadFault → ℕ

@@ -3,12 +3,7 @@ use Rattle.std.specs.Prelude.{◌≡◌, ◌⊎◌, ℕ, List, [], ◌∷◌, �
 use Rattle.serde_json.specs.Data.{Data}
 use Rattle.marked_json.specs.Reading.{text_of, items_of}
 use Rattle.ledger_model.specs.Event.{MeterReading}
-use Rattle.transaction_event.specs.Steps.{Checked}
-use Rattle.transaction_event.specs.Member.{object_of, required, optional}
-use Rattle.transaction_event.specs.Timestamp.{timestamp}
-use Rattle.transaction_event.specs.Sampled.{sample}
-use Rattle.transaction_event.specs.MeterValues.{meter_value}
-use Rattle.transaction_event.specs.Request.{kind_of, key_of, evse_of, has_token}
+use Rattle.transaction_event.{specs.Steps.Checked, specs.Member.{object_of, required, optional}, specs.Timestamp.timestamp, specs.Sampled.sample, specs.MeterValues.meter_value, specs.Request.{kind_of, key_of, evse_of, has_token}}
 
 -- `step` takes items in turn; one of them needs more memory, and all before it pass.
 abbrev pub GrowsAmong : {A B : Type 0} → (B → A → Checked B) → (B → A → Type 0) → B → List A → Type 0

@@ -1,14 +1,9 @@
 -- Integers of a payload.
-use Rattle.std.specs.Prelude.{ℕ, ◌&&◌, List, if◌then◌else◌, ℤ, Option, Some, None, option_and_then, Ok, Err}
-use Rattle.std.specs.Int.Signed.{le_z}
-use Rattle.std.specs.Option.{ok_or}
-use Rattle.std.specs.Str.Parse.{signed_digits_value}
+use Rattle.std.{specs.Prelude.{ℕ, ◌&&◌, List, if◌then◌else◌, ℤ, Option, Some, None, option_and_then, Ok, Err}, specs.Int.Signed.le_z, specs.Option.ok_or, specs.Str.Parse.signed_digits_value}
 use Rattle.serde_json.specs.Data.{Data}
 use Rattle.marked_json.specs.Reading.{number_of, field_of}
 use Rattle.reading_decimal.specs.Integer.{is_integer}
-use Rattle.transaction_event.specs.declared.fault.PayloadFault.TheVariants.{Range, WrongType}
-use Rattle.transaction_event.specs.Steps.{Checked, checked_map, ◌>>=◌}
-use Rattle.transaction_event.specs.Member.{required_of, optional}
+use Rattle.transaction_event.{specs.declared.fault.PayloadFault.TheVariants.{Range, WrongType}, specs.Steps.{Checked, checked_map, ◌>>=◌}, specs.Member.{required_of, optional}}
 
 -- The integer that a token writes, however large; minus zero is 0.
 abbrev pub integer_of_token : List ℕ → Option ℤ

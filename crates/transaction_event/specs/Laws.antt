@@ -1,15 +1,7 @@
 -- The laws of the definitions.
 use Rattle.std.specs.Prelude.{◌≡◌, ℕ, List, true}
-use Rattle.ledger_model.specs.declared.command.Command.TheVariants.{Deliver}
-use Rattle.ledger_model.specs.Key.{KeyName}
-use Rattle.ledger_model.specs.Event.{EventContent}
-use Rattle.ledger_model.specs.Limits.{Bounds}
-use Rattle.ledger_model.specs.Content.{Content}
-use Rattle.ledger_model.specs.Step.{answer}
-use Rattle.ledger_model.specs.Admissible.{IsAdmissible}
-use Rattle.transaction_event.specs.Request.{Request}
-use Rattle.transaction_event.specs.Message.{Event, message}
-use Rattle.transaction_event.specs.Reply.{answers_delivery}
+use Rattle.ledger_model.{specs.declared.command.Command.TheVariants.Deliver, specs.Key.KeyName, specs.Event.EventContent, specs.Limits.Bounds, specs.Content.Content, specs.Step.answer, specs.Admissible.IsAdmissible}
+use Rattle.transaction_event.{specs.Request.Request, specs.Message.{Event, message}, specs.Reply.answers_delivery}
 
 -- Whatever a ledger holds, its answer to a delivery has a reply.
 abbrev pub EachDeliveryIsAnswered : Type 0

@@ -1,10 +1,8 @@
 -- The members of an object: a member is absent if there is none of its name, or it is null.
-use Rattle.std.specs.Prelude.{ℕ, List, Option, Some, None, Ok, if◌then◌else◌}
-use Rattle.std.specs.Option.{ok_or}
+use Rattle.std.{specs.Prelude.{ℕ, List, Option, Some, None, Ok, if◌then◌else◌}, specs.Option.ok_or}
 use Rattle.serde_json.specs.Data.{Data}
 use Rattle.marked_json.specs.Reading.{field_of, is_object}
-use Rattle.transaction_event.specs.declared.fault.PayloadFault.TheVariants.{Missing, WrongType}
-use Rattle.transaction_event.specs.Steps.{Checked, checked_map, ◌>>=◌}
+use Rattle.transaction_event.{specs.declared.fault.PayloadFault.TheVariants.{Missing, WrongType}, specs.Steps.{Checked, checked_map, ◌>>=◌}}
 
 -- An object.
 abbrev pub object_of : Data → Option Data

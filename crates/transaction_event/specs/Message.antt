@@ -1,16 +1,10 @@
 -- What a station's text means at a moment (OCPP 2.0.1 Part 4). A lack of memory is no part of it.
 use Rattle.std.specs.Prelude.{ℕ, List, Ok, Err}
 use Rattle.serde_json.specs.Data.{Data}
-use Rattle.ocppj_frame.specs.declared.action.Action.{Action}
-use Rattle.ocppj_frame.specs.declared.action.Action.TheVariants.{BootNotification, Heartbeat, StatusNotification, MeterValues, TransactionEvent}
-use Rattle.ocppj_frame.specs.declared.body.Body.TheVariants.{Empty}
-use Rattle.ocppj_frame.specs.Reply.{call_result, heartbeat, boot, result_bytes}
-use Rattle.ocppj_frame.specs.Frame.{Frame, frame}
+use Rattle.ocppj_frame.{specs.declared.action.Action.Action, specs.declared.action.Action.TheVariants.{BootNotification, Heartbeat, StatusNotification, MeterValues, TransactionEvent}, specs.declared.body.Body.TheVariants.Empty, specs.Reply.{call_result, heartbeat, boot, result_bytes}, specs.Frame.{Frame, frame}}
 use Rattle.ocppj_frame.specs.Frame as framed
 use Rattle.reading_decimal.specs.MomentText.{text_of}
-use Rattle.transaction_event.specs.Steps.{Checked}
-use Rattle.transaction_event.specs.Request.{Request, event_reading}
-use Rattle.transaction_event.specs.Reply.{fault_reply}
+use Rattle.transaction_event.{specs.Steps.Checked, specs.Request.{Request, event_reading}, specs.Reply.fault_reply}
 
 -- An event to deliver, with the id of its call; or a ready reply; or silence.
 pub data Meaning : Type 0 where

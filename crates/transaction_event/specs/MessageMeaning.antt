@@ -1,18 +1,11 @@
 -- What a result of the reader says about the text.
 use Rattle.std.specs.Prelude.{◌≡◌, ◌≤◌, ◌⊎◌, ◌↔◌, ℕ, Bool, List, IsTrue, true, false, ⊤, codes}
 use Rattle.arrayvec.specs.ArrayString.{ArrayString}
-use Rattle.ocppj_frame.specs.declared.action.Action.TheVariants.{TransactionEvent}
-use Rattle.ocppj_frame.specs.Reply.{character_count}
-use Rattle.ocppj_frame.specs.Frame.{Frame, frame, Called}
-use Rattle.transaction_event.specs.declared.message.Message.{Message}
+use Rattle.ocppj_frame.{specs.declared.action.Action.TheVariants.TransactionEvent, specs.Reply.character_count, specs.Frame.{Frame, frame, Called}, specs.Ranges.longest_message_id}
+use Rattle.transaction_event.{specs.declared.message.Message.Message, specs.declared.message.Asked.Asked, specs.declared.delivery.Delivery.Delivery, specs.Growth.PayloadGrows, specs.Reply.memory_reply}
 use Rattle.transaction_event.specs.declared.message.Message.TheVariants as message
-use Rattle.transaction_event.specs.declared.message.Asked.{Asked}
 use Rattle.transaction_event.specs.declared.message.Asked.TheVariants as asked
-use Rattle.transaction_event.specs.declared.delivery.Delivery.{Delivery}
 use Rattle.transaction_event.specs.Message as meaning
-use Rattle.transaction_event.specs.Growth.{PayloadGrows}
-use Rattle.transaction_event.specs.Reply.{memory_reply}
-use Rattle.ocppj_frame.specs.Ranges.{longest_message_id}
 
 -- The message that asks for a delivery.
 abbrev pub asking : Delivery → Message

@@ -1,14 +1,9 @@
 -- Meter values (MeterValueType of OCPP 2.0.1 Part 2, J02).
-use Rattle.std.specs.Prelude.{List, [], unwrap_or, codes}
-use Rattle.std.specs.Option.{ok_or}
+use Rattle.std.{specs.Prelude.{List, [], unwrap_or, codes}, specs.Option.ok_or}
 use Rattle.serde_json.specs.Data.{Data}
 use Rattle.marked_json.specs.Reading.{items_of}
 use Rattle.ledger_model.specs.Event.{MeterReading}
-use Rattle.transaction_event.specs.declared.fault.PayloadFault.TheVariants.{WrongType}
-use Rattle.transaction_event.specs.Steps.{Checked, ◌>>=◌, for_each}
-use Rattle.transaction_event.specs.Member.{object_of, required, optional}
-use Rattle.transaction_event.specs.Timestamp.{timestamp}
-use Rattle.transaction_event.specs.Sampled.{sample}
+use Rattle.transaction_event.{specs.declared.fault.PayloadFault.TheVariants.WrongType, specs.Steps.{Checked, ◌>>=◌, for_each}, specs.Member.{object_of, required, optional}, specs.Timestamp.timestamp, specs.Sampled.sample}
 
 -- The readings so far, and those of one meter value: its sampled values in turn, each at its moment.
 unfoldable pub meter_value : List MeterReading → Data → Checked (List MeterReading)

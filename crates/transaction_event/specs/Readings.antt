@@ -1,9 +1,7 @@
 -- The counted readings of an event, in the order sent.
 use Rattle.std.specs.Prelude.{List, [], ◌∷◌, ◌++◌, length, nat_lt, if◌then◌else◌, Ok, Err}
-use Rattle.ledger_model.specs.Ranges.{most_event_readings}
-use Rattle.ledger_model.specs.Event.{MeterReading}
-use Rattle.transaction_event.specs.declared.fault.PayloadFault.TheVariants.{TooManyReadings}
-use Rattle.transaction_event.specs.Steps.{Checked}
+use Rattle.ledger_model.{specs.Ranges.most_event_readings, specs.Event.MeterReading}
+use Rattle.transaction_event.{specs.declared.fault.PayloadFault.TheVariants.TooManyReadings, specs.Steps.Checked}
 
 -- One more reading; an event has no more than it may have.
 abbrev pub one_more : List MeterReading → MeterReading → Checked (List MeterReading)

@@ -1,18 +1,8 @@
 -- The replies to a TransactionEventRequest (OCPP 2.0.1 Part 4); the codes of the faults are this product's profile.
 use Rattle.std.specs.Prelude.{ℕ, Bool, true, false, List}
-use Rattle.ledger_model.specs.declared.answer.Answer.{Answer}
-use Rattle.ledger_model.specs.declared.answer.Answer.TheVariants.{Accepted, Repeat, Refused}
-use Rattle.ledger_model.specs.declared.answer.Refusal.{Refusal}
-use Rattle.ledger_model.specs.declared.answer.Refusal.TheVariants.{ConflictingEvent, TooManyTransactions, EventsFull, ReadingsFull, NoSuchEvent, AlreadyVoided, NotVoided, ChangesExhausted}
-use Rattle.ledger_model.specs.Refusal.{refusal_name}
-use Rattle.ocppj_frame.specs.declared.body.Body.{Body}
-use Rattle.ocppj_frame.specs.declared.body.Body.TheVariants.{Empty, TokenAccepted}
-use Rattle.ocppj_frame.specs.declared.error_code.ErrorCode.{ErrorCode}
-use Rattle.ocppj_frame.specs.declared.error_code.ErrorCode.TheVariants.{FormatViolation, OccurrenceConstraintViolation, TypeConstraintViolation, PropertyConstraintViolation, GenericError, InternalError}
-use Rattle.ocppj_frame.specs.Reply.{result_bytes, error_bytes}
-use Rattle.transaction_event.specs.declared.fault.PayloadFault.{PayloadFault}
-use Rattle.transaction_event.specs.declared.fault.PayloadFault.TheVariants.{Format, Missing, WrongType, Range, TooManyReadings, Decimal, Moment, OutOfMemory}
-use Rattle.transaction_event.specs.Fault.{fault_name}
+use Rattle.ledger_model.{specs.declared.answer.Answer.Answer, specs.declared.answer.Answer.TheVariants.{Accepted, Repeat, Refused}, specs.declared.answer.Refusal.Refusal, specs.declared.answer.Refusal.TheVariants.{ConflictingEvent, TooManyTransactions, EventsFull, ReadingsFull, NoSuchEvent, AlreadyVoided, NotVoided, ChangesExhausted}, specs.Refusal.refusal_name}
+use Rattle.ocppj_frame.{specs.declared.body.Body.Body, specs.declared.body.Body.TheVariants.{Empty, TokenAccepted}, specs.declared.error_code.ErrorCode.ErrorCode, specs.declared.error_code.ErrorCode.TheVariants.{FormatViolation, OccurrenceConstraintViolation, TypeConstraintViolation, PropertyConstraintViolation, GenericError, InternalError}, specs.Reply.{result_bytes, error_bytes}}
+use Rattle.transaction_event.{specs.declared.fault.PayloadFault.PayloadFault, specs.declared.fault.PayloadFault.TheVariants.{Format, Missing, WrongType, Range, TooManyReadings, Decimal, Moment, OutOfMemory}, specs.Fault.fault_name}
 
 -- The code of a payload's fault.
 abbrev pub fault_code : PayloadFault → ErrorCode

@@ -1,22 +1,10 @@
 -- What a TransactionEventRequest says (OCPP 2.0.1 Part 2, block E), with its members checked in
 -- this order; the ranges are this product's profile.
-use Rattle.std.specs.Prelude.{ℕ, ◌-◌, Bool, List, pos, unsigned_abs, is_some, if◌then◌else◌, Option, Some, None, Ok, Err, codes}
-use Rattle.std.specs.Option.{ok_or}
-use Rattle.std.specs.Str.{bytes_eq}
+use Rattle.std.{specs.Prelude.{ℕ, ◌-◌, Bool, List, pos, unsigned_abs, is_some, if◌then◌else◌, Option, Some, None, Ok, Err, codes}, specs.Option.ok_or, specs.Str.bytes_eq}
 use Rattle.serde_json.specs.Data.{Data}
 use Rattle.marked_json.specs.Reading.{text_of}
-use Rattle.ledger_model.specs.declared.kind.Kind.{Kind}
-use Rattle.ledger_model.specs.declared.kind.Kind.TheVariants.{Started, Updated, Ended}
-use Rattle.ledger_model.specs.Ranges.{sequence_end, greatest_evse}
-use Rattle.ledger_model.specs.Key.{KeyName}
-use Rattle.ledger_model.specs.Event.{EventContent}
-use Rattle.ledger_model.specs.TxId.{is_tx_id, folded}
-use Rattle.transaction_event.specs.declared.fault.PayloadFault.TheVariants.{Format, Range}
-use Rattle.transaction_event.specs.Steps.{Checked, ◌>>=◌, checked_map}
-use Rattle.transaction_event.specs.Member.{object_of, required, optional}
-use Rattle.transaction_event.specs.Integer.{required_integer}
-use Rattle.transaction_event.specs.Timestamp.{timestamp}
-use Rattle.transaction_event.specs.MeterValues.{meter_values}
+use Rattle.ledger_model.{specs.declared.kind.Kind.Kind, specs.declared.kind.Kind.TheVariants.{Started, Updated, Ended}, specs.Ranges.{sequence_end, greatest_evse}, specs.Key.KeyName, specs.Event.EventContent, specs.TxId.{is_tx_id, folded}}
+use Rattle.transaction_event.{specs.declared.fault.PayloadFault.TheVariants.{Format, Range}, specs.Steps.{Checked, ◌>>=◌, checked_map}, specs.Member.{object_of, required, optional}, specs.Integer.required_integer, specs.Timestamp.timestamp, specs.MeterValues.meter_values}
 
 -- The kind of that name.
 abbrev pub kind_named : List ℕ → Checked Kind

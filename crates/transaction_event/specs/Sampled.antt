@@ -1,20 +1,11 @@
 -- Sampled values of energy registers (SampledValueType of OCPP 2.0.1 Part 2, J02); which of them count is this
 -- product's profile.
-use Rattle.std.specs.Prelude.{ℕ, Bool, true, ◌&&◌, List, is_none, if◌then◌else◌, Option, Some, None, Result, Ok, Err, codes}
-use Rattle.std.specs.Option.{ok_or}
-use Rattle.std.specs.Str.{bytes_eq}
+use Rattle.std.{specs.Prelude.{ℕ, Bool, true, ◌&&◌, List, is_none, if◌then◌else◌, Option, Some, None, Result, Ok, Err, codes}, specs.Option.ok_or, specs.Str.bytes_eq}
 use Rattle.serde_json.specs.Data.{Data}
 use Rattle.marked_json.specs.Reading.{text_of, number_of}
-use Rattle.reading_decimal.specs.declared.decimal.DecimalFault.{DecimalFault}
-use Rattle.reading_decimal.specs.Decimal.{mwh_reading}
-use Rattle.ledger_model.specs.declared.reading.Direction.{Direction}
-use Rattle.ledger_model.specs.declared.reading.Direction.TheVariants.{Import, Export}
-use Rattle.ledger_model.specs.Event.{MeterReading}
-use Rattle.transaction_event.specs.declared.fault.PayloadFault.TheVariants.{WrongType, Decimal}
-use Rattle.transaction_event.specs.Steps.{Checked, ◌>>=◌}
-use Rattle.transaction_event.specs.Member.{object_of, required, optional}
-use Rattle.transaction_event.specs.Scale.{scale_of}
-use Rattle.transaction_event.specs.Readings.{one_more}
+use Rattle.reading_decimal.{specs.declared.decimal.DecimalFault.DecimalFault, specs.Decimal.mwh_reading}
+use Rattle.ledger_model.{specs.declared.reading.Direction.Direction, specs.declared.reading.Direction.TheVariants.{Import, Export}, specs.Event.MeterReading}
+use Rattle.transaction_event.{specs.declared.fault.PayloadFault.TheVariants.{WrongType, Decimal}, specs.Steps.{Checked, ◌>>=◌}, specs.Member.{object_of, required, optional}, specs.Scale.scale_of, specs.Readings.one_more}
 
 -- A text is absent, or is this one.
 abbrev pub absent_or : List ℕ → Option (List ℕ) → Bool

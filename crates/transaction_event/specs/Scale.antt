@@ -1,15 +1,10 @@
 -- How a sampled value is scaled (unitOfMeasure of SampledValueType, OCPP 2.0.1 Part 2, J02); the units are this
 -- product's profile.
-use Rattle.std.specs.Prelude.{List, ℤ, pos, negsuc, unwrap_or, if◌then◌else◌, ℕ, Option, Some, None, Ok, Err, codes}
-use Rattle.std.specs.Str.{bytes_eq}
+use Rattle.std.{specs.Prelude.{List, ℤ, pos, negsuc, unwrap_or, if◌then◌else◌, ℕ, Option, Some, None, Ok, Err, codes}, specs.Str.bytes_eq}
 use Rattle.serde_json.specs.Data.{Data}
 use Rattle.marked_json.specs.Reading.{text_of}
-use Rattle.reading_decimal.specs.declared.decimal.Unit.{Unit as EnergyUnit}
-use Rattle.reading_decimal.specs.declared.decimal.Unit.TheVariants.{Wh, KWh}
-use Rattle.transaction_event.specs.declared.fault.PayloadFault.TheVariants.{Range}
-use Rattle.transaction_event.specs.Steps.{Checked, ◌>>=◌}
-use Rattle.transaction_event.specs.Member.{optional}
-use Rattle.transaction_event.specs.Integer.{optional_integer}
+use Rattle.reading_decimal.{specs.declared.decimal.Unit.Unit as EnergyUnit, specs.declared.decimal.Unit.TheVariants.{Wh, KWh}}
+use Rattle.transaction_event.{specs.declared.fault.PayloadFault.TheVariants.Range, specs.Steps.{Checked, ◌>>=◌}, specs.Member.optional, specs.Integer.optional_integer}
 
 -- The unit of that name; watt-hours if none is named.
 abbrev pub unit_named : Option (List ℕ) → Checked EnergyUnit

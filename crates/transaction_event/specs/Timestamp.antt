@@ -2,11 +2,8 @@
 use Rattle.std.specs.Prelude.{ℕ, List, Option, Result, Ok, Err, codes}
 use Rattle.serde_json.specs.Data.{Data}
 use Rattle.marked_json.specs.Reading.{text_of, field_of}
-use Rattle.reading_decimal.specs.Moment.{moment_reading}
-use Rattle.reading_decimal.specs.declared.moment.MomentFault.{MomentFault}
-use Rattle.transaction_event.specs.declared.fault.PayloadFault.TheVariants.{Moment}
-use Rattle.transaction_event.specs.Steps.{Checked, ◌>>=◌}
-use Rattle.transaction_event.specs.Member.{required_of}
+use Rattle.reading_decimal.{specs.Moment.moment_reading, specs.declared.moment.MomentFault.MomentFault}
+use Rattle.transaction_event.{specs.declared.fault.PayloadFault.TheVariants.Moment, specs.Steps.{Checked, ◌>>=◌}, specs.Member.required_of}
 
 -- A text that is no moment is refused.
 abbrev pub moment : Result ℕ MomentFault → Checked ℕ

@@ -1,9 +1,7 @@
 //! Why the payload of a transaction event is refused.
-ghost use Rattle.std.specs.Prelude.{◌≡◌, ◌≤◌, ◌↔◌, length, true, IsTrue};
-ghost use Rattle.std.specs.List.{list_all};
+ghost use Rattle.std.{specs.Prelude.{◌≡◌, ◌≤◌, ◌↔◌, length, true, IsTrue}, specs.List.list_all};
 ghost use Rattle.ocppj_frame.specs.Reply.{is_letter};
-ghost use Rattle.transaction_event.specs.declared.fault.PayloadFault.TheVariants.{OutOfMemory};
-ghost use Rattle.transaction_event.specs.Fault.{fault_number, fault_name};
+ghost use Rattle.transaction_event.{specs.declared.fault.PayloadFault.TheVariants.OutOfMemory, specs.Fault.{fault_number, fault_name}};
 
 /// Why a TransactionEventRequest (OCPP 2.0.1 Part 2, block E) is refused. The first fault in the order
 /// of the checks is reported.

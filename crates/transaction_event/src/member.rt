@@ -1,9 +1,7 @@
 //! The members of an object, each of the expected JSON kind.
 ghost use Rattle.std.specs.Prelude.{◌≡◌, ◌≤◌, length, option_map, ◌≢◌, IfErr};
 ghost use Rattle.marked_json.specs.Reading.{node, left_of, text_of, items_of, number_of};
-ghost use Rattle.transaction_event.specs.Steps.{checked_map};
-ghost use Rattle.transaction_event.specs.Member.{required, required_of, optional, if_there, object_of};
-ghost use Rattle.transaction_event.specs.declared.fault.PayloadFault.TheVariants.{OutOfMemory};
+ghost use Rattle.transaction_event.{specs.Steps.checked_map, specs.Member.{required, required_of, optional, if_there, object_of}, specs.declared.fault.PayloadFault.TheVariants.OutOfMemory};
 
 use crate::PayloadFault;
 use marked_json::{Items, Node};

@@ -1,10 +1,7 @@
 //! A station's text, and what it asks for.
 ghost use Rattle.std.specs.Prelude.{◌≡◌, ◌≢◌, ◌≤◌, ℕ, false, length};
 ghost use Rattle.transaction_event.specs.MessageMeaning.{IsMeaningOf, IsMeaningOfFrame, IsMemoryTold, IsMemoryToldOfFrame, HasShortId, IsOutOfMemory, with_reply};
-ghost use Rattle.ocppj_frame.specs.Ranges.{longest_message};
-ghost use Rattle.ocppj_frame.specs.Frame.{Called};
-ghost use Rattle.ocppj_frame.specs.Call.{id_of, action_of, payload_of};
-ghost use Rattle.ocppj_frame.specs.declared.action.Action.TheVariants.{TransactionEvent};
+ghost use Rattle.ocppj_frame.{specs.Ranges.longest_message, specs.Frame.Called, specs.Call.{id_of, action_of, payload_of}, specs.declared.action.Action.TheVariants.TransactionEvent};
 
 use crate::delivery::Delivery;
 use crate::reply::fault_reply;

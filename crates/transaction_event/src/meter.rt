@@ -1,12 +1,8 @@
 //! The meter values of a request.
 ghost use Rattle.std.specs.Prelude.{◌≡◌, ◌≢◌, Ok, Err, OnOk, IfOk, IfErr};
 ghost use Rattle.marked_json.specs.Reading.{node, left_of};
-ghost use Rattle.transaction_event.specs.Steps.{for_each};
-ghost use Rattle.transaction_event.specs.Sampled.{sample};
+ghost use Rattle.transaction_event.{specs.Steps.for_each, specs.Sampled.sample, specs.RequestMembers.{AreFound, request_with}, specs.Growth.{GrowsAmong, SampleGrows, MeterValueGrows, MeterValuesGrow}, specs.declared.fault.PayloadFault.TheVariants.OutOfMemory};
 ghost use Rattle.transaction_event.specs.MeterValues as spec;
-ghost use Rattle.transaction_event.specs.RequestMembers.{AreFound, request_with};
-ghost use Rattle.transaction_event.specs.Growth.{GrowsAmong, SampleGrows, MeterValueGrows, MeterValuesGrow};
-ghost use Rattle.transaction_event.specs.declared.fault.PayloadFault.TheVariants.{OutOfMemory};
 
 use crate::PayloadFault;
 use crate::member::required_items;

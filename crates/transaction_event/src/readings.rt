@@ -17,8 +17,7 @@ pub struct CountedReadings {
 
 impl Model for CountedReadings {
     ghost use Rattle.std.specs.Prelude.{List, ◌≤◌, length};
-    ghost use Rattle.ledger_model.specs.Event.{MeterReading};
-    ghost use Rattle.ledger_model.specs.Ranges.{most_event_readings};
+    ghost use Rattle.ledger_model.{specs.Event.MeterReading, specs.Ranges.most_event_readings};
 
     ghost Value = { List MeterReading };
 

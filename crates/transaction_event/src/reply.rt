@@ -1,10 +1,8 @@
 //! The replies to a TransactionEventRequest.
-ghost use Rattle.std.specs.Prelude.{◌≡◌, ◌≤◌, length, true};
-ghost use Rattle.std.specs.List.{list_all};
-ghost use Rattle.ocppj_frame.specs.Reply.{character_count, is_letter};
+ghost use Rattle.std.{specs.Prelude.{◌≡◌, ◌≤◌, length, true}, specs.List.list_all};
+ghost use Rattle.ocppj_frame.{specs.Reply.{character_count, is_letter}, specs.Ranges.longest_message_id};
 ghost use Rattle.ledger_model.specs.Refusal.{refusal_name};
 ghost use Rattle.transaction_event.specs.Reply as spec;
-ghost use Rattle.ocppj_frame.specs.Ranges.{longest_message_id};
 
 use crate::PayloadFault;
 use arrayvec::ArrayString;

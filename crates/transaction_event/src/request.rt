@@ -1,10 +1,8 @@
 //! A TransactionEventRequest, as an event of the ledger.
 ghost use Rattle.std.specs.Prelude.{◌≡◌, ◌≢◌, Ok, Err, IfOk, IfErr};
 ghost use Rattle.marked_json.specs.Reading.{node};
-ghost use Rattle.transaction_event.specs.Growth.{RequestGrows, PayloadGrows};
+ghost use Rattle.transaction_event.{specs.Growth.{RequestGrows, PayloadGrows}, specs.RequestMembers.{AreFound, request_with}, specs.declared.fault.PayloadFault.TheVariants.OutOfMemory};
 ghost use Rattle.transaction_event.specs.Request as spec;
-ghost use Rattle.transaction_event.specs.RequestMembers.{AreFound, request_with};
-ghost use Rattle.transaction_event.specs.declared.fault.PayloadFault.TheVariants.{OutOfMemory};
 
 use crate::PayloadFault;
 use crate::meter::meter_values;

@@ -1,12 +1,8 @@
 //! The members of a TransactionEventRequest, and what each of them says.
 ghost use Rattle.std.specs.Prelude.{◌≡◌, ◌≢◌, ◌≤◌, option_map, Some, IfOk, IfErr, codes};
 ghost use Rattle.marked_json.specs.Reading.{node, text_of, items_of, left_of};
-ghost use Rattle.transaction_event.specs.Steps.{checked_map};
-ghost use Rattle.transaction_event.specs.Member.{required, optional};
-ghost use Rattle.transaction_event.specs.Timestamp.{timestamp};
+ghost use Rattle.transaction_event.{specs.Steps.checked_map, specs.Member.{required, optional}, specs.Timestamp.timestamp, specs.RequestMembers.{AreFound, request_with}, specs.declared.fault.PayloadFault.TheVariants.OutOfMemory};
 ghost use Rattle.transaction_event.specs.Request as spec;
-ghost use Rattle.transaction_event.specs.RequestMembers.{AreFound, request_with};
-ghost use Rattle.transaction_event.specs.declared.fault.PayloadFault.TheVariants.{OutOfMemory};
 
 use crate::PayloadFault;
 use crate::integer::{required_integer, required_integer_of};

@@ -1,11 +1,9 @@
 //! Sampled values, and which of them count.
 ghost use Rattle.std.specs.Prelude.{◌≡◌, ◌≢◌, ◌≤◌, Ok, Err, IfOk, OnOk, IfErr, option_map, [], ◌∷◌, ◌++◌};
 ghost use Rattle.marked_json.specs.Reading.{node};
-ghost use Rattle.ledger_model.specs.Ranges.{greatest_reading};
-ghost use Rattle.ledger_model.specs.Event.{MeterReading};
-ghost use Rattle.transaction_event.specs.Growth.{SampleGrows};
+ghost use Rattle.ledger_model.{specs.Ranges.greatest_reading, specs.Event.MeterReading};
+ghost use Rattle.transaction_event.{specs.Growth.SampleGrows, specs.declared.fault.PayloadFault.TheVariants.OutOfMemory};
 ghost use Rattle.transaction_event.specs.Sampled as spec;
-ghost use Rattle.transaction_event.specs.declared.fault.PayloadFault.TheVariants.{OutOfMemory};
 
 use crate::PayloadFault;
 use crate::member::{optional_object, optional_text, required_number};

@@ -1,12 +1,6 @@
 -- What is found after an edit, and which maps have the same ids.
-use Rattle.std.proofs.Common.{◌≡◌, ℕ, ◌+◌, ◌<◌, ◌≤◌, Bool, true, false, not, cond, T, ◌&&◌, List, [], ◌∷◌, map, Option, Some, None, is_some, length, refl, sym, ap, subst, ◌∙◌, arith, inl, inr, ◌⊎◌}
-use Rattle.std.specs.List.{filter}
-use Rattle.std.specs.Ordering.{is_eq, is_lt, eq_by_cmp}
-use Rattle.std.specs.Cmp.{eq_by_cmp_equiv, alike_right}
-use Rattle.std.specs.FinMap.{find, put, is_sorted}
-use Rattle.std.specs.FinMap.Entries.{below_all, find-put, find-where_key, is_sorted-put, is_sorted-where_key, length-put, length_without, same_entries}
-use Rattle.transaction_map.specs.Map.{AreRising, id_cmp}
-use Rattle.transaction_map.proofs.Rising.{id_total, exact_ids, equal_ids}
+use Rattle.std.{proofs.Common.{◌≡◌, ℕ, ◌+◌, ◌<◌, ◌≤◌, Bool, true, false, not, cond, T, ◌&&◌, List, [], ◌∷◌, map, Option, Some, None, is_some, length, refl, sym, ap, subst, ◌∙◌, arith, inl, inr, ◌⊎◌}, specs.List.filter, specs.Ordering.{is_eq, is_lt, eq_by_cmp}, specs.Cmp.{eq_by_cmp_equiv, alike_right}, specs.FinMap.{find, put, is_sorted}, specs.FinMap.Entries.{below_all, find-put, find-where_key, is_sorted-put, is_sorted-where_key, length-put, length_without, same_entries}}
+use Rattle.transaction_map.{specs.Map.{AreRising, id_cmp}, proofs.Rising.{id_total, exact_ids, equal_ids}}
 
 turned : {A : Type 0} (b : Bool) (x y : A) → cond (not b) x y ≡ cond b y x
 turned true x y = refl

@@ -1,12 +1,7 @@
 -- Rows by rising id are in the order that a binary search asks.
-use Rattle.std.proofs.Common.{◌≡◌, ℕ, zero, suc, ◌+◌, ◌<◌, false, List, [], ◌∷◌, length, get_or, ap, arith}
-use Rattle.std.specs.declared.cmp.Ordering.TheVariants.{Less}
-use Rattle.std.specs.Ordering.{is_lt, ordering_index}
-use Rattle.std.specs.List.Sorted.{IsNonDecreasingBy}
-use Rattle.std.proofs.lemmas.List.Sorted.{searchable_from_sorted}
+use Rattle.std.{proofs.Common.{◌≡◌, ℕ, zero, suc, ◌+◌, ◌<◌, false, List, [], ◌∷◌, length, get_or, ap, arith}, specs.declared.cmp.Ordering.TheVariants.Less, specs.Ordering.{is_lt, ordering_index}, specs.List.Sorted.IsNonDecreasingBy, proofs.lemmas.List.Sorted.searchable_from_sorted}
 use Rattle.ledger_model.proofs.Callers.{first, second}
-use Rattle.transaction_map.specs.Map.{AreRising, id_cmp}
-use Rattle.transaction_map.proofs.Rising.{id_total, turned, below_at}
+use Rattle.transaction_map.{specs.Map.{AreRising, id_cmp}, proofs.Rising.{id_total, turned, below_at}}
 
 module _ {X : Type 0} where
   -- Neighbours are in order.

@@ -1,17 +1,7 @@
 -- What is at a place that was searched for.
-use Rattle.std.proofs.Common.{◌≡◌, ℕ, zero, suc, ◌<◌, ◌≤◌, not, T, cond, List, [], ◌∷◌, length, get_or, set, Some, None, Result, Ok, Err, IfOk, IfErr, refl, sym, ap, subst, ◌∙◌, arith}
-use Rattle.std.specs.declared.cmp.Ordering.TheVariants.{Less, Equal, Greater}
-use Rattle.std.specs.Ordering.{is_eq, eq_by_cmp}
-use Rattle.std.specs.List.{filter, insert, remove}
-use Rattle.std.specs.List.Sorted.{IsBinarySearchResult, IsSearchInRange}
-use Rattle.std.specs.FinMap.{find, put}
-use Rattle.std.specs.FinMap.Entries.{by_order, below_all}
-use Rattle.std.proofs.lemmas.List.{length-set}
+use Rattle.std.{proofs.Common.{◌≡◌, ℕ, zero, suc, ◌<◌, ◌≤◌, not, T, cond, List, [], ◌∷◌, length, get_or, set, Some, None, Result, Ok, Err, IfOk, IfErr, refl, sym, ap, subst, ◌∙◌, arith}, specs.declared.cmp.Ordering.TheVariants.{Less, Equal, Greater}, specs.Ordering.{is_eq, eq_by_cmp}, specs.List.{filter, insert, remove}, specs.List.Sorted.{IsBinarySearchResult, IsSearchInRange}, specs.FinMap.{find, put}, specs.FinMap.Entries.{by_order, below_all}, proofs.lemmas.List.length-set}
 use Rattle.ledger_model.proofs.Callers.{first, second, less}
-use Rattle.transaction_map.specs.Map.{AreRising, id_cmp}
-use Rattle.transaction_map.specs.Places.{IsAt, IsGap}
-use Rattle.transaction_map.proofs.Rising.{exact_ids, find_below, turned, below_at, below_less}
-use Rattle.transaction_map.proofs.Keys.{searchable}
+use Rattle.transaction_map.{specs.Map.{AreRising, id_cmp}, specs.Places.{IsAt, IsGap}, proofs.Rising.{exact_ids, find_below, turned, below_at, below_less}, proofs.Keys.searchable}
 
 module _ {X : Type 0} where
   -- An id that was found is there.

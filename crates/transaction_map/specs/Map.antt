@@ -1,9 +1,5 @@
 -- Values by transaction id as callers see them.
-use Rattle.std.specs.Prelude.{ℕ, List, T}
-use Rattle.std.specs.Ordering.{nat_cmp}
-use Rattle.std.specs.declared.cmp.Ordering.{Ordering}
-use Rattle.std.specs.Cmp.Lexicographic.{slice_cmp}
-use Rattle.std.specs.FinMap.{is_sorted}
+use Rattle.std.{specs.Prelude.{ℕ, List, T}, specs.Ordering.nat_cmp, specs.declared.cmp.Ordering.Ordering, specs.Cmp.Lexicographic.slice_cmp, specs.FinMap.is_sorted}
 
 -- The order of transaction ids: by their bytes.
 abbrev pub id_cmp : List ℕ → List ℕ → Ordering

@@ -1,6 +1,5 @@
 -- Where an id is, or belongs, among rows.
-use Rattle.std.specs.Prelude.{◌≡◌, ℕ, zero, suc, List, [], ◌∷◌}
-use Rattle.std.specs.declared.cmp.Ordering.TheVariants.{Less, Equal, Greater}
+use Rattle.std.{specs.Prelude.{◌≡◌, ℕ, zero, suc, List, [], ◌∷◌}, specs.declared.cmp.Ordering.TheVariants.{Less, Equal, Greater}}
 use Rattle.transaction_map.specs.Map.{id_cmp}
 
 module _ {X : Type 0} where

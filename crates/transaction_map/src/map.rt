@@ -1,9 +1,5 @@
-ghost use Rattle.std.specs.Prelude.{◌≡◌, ◌<◌, ◌≤◌, [], length, map, not, None, IfOk, IfErr, IfSome, option_map, slice_get, vec_len, vec_capacity};
-ghost use Rattle.std.specs.List.{filter};
-ghost use Rattle.std.specs.Ordering.{eq_by_cmp};
-ghost use Rattle.std.specs.FinMap.{find, put as put_row};
-ghost use Rattle.transaction_map.specs.Places.{IsAt, IsGap};
-ghost use Rattle.transaction_map.specs.Map.{id_cmp, AreRising};
+ghost use Rattle.std.{specs.Prelude.{◌≡◌, ◌<◌, ◌≤◌, [], length, map, not, None, IfOk, IfErr, IfSome, option_map, slice_get, vec_len, vec_capacity}, specs.List.filter, specs.Ordering.eq_by_cmp, specs.FinMap.{find, put as put_row}};
+ghost use Rattle.transaction_map.{specs.Places.{IsAt, IsGap}, specs.Map.{id_cmp, AreRising}};
 
 use crate::named::NamedValue;
 use ledger_model::TxId;
@@ -22,8 +18,7 @@ pub struct TransactionMap<V> {
 
 impl<V> Model for TransactionMap<V> {
     ghost use Rattle.std.specs.Prelude.{vec_capacity};
-    ghost use Rattle.transaction_map.specs.Map.{Mapped};
-    ghost use Rattle.transaction_map.specs.Kept.{IsMap};
+    ghost use Rattle.transaction_map.{specs.Map.Mapped, specs.Kept.IsMap};
 
     ghost Value = { Mapped V };
 

@@ -1,25 +1,5 @@
-ghost use Rattle.std.specs.Prelude.{◌≡◌, ◌≢◌, ◌↔◌, ℕ, ◌+◌, ◌<◌, true, List, [], ◌∷◌, ◌++◌, All, codes, length, map};
-ghost use Rattle.std.specs.List.{list_any, range_with_len};
-ghost use Rattle.std.specs.List.Sorted.{IsStrictlySortedBy};
-ghost use Rattle.std.specs.Str.{bytes_eq};
-ghost use Rattle.std.specs.Ordering.{nat_cmp};
-ghost use Rattle.std.specs.Cmp.Lexicographic.{slice_cmp};
-ghost use Rattle.ledger_model.specs.Periods.{Periods};
-ghost use Rattle.ledger_model.specs.BoardExamples.{first_run, first_run_board, first_run_site, late_event, late_event_board, void_and_restore, void_and_restore_board, quarter_boundary, closing_periods, quarter_closed, at_first_moment, readings_again_at_end, readings_again_counts, readings_again_quarters, evse_moves, evse_voided, start_voided, widest_gap, widest_gap_counts, exported, in_turn, rise, took, ten};
-ghost use Rattle.ledger_model.specs.BoardLaws.{AreRising, AreGaps, AreComplete, AreSums, IsIn, flows_over, quarters_over, sum_of_energies};
-ghost use Rattle.ledger_model.specs.Board.{Board, board, board_by, figures, flows_under, last_or_zero, plus_figures, site_board, sum_of_figures};
-ghost use Rattle.ledger_model.specs.ByDirection.{flows_toward};
-ghost use Rattle.ledger_model.specs.Complete.{is_complete, kinds_of};
-ghost use Rattle.ledger_model.specs.Content.{Content, Entry, entries, has_transaction, live, transactions_of};
-ghost use Rattle.ledger_model.specs.Energy.{energy_by, energy_in_by, energy_of_by, parts_of_both, quarters_by};
-ghost use Rattle.ledger_model.specs.Evse.{energy_at_by, evse_of, evses, first_or_zero};
-ghost use Rattle.ledger_model.specs.Gaps.{Gap, gaps, missing, numbers_of};
-ghost use Rattle.ledger_model.specs.Settling.{default_periods};
-ghost use Rattle.ledger_model.specs.Posts.{Post, row_after, totals_after};
-ghost use Rattle.ledger_model.specs.declared.figures.Figures.{Figures};
-ghost use Rattle.ledger_model.specs.declared.order.Order.{Order};
-ghost use Rattle.ledger_model.specs.declared.reading.Direction.{Direction};
-ghost use Rattle.ledger_model.specs.declared.reading.Direction.TheVariants.{Export};
+ghost use Rattle.std.{specs.Prelude.{◌≡◌, ◌≢◌, ◌↔◌, ℕ, ◌+◌, ◌<◌, true, List, [], ◌∷◌, ◌++◌, All, codes, length, map}, specs.List.{list_any, range_with_len}, specs.List.Sorted.IsStrictlySortedBy, specs.Str.bytes_eq, specs.Ordering.nat_cmp, specs.Cmp.Lexicographic.slice_cmp};
+ghost use Rattle.ledger_model.{specs.Periods.Periods, specs.BoardExamples.{first_run, first_run_board, first_run_site, late_event, late_event_board, void_and_restore, void_and_restore_board, quarter_boundary, closing_periods, quarter_closed, at_first_moment, readings_again_at_end, readings_again_counts, readings_again_quarters, evse_moves, evse_voided, start_voided, widest_gap, widest_gap_counts, exported, in_turn, rise, took, ten}, specs.BoardLaws.{AreRising, AreGaps, AreComplete, AreSums, IsIn, flows_over, quarters_over, sum_of_energies}, specs.Board.{Board, board, board_by, figures, flows_under, last_or_zero, plus_figures, site_board, sum_of_figures}, specs.ByDirection.flows_toward, specs.Complete.{is_complete, kinds_of}, specs.Content.{Content, Entry, entries, has_transaction, live, transactions_of}, specs.Energy.{energy_by, energy_in_by, energy_of_by, parts_of_both, quarters_by}, specs.Evse.{energy_at_by, evse_of, evses, first_or_zero}, specs.Gaps.{Gap, gaps, missing, numbers_of}, specs.Settling.default_periods, specs.Posts.{Post, row_after, totals_after}, specs.declared.figures.Figures.Figures, specs.declared.order.Order.Order, specs.declared.reading.Direction.Direction, specs.declared.reading.Direction.TheVariants.Export};
 
 /// The gaps of rising numbers are the maximal ranges of the numbers missing between them, rising; no
 /// other list is. Gaps and numbers together make up the range from the lowest to the highest. The

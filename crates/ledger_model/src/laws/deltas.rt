@@ -1,18 +1,7 @@
 //! Laws of one more live event: what a delivery, a restoration or a void changes, and what stays the
 //! same.
-ghost use Rattle.std.specs.Prelude.{◌≡◌, ℕ, ◌+◌, ◌≤◌, true, false, List, ◌∷◌, ◌++◌, None, filter, length, nat_lt};
-ghost use Rattle.std.specs.FinMap.{find};
-ghost use Rattle.std.specs.Str.{bytes_eq};
-ghost use Rattle.ledger_model.specs.declared.command.Command.TheVariants.{Deliver, Void, Restore, Erase};
-ghost use Rattle.ledger_model.specs.declared.reading.Direction.{Direction};
-ghost use Rattle.ledger_model.specs.Content.{Entry, Stored, live, live_of};
-ghost use Rattle.ledger_model.specs.DeltaLaws.{count_voided, ArePutBetween, CountsMove, DeliveryMakesOneMore, EnergiesMove, Holds, PairsMove, RestorationMakesOneMore, VoidMakesOneLess};
-ghost use Rattle.ledger_model.specs.Deltas.{across, before_key, behind_key, came_by, gone_by, most_for, own_events, IsOneMore};
-ghost use Rattle.ledger_model.specs.Energy.{energy, pairs};
-ghost use Rattle.ledger_model.specs.Entries.{entries_after, IsRising};
-ghost use Rattle.ledger_model.specs.Event.{EventContent, MeterReading, toward};
-ghost use Rattle.ledger_model.specs.Gaps.{missing};
-ghost use Rattle.ledger_model.specs.Key.{KeyName, key_cmp};
+ghost use Rattle.std.{specs.Prelude.{◌≡◌, ℕ, ◌+◌, ◌≤◌, true, false, List, ◌∷◌, ◌++◌, None, filter, length, nat_lt}, specs.FinMap.find, specs.Str.bytes_eq};
+ghost use Rattle.ledger_model.{specs.declared.command.Command.TheVariants.{Deliver, Void, Restore, Erase}, specs.declared.reading.Direction.Direction, specs.Content.{Entry, Stored, live, live_of}, specs.DeltaLaws.{count_voided, ArePutBetween, CountsMove, DeliveryMakesOneMore, EnergiesMove, Holds, PairsMove, RestorationMakesOneMore, VoidMakesOneLess}, specs.Deltas.{across, before_key, behind_key, came_by, gone_by, most_for, own_events, IsOneMore}, specs.Energy.{energy, pairs}, specs.Entries.{entries_after, IsRising}, specs.Event.{EventContent, MeterReading, toward}, specs.Gaps.missing, specs.Key.{KeyName, key_cmp}};
 
 /// How the pairs of a list of readings change when readings are put in between: the pair across
 /// their place goes, and the pairs come that they make with one another and with the readings on

@@ -1,23 +1,7 @@
 //! Laws of the step and of the order of readings, with worked examples of both.
 
 ghost use Rattle.std.specs.Prelude.{◌≡◌, ℕ, ◌+◌, ◌<◌, ◌≤◌, List, [], ◌∷◌, All, length, IsPermutation};
-ghost use Rattle.ledger_model.specs.declared.reading.Direction.{Direction};
-ghost use Rattle.ledger_model.specs.declared.reading.Direction.TheVariants.{Import};
-ghost use Rattle.ledger_model.specs.declared.command.Command.{Command};
-ghost use Rattle.ledger_model.specs.declared.command.Command.TheVariants.{Void, Restore};
-ghost use Rattle.ledger_model.specs.declared.answer.Answer.TheVariants.{Accepted, Repeat, Refused};
-ghost use Rattle.ledger_model.specs.declared.answer.Refusal.{Refusal};
-ghost use Rattle.ledger_model.specs.declared.answer.Refusal.TheVariants.{ConflictingEvent, EventsFull};
-ghost use Rattle.ledger_model.specs.Key.{KeyName};
-ghost use Rattle.ledger_model.specs.Limits.{Bounds, default_limits};
-ghost use Rattle.ledger_model.specs.Content.{Content, empty_content, entries, transactions_of};
-ghost use Rattle.ledger_model.specs.Board.{figures_by};
-ghost use Rattle.ledger_model.specs.declared.order.Order.{Order};
-ghost use Rattle.ledger_model.specs.Figures.{AreWithin};
-ghost use Rattle.ledger_model.specs.Step.{step, Reached, readings_stored};
-ghost use Rattle.ledger_model.specs.Energy.{readings_of, energy};
-ghost use Rattle.ledger_model.specs.Laws.{AreAccepted, left_by, answers, by_number, Sent, deliveries, DeliversTheSame, IsLeftByRun};
-ghost use Rattle.ledger_model.specs.Examples.{narrow_limits, first_run, late_event, falling_register, conflict, void_and_restore, void_and_restore_answers, full_until_erased, other_direction};
+ghost use Rattle.ledger_model.{specs.declared.reading.Direction.Direction, specs.declared.reading.Direction.TheVariants.Import, specs.declared.command.Command.Command, specs.declared.command.Command.TheVariants.{Void, Restore}, specs.declared.answer.Answer.TheVariants.{Accepted, Repeat, Refused}, specs.declared.answer.Refusal.Refusal, specs.declared.answer.Refusal.TheVariants.{ConflictingEvent, EventsFull}, specs.Key.KeyName, specs.Limits.{Bounds, default_limits}, specs.Content.{Content, empty_content, entries, transactions_of}, specs.Board.figures_by, specs.declared.order.Order.Order, specs.Figures.AreWithin, specs.Step.{step, Reached, readings_stored}, specs.Energy.{readings_of, energy}, specs.Laws.{AreAccepted, left_by, answers, by_number, Sent, deliveries, DeliversTheSame, IsLeftByRun}, specs.Examples.{narrow_limits, first_run, late_event, falling_register, conflict, void_and_restore, void_and_restore_answers, full_until_erased, other_direction}};
 
 /// An accepted void and then an accepted restoration of the same key leave the same events, with the
 /// same ones voided; both changes are counted.

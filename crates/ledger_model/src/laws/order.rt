@@ -1,20 +1,6 @@
 //! Laws of the two orders of readings: by sequence, and by moment.
 ghost use Rattle.std.specs.Prelude.{◌≡◌, ℕ, Bool, ◌+◌, ◌≤◌, ◌==◌, not, List, [], ◌∷◌, filter, map, sum_by};
-ghost use Rattle.ledger_model.specs.Periods.{Periods};
-ghost use Rattle.ledger_model.specs.declared.order.Order.{Order};
-ghost use Rattle.ledger_model.specs.declared.order.Order.TheVariants.{Sequence, Moment};
-ghost use Rattle.ledger_model.specs.declared.reading.Direction.{Direction};
-ghost use Rattle.ledger_model.specs.declared.reading.Direction.TheVariants.{Import};
-ghost use Rattle.ledger_model.specs.Board.{board_by};
-ghost use Rattle.ledger_model.specs.BoardExamples.{end_voided, read_again, readings_again_at_end, rise, ten, ties_and_clocks, took};
-ghost use Rattle.ledger_model.specs.Content.{Entry};
-ghost use Rattle.ledger_model.specs.Energy.{energy_by, readings_by, readings_of};
-ghost use Rattle.ledger_model.specs.Event.{MeterReading};
-ghost use Rattle.ledger_model.specs.InTime.{in_order, AreInTime};
-ghost use Rattle.ledger_model.specs.Key.{KeyName};
-ghost use Rattle.ledger_model.specs.OrderLaws.{HaveSameEnergies, IsOneMoreInPlace, OtherPairsStay, ReadingsMove};
-ghost use Rattle.ledger_model.specs.Settling.{default_periods};
-ghost use Rattle.ledger_model.specs.ReadingOrder.{numbered_by, runs_of, taken_when, IsOneReadingMore, IsRepeat};
+ghost use Rattle.ledger_model.{specs.Periods.Periods, specs.declared.order.Order.Order, specs.declared.order.Order.TheVariants.{Sequence, Moment}, specs.declared.reading.Direction.Direction, specs.declared.reading.Direction.TheVariants.Import, specs.Board.board_by, specs.BoardExamples.{end_voided, read_again, readings_again_at_end, rise, ten, ties_and_clocks, took}, specs.Content.Entry, specs.Energy.{energy_by, readings_by, readings_of}, specs.Event.MeterReading, specs.InTime.{in_order, AreInTime}, specs.Key.KeyName, specs.OrderLaws.{HaveSameEnergies, IsOneMoreInPlace, OtherPairsStay, ReadingsMove}, specs.Settling.default_periods, specs.ReadingOrder.{numbered_by, runs_of, taken_when, IsOneReadingMore, IsRepeat}};
 
 /// The periods and energies of short transactions, by moment and by sequence: one with an end that
 /// lists its readings again, the same with an event voided, and one with two readings of one moment and

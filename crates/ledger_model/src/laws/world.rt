@@ -1,13 +1,7 @@
 //! Laws of worlds: what a run leaves, station by station, and what a board depends on.
 
 ghost use Rattle.std.specs.Prelude.{◌≡◌, ℕ, List, map};
-ghost use Rattle.ledger_model.specs.Periods.{Periods};
-ghost use Rattle.ledger_model.specs.declared.order.Order.{Order};
-ghost use Rattle.ledger_model.specs.Board.{board_by, figures_by};
-ghost use Rattle.ledger_model.specs.BoardLaws.{with_voided};
-ghost use Rattle.ledger_model.specs.Content.{Entry, live};
-ghost use Rattle.ledger_model.specs.World.{World, Happens, run};
-ghost use Rattle.ledger_model.specs.WorldLaws.{AreReordered, station_left};
+ghost use Rattle.ledger_model.{specs.Periods.Periods, specs.declared.order.Order.Order, specs.Board.{board_by, figures_by}, specs.BoardLaws.with_voided, specs.Content.{Entry, live}, specs.World.{World, Happens, run}, specs.WorldLaws.{AreReordered, station_left}};
 
 /// A run leaves each station as that station's own commands, one after the other, leave it.
 pub fn each_station_by_its_own_commands()

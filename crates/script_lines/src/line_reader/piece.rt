@@ -1,5 +1,4 @@
-ghost use Rattle.std.specs.Prelude.{◌≡◌, ℕ, ◌+◌, ◌<◌, ◌≤◌, ◌^◌, ◌++◌, List, length, take, OnOk, OnErr, OnSome};
-ghost use Rattle.std.specs.Io.KnownBytes.{Consumes, IsAtEnd};
+ghost use Rattle.std.{specs.Prelude.{◌≡◌, ℕ, ◌+◌, ◌<◌, ◌≤◌, ◌^◌, ◌++◌, List, length, take, OnOk, OnErr, OnSome}, specs.Io.KnownBytes.{Consumes, IsAtEnd}};
 ghost use Rattle.script_lines.specs.Reading.{TakesPiece};
 
 use crate::fault::ReplayFault;

@@ -1,8 +1,6 @@
 ghost use Rattle.std.specs.Prelude.{◌≡◌, ◌≤◌, IfOk};
-ghost use Rattle.ledger_model.specs.Limits.{Bounds, default_limits};
-ghost use Rattle.ledger_model.specs.Settling.{default_periods};
-ghost use Rattle.board_report.specs.Plans.{IsBoardWithin};
-ghost use Rattle.board_report.specs.Sums.{station_quarters, AreOfPeriod, QuartersFit};
+ghost use Rattle.ledger_model.{specs.Limits.{Bounds, default_limits}, specs.Settling.default_periods};
+ghost use Rattle.board_report.{specs.Plans.IsBoardWithin, specs.Sums.{station_quarters, AreOfPeriod, QuartersFit}};
 
 use board_report::{SiteBoard, energy_text, site_board, total_text, write_board};
 use energy_flow::{Flow, Level, Work, difference};

@@ -1,13 +1,7 @@
-use Rattle.std.proofs.Common.{◌∷◌, [], ◌++◌, length, take, get_or, refl, subst, ap, sym, ◌∙◌, arith}
-use Rattle.std.proofs.lemmas.Option.{slice_get_read}
-use Rattle.ledger_model.specs.Board.{board_by}
-use Rattle.ledger_model.specs.Content.{entries}
-use Rattle.ledger_model.specs.Figures.{AreWithin}
-use Rattle.site_desk.specs.Plan.{order_at, period_at}
-use Rattle.board_report.specs.Plans.{AreBoardsWithin}
-use Rattle.site_desk.specs.Parts.{limits_at}
-use Rattle.site_desk.proofs.Rows.{limits_more_yes}
-use Rattle.board_report.proofs.SiteBoards.{by_own, boards_more_no, boards_more_yes, stands, within_more}
+use Rattle.std.{proofs.Common.{◌∷◌, [], ◌++◌, length, take, get_or, refl, subst, ap, sym, ◌∙◌, arith}, proofs.lemmas.Option.slice_get_read}
+use Rattle.ledger_model.{specs.Board.board_by, specs.Content.entries, specs.Figures.AreWithin}
+use Rattle.site_desk.{specs.Plan.{order_at, period_at}, specs.Parts.limits_at, proofs.Rows.limits_more_yes}
+use Rattle.board_report.{specs.Plans.AreBoardsWithin, proofs.SiteBoards.{by_own, boards_more_no, boards_more_yes, stands, within_more}}
 use Rattle.board_report.proofs.boards.add_board.Goals as goal
 
 pub returns-then-station-site-clause-boards : goal.returns-then-station-site-clause-boards

@@ -1,8 +1,6 @@
-use Rattle.std.proofs.Common.{◌≡◌, take, subst, ap, ◌∙◌, arith}
-use Rattle.std.proofs.lemmas.List.{take_all}
-use Rattle.board_report.specs.Plans.{AreBoardsWithin}
+use Rattle.std.{proofs.Common.{◌≡◌, take, subst, ap, ◌∙◌, arith}, proofs.lemmas.List.take_all}
+use Rattle.board_report.{specs.Plans.AreBoardsWithin, specs.Boards.site_boards}
 use Rattle.site_desk.specs.Parts.{limits_at}
-use Rattle.board_report.specs.Boards.{site_boards}
 use Rattle.board_report.proofs.boards.boards_of.Goals as goal
 
 pub returns-clause-boards : goal.returns-clause-boards

@@ -1,7 +1,6 @@
 use Rattle.std.proofs.Common.{◌≡◌, length, take}
-use Rattle.board_report.specs.Plans.{AreBoardsWithin}
+use Rattle.board_report.{specs.Plans.AreBoardsWithin, specs.Boards.site_boards}
 use Rattle.site_desk.specs.Parts.{limits_at}
-use Rattle.board_report.specs.Boards.{site_boards}
 use Rattle.board_report.proofs.boards.boards_of.Given as goal
 
 abbrev pub invariant-loop-number : goal.invariant-loop-number

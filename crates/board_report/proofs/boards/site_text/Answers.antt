@@ -1,9 +1,6 @@
 use Rattle.std.proofs.Common.{sym, subst, arith}
-use Rattle.board_report.specs.Sums.{AreOfPeriod}
-use Rattle.board_report.proofs.PlanLemmas.{plans_fit}
-use Rattle.site_desk.specs.Parts.{limits_at}
-use Rattle.site_desk.specs.Plan.{order_at, period_at}
-use Rattle.board_report.proofs.SiteBoards.{boards_period, sum_at}
+use Rattle.board_report.{specs.Sums.AreOfPeriod, proofs.PlanLemmas.plans_fit, proofs.SiteBoards.{boards_period, sum_at}}
+use Rattle.site_desk.{specs.Parts.limits_at, specs.Plan.{order_at, period_at}}
 use Rattle.board_report.proofs.boards.site_text.Goals as goal
 
 pub site_board-requires-clause-periods : goal.site_board-requires-clause-periods

@@ -1,12 +1,7 @@
 use Rattle.std.proofs.Common.{[], ap, ◌∙◌, map, get_or, arith}
 use Rattle.ledger_model.specs.Board.{sum_of_figures}
-use Rattle.board_report.specs.Texts.{board_text}
-use Rattle.site_desk.specs.declared.plan.SitePlan.{SitePlan}
-use Rattle.site_desk.specs.Close.{figures_at}
-use Rattle.site_desk.specs.Plan.{order_at, period_at}
-use Rattle.board_report.specs.Boards.{site_boards, site_under}
-use Rattle.board_report.proofs.SiteBoards.{stands}
-use Rattle.board_report.proofs.ClosedSites.{figures_alike, name_at, named_alike, value_told}
+use Rattle.board_report.{specs.Texts.board_text, specs.Boards.{site_boards, site_under}, proofs.SiteBoards.stands, proofs.ClosedSites.{figures_alike, name_at, named_alike, value_told}}
+use Rattle.site_desk.{specs.declared.plan.SitePlan.SitePlan, specs.Close.figures_at, specs.Plan.{order_at, period_at}}
 use Rattle.board_report.proofs.closed.closed_board.Goals as goal
 
 pub returns : goal.returns

@@ -1,5 +1,4 @@
-use Rattle.std.proofs.Common.{◌≡◌, length}
-use Rattle.std.specs.Io.KnownBytes.{Appends}
+use Rattle.std.{proofs.Common.{◌≡◌, length}, specs.Io.KnownBytes.Appends}
 use Rattle.board_report.specs.Closed.{boards_text}
 use Rattle.board_report.proofs.closed.write_boards.Given as goal
 

@@ -1,5 +1,4 @@
-use Rattle.std.proofs.Common.{◌≡◌, ◌+◌, ◌≤◌, not, take}
-use Rattle.std.specs.List.{count_by}
+use Rattle.std.{proofs.Common.{◌≡◌, ◌+◌, ◌≤◌, not, take}, specs.List.count_by}
 use Rattle.board_report.proofs.listing.counts.Given as goal
 
 -- how many there are so far

@@ -1,7 +1,5 @@
 use Rattle.std.proofs.Common.{◌≡◌, ◌++◌, ◌∷◌, [], ℕ, List, append_assoc, codes, ap, ◌∙◌}
-use Rattle.board_report.specs.Listing.{event_line, exact_text, kind_text, voided_text}
-use Rattle.board_report.specs.Texts.{field}
-use Rattle.board_report.proofs.Pieces.{in_front}
+use Rattle.board_report.{specs.Listing.{event_line, exact_text, kind_text, voided_text}, specs.Texts.field, proofs.Pieces.in_front}
 use Rattle.board_report.proofs.listing.put_event.Goals as goal
 
 -- the pieces of the line, one behind the other

@@ -1,8 +1,5 @@
-use Rattle.std.proofs.Common.{◌≡◌, ◌++◌, ℕ, List, codes, ap, ◌∙◌}
-use Rattle.std.proofs.lemmas.Result.{on_ok_weaker}
-use Rattle.board_report.specs.Listing.{exact_text, reading_fields}
-use Rattle.board_report.specs.Texts.{field}
-use Rattle.board_report.proofs.Pieces.{in_front}
+use Rattle.std.{proofs.Common.{◌≡◌, ◌++◌, ℕ, List, codes, ap, ◌∙◌}, proofs.lemmas.Result.on_ok_weaker}
+use Rattle.board_report.{specs.Listing.{exact_text, reading_fields}, specs.Texts.field, proofs.Pieces.in_front}
 use Rattle.board_report.proofs.listing.put_level.Goals as goal
 
 -- the pieces of the line, one behind the other

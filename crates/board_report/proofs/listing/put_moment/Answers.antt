@@ -1,6 +1,4 @@
-use Rattle.std.proofs.Common.{◌≡◌, ◌+◌, ◌%◌, ◌<◌, ◌≤◌, ◌^◌, length, ap, ◌∙◌, arith}
-use Rattle.std.specs.Fmt.{decimal}
-use Rattle.std.proofs.lemmas.Fmt.{decimal_nonempty}
+use Rattle.std.{proofs.Common.{◌≡◌, ◌+◌, ◌%◌, ◌<◌, ◌≤◌, ◌^◌, length, ap, ◌∙◌, arith}, specs.Fmt.decimal, proofs.lemmas.Fmt.decimal_nonempty}
 use Rattle.board_report.proofs.listing.put_moment.Goals as goal
 
 -- a number has a digit

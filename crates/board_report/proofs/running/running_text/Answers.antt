@@ -1,14 +1,7 @@
 use Rattle.std.proofs.Common.{[], map, get_or, sym, subst, ap, ◌∙◌, arith}
 use Rattle.ledger_model.specs.Board.{site_board}
-use Rattle.board_report.specs.Sums.{AreOfPeriod}
-use Rattle.board_report.specs.Texts.{board_text}
-use Rattle.board_report.proofs.PlanLemmas.{plans_fit}
-use Rattle.site_desk.specs.declared.plan.SitePlan.{SitePlan}
-use Rattle.site_desk.specs.Parts.{limits_at}
-use Rattle.site_desk.specs.Plan.{order_at, period_at}
-use Rattle.board_report.proofs.ClosedSites.{name_at, value_told}
-use Rattle.board_report.proofs.RunningBoards.{boards_by, boards_within, places_like}
-use Rattle.board_report.proofs.SiteBoards.{named_is, sum_at}
+use Rattle.board_report.{specs.Sums.AreOfPeriod, specs.Texts.board_text, proofs.PlanLemmas.plans_fit, proofs.ClosedSites.{name_at, value_told}, proofs.RunningBoards.{boards_by, boards_within, places_like}, proofs.SiteBoards.{named_is, sum_at}}
+use Rattle.site_desk.{specs.declared.plan.SitePlan.SitePlan, specs.Parts.limits_at, specs.Plan.{order_at, period_at}}
 use Rattle.board_report.proofs.running.running_text.Goals as goal
 
 pub site_board-requires-clause-periods : goal.site_board-requires-clause-periods

@@ -1,6 +1,5 @@
 use Rattle.std.proofs.Common.{◌∷◌, ◌∙◌, sym, ap, subst, length, take, ◌-◌, arith}
-use Rattle.board_report.specs.Lines.{put_line, CanLead}
-use Rattle.board_report.proofs.SumLemmas.{can_lead, last_apart, sums_more}
+use Rattle.board_report.{specs.Lines.{put_line, CanLead}, proofs.SumLemmas.{can_lead, last_apart, sums_more}}
 use Rattle.board_report.proofs.sums.falling_sums.Goals as goal
 
 -- the last of what is left can be added

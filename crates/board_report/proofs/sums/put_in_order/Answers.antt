@@ -1,5 +1,4 @@
-use Rattle.std.proofs.Common.{rules}
-use Rattle.std.proofs.lemmas.List.Sorted.{IsNonDecreasingBy-from_sort_by_key}
+use Rattle.std.{proofs.Common.rules, proofs.lemmas.List.Sorted.IsNonDecreasingBy-from_sort_by_key}
 use Rattle.ledger_model.specs.Board.{Flowed}
 use Rattle.board_report.proofs.SumLemmas.{order_from_sort}
 use Rattle.board_report.proofs.sums.put_in_order.Goals as goal

@@ -1,7 +1,5 @@
 use Rattle.std.proofs.Common.{sym, ap, subst, ◌∙◌}
-use Rattle.board_report.specs.Lines.{quarter_sums}
-use Rattle.board_report.specs.Sums.{AreQuartersOf, QuartersFit}
-use Rattle.board_report.proofs.SumLemmas.{sums_own, sums_permuted, fit_permuted}
+use Rattle.board_report.{specs.Lines.quarter_sums, specs.Sums.{AreQuartersOf, QuartersFit}, proofs.SumLemmas.{sums_own, sums_permuted, fit_permuted}}
 use Rattle.board_report.proofs.sums.site_quarters.Goals as goal
 
 -- the lines in order add up to no more

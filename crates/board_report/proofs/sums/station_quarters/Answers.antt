@@ -1,9 +1,6 @@
-use Rattle.std.proofs.Common.{ℕ, List, ◌++◌, ◌∙◌, ap, sym, subst}
-use Rattle.std.proofs.lemmas.List.Elements.{All-append}
-use Rattle.ledger_model.specs.Board.{Board, Flowed}
-use Rattle.ledger_model.specs.Quarter.{IsQuarterOf}
-use Rattle.board_report.specs.Sums.{AreQuartersOf}
-use Rattle.board_report.proofs.SumLemmas.{stations_more}
+use Rattle.std.{proofs.Common.{ℕ, List, ◌++◌, ◌∙◌, ap, sym, subst}, proofs.lemmas.List.Elements.All-append}
+use Rattle.ledger_model.{specs.Board.{Board, Flowed}, specs.Quarter.IsQuarterOf}
+use Rattle.board_report.{specs.Sums.AreQuartersOf, proofs.SumLemmas.stations_more}
 use Rattle.board_report.proofs.sums.station_quarters.Goals as goal
 
 -- the next station's lines are of periods of its board's length

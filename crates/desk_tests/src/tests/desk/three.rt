@@ -1,8 +1,6 @@
 ghost use Rattle.std.specs.Prelude.{◌≡◌, ◌≤◌, IfOk, IfSome, length};
-ghost use Rattle.board_report.specs.Plans.{IsBoardWithin};
-ghost use Rattle.board_report.specs.Sums.{station_quarters, AreOfPeriod, QuartersFit};
-ghost use Rattle.ledger_model.specs.Settling.{default_periods};
-ghost use Rattle.ledger_model.specs.Ranges.{most_readings};
+ghost use Rattle.board_report.{specs.Plans.IsBoardWithin, specs.Sums.{station_quarters, AreOfPeriod, QuartersFit}};
+ghost use Rattle.ledger_model.{specs.Settling.default_periods, specs.Ranges.most_readings};
 
 use super::scenes::{Scene, plays};
 use super::{

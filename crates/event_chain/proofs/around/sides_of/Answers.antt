@@ -1,8 +1,6 @@
 use Rattle.std.proofs.Common.{◌<◌, ◌^◌, sym, ap, ◌∙◌, subst, arith}
-use Rattle.event_chain.specs.Placed.{carriers_of}
+use Rattle.event_chain.{specs.Placed.carriers_of, specs.Edits.{IsStored, first_at, last_at}, proofs.Neighbours.{none_before, none_behind, before_stored, behind_stored, before_is, behind_is}}
 use Rattle.key_index.specs.Key.{rank}
-use Rattle.event_chain.specs.Edits.{IsStored, first_at, last_at}
-use Rattle.event_chain.proofs.Neighbours.{none_before, none_behind, before_stored, behind_stored, before_is, behind_is}
 use Rattle.event_chain.proofs.around.sides_of.Goals as goal
 
 pub last_at-sides-requires : goal.last_at-sides-requires

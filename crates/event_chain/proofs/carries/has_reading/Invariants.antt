@@ -1,6 +1,5 @@
 use Rattle.std.proofs.Common.{◌≡◌, drop, is_some}
-use Rattle.ledger_model.specs.Deltas.{first_reading}
-use Rattle.ledger_model.specs.Event.{toward}
+use Rattle.ledger_model.{specs.Deltas.first_reading, specs.Event.toward}
 use Rattle.event_chain.proofs.carries.has_reading.Given as goal
 
 -- none of the readings so far is of the direction

@@ -1,9 +1,5 @@
 use Rattle.std.proofs.Common.{◌++◌, ◌∷◌, [], ◌<◌, append_assoc, length, map, sym, ap, subst, ◌∙◌, arith}
-use Rattle.event_chain.specs.Edits.{places_behind}
-use Rattle.event_chain.specs.EventLines.{line_at}
-use Rattle.event_chain.specs.Flat.{segment}
-use Rattle.event_chain.proofs.Walks.{IsLeft, left_behind, left_first, on_from}
-use Rattle.event_chain.proofs.event_lines.lines_under.Goals.{After-place_behind-place}
+use Rattle.event_chain.{specs.Edits.places_behind, specs.EventLines.line_at, specs.Flat.segment, proofs.Walks.{IsLeft, left_behind, left_first, on_from}, proofs.event_lines.lines_under.Goals.After-place_behind-place}
 use Rattle.event_chain.proofs.event_lines.lines_under.Goals as goal
 
 pub loop-place-init : goal.loop-place-init

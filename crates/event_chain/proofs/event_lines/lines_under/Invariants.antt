@@ -1,7 +1,5 @@
 use Rattle.std.proofs.Common.{◌≡◌, ◌++◌, length, map}
-use Rattle.event_chain.specs.EventLines.{line_at}
-use Rattle.event_chain.specs.Flat.{segment}
-use Rattle.event_chain.proofs.Walks.{IsFound, on_from}
+use Rattle.event_chain.{specs.EventLines.line_at, specs.Flat.segment, proofs.Walks.{IsFound, on_from}}
 use Rattle.event_chain.proofs.event_lines.lines_under.Given as goal
 
 -- the lines of the places that are left come behind those that are listed

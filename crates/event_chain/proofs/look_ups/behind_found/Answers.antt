@@ -1,7 +1,6 @@
 use Rattle.std.proofs.Common.{◌+◌, ap, refl, ◌∙◌}
 use Rattle.key_index.specs.Entries.{first_of}
-use Rattle.event_chain.specs.Edits.{at_home}
-use Rattle.event_chain.proofs.Cuts.{behind_seg, from_past}
+use Rattle.event_chain.{specs.Edits.at_home, proofs.Cuts.{behind_seg, from_past}}
 use Rattle.event_chain.proofs.look_ups.behind_found.Goals as goal
 
 pub returns : goal.returns

@@ -1,8 +1,6 @@
-use Rattle.std.proofs.Common.{ap, ◌∙◌}
-use Rattle.std.specs.Prelude.{slice_get}
+use Rattle.std.{proofs.Common.{ap, ◌∙◌}, specs.Prelude.slice_get}
 use Rattle.key_index.specs.Entries.{last_of}
-use Rattle.event_chain.specs.Placed.{Index}
-use Rattle.event_chain.specs.Edits.{places_before, places_behind}
+use Rattle.event_chain.{specs.Placed.Index, specs.Edits.{places_before, places_behind}}
 use Rattle.event_chain.proofs.look_ups.carriers_around.Goals as goal
 
 pub returns-clause-before : goal.returns-clause-before

@@ -1,6 +1,5 @@
 use Rattle.std.proofs.Common.{ap, ◌∙◌}
-use Rattle.event_chain.specs.Edits.{first_under}
-use Rattle.event_chain.specs.Placed.{Index}
+use Rattle.event_chain.{specs.Edits.first_under, specs.Placed.Index}
 use Rattle.event_chain.proofs.look_ups.first_live.Goals as goal
 
 pub returns : goal.returns

@@ -1,7 +1,6 @@
 use Rattle.std.proofs.Common.{ap, ◌∙◌}
 use Rattle.key_index.specs.Entries.{first_of, from}
-use Rattle.event_chain.specs.Edits.{at_home}
-use Rattle.event_chain.proofs.Places.{first_seg}
+use Rattle.event_chain.{specs.Edits.at_home, proofs.Places.first_seg}
 use Rattle.event_chain.proofs.look_ups.first_place.Goals as goal
 
 pub returns : goal.returns

@@ -1,9 +1,6 @@
 use Rattle.std.proofs.Common.{sym, subst, ◌∙◌}
-use Rattle.event_chain.specs.Kept.{HasPlace, IsBare}
-use Rattle.event_chain.specs.Placed.{Index}
+use Rattle.event_chain.{specs.Kept.{HasPlace, IsBare}, specs.Placed.Index, proofs.Places.ranks_of, proofs.Lives.{seg_some, seg_bare}}
 use Rattle.key_index.specs.Entries.{AreRising}
-use Rattle.event_chain.proofs.Places.{ranks_of}
-use Rattle.event_chain.proofs.Lives.{seg_some, seg_bare}
 use Rattle.event_chain.proofs.look_ups.has_place.Goals as goal
 
 pub returns-clause-some : goal.returns-clause-some

@@ -1,7 +1,6 @@
 use Rattle.std.proofs.Common.{ap, ◌∙◌}
 use Rattle.key_index.specs.Entries.{last_of, below}
-use Rattle.event_chain.specs.Edits.{at_home}
-use Rattle.event_chain.proofs.Places.{last_seg}
+use Rattle.event_chain.{specs.Edits.at_home, proofs.Places.last_seg}
 use Rattle.event_chain.proofs.look_ups.last_place.Goals as goal
 
 pub returns : goal.returns

@@ -1,11 +1,6 @@
 use Rattle.std.proofs.Common.{◌≡◌, ◌<◌, ◌^◌, true, false, is_some, ap, sym, ◌∙◌, arith, subst}
-use Rattle.key_index.specs.Key.{rank}
-use Rattle.event_chain.specs.Table.{row_of}
-use Rattle.event_chain.specs.Flat.{place_of}
-use Rattle.event_chain.specs.Edits.{place_at}
-use Rattle.event_chain.specs.Placed.{Index}
-use Rattle.key_index.specs.Entries.{from, filed_at, AreRising}
-use Rattle.event_chain.proofs.Places.{found_at, place_at_row}
+use Rattle.key_index.{specs.Key.rank, specs.Entries.{from, filed_at, AreRising}}
+use Rattle.event_chain.{specs.Table.row_of, specs.Flat.place_of, specs.Edits.place_at, specs.Placed.Index, proofs.Places.{found_at, place_at_row}}
 use Rattle.event_chain.proofs.look_ups.locate.Goals as goal
 
 pub unreachable-requires-in-None-get : goal.unreachable-requires-in-None-get

@@ -1,6 +1,5 @@
 use Rattle.std.proofs.Common.{ap, ◌∙◌}
-use Rattle.event_chain.specs.Edits.{at_home}
-use Rattle.event_chain.proofs.Cuts.{before_seg}
+use Rattle.event_chain.{specs.Edits.at_home, proofs.Cuts.before_seg}
 use Rattle.event_chain.proofs.look_ups.place_before.Goals as goal
 
 pub returns : goal.returns

@@ -1,6 +1,5 @@
 use Rattle.std.proofs.Common.{◌≡◌, ◌+◌, ap, sym, ◌∙◌, arith}
-use Rattle.event_chain.specs.Edits.{at_home}
-use Rattle.event_chain.proofs.Cuts.{behind_seg, behind_last}
+use Rattle.event_chain.{specs.Edits.at_home, proofs.Cuts.{behind_seg, behind_last}}
 use Rattle.event_chain.proofs.look_ups.place_behind.Goals as goal
 
 pub returns-then-number-eq-GREATEST_NUMBER : goal.returns-then-number-eq-GREATEST_NUMBER

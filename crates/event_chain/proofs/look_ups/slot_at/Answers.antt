@@ -1,7 +1,6 @@
 use Rattle.std.proofs.Common.{ap, ◌∙◌}
-use Rattle.event_chain.specs.Placed.{Index}
+use Rattle.event_chain.{specs.Placed.Index, proofs.Places.found_at}
 use Rattle.key_index.specs.Entries.{from, filed_at}
-use Rattle.event_chain.proofs.Places.{found_at}
 use Rattle.event_chain.proofs.look_ups.slot_at.Goals as goal
 
 pub returns : goal.returns

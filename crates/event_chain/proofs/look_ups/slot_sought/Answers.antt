@@ -1,8 +1,6 @@
 use Rattle.std.proofs.Common.{◌<◌, ◌^◌, ap, sym, ◌∙◌, arith}
 use Rattle.key_index.specs.Key.{rank}
-use Rattle.event_chain.specs.Table.{row_of}
-use Rattle.event_chain.specs.Flat.{place_of}
-use Rattle.event_chain.proofs.Places.{place_at_row}
+use Rattle.event_chain.{specs.Table.row_of, specs.Flat.place_of, proofs.Places.place_at_row}
 use Rattle.event_chain.proofs.look_ups.slot_sought.Goals as goal
 
 pub returns-in-Some : goal.returns-in-Some

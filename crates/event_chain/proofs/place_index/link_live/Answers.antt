@@ -1,12 +1,6 @@
 use Rattle.std.proofs.Common.{◌≡◌, Some, option_map, sym, ap, ◌∙◌, subst}
-use Rattle.event_chain.specs.Links.{linked_in}
-use Rattle.key_index.specs.declared.filed.Mark.TheVariants.{Live}
-use Rattle.event_chain.specs.Flat.{place_of}
-use Rattle.event_chain.specs.Lists.{slot_in, slot_before, slot_after, AreListed}
-use Rattle.event_chain.specs.Placed.{Index, marked_index}
-use Rattle.key_index.specs.Entries.{AreRising}
-use Rattle.event_chain.proofs.MarkedIndexes.{marked_rising}
-use Rattle.event_chain.proofs.Lists.{sides_absent}
+use Rattle.event_chain.{specs.Links.linked_in, specs.Flat.place_of, specs.Lists.{slot_in, slot_before, slot_after, AreListed}, specs.Placed.{Index, marked_index}, proofs.MarkedIndexes.marked_rising, proofs.Lists.sides_absent}
+use Rattle.key_index.{specs.declared.filed.Mark.TheVariants.Live, specs.Entries.AreRising}
 use Rattle.event_chain.proofs.place_index.link_live.Goals as goal
 
 pub slot_behind-after-requires-clause-rising : goal.slot_behind-after-requires-clause-rising

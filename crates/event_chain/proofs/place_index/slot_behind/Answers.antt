@@ -1,6 +1,5 @@
 use Rattle.std.proofs.Common.{option_map, sym, ap, ◌∙◌}
-use Rattle.event_chain.specs.Lists.{slot_in}
-use Rattle.event_chain.proofs.Lists.{sides_absent, next_absent}
+use Rattle.event_chain.{specs.Lists.slot_in, proofs.Lists.{sides_absent, next_absent}}
 use Rattle.event_chain.proofs.place_index.slot_behind.Goals as goal
 
 pub next-requires : goal.next-requires

@@ -1,7 +1,5 @@
 use Rattle.std.proofs.Common.{◌≡◌, suc, ◌+◌, ◌-◌, ◌++◌, take, length, arith, refl, sym, ap, ◌∙◌, subst, length-take}
-use Rattle.event_store.specs.Links.{chain, IsRun, IsLast}
-use Rattle.event_store.proofs.Runs.{put_step, put_last}
-use Rattle.event_store.specs.declared.links.ReadingLink.{ReadingLink}
+use Rattle.event_store.{specs.Links.{chain, IsRun, IsLast}, proofs.Runs.{put_step, put_last}, specs.declared.links.ReadingLink.ReadingLink}
 use Rattle.event_store.proofs.links.put_all.Goals as goal
 
 pub loop-rest-preserved : goal.loop-rest-preserved

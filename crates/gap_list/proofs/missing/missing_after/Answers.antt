@@ -1,7 +1,5 @@
-use Rattle.std.proofs.Common.{◌≡◌, ℕ, ◌+◌, ◌-◌, ◌<◌, ◌≤◌, List, [], length, drop, sym, ap, arith}
-use Rattle.std.specs.Prelude.{sum_by, slice_index}
-use Rattle.ledger_model.specs.BoardLaws.{AreRising}
-use Rattle.ledger_model.specs.Gaps.{gap_size, missing}
+use Rattle.std.{proofs.Common.{◌≡◌, ℕ, ◌+◌, ◌-◌, ◌<◌, ◌≤◌, List, [], length, drop, sym, ap, arith}, specs.Prelude.{sum_by, slice_index}}
+use Rattle.ledger_model.{specs.BoardLaws.AreRising, specs.Gaps.{gap_size, missing}}
 use Rattle.gap_list.proofs.Steps.{gaps_last, rising_on, missing_on}
 use Rattle.gap_list.proofs.missing.missing_after.Goals as goal
 

@@ -1,7 +1,5 @@
-use Rattle.std.proofs.Common.{◌≡◌, ◌<◌, length, ◌+◌, ◌≤◌}
-use Rattle.std.specs.Prelude.{slice_index}
-use Rattle.ledger_model.specs.BoardLaws.{AreRising}
-use Rattle.ledger_model.specs.Gaps.{missing}
+use Rattle.std.{proofs.Common.{◌≡◌, ◌<◌, length, ◌+◌, ◌≤◌}, specs.Prelude.slice_index}
+use Rattle.ledger_model.{specs.BoardLaws.AreRising, specs.Gaps.missing}
 use Rattle.gap_list.proofs.missing.missing_after.Given as goal
 
 abbrev pub invariant-loop-after : goal.invariant-loop-after

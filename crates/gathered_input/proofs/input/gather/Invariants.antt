@@ -1,5 +1,4 @@
-use Rattle.std.proofs.Common.{ℕ, List, length, take, ◌++◌, ◌-◌, ◌≤◌, ◌≡◌}
-use Rattle.std.specs.Io.KnownBytes.{Consumes}
+use Rattle.std.{proofs.Common.{ℕ, List, length, take, ◌++◌, ◌-◌, ◌≤◌, ◌≡◌}, specs.Io.KnownBytes.Consumes}
 use Rattle.gathered_input.proofs.input.gather.Given as goal
 
 abbrev pub invariant-more : goal.invariant-more

@@ -1,5 +1,4 @@
-use Rattle.std.proofs.Common.{◌∙◌, sym}
-use Rattle.std.proofs.lemmas.Bool.{false≢true}
+use Rattle.std.{proofs.Common.{◌∙◌, sym}, proofs.lemmas.Bool.false≢true}
 use Rattle.journal_script.proofs.MessageLine.{line_speaks, line_stands}
 use Rattle.journal_script.proofs.lines.message_line.Goals as goal
 

@@ -1,7 +1,5 @@
 use Rattle.script_ledgers.proofs.Answered.{value_told}
-use Rattle.journal_script.specs.Place.{place_of}
-use Rattle.journal_script.specs.Reading.{IsLeft, Leaves}
-use Rattle.journal_script.proofs.UpToListen.{leaves}
+use Rattle.journal_script.{specs.Place.place_of, specs.Reading.{IsLeft, Leaves}, proofs.UpToListen.leaves}
 use Rattle.journal_script.proofs.restoring.restore_script.Goals as goal
 
 pub returns-clause-reads : goal.returns-clause-reads

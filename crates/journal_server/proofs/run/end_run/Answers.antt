@@ -1,7 +1,6 @@
 use Rattle.std.proofs.Common.{◌++◌, ℕ, List, Option, All, ap, length, refl, subst, sym, ◌∙◌}
 use Rattle.site_book.specs.Prefix.{IsPrefix}
-use Rattle.board_report.specs.Closed.{boards_text}
-use Rattle.board_report.proofs.ClosedSites.{closed_of}
+use Rattle.board_report.{specs.Closed.boards_text, proofs.ClosedSites.closed_of}
 use Rattle.kept_desk.specs.Journal.{IsWritten}
 use Rattle.site_desk.specs.Close.{changes_of}
 use Rattle.journal_server.proofs.Ends.{all_back, all_front, begin_those}

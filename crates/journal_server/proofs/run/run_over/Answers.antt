@@ -1,10 +1,9 @@
 use Rattle.std.proofs.Common.{OnOk, subst, sym}
 use Rattle.board_report.proofs.ClosedSites.{value_told}
-use Rattle.journal_server.specs.Served.{IsToldOf}
+use Rattle.journal_server.{specs.Served.IsToldOf, proofs.Ends.{ended_as, ended_telling}}
 use Rattle.kept_desk.specs.Opened.{contents_of}
 use Rattle.live_server.specs.Told.{operator_input}
 use Rattle.running_desk.specs.Ordered.{lines_in}
-use Rattle.journal_server.proofs.Ends.{ended_as, ended_telling}
 use Rattle.journal_server.proofs.run.run_over.Goals as goal
 
 pub returns : goal.returns

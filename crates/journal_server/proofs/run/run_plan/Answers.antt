@@ -1,8 +1,7 @@
 use Rattle.board_report.proofs.ClosedSites.{value_told}
 use Rattle.site_book.proofs.Named.{named-made}
-use Rattle.journal_server.specs.Served.{TellsNew}
+use Rattle.journal_server.{specs.Served.TellsNew, proofs.Ends.its_script}
 use Rattle.live_server.specs.Told.{operator_input}
-use Rattle.journal_server.proofs.Ends.{its_script}
 use Rattle.journal_server.proofs.run.run_plan.Goals as goal
 
 pub run_over-requires-clause-named : goal.run_over-requires-clause-named

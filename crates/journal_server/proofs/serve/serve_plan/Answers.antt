@@ -1,8 +1,5 @@
-use Rattle.std.proofs.Common.{refl, subst}
-use Rattle.std.specs.Io.Buffered.{writer_contents}
-use Rattle.std.specs.Io.KnownBytes.{Appends}
-use Rattle.journal_server.proofs.Ends.{script_behind}
-use Rattle.journal_server.proofs.HeadLaw.{head_leaves, new_cells_empty, new_cells_of}
+use Rattle.std.{proofs.Common.{refl, subst}, specs.Io.Buffered.writer_contents, specs.Io.KnownBytes.Appends}
+use Rattle.journal_server.{proofs.Ends.script_behind, proofs.HeadLaw.{head_leaves, new_cells_empty, new_cells_of}}
 use Rattle.journal_server.proofs.serve.serve_plan.Goals as goal
 
 pub run_plan-requires-clause-cells : goal.run_plan-requires-clause-cells

@@ -1,11 +1,6 @@
-use Rattle.std.proofs.Common.{◌∙◌, ◌++◌, sym, subst}
-use Rattle.std.specs.Io.Buffered.{writer_contents}
-use Rattle.std.specs.Io.KnownBytes.{Appends}
-use Rattle.journal_script.specs.Cuts.{run_begins}
-use Rattle.journal_server.proofs.Comments.{kept_unless, restored_after}
-use Rattle.journal_server.specs.Served.{Leaves}
-use Rattle.journal_script.proofs.Growing.{grows_on}
-use Rattle.journal_server.proofs.Ends.{reported, script_behind, telling}
+use Rattle.std.{proofs.Common.{◌∙◌, ◌++◌, sym, subst}, specs.Io.Buffered.writer_contents, specs.Io.KnownBytes.Appends}
+use Rattle.journal_script.{specs.Cuts.run_begins, proofs.Growing.grows_on}
+use Rattle.journal_server.{proofs.Comments.{kept_unless, restored_after}, specs.Served.Leaves, proofs.Ends.{reported, script_behind, telling}}
 use Rattle.journal_server.proofs.serve.serve_restored.Goals as goal
 
 pub returns-in-Ok-run_plan-clause-serves : goal.returns-in-Ok-run_plan-clause-serves

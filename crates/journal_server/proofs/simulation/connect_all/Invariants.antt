@@ -1,5 +1,4 @@
-use Rattle.std.proofs.Common.{◌≡◌}
-use Rattle.std.specs.Prelude.{vec_len}
+use Rattle.std.{proofs.Common.◌≡◌, specs.Prelude.vec_len}
 use Rattle.journal_server.proofs.simulation.connect_all.Given as goal
 
 abbrev pub invariant-loop : goal.invariant-loop

@@ -1,7 +1,5 @@
 use Rattle.std.proofs.Common.{None, Some, [], IfOk, refl, subst}
-use Rattle.journal_server.specs.Left.{left_of}
-use Rattle.journal_server.specs.Served.{IsNewRun, TellsNew}
-use Rattle.journal_server.proofs.Ends.{run_of_plan}
+use Rattle.journal_server.{specs.Left.left_of, specs.Served.{IsNewRun, TellsNew}, proofs.Ends.run_of_plan}
 use Rattle.journal_server.proofs.simulation.simulate.Goals as goal
 
 pub returns : goal.returns

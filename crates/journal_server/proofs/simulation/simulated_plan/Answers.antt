@@ -1,13 +1,7 @@
-use Rattle.std.proofs.Common.{◌≡◌, ◌+◌, ◌<◌, suc, ◌++◌, ◌∷◌, [], codes, sym, ap, ◌∙◌, rules, arith}
-use Rattle.std.specs.List.{position}
-use Rattle.std.specs.Str.{bytes_eq}
-use Rattle.ledger_model.specs.declared.order.Order.TheVariants.{Sequence}
-use Rattle.ledger_model.specs.Limits.{default_limits}
-use Rattle.ledger_model.specs.Settling.{default_periods}
-use Rattle.site_desk.specs.declared.plan.SitePlan.{SitePlan}
-use Rattle.site_desk.specs.Plan.{is_past, site_number, sites_with}
-use Rattle.journal_server.specs.Simulated.{simulated_name, simulated_sites, simulated_stations}
-use Rattle.journal_server.proofs.SimulatedPlan.{has_room, number_next, sites_next}
+use Rattle.std.{proofs.Common.{◌≡◌, ◌+◌, ◌<◌, suc, ◌++◌, ◌∷◌, [], codes, sym, ap, ◌∙◌, rules, arith}, specs.List.position, specs.Str.bytes_eq}
+use Rattle.ledger_model.{specs.declared.order.Order.TheVariants.Sequence, specs.Limits.default_limits, specs.Settling.default_periods}
+use Rattle.site_desk.{specs.declared.plan.SitePlan.SitePlan, specs.Plan.{is_past, site_number, sites_with}}
+use Rattle.journal_server.{specs.Simulated.{simulated_name, simulated_sites, simulated_stations}, proofs.SimulatedPlan.{has_room, number_next, sites_next}}
 use Rattle.journal_server.proofs.simulation.simulated_plan.Goals as goal
 
 pub declare-requires : goal.declare-requires

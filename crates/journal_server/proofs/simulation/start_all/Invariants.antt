@@ -1,5 +1,4 @@
-use Rattle.std.proofs.Common.{◌≡◌, ◌≤◌, length}
-use Rattle.std.specs.Prelude.{vec_len, vec_capacity}
+use Rattle.std.{proofs.Common.{◌≡◌, ◌≤◌, length}, specs.Prelude.{vec_len, vec_capacity}}
 use Rattle.journal_server.proofs.simulation.start_all.Given as goal
 
 -- one number for each stream, no more threads than streams, and the room for the others

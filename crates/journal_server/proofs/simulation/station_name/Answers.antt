@@ -1,7 +1,6 @@
 use Rattle.std.proofs.Common.{◌≡◌, ap, ◌∙◌, rules}
 use Rattle.ledger_model.specs.Name.{is_name}
-use Rattle.journal_server.specs.Simulated.{simulated_name}
-use Rattle.journal_server.proofs.SimulatedPlan.{named}
+use Rattle.journal_server.{specs.Simulated.simulated_name, proofs.SimulatedPlan.named}
 use Rattle.journal_server.proofs.simulation.station_name.Goals as goal
 
 pub unwrap-requires : goal.unwrap-requires

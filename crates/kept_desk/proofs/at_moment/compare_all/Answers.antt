@@ -1,9 +1,5 @@
-use Rattle.std.proofs.Common.{sym, ◌∙◌, subst}
-use Rattle.std.specs.Prelude.{All}
-use Rattle.std.specs.Sync.Mutex.{mutex_guard_value}
-use Rattle.std.proofs.lemmas.List.Elements.{All-push}
-use Rattle.kept_desk.specs.Journal.{Ledger}
-use Rattle.kept_desk.specs.Kept.{IsLeftOwn}
+use Rattle.std.{proofs.Common.{sym, ◌∙◌, subst}, specs.Prelude.All, specs.Sync.Mutex.mutex_guard_value, proofs.lemmas.List.Elements.All-push}
+use Rattle.kept_desk.{specs.Journal.Ledger, specs.Kept.IsLeftOwn}
 use Rattle.kept_desk.proofs.at_moment.compare_all.Goals as goal
 
 pub loop-guard-preserved : goal.loop-guard-preserved

@@ -1,6 +1,4 @@
-use Rattle.std.proofs.Common.{◌≡◌}
-use Rattle.std.specs.Prelude.{All}
-use Rattle.std.specs.Sync.Mutex.{mutex_guard_value}
+use Rattle.std.{proofs.Common.◌≡◌, specs.Prelude.All, specs.Sync.Mutex.mutex_guard_value}
 use Rattle.kept_desk.specs.Kept.{IsLeftOwn}
 use Rattle.kept_desk.proofs.at_moment.compare_all.Given as goal
 

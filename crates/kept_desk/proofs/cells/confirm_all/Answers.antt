@@ -1,11 +1,5 @@
-use Rattle.std.proofs.Common.{List, ap, sym, ◌∙◌, subst}
-use Rattle.std.specs.Prelude.{All}
-use Rattle.std.proofs.lemmas.Iterator.Adapters.{YieldsList-from_vec}
-use Rattle.std.proofs.lemmas.Iterator.Consumers.{YieldsList-end}
-use Rattle.std.proofs.lemmas.List.{map-id}
-use Rattle.std.proofs.lemmas.List.Elements.{All-push}
-use Rattle.kept_desk.specs.declared.entry.Entry.{Entry}
-use Rattle.kept_desk.specs.Journal.{Ledger}
+use Rattle.std.{proofs.Common.{List, ap, sym, ◌∙◌, subst}, specs.Prelude.All, proofs.lemmas.Iterator.Adapters.YieldsList-from_vec, proofs.lemmas.Iterator.Consumers.YieldsList-end, proofs.lemmas.List.map-id, proofs.lemmas.List.Elements.All-push}
+use Rattle.kept_desk.{specs.declared.entry.Entry.Entry, specs.Journal.Ledger}
 use Rattle.ledger_model.specs.declared.command.Command.{Command}
 use Rattle.site_book.specs.Prefix.{IsPrefix}
 use Rattle.kept_desk.proofs.cells.confirm_all.Goals as goal

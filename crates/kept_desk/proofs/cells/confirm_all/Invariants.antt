@@ -1,5 +1,4 @@
-use Rattle.std.proofs.Common.{◌≡◌}
-use Rattle.std.specs.Prelude.{All}
+use Rattle.std.{proofs.Common.◌≡◌, specs.Prelude.All}
 use Rattle.site_book.specs.Prefix.{IsPrefix}
 use Rattle.kept_desk.proofs.cells.confirm_all.Given as goal
 

@@ -1,6 +1,5 @@
 use Rattle.std.proofs.Common.{ap, sym, rules}
-use Rattle.kept_desk.specs.Entries.{entry}
-use Rattle.kept_desk.proofs.Moves.{adds}
+use Rattle.kept_desk.{specs.Entries.entry, proofs.Moves.adds}
 use Rattle.kept_desk.proofs.steps.append.Goals as goal
 
 pub load-requires : goal.load-requires

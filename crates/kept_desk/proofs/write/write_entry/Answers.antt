@@ -1,5 +1,4 @@
-use Rattle.kept_desk.specs.Entries.{line_text}
-use Rattle.kept_desk.proofs.Written.{ended, cut_short}
+use Rattle.kept_desk.{specs.Entries.line_text, proofs.Written.{ended, cut_short}}
 use Rattle.kept_desk.proofs.write.write_entry.Goals as goal
 
 pub returns-in_err-write_bytes-clause-written : goal.returns-in_err-write_bytes-clause-written

@@ -1,6 +1,5 @@
 use Rattle.std.proofs.Common.{◌<◌, length, ap, ◌∙◌, arith}
-use Rattle.key_index.specs.Entries.{first_of}
-use Rattle.key_index.proofs.Nearest.{back_found}
+use Rattle.key_index.{specs.Entries.first_of, proofs.Nearest.back_found}
 use Rattle.key_index.proofs.leaves.first_behind.Goals as goal
 
 pub returns-then-count-gt0 : goal.returns-then-count-gt0

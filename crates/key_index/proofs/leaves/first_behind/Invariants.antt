@@ -1,6 +1,5 @@
 use Rattle.std.proofs.Common.{◌≡◌, ◌-◌, length, drop}
-use Rattle.key_index.specs.Leaves.{all_of}
-use Rattle.key_index.specs.Marks.{marked}
+use Rattle.key_index.{specs.Leaves.all_of, specs.Marks.marked}
 use Rattle.key_index.proofs.leaves.first_behind.Given as goal
 
 abbrev pub invariant-loop-back : goal.invariant-loop-back

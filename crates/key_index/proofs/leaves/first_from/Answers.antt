@@ -1,7 +1,5 @@
-use Rattle.std.proofs.Common.{◌+◌, ◌<◌, ◌≤◌, ◌≡◌, suc, [], ◌++◌, Some, length, drop, get_or, slice_get, ap, subst, ◌∙◌, sym, arith}
-use Rattle.std.proofs.lemmas.List.{drop_all}
-use Rattle.key_index.specs.Leaves.{all_of}
-use Rattle.key_index.proofs.Belonging.{filled_at, first_behind, read_leaf}
+use Rattle.std.{proofs.Common.{◌+◌, ◌<◌, ◌≤◌, ◌≡◌, suc, [], ◌++◌, Some, length, drop, get_or, slice_get, ap, subst, ◌∙◌, sym, arith}, proofs.lemmas.List.drop_all}
+use Rattle.key_index.{specs.Leaves.all_of, proofs.Belonging.{filled_at, first_behind, read_leaf}}
 use Rattle.key_index.proofs.leaves.first_from.Goals as goal
 
 pub entry-requires-then-at-len : goal.entry-requires-then-at-len

@@ -1,8 +1,5 @@
-use Rattle.std.proofs.Common.{◌-◌, ◌<◌, ◌≡◌, suc, [], ◌++◌, Some, length, take, get_or, slice_get, ap, subst, ◌∙◌, sym, arith}
-use Rattle.std.proofs.lemmas.List.{append-nil}
-use Rattle.key_index.specs.Entries.{last_of}
-use Rattle.key_index.specs.Leaves.{all_of}
-use Rattle.key_index.proofs.Belonging.{filled_at, last_front, read_leaf}
+use Rattle.std.{proofs.Common.{◌-◌, ◌<◌, ◌≡◌, suc, [], ◌++◌, Some, length, take, get_or, slice_get, ap, subst, ◌∙◌, sym, arith}, proofs.lemmas.List.append-nil}
+use Rattle.key_index.{specs.Entries.last_of, specs.Leaves.all_of, proofs.Belonging.{filled_at, last_front, read_leaf}}
 use Rattle.key_index.proofs.leaves.last_before.Goals as goal
 
 pub overflow_sub-len : goal.overflow_sub-len

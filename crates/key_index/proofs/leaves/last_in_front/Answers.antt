@@ -1,8 +1,5 @@
-use Rattle.std.proofs.Common.{◌-◌, ◌<◌, length, ap, ◌∙◌, arith}
-use Rattle.std.proofs.lemmas.List.{take_all}
-use Rattle.key_index.specs.Entries.{last_of}
-use Rattle.key_index.specs.Marks.{marked}
-use Rattle.key_index.proofs.Nearest.{leaf_passed, leaf_found}
+use Rattle.std.{proofs.Common.{◌-◌, ◌<◌, length, ap, ◌∙◌, arith}, proofs.lemmas.List.take_all}
+use Rattle.key_index.{specs.Entries.last_of, specs.Marks.marked, proofs.Nearest.{leaf_passed, leaf_found}}
 use Rattle.key_index.proofs.leaves.last_in_front.Goals as goal
 
 pub returns-then-count-gt0 : goal.returns-then-count-gt0

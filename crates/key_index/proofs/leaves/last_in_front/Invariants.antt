@@ -1,6 +1,5 @@
 use Rattle.std.proofs.Common.{◌≡◌, ◌≤◌, length, take}
-use Rattle.key_index.specs.Leaves.{all_of}
-use Rattle.key_index.specs.Marks.{marked}
+use Rattle.key_index.{specs.Leaves.all_of, specs.Marks.marked}
 use Rattle.key_index.proofs.leaves.last_in_front.Given as goal
 
 abbrev pub invariant-loop-front : goal.invariant-loop-front

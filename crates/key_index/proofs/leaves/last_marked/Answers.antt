@@ -1,10 +1,5 @@
 use Rattle.std.proofs.Common.{[], take, get_or, sym, ap, ◌∙◌}
-use Rattle.key_index.specs.Entries.{last_of}
-use Rattle.key_index.specs.Leaves.{all_of}
-use Rattle.key_index.specs.Marks.{marked}
-use Rattle.key_index.proofs.Belonging.{read_leaf}
-use Rattle.key_index.proofs.Counting.{marked_both}
-use Rattle.key_index.proofs.Nearest.{last_near, last_far}
+use Rattle.key_index.{specs.Entries.last_of, specs.Leaves.all_of, specs.Marks.marked, proofs.Belonging.read_leaf, proofs.Counting.marked_both, proofs.Nearest.{last_near, last_far}}
 use Rattle.key_index.proofs.leaves.last_marked.Goals as goal
 
 pub returns-in-Some : goal.returns-in-Some

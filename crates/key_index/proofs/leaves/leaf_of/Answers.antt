@@ -1,7 +1,5 @@
-use Rattle.std.proofs.Common.{◌+◌, ◌-◌, ◌/◌, ◌<◌, ◌≤◌, ◌≡◌, [], length, get_or, ap, subst, ◌∙◌, sym, arith}
-use Rattle.std.proofs.lemmas.Bool.Decides.{nat_tests}
-use Rattle.key_index.specs.Leaves.{first_key, begun}
-use Rattle.key_index.proofs.Belonging.{begun_within, begun_more, begun_less, belongs_counted, filled_at, first_is, read_leaf}
+use Rattle.std.{proofs.Common.{◌+◌, ◌-◌, ◌/◌, ◌<◌, ◌≤◌, ◌≡◌, [], length, get_or, ap, subst, ◌∙◌, sym, arith}, proofs.lemmas.Bool.Decides.nat_tests}
+use Rattle.key_index.{specs.Leaves.{first_key, begun}, proofs.Belonging.{begun_within, begun_more, begun_less, belongs_counted, filled_at, first_is, read_leaf}}
 use Rattle.key_index.proofs.leaves.leaf_of.Goals as goal
 
 pub loop-low-init : goal.loop-low-init

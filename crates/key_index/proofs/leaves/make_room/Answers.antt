@@ -1,12 +1,5 @@
-use Rattle.std.proofs.Common.{◌≡◌, ℕ, ◌+◌, ◌<◌, ◌≤◌, List, suc, [], ◌∷◌, ◌++◌, length, take, drop, get_or, set, subst, sym, ap, refl, ◌∙◌, arith, length-set}
-use Rattle.std.proofs.lemmas.Bool.Decides.{nat_tests}
-use Rattle.std.proofs.lemmas.List.Edits.{length-insert}
-use Rattle.std.specs.List.{insert}
-use Rattle.std.specs.Vec.{vec_len}
-use Rattle.key_index.specs.Entries.{Entry}
-use Rattle.key_index.specs.Leaves.{first_key, IsReady}
-use Rattle.key_index.proofs.Belonging.{read_leaf, first_is}
-use Rattle.key_index.proofs.Edits.{filled_round, upper_read, other_half, ready_lower, ready_upper, ready_first}
+use Rattle.std.{proofs.Common.{◌≡◌, ℕ, ◌+◌, ◌<◌, ◌≤◌, List, suc, [], ◌∷◌, ◌++◌, length, take, drop, get_or, set, subst, sym, ap, refl, ◌∙◌, arith, length-set}, proofs.lemmas.Bool.Decides.nat_tests, proofs.lemmas.List.Edits.length-insert, specs.List.insert, specs.Vec.vec_len}
+use Rattle.key_index.{specs.Entries.Entry, specs.Leaves.{first_key, IsReady}, proofs.Belonging.{read_leaf, first_is}, proofs.Edits.{filled_round, upper_read, other_half, ready_lower, ready_upper, ready_first}}
 use Rattle.key_index.proofs.leaves.make_room.Goals as goal
 
 -- A split given with the next number is one given with the successor.

@@ -1,10 +1,5 @@
-use Rattle.std.proofs.Common.{◌≡◌, ◌+◌, subst, sym, ap, ◌∙◌, arith}
-use Rattle.std.proofs.lemmas.Bool.Decides.{nat_tests}
-use Rattle.std.specs.Vec.{vec_len}
-use Rattle.key_index.specs.Leaves.{all_of, AreFilled, AreEmpty}
-use Rattle.key_index.specs.Entries.{AreRising}
-use Rattle.key_index.proofs.Belonging.{few_leaves}
-use Rattle.key_index.proofs.Edits.{joined_same_at, joined_filled_at, empty_more}
+use Rattle.std.{proofs.Common.{◌≡◌, ◌+◌, subst, sym, ap, ◌∙◌, arith}, proofs.lemmas.Bool.Decides.nat_tests, specs.Vec.vec_len}
+use Rattle.key_index.{specs.Leaves.{all_of, AreFilled, AreEmpty}, specs.Entries.AreRising, proofs.Belonging.few_leaves, proofs.Edits.{joined_same_at, joined_filled_at, empty_more}}
 use Rattle.key_index.proofs.leaves.reclaim.Goals as goal
 
 pub unreachable-requires : goal.unreachable-requires

@@ -1,7 +1,5 @@
 use Rattle.std.proofs.Common.{◌<◌, ◌≤◌, [], length, get_or, subst, sym, ap, ◌∙◌, arith}
-use Rattle.key_index.specs.Leaves.{all_of, AreFilled, AreEmpty}
-use Rattle.key_index.proofs.Belonging.{read_leaf}
-use Rattle.key_index.proofs.Edits.{filled_whole, left_out_filled, left_out_same, empty_more, none_is}
+use Rattle.key_index.{specs.Leaves.{all_of, AreFilled, AreEmpty}, proofs.Belonging.read_leaf, proofs.Edits.{filled_whole, left_out_filled, left_out_same, empty_more, none_is}}
 use Rattle.key_index.proofs.leaves.release_empty.Goals as goal
 
 pub returns-then-len-gt0-clause-filled : goal.returns-then-len-gt0-clause-filled

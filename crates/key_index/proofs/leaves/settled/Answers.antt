@@ -1,6 +1,5 @@
 use Rattle.std.proofs.Common.{◌<◌, ◌≤◌, [], length, get_or, subst, arith}
-use Rattle.key_index.proofs.Belonging.{read_leaf}
-use Rattle.key_index.proofs.Placing.{place_fits}
+use Rattle.key_index.{proofs.Belonging.read_leaf, proofs.Placing.place_fits}
 use Rattle.key_index.proofs.leaves.settled.Goals as goal
 
 pub returns-then-fits : goal.returns-then-fits

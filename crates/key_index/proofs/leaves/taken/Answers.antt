@@ -1,6 +1,5 @@
 use Rattle.std.proofs.Common.{[], ◌∷◌, length, subst, sym, ap, ◌∙◌, length-append}
-use Rattle.key_index.specs.Leaves.{AreEmpty}
-use Rattle.key_index.proofs.Edits.{empty_parts}
+use Rattle.key_index.{specs.Leaves.AreEmpty, proofs.Edits.empty_parts}
 use Rattle.key_index.proofs.leaves.taken.Goals as goal
 
 pub returns-clause-empty : goal.returns-clause-empty

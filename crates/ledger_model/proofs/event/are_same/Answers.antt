@@ -1,12 +1,7 @@
-use Rattle.std.proofs.Common.{◌≡◌, ◌==◌, ◌&&◌, Bool, refl, ap, subst}
-use Rattle.std.specs.Bool.{Decides}
-use Rattle.std.proofs.lemmas.Slice.Eq.{slice_eq-Decides}
+use Rattle.std.{proofs.Common.{◌≡◌, ◌==◌, ◌&&◌, Bool, refl, ap, subst}, specs.Bool.Decides, proofs.lemmas.Slice.Eq.slice_eq-Decides}
 use Rattle.ledger_model.specs.contracts.reading.DirectionPartialEq.TheImpl as directions
 use Rattle.ledger_model.specs.contracts.reading.ReadingPartialEq.TheImpl as derived
-use Rattle.ledger_model.specs.declared.reading.Direction.{Direction}
-use Rattle.ledger_model.specs.declared.reading.Direction.TheVariants.{Import, Export}
-use Rattle.ledger_model.specs.Event.{MeterReading, same_direction}
-use Rattle.ledger_model.proofs.Events.{same_reading-Decides}
+use Rattle.ledger_model.{specs.declared.reading.Direction.Direction, specs.declared.reading.Direction.TheVariants.{Import, Export}, specs.Event.{MeterReading, same_direction}, proofs.Events.same_reading-Decides}
 use Rattle.ledger_model.proofs.event.are_same.Goals as goal
 
 -- the derived test of directions

@@ -1,6 +1,4 @@
-use Rattle.std.proofs.Common.{arith, subst}
-use Rattle.std.proofs.lemmas.List.{take_all}
-use Rattle.std.proofs.lemmas.List.Elements.{All-more}
+use Rattle.std.{proofs.Common.{arith, subst}, proofs.lemmas.List.take_all, proofs.lemmas.List.Elements.All-more}
 use Rattle.ledger_model.specs.Event.{IsMeterReading}
 use Rattle.ledger_model.proofs.event.read_parts.Goals as goal
 

@@ -1,5 +1,4 @@
-use Rattle.std.proofs.Common.{take}
-use Rattle.std.specs.List.{All}
+use Rattle.std.{proofs.Common.take, specs.List.All}
 use Rattle.ledger_model.specs.Event.{IsMeterReading}
 use Rattle.ledger_model.proofs.event.read_parts.Given as goal
 

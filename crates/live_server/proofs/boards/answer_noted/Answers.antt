@@ -1,11 +1,7 @@
-use Rattle.std.proofs.Common.{[], ◌∷◌, All, subst, sym}
-use Rattle.std.specs.Prelude.{is_ok}
-use Rattle.live_server.specs.Browsing.{IsSeenWithBoards}
+use Rattle.std.{proofs.Common.{[], ◌∷◌, All, subst, sym}, specs.Prelude.is_ok}
+use Rattle.live_server.{specs.Browsing.IsSeenWithBoards, proofs.Appended.appended, proofs.Browsing.of_browsed, proofs.boards.answer_noted.Goals.{in-Some+in_ok-push, in_default}}
 use Rattle.station_link.specs.Attended.{if_seen}
-use Rattle.live_server.proofs.Appended.{appended}
-use Rattle.live_server.proofs.Browsing.{of_browsed}
 use Rattle.live_server.proofs.boards.answer_noted.Goals as goal
-use Rattle.live_server.proofs.boards.answer_noted.Goals.{in-Some+in_ok-push, in_default}
 
 pub returns-in_err-push-clause-all : goal.returns-in_err-push-clause-all
 returns-in_err-push-clause-all g c =

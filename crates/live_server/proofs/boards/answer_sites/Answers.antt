@@ -1,6 +1,5 @@
 use Rattle.std.proofs.Common.{ℕ, List, ◌++◌, codes, ap, ◌∙◌}
-use Rattle.live_server.specs.Browsing.{site_link}
-use Rattle.live_server.proofs.Browsing.{one_link_more}
+use Rattle.live_server.{specs.Browsing.site_link, proofs.Browsing.one_link_more}
 use Rattle.live_server.proofs.boards.answer_sites.Goals as goal
 
 pub loop-site-preserved : goal.loop-site-preserved

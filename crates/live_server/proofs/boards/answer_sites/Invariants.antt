@@ -1,5 +1,4 @@
-use Rattle.std.proofs.Common.{◌≡◌, ◌++◌, codes, take}
-use Rattle.std.specs.List.{flat_map}
+use Rattle.std.{proofs.Common.{◌≡◌, ◌++◌, codes, take}, specs.List.flat_map}
 use Rattle.live_server.specs.Browsing.{site_link}
 use Rattle.live_server.proofs.boards.answer_sites.Given as goal
 

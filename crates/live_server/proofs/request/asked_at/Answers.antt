@@ -1,5 +1,4 @@
-use Rattle.std.proofs.Common.{◌≡◌, ◌∙◌, drop, length, ap, subst, sym, arith}
-use Rattle.std.specs.Str.{IsUtf8}
+use Rattle.std.{proofs.Common.{◌≡◌, ◌∙◌, drop, length, ap, subst, sym, arith}, specs.Str.IsUtf8}
 use Rattle.live_server.proofs.Asking.{no_name}
 use Rattle.live_server.proofs.request.asked_at.Goals as goal
 

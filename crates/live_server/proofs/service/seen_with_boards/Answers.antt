@@ -1,6 +1,4 @@
-use Rattle.std.proofs.Common.{◌≡◌, All, subst, sym}
-use Rattle.std.specs.Prelude.{IfSome}
-use Rattle.std.proofs.lemmas.List.Elements.{All-nil}
+use Rattle.std.{proofs.Common.{◌≡◌, All, subst, sym}, specs.Prelude.IfSome, proofs.lemmas.List.Elements.All-nil}
 use Rattle.live_server.specs.Browsing.{IsSeenWithBoards}
 use Rattle.live_server.proofs.service.seen_with_boards.Goals as goal
 

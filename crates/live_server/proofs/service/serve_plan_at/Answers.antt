@@ -1,11 +1,7 @@
 use Rattle.std.proofs.Common.{All, ap, subst, ◌∙◌}
-use Rattle.live_server.specs.Browsing.{IsSeenWithBoards}
+use Rattle.live_server.{specs.Browsing.IsSeenWithBoards, specs.declared.service.Live.Live, specs.Told.operator_input, proofs.Told.replies_along}
 use Rattle.running_desk.specs.Ordered.{lines_in}
-use Rattle.site_desk.specs.declared.plan.Plan.{Plan}
-use Rattle.site_desk.specs.Roster.{Roster}
-use Rattle.live_server.specs.declared.service.Live.{Live}
-use Rattle.live_server.specs.Told.{operator_input}
-use Rattle.live_server.proofs.Told.{replies_along}
+use Rattle.site_desk.{specs.declared.plan.Plan.Plan, specs.Roster.Roster}
 use Rattle.live_server.proofs.service.serve_plan_at.Goals as goal
 
 pub returns-clause-boards : goal.returns-clause-boards

@@ -1,5 +1,4 @@
-use Rattle.std.proofs.Common.{◌∙◌, ◌≤◌, sym, take, length, arith}
-use Rattle.std.proofs.lemmas.Bool.Decides.{nat_tests}
+use Rattle.std.{proofs.Common.{◌∙◌, ◌≤◌, sym, take, length, arith}, proofs.lemmas.Bool.Decides.nat_tests}
 use Rattle.marked_json.proofs.Marks.{completed-end}
 use Rattle.marked_json.proofs.marking.mark_all.Goals as goal
 

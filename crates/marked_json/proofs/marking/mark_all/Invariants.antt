@@ -1,6 +1,5 @@
 use Rattle.std.proofs.Common.{◌≡◌, ◌≤◌, ◌-◌, take, drop, length}
-use Rattle.marked_json.specs.Marking.{marked, outside}
-use Rattle.marked_json.specs.Steps.{completed, IsWithinRoom}
+use Rattle.marked_json.{specs.Marking.{marked, outside}, specs.Steps.{completed, IsWithinRoom}}
 use Rattle.marked_json.proofs.marking.mark_all.Given as goal
 
 abbrev pub invariant-loop-at : goal.invariant-loop-at

@@ -1,7 +1,5 @@
-use Rattle.std.proofs.Common.{◌≡◌, ◌+◌, eqb, false, get_or, take, arith}
-use Rattle.std.proofs.lemmas.Bool.Decides.{nat_tests}
-use Rattle.marked_json.specs.Marking.{begins_number}
-use Rattle.marked_json.proofs.Marks.{completed-plain}
+use Rattle.std.{proofs.Common.{◌≡◌, ◌+◌, eqb, false, get_or, take, arith}, proofs.lemmas.Bool.Decides.nat_tests}
+use Rattle.marked_json.{specs.Marking.begins_number, proofs.Marks.completed-plain}
 use Rattle.marked_json.proofs.marking.mark_next.Goals as goal
 
 pub returns-else-begins_number-clause-step : goal.returns-else-begins_number-clause-step

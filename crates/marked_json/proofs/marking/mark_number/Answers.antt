@@ -1,10 +1,5 @@
-use Rattle.std.proofs.Common.{◌≡◌, ◌<◌, ◌≤◌, ◌+◌, ◌*◌, ap, sym, ◌++◌, ◌∷◌, [], ◌∙◌, false, true, take, drop, length, arith}
-use Rattle.std.specs.List.{prefix_len}
-use Rattle.std.proofs.lemmas.List.{drop-drop}
-use Rattle.marked_json.specs.Number.{is_number}
-use Rattle.marked_json.specs.Marking.{is_before_colon, goes_on_number, marked, outside}
-use Rattle.marked_json.specs.Steps.{completed}
-use Rattle.marked_json.proofs.Marks.{completed-token_at, marked_token-bad, marked_token-key, marked_token-good, token_is_some, token_is_whole}
+use Rattle.std.{proofs.Common.{◌≡◌, ◌<◌, ◌≤◌, ◌+◌, ◌*◌, ap, sym, ◌++◌, ◌∷◌, [], ◌∙◌, false, true, take, drop, length, arith}, specs.List.prefix_len, proofs.lemmas.List.drop-drop}
+use Rattle.marked_json.{specs.Number.is_number, specs.Marking.{is_before_colon, goes_on_number, marked, outside}, specs.Steps.completed, proofs.Marks.{completed-token_at, marked_token-bad, marked_token-key, marked_token-good, token_is_some, token_is_whole}}
 use Rattle.marked_json.proofs.marking.mark_number.Goals as goal
 
 pub returns-then-not-is_number-clause-err : goal.returns-then-not-is_number-clause-err

@@ -1,6 +1,4 @@
-use Rattle.std.proofs.Common.{◌≡◌, ◌+◌, ◌∙◌, ◌++◌, ap, take, length, arith}
-use Rattle.std.proofs.lemmas.List.{length-take-le, take-take}
-use Rattle.std.proofs.lemmas.Simd.{take_more_put_chunk}
+use Rattle.std.{proofs.Common.{◌≡◌, ◌+◌, ◌∙◌, ◌++◌, ap, take, length, arith}, proofs.lemmas.List.{length-take-le, take-take}, proofs.lemmas.Simd.take_more_put_chunk}
 use Rattle.marked_json.proofs.Marks.{take_front}
 use Rattle.marked_json.proofs.marking.put_front.Goals as goal
 

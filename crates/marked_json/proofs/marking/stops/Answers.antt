@@ -1,6 +1,4 @@
-use Rattle.std.proofs.Common.{ap, ap₂, ◌∙◌, ◌%◌, ◌^◌, map, arith}
-use Rattle.std.proofs.lemmas.Simd.{zip2_splat, mask_l-mod}
-use Rattle.std.proofs.lemmas.List.{length-map}
+use Rattle.std.{proofs.Common.{ap, ap₂, ◌∙◌, ◌%◌, ◌^◌, map, arith}, proofs.lemmas.Simd.{zip2_splat, mask_l-mod}, proofs.lemmas.List.length-map}
 use Rattle.memchr.specs.Find.{is_byte2}
 use Rattle.marked_json.proofs.Lanes.{hit, hits}
 use lib.Bits.{bit_or}

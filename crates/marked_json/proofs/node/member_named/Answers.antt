@@ -1,9 +1,5 @@
-use Rattle.std.proofs.Common.{ap, sym, ◌∙◌, ◌≡◌, ◌∷◌}
-use Rattle.std.proofs.lemmas.Bool.{false≢true}
-use Rattle.std.specs.String.{string_bytes}
-use Rattle.serde_json.specs.Find.{get_member}
-use Rattle.serde_json.specs.View.{members_view}
-use Rattle.serde_json.proofs.Views.{member_here, member_later}
+use Rattle.std.{proofs.Common.{ap, sym, ◌∙◌, ◌≡◌, ◌∷◌}, proofs.lemmas.Bool.false≢true, specs.String.string_bytes}
+use Rattle.serde_json.{specs.Find.get_member, specs.View.members_view, proofs.Views.{member_here, member_later}}
 use Rattle.marked_json.proofs.node.member_named.Goals as goal
 
 pub loop-key-init : goal.loop-key-init

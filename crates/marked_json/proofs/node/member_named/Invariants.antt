@@ -1,6 +1,5 @@
 use Rattle.std.proofs.Common.{◌≡◌, ◌∷◌}
-use Rattle.serde_json.specs.Find.{get_member}
-use Rattle.serde_json.specs.View.{members_view}
+use Rattle.serde_json.{specs.Find.get_member, specs.View.members_view}
 use Rattle.marked_json.proofs.node.member_named.Given as goal
 
 abbrev pub invariant-loop-key : goal.invariant-loop-key

@@ -1,7 +1,5 @@
 use Rattle.std.proofs.Common.{◌≡◌, ◌∷◌, map, ap, sym, refl, ◌∙◌}
-use Rattle.marked_json.specs.declared.node.Node.{Node}
-use Rattle.marked_json.specs.Wanted.{Entry, offered, within}
-use Rattle.marked_json.proofs.WantedMembers.{within-each_offered}
+use Rattle.marked_json.{specs.declared.node.Node.Node, specs.Wanted.{Entry, offered, within}, proofs.WantedMembers.within-each_offered}
 use Rattle.marked_json.proofs.wanted.find_among.Goals as goal
 
 pub loop-key-preserved : goal.loop-key-preserved

@@ -1,6 +1,4 @@
-use Rattle.std.proofs.Common.{ap, sym, ◌∙◌}
-use Rattle.std.specs.Prelude.{slice_set}
-use Rattle.std.proofs.lemmas.List.Edits.{map_over_more}
+use Rattle.std.{proofs.Common.{ap, sym, ◌∙◌}, specs.Prelude.slice_set, proofs.lemmas.List.Edits.map_over_more}
 use Rattle.marked_json.specs.Wanted.{offered}
 use Rattle.marked_json.proofs.wanted.offer_each.Goals as goal
 

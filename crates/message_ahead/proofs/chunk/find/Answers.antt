@@ -1,8 +1,5 @@
-use Rattle.std.proofs.Common.{◌-◌, arith, length-take, length-drop, drop, subst}
-use Rattle.std.specs.Prelude.{IfSome, ◌++◌, ◌∷◌, []}
-use Rattle.std.proofs.lemmas.List.Elements.{All-push, All-same}
-use Rattle.message_ahead.specs.Ahead.{IsFound}
-use Rattle.message_ahead.proofs.Found.{all-stay-found}
+use Rattle.std.{proofs.Common.{◌-◌, arith, length-take, length-drop, drop, subst}, specs.Prelude.{IfSome, ◌++◌, ◌∷◌, []}, proofs.lemmas.List.Elements.{All-push, All-same}}
+use Rattle.message_ahead.{specs.Ahead.IsFound, proofs.Found.all-stay-found}
 use Rattle.message_ahead.proofs.chunk.find.Goals as goal
 
 pub lines-preserved-in_ok-push : goal.lines-preserved-in_ok-push

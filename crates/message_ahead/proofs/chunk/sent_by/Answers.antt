@@ -1,6 +1,5 @@
 use Rattle.std.proofs.Common.{subst, sym}
-use Rattle.message_ahead.specs.Ahead.{Sends, found_delivery}
-use Rattle.message_ahead.proofs.Found.{if-some}
+use Rattle.message_ahead.{specs.Ahead.{Sends, found_delivery}, proofs.Found.if-some}
 use Rattle.message_ahead.proofs.chunk.sent_by.Goals as goal
 
 pub returns-then-is_line_at : goal.returns-then-is_line_at

@@ -1,7 +1,5 @@
-use Rattle.std.proofs.Common.{◌≡◌, List, Option, Some, codes, ap, sym, ◌∙◌, arith, rules}
-use Rattle.std.specs.Prelude.{option_map}
-use Rattle.clap.specs.Matches.{found_of, subcommand_name_of}
-use Rattle.clap.specs.Walk.{Row, Text, rows_of}
+use Rattle.std.{proofs.Common.{◌≡◌, List, Option, Some, codes, ap, sym, ◌∙◌, arith, rules}, specs.Prelude.option_map}
+use Rattle.clap.{specs.Matches.{found_of, subcommand_name_of}, specs.Walk.{Row, Text, rows_of}}
 use Rattle.ocpp_board.proofs.Rows.{as_long, named, same_rows}
 use Rattle.ocpp_board.proofs.arguments.asked_of.Goals as goal
 

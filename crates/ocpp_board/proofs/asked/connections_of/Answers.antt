@@ -1,5 +1,4 @@
-use Rattle.std.proofs.Common.{rules, arith, ◌∙◌}
-use Rattle.std.proofs.lemmas.Bool.Decides.{nat_tests}
+use Rattle.std.{proofs.Common.{rules, arith, ◌∙◌}, proofs.lemmas.Bool.Decides.nat_tests}
 use Rattle.ocpp_board.proofs.asked.connections_of.Goals as goal
 
 pub returns-clause-asked : goal.returns-clause-asked

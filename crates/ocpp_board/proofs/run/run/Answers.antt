@@ -1,8 +1,6 @@
-use Rattle.std.proofs.Common.{inl, inr, subst, sym}
-use Rattle.clap.specs.Simple.{app_of}
-use Rattle.clap.specs.Values.{kind_of}
+use Rattle.std.{proofs.Common.{inl, inr, subst, sym}, specs.declared.result.Result.TheVariants.Err}
+use Rattle.clap.{specs.Simple.app_of, specs.Values.kind_of}
 use Rattle.script_replay.specs.Whole.{IsReported}
-use Rattle.std.specs.declared.result.Result.TheVariants.{Err}
 use Rattle.script_lines.specs.declared.fault.ReplayFault.TheVariants as replay
 use Rattle.ocpp_board.specs.Run.{IsRefusal}
 use Rattle.ocpp_board.proofs.run.run.Goals as goal

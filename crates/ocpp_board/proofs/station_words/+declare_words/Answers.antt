@@ -1,8 +1,5 @@
-use Rattle.std.proofs.Common.{◌≡◌, [], ◌∷◌, ◌++◌, sym, ap, ◌∙◌, bytes_eq}
-use Rattle.std.proofs.lemmas.List.{take_rest}
-use Rattle.std.specs.List.{position}
-use Rattle.site_desk.specs.declared.plan.SitePlan.{SitePlan}
-use Rattle.site_desk.specs.Plan.{is_past, site_number}
+use Rattle.std.{proofs.Common.{◌≡◌, [], ◌∷◌, ◌++◌, sym, ap, ◌∙◌, bytes_eq}, proofs.lemmas.List.take_rest, specs.List.position}
+use Rattle.site_desk.{specs.declared.plan.SitePlan.SitePlan, specs.Plan.{is_past, site_number}}
 use Rattle.ocpp_board.proofs.Words.{one_declared, one_too_many}
 use Rattle.ocpp_board.proofs.station_words.+declare_words.Goals as goal
 

@@ -1,9 +1,6 @@
 use Rattle.std.proofs.Common.{◌≡◌, ◌≤◌, true, subst, sym}
 use Rattle.marked_json.specs.Reading.{node, tree, is_object}
-use Rattle.ocppj_frame.specs.Frame.{elements_of}
-use Rattle.ocppj_frame.specs.Reply.{character_count}
-use Rattle.ocppj_frame.specs.Ranges.{longest_message_id}
-use Rattle.ocppj_frame.proofs.Frames.{Calls, frame_of-Called, Calls-four, Calls-payload}
+use Rattle.ocppj_frame.{specs.Frame.elements_of, specs.Reply.character_count, specs.Ranges.longest_message_id, proofs.Frames.{Calls, frame_of-Called, Calls-four, Calls-payload}}
 use Rattle.ocppj_frame.proofs.incoming.read_tree.Goals as goal
 
 pub invariant_of-result : goal.invariant_of-result

@@ -1,7 +1,5 @@
 use Rattle.std.proofs.Common.{◌≡◌, ◌∙◌, sym, ap}
-use Rattle.ocppj_frame.specs.Reply.{error_bytes}
-use Rattle.ocppj_frame.specs.FrameFault.{fault_code, fault_name}
-use Rattle.ocppj_frame.proofs.Replies.{fault_is_not_memory}
+use Rattle.ocppj_frame.{specs.Reply.error_bytes, specs.FrameFault.{fault_code, fault_name}, proofs.Replies.fault_is_not_memory}
 use Rattle.ocppj_frame.proofs.incoming.refusal.Goals as goal
 
 pub returns-clause-memory : goal.returns-clause-memory

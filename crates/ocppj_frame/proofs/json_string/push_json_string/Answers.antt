@@ -1,12 +1,5 @@
-use Rattle.std.proofs.Common.{◌≡◌, ◌∙◌, ◌∷◌, ◌++◌, [], sym, ap, length, arith, lit<, append_assoc, length-append}
-use Rattle.std.specs.List.{flat_map}
-use Rattle.std.specs.Str.{chars}
-use Rattle.std.proofs.lemmas.Iterator.{YieldsList-from_chars}
-use Rattle.std.proofs.lemmas.Iterator.Consumers.{YieldsList-turn, YieldsList-end}
-use Rattle.std.proofs.lemmas.List.{flat_map_more, map-id}
-use Rattle.std.proofs.lemmas.Str.{length-encode}
-use Rattle.ocppj_frame.specs.Reply.{escaped}
-use Rattle.ocppj_frame.proofs.Escapes.{length-flat_map_escaped-le}
+use Rattle.std.{proofs.Common.{◌≡◌, ◌∙◌, ◌∷◌, ◌++◌, [], sym, ap, length, arith, lit<, append_assoc, length-append}, specs.List.flat_map, specs.Str.chars, proofs.lemmas.Iterator.YieldsList-from_chars, proofs.lemmas.Iterator.Consumers.{YieldsList-turn, YieldsList-end}, proofs.lemmas.List.{flat_map_more, map-id}, proofs.lemmas.Str.length-encode}
+use Rattle.ocppj_frame.{specs.Reply.escaped, proofs.Escapes.length-flat_map_escaped-le}
 use Rattle.ocppj_frame.proofs.json_string.push_json_string.Goals as goal
 
 pub push_escaped-requires : goal.push_escaped-requires

@@ -1,5 +1,4 @@
-use Rattle.std.proofs.Common.{◌≡◌, ◌∷◌, ◌++◌}
-use Rattle.std.specs.List.{flat_map}
+use Rattle.std.{proofs.Common.{◌≡◌, ◌∷◌, ◌++◌}, specs.List.flat_map}
 use Rattle.ocppj_frame.specs.Reply.{escaped}
 use Rattle.ocppj_frame.proofs.json_string.push_json_string.Given as goal
 

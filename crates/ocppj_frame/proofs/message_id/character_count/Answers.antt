@@ -1,6 +1,4 @@
-use Rattle.std.proofs.Common.{◌≡◌, length, rules, arith}
-use Rattle.std.specs.Str.{chars}
-use Rattle.std.proofs.lemmas.Str.{chars_from_encodes}
+use Rattle.std.{proofs.Common.{◌≡◌, length, rules, arith}, specs.Str.chars, proofs.lemmas.Str.chars_from_encodes}
 use Rattle.ocppj_frame.proofs.Escapes.{length-le-chars}
 use Rattle.ocppj_frame.proofs.message_id.character_count.Goals as goal
 

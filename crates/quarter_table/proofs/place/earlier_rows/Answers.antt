@@ -1,7 +1,5 @@
-use Rattle.std.proofs.Common.{◌+◌, ◌-◌, ◌/◌, ◌<◌, ◌≤◌, length, get_or, subst, arith}
-use Rattle.std.proofs.lemmas.Bool.Decides.{nat_tests}
-use Rattle.quarter_table.specs.declared.row.QuarterRow.{QuarterRow}
-use Rattle.quarter_table.proofs.Orders.{place_within, place_more, place_less}
+use Rattle.std.{proofs.Common.{◌+◌, ◌-◌, ◌/◌, ◌<◌, ◌≤◌, length, get_or, subst, arith}, proofs.lemmas.Bool.Decides.nat_tests}
+use Rattle.quarter_table.{specs.declared.row.QuarterRow.QuarterRow, proofs.Orders.{place_within, place_more, place_less}}
 use Rattle.quarter_table.proofs.place.earlier_rows.Goals as goal
 
 pub loop-low-init : goal.loop-low-init

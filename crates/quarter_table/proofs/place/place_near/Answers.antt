@@ -1,6 +1,5 @@
 use Rattle.std.proofs.Common.{◌≡◌, sym, ap, ◌∙◌, arith}
-use Rattle.quarter_table.specs.declared.row.QuarterRow.{QuarterRow}
-use Rattle.quarter_table.proofs.Places.{stands_there}
+use Rattle.quarter_table.{specs.declared.row.QuarterRow.QuarterRow, proofs.Places.stands_there}
 use Rattle.quarter_table.proofs.place.place_near.Goals as goal
 
 pub returns-then-number-clause-stands : goal.returns-then-number-clause-stands

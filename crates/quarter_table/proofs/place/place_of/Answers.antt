@@ -1,11 +1,6 @@
-use Rattle.std.proofs.Common.{◌≡◌, ◌≢◌, ◌<◌, length, get_or, subst, sym, ap, ◌∙◌, arith}
-use Rattle.std.proofs.lemmas.List.{get_or_default}
-use Rattle.quarter_table.specs.declared.row.QuarterRow.{QuarterRow}
-use Rattle.quarter_table.specs.Rows.{no_row, earlier}
-use Rattle.quarter_table.specs.Kept.{StandsAt, BelongsAt}
-use Rattle.quarter_table.proofs.Places.{stands, belongs}
+use Rattle.std.{proofs.Common.{◌≡◌, ◌≢◌, ◌<◌, length, get_or, subst, sym, ap, ◌∙◌, arith}, proofs.lemmas.List.get_or_default}
+use Rattle.quarter_table.{specs.declared.row.QuarterRow.QuarterRow, specs.Rows.{no_row, earlier}, specs.Kept.{StandsAt, BelongsAt}, proofs.Places.{stands, belongs}, proofs.place.place_of.Goals.{else-at-len-via-then-at-len+else-number, else-at-len-via-else-at-len}}
 use Rattle.quarter_table.proofs.place.place_of.Goals as goal
-use Rattle.quarter_table.proofs.place.place_of.Goals.{else-at-len-via-then-at-len+else-number, else-at-len-via-else-at-len}
 
 pub returns-then-number-clause-stands : goal.returns-then-number-clause-stands
 returns-then-number-clause-stands c =

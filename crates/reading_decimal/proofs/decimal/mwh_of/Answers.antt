@@ -1,13 +1,5 @@
-use Rattle.std.proofs.Common.{◌≡◌, ◌≤◌, ◌&&◌, nat_lt, true, false, length, ap, sym, ◌∙◌, arith, FitsSigned, w8}
-use Rattle.std.specs.Option.{ok_or}
-use Rattle.std.specs.Float.Numeral.{numeral_digits}
-use Rattle.std.specs.Str.Parse.{digits_value}
-use Rattle.std.proofs.lemmas.Bool.{le-ltb}
-use Rattle.std.proofs.lemmas.Int.{to_z-of_z}
-use Rattle.reading_decimal.specs.declared.decimal.DecimalFault.TheVariants.{TooLarge}
-use Rattle.reading_decimal.specs.Decimal.{is_decimal, is_negative, parts, within_register}
-use Rattle.reading_decimal.specs.Numeral.{parts_of}
-use Rattle.reading_decimal.proofs.LastStep.{parts-IsShort, mwh-collected, mwh_reading-last}
+use Rattle.std.{proofs.Common.{◌≡◌, ◌≤◌, ◌&&◌, nat_lt, true, false, length, ap, sym, ◌∙◌, arith, FitsSigned, w8}, specs.Option.ok_or, specs.Float.Numeral.numeral_digits, specs.Str.Parse.digits_value, proofs.lemmas.Bool.le-ltb, proofs.lemmas.Int.to_z-of_z}
+use Rattle.reading_decimal.{specs.declared.decimal.DecimalFault.TheVariants.TooLarge, specs.Decimal.{is_decimal, is_negative, parts, within_register}, specs.Numeral.parts_of, proofs.LastStep.{parts-IsShort, mwh-collected, mwh_reading-last}}
 use Rattle.reading_decimal.proofs.decimal.mwh_of.Goals as goal
 
 pub exponent_value-exponent-requires : goal.exponent_value-exponent-requires

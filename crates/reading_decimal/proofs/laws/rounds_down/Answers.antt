@@ -1,7 +1,5 @@
-use Rattle.std.proofs.Math.Nat.{div-mul-le_self}
-use Rattle.std.proofs.lemmas.Nat.{le-div}
-use Rattle.reading_decimal.specs.Decimal.{tens_left, right_side}
-use Rattle.reading_decimal.proofs.Scaling.{ten_pos}
+use Rattle.std.{proofs.Math.Nat.div-mul-le_self, proofs.lemmas.Nat.le-div}
+use Rattle.reading_decimal.{specs.Decimal.{tens_left, right_side}, proofs.Scaling.ten_pos}
 use Rattle.reading_decimal.proofs.laws.rounds_down.Goals as goal
 
 pub returns : goal.returns

@@ -1,5 +1,4 @@
-use Rattle.std.proofs.Common.{◌≡◌, ◌-◌, ◌≤◌, length}
-use Rattle.std.specs.Float.Numeral.{digits_end}
+use Rattle.std.{proofs.Common.{◌≡◌, ◌-◌, ◌≤◌, length}, specs.Float.Numeral.digits_end}
 use Rattle.reading_decimal.proofs.numeral.digits_end.Given as goal
 
 abbrev pub invariant-loop-end : goal.invariant-loop-end

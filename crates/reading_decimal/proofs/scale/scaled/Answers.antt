@@ -1,6 +1,5 @@
 use Rattle.std.proofs.Common.{◌*◌, ◌-◌, ◌^◌, ap, sym, ◌∙◌, arith}
-use Rattle.reading_decimal.specs.Decimal.{within_register}
-use Rattle.reading_decimal.proofs.Scaling.{scale_up, scale_down, within_register-large}
+use Rattle.reading_decimal.{specs.Decimal.within_register, proofs.Scaling.{scale_up, scale_down, within_register-large}}
 use Rattle.reading_decimal.proofs.scale.scaled.Goals as goal
 
 pub returns-in-Some : goal.returns-in-Some

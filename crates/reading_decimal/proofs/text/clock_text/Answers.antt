@@ -1,5 +1,4 @@
-use Rattle.std.proofs.Common.{◌≡◌, ◌∙◌, ℕ, ◌/◌, ◌%◌, ℤ, pos, unsigned_abs, to_z, of_z, List, [], ◌∷◌, ◌++◌, ap, ap₂, arith, rules, FitsSigned, w8, w16}
-use Rattle.std.proofs.lemmas.Int.{to_z-of_z}
+use Rattle.std.{proofs.Common.{◌≡◌, ◌∙◌, ℕ, ◌/◌, ◌%◌, ℤ, pos, unsigned_abs, to_z, of_z, List, [], ◌∷◌, ◌++◌, ap, ap₂, arith, rules, FitsSigned, w8, w16}, proofs.lemmas.Int.to_z-of_z}
 use Rattle.reading_decimal.specs.MomentText.{two_digits}
 use Rattle.reading_decimal.proofs.text.clock_text.Goals as goal
 

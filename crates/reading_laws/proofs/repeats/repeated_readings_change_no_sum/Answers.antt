@@ -1,5 +1,4 @@
-use Rattle.reading_laws.proofs.RepeatExample.{ends_with_repeats}
-use Rattle.reading_laws.proofs.RepeatLemmas.{delivery_more, event_more, event_more_at, readings_more as with_readings_more}
+use Rattle.reading_laws.{proofs.RepeatExample.ends_with_repeats, proofs.RepeatLemmas.{delivery_more, event_more, event_more_at, readings_more as with_readings_more}}
 use Rattle.reading_laws.proofs.repeats.repeated_readings_change_no_sum.Goals as goal
 
 pub returns : goal.returns

@@ -1,6 +1,4 @@
-use Rattle.running_desk.proofs.Replies.{SoFar}
-use Rattle.running_desk.specs.Ordered.{lines_in}
-use Rattle.running_desk.specs.Reading.{orders_coming}
+use Rattle.running_desk.{proofs.Replies.SoFar, specs.Ordered.lines_in, specs.Reading.orders_coming}
 use Rattle.running_desk.proofs.operator.operate.Given as goal
 
 -- the lines that were answered so far

@@ -1,5 +1,4 @@
-use Rattle.std.proofs.Common.{◌-◌, ◌≤◌, length, take}
-use Rattle.std.specs.Io.KnownBytes.{Appends}
+use Rattle.std.{proofs.Common.{◌-◌, ◌≤◌, length, take}, specs.Io.KnownBytes.Appends}
 use Rattle.script_lines.proofs.write.write_bytes.Given as goal
 
 abbrev pub invariant-loop-done : goal.invariant-loop-done

@@ -1,5 +1,4 @@
-use Rattle.script_replay.proofs.Lists.{pairs_make_energies, parts_make_periods}
-use Rattle.script_replay.proofs.ReachedStations.{lists_are_from_scratch}
+use Rattle.script_replay.{proofs.Lists.{pairs_make_energies, parts_make_periods}, proofs.ReachedStations.lists_are_from_scratch}
 use Rattle.script_replay.proofs.laws.lists.Goals as goal
 
 pub returns-clause-answers : goal.returns-clause-answers

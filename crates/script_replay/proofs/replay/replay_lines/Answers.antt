@@ -1,12 +1,7 @@
 use Rattle.std.proofs.Common.{◌≡◌, ◌<◌, ap, ◌∙◌, Ok, Err, arith, length, eqb-true, refl, subst, sym}
-use Rattle.script_lines.specs.declared.fault.ReplayFault.TheVariants.{ReadFault}
-use Rattle.script_lines.specs.declared.line_reader.LineEnd.TheVariants.{Feed, Input}
-use Rattle.script_lines.proofs.Pieces.{nonempty}
+use Rattle.script_lines.{specs.declared.fault.ReplayFault.TheVariants.ReadFault, specs.declared.line_reader.LineEnd.TheVariants.{Feed, Input}, proofs.Pieces.nonempty, specs.Ranges.longest_line}
 use Rattle.script_replay.proofs.AnsweredLines.{looked, look_failed, asked, line_stopped, line_absent, answer_stopped, answer_ended, answer_goes_on, less_room, some_feed, no_input, reached_now, as_replay, begins, AnsweredLines}
-use Rattle.script_lines.specs.Ranges.{longest_line}
-use Rattle.script_ledgers.specs.Ranges.{longest_script}
-use Rattle.script_ledgers.specs.Script.{start, script_text}
-use Rattle.script_ledgers.specs.State.{State}
+use Rattle.script_ledgers.{specs.Ranges.longest_script, specs.Script.{start, script_text}, specs.State.State}
 use Rattle.script_replay.proofs.replay.replay_lines.Goals as goal
 
 pub returns-then-is_err-clause-run : goal.returns-then-is_err-clause-run

@@ -1,7 +1,6 @@
 use Rattle.std.proofs.Common.{◌≡◌, ◌+◌, ◌≤◌}
 use Rattle.script_lines.specs.Ranges.{longest_line}
-use Rattle.script_ledgers.specs.Ranges.{longest_script}
-use Rattle.script_ledgers.specs.Script.{start, script_text}
+use Rattle.script_ledgers.{specs.Ranges.longest_script, specs.Script.{start, script_text}}
 use Rattle.script_replay.proofs.AnsweredLines.{AnsweredLines}
 use Rattle.script_replay.proofs.replay.replay_lines.Given as goal
 

@@ -1,7 +1,6 @@
 use Rattle.std.proofs.KnownBytes.{Appends-kept}
 use Rattle.script_lines.specs.Ranges.{longest_line}
-use Rattle.script_ledgers.specs.Ranges.{longest_script}
-use Rattle.script_ledgers.specs.Script.{start, script_text}
+use Rattle.script_ledgers.{specs.Ranges.longest_script, specs.Script.{start, script_text}}
 use Rattle.script_replay.proofs.Flushes.{flush_failed}
 use Rattle.script_replay.proofs.stream.replay_buffered.Goals as goal
 

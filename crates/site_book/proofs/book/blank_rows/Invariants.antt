@@ -1,5 +1,4 @@
-use Rattle.std.proofs.Common.{◌≡◌, map, take}
-use Rattle.std.specs.Prelude.{All}
+use Rattle.std.{proofs.Common.{◌≡◌, map, take}, specs.Prelude.All}
 use Rattle.ledger_model.specs.Figures.{no_figures}
 use Rattle.site_book.proofs.book.blank_rows.Given as goal
 

@@ -1,6 +1,5 @@
 use Rattle.std.proofs.Common.{◌≡◌, [], length, take}
-use Rattle.site_book.specs.Kept.{Sits}
-use Rattle.site_book.specs.Rule.{looking}
+use Rattle.site_book.{specs.Kept.Sits, specs.Rule.looking}
 use Rattle.site_book.proofs.rounds.gather.Given as goal
 
 abbrev pub invariant-loop-i : goal.invariant-loop-i

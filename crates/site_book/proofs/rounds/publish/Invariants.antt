@@ -1,6 +1,5 @@
 use Rattle.std.proofs.Common.{◌≡◌, []}
-use Rattle.site_book.specs.Kept.{Sits}
-use Rattle.site_book.specs.Rule.{writing}
+use Rattle.site_book.{specs.Kept.Sits, specs.Rule.writing}
 use Rattle.site_book.proofs.rounds.publish.Given as goal
 
 abbrev pub invariant-loop-i : goal.invariant-loop-i

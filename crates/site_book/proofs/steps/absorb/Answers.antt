@@ -1,6 +1,5 @@
 use Rattle.std.proofs.Common.{refl, ap, rules}
-use Rattle.site_book.specs.Rule.{shown}
-use Rattle.site_book.proofs.Moves.{takes_in_as}
+use Rattle.site_book.{specs.Rule.shown, proofs.Moves.takes_in_as}
 use Rattle.site_book.proofs.steps.absorb.Goals as goal
 
 pub join_seat-requires : goal.join_seat-requires

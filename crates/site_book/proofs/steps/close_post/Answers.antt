@@ -1,6 +1,5 @@
 use Rattle.std.proofs.Common.{refl, rules}
-use Rattle.site_book.specs.Rule.{shown}
-use Rattle.site_book.proofs.Moves.{closes_as}
+use Rattle.site_book.{specs.Rule.shown, proofs.Moves.closes_as}
 use Rattle.site_book.proofs.steps.close_post.Goals as goal
 
 pub store-requires : goal.store-requires

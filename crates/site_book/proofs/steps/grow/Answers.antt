@@ -1,6 +1,5 @@
 use Rattle.std.proofs.Common.{refl, rules}
-use Rattle.site_book.specs.Rule.{shown}
-use Rattle.site_book.proofs.Moves.{grows_list}
+use Rattle.site_book.{specs.Rule.shown, proofs.Moves.grows_list}
 use Rattle.site_book.proofs.steps.grow.Goals as goal
 
 pub join_seat-requires : goal.join_seat-requires

@@ -1,6 +1,5 @@
 use Rattle.std.proofs.Common.{refl, rules}
-use Rattle.site_book.specs.Rule.{shown}
-use Rattle.site_book.proofs.Moves.{keeps_list}
+use Rattle.site_book.{specs.Rule.shown, proofs.Moves.keeps_list}
 use Rattle.site_book.proofs.steps.keep.Goals as goal
 
 pub join_seat-requires : goal.join_seat-requires

@@ -1,6 +1,5 @@
 use Rattle.std.proofs.Common.{refl, add-one, rules}
-use Rattle.site_book.specs.Rule.{shown}
-use Rattle.site_book.proofs.Moves.{loads_as}
+use Rattle.site_book.{specs.Rule.shown, proofs.Moves.loads_as}
 use Rattle.site_book.proofs.steps.load_total.Goals as goal
 
 pub load-requires : goal.load-requires

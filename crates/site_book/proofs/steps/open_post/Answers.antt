@@ -1,6 +1,5 @@
 use Rattle.std.proofs.Common.{refl, arith, rules}
-use Rattle.site_book.specs.Rule.{shown}
-use Rattle.site_book.proofs.Moves.{opens_as}
+use Rattle.site_book.{specs.Rule.shown, proofs.Moves.opens_as}
 use Rattle.site_book.proofs.steps.open_post.Goals as goal
 
 pub store-requires : goal.store-requires

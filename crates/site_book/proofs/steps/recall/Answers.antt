@@ -1,6 +1,5 @@
 use Rattle.std.proofs.Common.{refl, rules}
-use Rattle.site_book.specs.Rule.{shown}
-use Rattle.site_book.proofs.Moves.{recalls_as}
+use Rattle.site_book.{specs.Rule.shown, proofs.Moves.recalls_as}
 use Rattle.site_book.proofs.steps.recall.Goals as goal
 
 pub load-requires : goal.load-requires

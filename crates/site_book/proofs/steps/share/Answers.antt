@@ -1,6 +1,5 @@
 use Rattle.std.proofs.Common.{refl, rules}
-use Rattle.site_book.specs.Rule.{shown}
-use Rattle.site_book.proofs.Moves.{shares}
+use Rattle.site_book.{specs.Rule.shown, proofs.Moves.shares}
 use Rattle.site_book.proofs.steps.share.Goals as goal
 
 pub split_seat-requires : goal.split_seat-requires

@@ -1,6 +1,5 @@
 use Rattle.std.proofs.Common.{refl, add-one, rules}
-use Rattle.site_book.specs.Rule.{shown}
-use Rattle.site_book.proofs.Moves.{stores_as}
+use Rattle.site_book.{specs.Rule.shown, proofs.Moves.stores_as}
 use Rattle.site_book.proofs.steps.store_total.Goals as goal
 
 pub store-requires : goal.store-requires

@@ -1,8 +1,6 @@
-use Rattle.std.proofs.Common.{◌≡◌, length, map, arith}
-use Rattle.std.proofs.lemmas.List.{length-map}
+use Rattle.std.{proofs.Common.{◌≡◌, length, map, arith}, proofs.lemmas.List.length-map}
 use Rattle.station_cell.specs.Cell.{Cell}
-use Rattle.site_desk.specs.Close.{passes_of}
-use Rattle.site_desk.proofs.Comparisons.{each_more, each_all, cell_at}
+use Rattle.site_desk.{specs.Close.passes_of, proofs.Comparisons.{each_more, each_all, cell_at}}
 use Rattle.site_desk.proofs.checks.are_all_passes.Goals as goal
 
 pub loop-k-preserved : goal.loop-k-preserved

@@ -1,6 +1,5 @@
 use Rattle.std.proofs.Common.{map, arith}
-use Rattle.site_desk.specs.Close.{IsSummed}
-use Rattle.site_desk.proofs.Comparisons.{each_more, each_all}
+use Rattle.site_desk.{specs.Close.IsSummed, proofs.Comparisons.{each_more, each_all}}
 use Rattle.site_desk.proofs.checks.are_summed.Goals as goal
 
 pub loop-site-preserved : goal.loop-site-preserved

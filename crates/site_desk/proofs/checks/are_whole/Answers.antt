@@ -1,7 +1,5 @@
-use Rattle.std.proofs.Common.{map, arith}
-use Rattle.std.proofs.lemmas.List.{length-map}
-use Rattle.site_desk.specs.Close.{IsWhole}
-use Rattle.site_desk.proofs.Comparisons.{each_more, each_all, cell_at}
+use Rattle.std.{proofs.Common.{map, arith}, proofs.lemmas.List.length-map}
+use Rattle.site_desk.{specs.Close.IsWhole, proofs.Comparisons.{each_more, each_all, cell_at}}
 use Rattle.site_desk.proofs.checks.are_whole.Goals as goal
 
 pub loop-k-preserved : goal.loop-k-preserved

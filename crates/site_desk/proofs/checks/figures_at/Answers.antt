@@ -1,7 +1,5 @@
-use Rattle.std.proofs.Common.{◌≡◌, ◌+◌, ◌-◌, ◌<◌, length, drop, map, get_or, ap, sym, ◌∙◌, subst, arith}
-use Rattle.std.proofs.lemmas.List.{length-map}
-use Rattle.site_desk.specs.Close.{figures_at}
-use Rattle.site_desk.proofs.Comparisons.{figures_more, cell_at}
+use Rattle.std.{proofs.Common.{◌≡◌, ◌+◌, ◌-◌, ◌<◌, length, drop, map, get_or, ap, sym, ◌∙◌, subst, arith}, proofs.lemmas.List.length-map}
+use Rattle.site_desk.{specs.Close.figures_at, proofs.Comparisons.{figures_more, cell_at}}
 use Rattle.site_desk.proofs.checks.figures_at.Goals as goal
 
 pub loop-done-preserved : goal.loop-done-preserved

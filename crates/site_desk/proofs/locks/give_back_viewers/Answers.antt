@@ -1,5 +1,4 @@
-use Rattle.std.proofs.Common.{◌∙◌, subst}
-use Rattle.std.proofs.lemmas.List.Elements.{All-push}
+use Rattle.std.{proofs.Common.{◌∙◌, subst}, proofs.lemmas.List.Elements.All-push}
 use Rattle.site_desk.specs.Close.{Saw}
 use Rattle.site_desk.proofs.locks.give_back_viewers.Goals as goal
 

@@ -1,5 +1,4 @@
-use Rattle.std.proofs.Common.{◌≡◌}
-use Rattle.std.specs.Prelude.{All}
+use Rattle.std.{proofs.Common.◌≡◌, specs.Prelude.All}
 use Rattle.site_desk.specs.Close.{Saw}
 use Rattle.site_desk.proofs.locks.give_back_viewers.Given as goal
 

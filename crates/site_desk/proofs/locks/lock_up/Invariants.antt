@@ -1,5 +1,4 @@
-use Rattle.std.proofs.Common.{◌≡◌, ◌+◌}
-use Rattle.std.specs.Prelude.{vec_len, vec_capacity}
+use Rattle.std.{proofs.Common.{◌≡◌, ◌+◌}, specs.Prelude.{vec_len, vec_capacity}}
 use Rattle.site_desk.proofs.locks.lock_up.Given as goal
 
 -- how many values are on each side, and the room for them

@@ -1,5 +1,4 @@
-use Rattle.std.proofs.Common.{◌≡◌, ◌<◌, ◌∙◌, ap, arith}
-use Rattle.std.specs.Sync.Mutex.{mutex_guard_value}
+use Rattle.std.{proofs.Common.{◌≡◌, ◌<◌, ◌∙◌, ap, arith}, specs.Sync.Mutex.mutex_guard_value}
 use Rattle.site_desk.proofs.Operators.{among_at}
 use Rattle.site_desk.proofs.operator.cell_at.Goals as goal
 

@@ -1,7 +1,5 @@
-use Rattle.std.proofs.Common.{map, subst, sym}
-use Rattle.std.specs.Sync.Mutex.{mutex_guard_value}
-use Rattle.site_desk.specs.Operator.{AreNotedBoards, IsAmong}
-use Rattle.site_desk.proofs.Operators.{among_noted, noted_boards}
+use Rattle.std.{proofs.Common.{map, subst, sym}, specs.Sync.Mutex.mutex_guard_value}
+use Rattle.site_desk.{specs.Operator.{AreNotedBoards, IsAmong}, proofs.Operators.{among_noted, noted_boards}}
 use Rattle.site_desk.proofs.operator.noted_boards_of.Goals as goal
 
 pub returns-clause-noted : goal.returns-clause-noted

@@ -1,7 +1,5 @@
-use Rattle.std.proofs.Common.{◌≡◌, length, map, take}
-use Rattle.std.specs.Sync.Mutex.{mutex_guard_value}
-use Rattle.site_desk.specs.Operator.{AreBoardsAt, IsAmong}
-use Rattle.site_desk.proofs.Operators.{AreSoFar}
+use Rattle.std.{proofs.Common.{◌≡◌, length, map, take}, specs.Sync.Mutex.mutex_guard_value}
+use Rattle.site_desk.{specs.Operator.{AreBoardsAt, IsAmong}, proofs.Operators.AreSoFar}
 use Rattle.site_desk.proofs.operator.site_boards_of.Given as goal
 
 -- the boards of the site's stations so far

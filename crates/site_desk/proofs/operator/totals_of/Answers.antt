@@ -1,8 +1,5 @@
 use Rattle.std.proofs.Common.{◌∙◌}
-use Rattle.ledger_model.specs.Board.{figures_by}
-use Rattle.ledger_model.specs.Content.{entries}
-use Rattle.ledger_model.specs.declared.reading.Direction.TheVariants.{Import, Export}
-use Rattle.ledger_model.specs.Energy.{energy_by}
+use Rattle.ledger_model.{specs.Board.figures_by, specs.Content.entries, specs.declared.reading.Direction.TheVariants.{Import, Export}, specs.Energy.energy_by}
 use Rattle.site_desk.proofs.operator.totals_of.Goals as goal
 
 pub returns : goal.returns

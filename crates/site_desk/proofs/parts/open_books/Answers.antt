@@ -1,11 +1,6 @@
-use Rattle.std.proofs.Common.{◌≡◌, length, append-nil, ◌+◌, ◌∷◌, [], ◌++◌, ap, sym, ◌∙◌, subst, arith}
-use Rattle.std.specs.Prelude.{replicate}
-use Rattle.site_book.specs.Book.{ArePlanned, known}
-use Rattle.site_book.specs.Tables.{HasTable}
-use Rattle.site_book.proofs.Named.{has-others}
-use Rattle.std.proofs.lemmas.List.{drop_all}
-use Rattle.site_desk.specs.Parts.{AreNewBooks, new_viewers, viewed_by}
-use Rattle.site_desk.proofs.NewParts.{books_more, length_viewed, planned_at, seats_by, viewers_more}
+use Rattle.std.{proofs.Common.{◌≡◌, length, append-nil, ◌+◌, ◌∷◌, [], ◌++◌, ap, sym, ◌∙◌, subst, arith}, specs.Prelude.replicate, proofs.lemmas.List.drop_all}
+use Rattle.site_book.{specs.Book.{ArePlanned, known}, specs.Tables.HasTable, proofs.Named.has-others}
+use Rattle.site_desk.{specs.Parts.{AreNewBooks, new_viewers, viewed_by}, proofs.NewParts.{books_more, length_viewed, planned_at, seats_by, viewers_more}}
 use Rattle.site_desk.proofs.parts.open_books.Goals as goal
 
 pub open-requires-clause-planned : goal.open-requires-clause-planned

@@ -1,7 +1,6 @@
 use Rattle.std.proofs.Common.{◌+◌, ◌∷◌, [], ◌++◌, ap, sym, ◌∙◌, subst, take, arith}
-use Rattle.site_desk.specs.Parts.{AreNewCells}
+use Rattle.site_desk.{specs.Parts.AreNewCells, proofs.NewParts.cells_more}
 use Rattle.station_cell.specs.Cell.{new_cell}
-use Rattle.site_desk.proofs.NewParts.{cells_more}
 use Rattle.site_desk.proofs.parts.open_cells.Goals as goal
 
 pub loop-k-preserved : goal.loop-k-preserved

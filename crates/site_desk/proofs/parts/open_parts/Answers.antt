@@ -1,6 +1,5 @@
 use Rattle.std.proofs.Common.{length, rules}
-use Rattle.site_desk.specs.Parts.{AreNewBooks, AreNewCells}
-use Rattle.site_desk.proofs.Ties.{new_apart, new_tied}
+use Rattle.site_desk.{specs.Parts.{AreNewBooks, AreNewCells}, proofs.Ties.{new_apart, new_tied}}
 use Rattle.site_desk.proofs.parts.open_parts.Goals as goal
 
 pub returns-clause-tied : goal.returns-clause-tied

@@ -1,5 +1,4 @@
-use Rattle.std.proofs.Common.{◌≡◌, ℕ, ◌<◌, Some, length}
-use Rattle.std.specs.Prelude.{slice_get}
+use Rattle.std.{proofs.Common.{◌≡◌, ℕ, ◌<◌, Some, length}, specs.Prelude.slice_get}
 use Rattle.station_cell.specs.Cell.{Cell}
 use Rattle.site_desk.specs.Parts.{AreHeld, AreRowsKept, HaveFewPosts, IsTied}
 use Rattle.site_desk.proofs.parts.post_all.Given as goal

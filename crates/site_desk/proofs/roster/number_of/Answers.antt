@@ -1,6 +1,4 @@
-use Rattle.std.proofs.Common.{sym, ◌∙◌, get_or, arith}
-use Rattle.std.proofs.lemmas.Option.{slice_get-get_or}
-use Rattle.std.proofs.lemmas.Slice.Eq.{bytes_eq-Decides}
+use Rattle.std.{proofs.Common.{sym, ◌∙◌, get_or, arith}, proofs.lemmas.Option.slice_get-get_or, proofs.lemmas.Slice.Eq.bytes_eq-Decides}
 use Rattle.site_desk.proofs.roster.number_of.Goals as goal
 
 pub returns-then-eq-clause-named : goal.returns-then-eq-clause-named

@@ -1,5 +1,4 @@
-use Rattle.std.proofs.Common.{◌≡◌, false, take, bytes_eq}
-use Rattle.std.specs.List.{list_any}
+use Rattle.std.{proofs.Common.{◌≡◌, false, take, bytes_eq}, specs.List.list_any}
 use Rattle.site_desk.proofs.roster.number_of.Given as goal
 
 -- none so far has the name

@@ -28,19 +28,12 @@ use denote.Signature.{plain, types_at}
 use denote.Steps.{nothing, heard}
 use denote.Triple.Call.{calls_at_last}
 use denote.Triple.Walked.{Stays, stay_dropped, walk_of, Goes-dropped}
-use Rattle.core.proofs.alloc.Calls.{Al, token, Gives, at_gives, Gives-goes, Gives-Gives, Goes-blank}
-use Rattle.core.proofs.mem.Param.{El, R, elτ}
-use Rattle.core.proofs.slots.Leases.{uncapped, block_ty, block_size, block_align, args, P}
-use Rattle.std.proofs.raw_atomic.Walks.{proved_at, leaves}
-use Rattle.std.specs.Prelude.{None}
-use Rattle.std_alloc.proofs.RawLayout.{as_raw}
-use Rattle.std_alloc.proofs.RcSteps.{word-Good}
-use Rattle.std_alloc.proofs.VecSteps.Shapes.{after}
-use Rattle.slot_arena.specs.Owned.{owned_places, owned_lease}
+use Rattle.core.{proofs.alloc.Calls.{Al, token, Gives, at_gives, Gives-goes, Gives-Gives, Goes-blank}, proofs.mem.Param.{El, R, elτ}, proofs.slots.Leases.{uncapped, block_ty, block_size, block_align, args, P}}
+use Rattle.std.{proofs.raw_atomic.Walks.{proved_at, leaves}, specs.Prelude.None}
+use Rattle.std_alloc.{proofs.RawLayout.as_raw, proofs.RcSteps.word-Good, proofs.VecSteps.Shapes.after}
+use Rattle.slot_arena.{specs.Owned.{owned_places, owned_lease}, proofs.Rooms.{Row, First, PlaceValue, step_of, mark_told, word_told, room_of_row}, proofs.block.release.Statement.statement}
 use Rattle.slot_arena.specs.contracts.block.Lease as lease
 use Rattle.slot_arena.specs.contracts.block.release as f
-use Rattle.slot_arena.proofs.Rooms.{Row, First, PlaceValue, step_of, mark_told, word_told, room_of_row}
-use Rattle.slot_arena.proofs.block.release.Statement.{statement}
 use Rattle.slot_arena.proofs.block.release.Code as code
 
 pub release_spec : {M : Type 1} → statement M

@@ -35,23 +35,14 @@ use denote.Struct.Struct.{Struct, Struct-Makes}
 use denote.Struct.Tuple.{Tuple}
 use denote.Triple.Call.{calls_at}
 use denote.Triple.Walked.{Stays, stay_dropped, walk_of, Goes-dropped}
-use Rattle.core.proofs.alloc.Calls.{Al, Answer-typed, Takes, at_takes, Answered, Takes-goes, Takes-gives, answers}
-use Rattle.core.proofs.mem.Param.{El, R, elτ}
-use Rattle.core.proofs.slots.Leases.{uncapped, block_ty, block_size, block_align, args, P}
+use Rattle.core.{proofs.alloc.Calls.{Al, Answer-typed, Takes, at_takes, Answered, Takes-goes, Takes-gives, answers}, proofs.mem.Param.{El, R, elτ}, proofs.slots.Leases.{uncapped, block_ty, block_size, block_align, args, P}}
 use Rattle.core.specs.contracts.alloc.AllocError as refusal
 use Rattle.core.specs.contracts.result.Result as result
-use Rattle.std.proofs.raw_atomic.Walks.{proved_at, leaves}
-use Rattle.std.specs.Prelude.{None, IfOk, Ok, Err}
-use Rattle.std_alloc.proofs.RawLayout.{as_written}
-use Rattle.std_alloc.proofs.RcSteps.{Good, first_Good, word-Good, word}
-use Rattle.std_alloc.proofs.ResultValues.{ok_of, err_of}
-use Rattle.std_alloc.proofs.VecSteps.Shapes.{after, head, arm_body}
-use Rattle.std_alloc.specs.Vec.Ownership.{FitsInBlock}
-use Rattle.slot_arena.specs.Owned.{places_at}
+use Rattle.std.{proofs.raw_atomic.Walks.{proved_at, leaves}, specs.Prelude.{None, IfOk, Ok, Err}}
+use Rattle.std_alloc.{proofs.RawLayout.as_written, proofs.RcSteps.{Good, first_Good, word-Good, word}, proofs.ResultValues.{ok_of, err_of}, proofs.VecSteps.Shapes.{after, head, arm_body}, specs.Vec.Ownership.FitsInBlock}
+use Rattle.slot_arena.{specs.Owned.places_at, proofs.Rooms.{Row, First, Mark, step_of, mark, mark_made, word_made, three, three_made, row_of_room}, proofs.block.reserve.Statement.statement}
 use Rattle.slot_arena.specs.contracts.block.Lease as lease
 use Rattle.slot_arena.specs.contracts.block.reserve as f
-use Rattle.slot_arena.proofs.Rooms.{Row, First, Mark, step_of, mark, mark_made, word_made, three, three_made, row_of_room}
-use Rattle.slot_arena.proofs.block.reserve.Statement.{statement}
 use Rattle.slot_arena.proofs.block.reserve.Code as code
 
 pub reserve_spec : {M : Type 1} → statement M

@@ -1,5 +1,4 @@
-use Rattle.std.proofs.Common.{Some, None, ap, ◌∙◌, set}
-use Rattle.std.proofs.lemmas.List.{set-set}
+use Rattle.std.{proofs.Common.{Some, None, ap, ◌∙◌, set}, proofs.lemmas.List.set-set}
 use Rattle.slot_arena.specs.declared.slot.Slot.TheVariants.{Free}
 use Rattle.slot_arena.proofs.slot.vacate.Goals as goal
 

@@ -1,7 +1,5 @@
 use Rattle.std.proofs.Common.{rules, refl, ◌∙◌}
-use Rattle.ledger_model.specs.declared.answer.Answer.TheVariants.{Repeat, Refused}
-use Rattle.ledger_model.specs.Board.{figures_by}
-use Rattle.ledger_model.specs.Content.{entries}
+use Rattle.ledger_model.{specs.declared.answer.Answer.TheVariants.{Repeat, Refused}, specs.Board.figures_by, specs.Content.entries}
 use Rattle.station_cell.proofs.Settled.{book_posted, known_after, tied_after}
 use Rattle.station_cell.proofs.steps.settle.Goals as goal
 

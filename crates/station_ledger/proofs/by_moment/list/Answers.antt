@@ -1,13 +1,7 @@
 use Rattle.std.proofs.Common.{◌≡◌, ◌≤◌, ◌<◌, ◌+◌, ◌^◌, List, ◌∷◌, length, vec_capacity, sym, ap, subst, ◌∙◌, arith}
-use Rattle.ledger_model.specs.InTime.{put_in_time}
-use Rattle.ledger_model.specs.Event.{MeterReading}
-use Rattle.ledger_model.specs.Ranges.{most_event_readings}
-use Rattle.reading_index.specs.Ranks.{owner, rank}
-use Rattle.reading_index.specs.Timed.{Timed}
-use Rattle.station_ledger.specs.ByMoment.{put_each, ranked_from}
-use Rattle.station_ledger.specs.Quarters.{readings_at}
-use Rattle.station_ledger.proofs.MomentListed.{listing-more, listing-start, IsListing}
-use Rattle.station_ledger.proofs.MomentRanks.{at}
+use Rattle.ledger_model.{specs.InTime.put_in_time, specs.Event.MeterReading, specs.Ranges.most_event_readings}
+use Rattle.reading_index.{specs.Ranks.{owner, rank}, specs.Timed.Timed}
+use Rattle.station_ledger.{specs.ByMoment.{put_each, ranked_from}, specs.Quarters.readings_at, proofs.MomentListed.{listing-more, listing-start, IsListing}, proofs.MomentRanks.at}
 use Rattle.station_ledger.proofs.by_moment.list.Goals as goal
 
 pub loop-reading-init : goal.loop-reading-init

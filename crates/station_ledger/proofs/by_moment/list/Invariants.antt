@@ -1,7 +1,6 @@
 use Rattle.std.proofs.Common.{◌≡◌, vec_capacity}
 use Rattle.reading_index.specs.Ranks.{owner}
-use Rattle.station_ledger.specs.ByMoment.{listed_of, put_each, ranked_from}
-use Rattle.station_ledger.proofs.MomentListed.{IsListing}
+use Rattle.station_ledger.{specs.ByMoment.{listed_of, put_each, ranked_from}, proofs.MomentListed.IsListing}
 use Rattle.station_ledger.proofs.by_moment.list.Given as goal
 
 -- the readings that are left are put into the list so far, and their ranks are new

@@ -1,18 +1,8 @@
-use Rattle.std.proofs.Common.{◌≡◌, ◌<◌, ◌≤◌, Some, None, length, refl, sym, ap, subst, ◌∙◌, ⊎_elim}
-use Rattle.std.proofs.lemmas.Bool.{cases_eq}
+use Rattle.std.{proofs.Common.{◌≡◌, ◌<◌, ◌≤◌, Some, None, length, refl, sym, ap, subst, ◌∙◌, ⊎_elim}, proofs.lemmas.Bool.cases_eq}
 use Rattle.energy_flow.specs.Flow.{Energy}
-use Rattle.event_chain.specs.Chains.{stored}
-use Rattle.event_chain.specs.Table.{Table, row_of, without_row}
-use Rattle.ledger_model.specs.Content.{live_of}
-use Rattle.ledger_model.specs.Ranges.{most_event_readings}
-use Rattle.ledger_model.specs.declared.by_direction.ByDirection.{ByDirection}
-use Rattle.ledger_model.specs.declared.order.Order.TheVariants.{Moment}
-use Rattle.ledger_model.specs.declared.reading.Direction.TheVariants.{Import, Export}
-use Rattle.station_ledger.specs.declared.by_moment.ByMoment.{ByMoment}
-use Rattle.station_ledger.specs.ByMoment.{AreByMoment, IsSlotGiven}
-use Rattle.station_ledger.specs.Moved.{IsExchanged}
-use Rattle.station_ledger.specs.Runs.{by_way}
-use Rattle.station_ledger.proofs.MomentTurning.{all_then, few_readings, first_move, room_for_slot, rows_then, second_move, some_live, timed_goes, timed_stays, work_then}
+use Rattle.event_chain.{specs.Chains.stored, specs.Table.{Table, row_of, without_row}}
+use Rattle.ledger_model.{specs.Content.live_of, specs.Ranges.most_event_readings, specs.declared.by_direction.ByDirection.ByDirection, specs.declared.order.Order.TheVariants.Moment, specs.declared.reading.Direction.TheVariants.{Import, Export}}
+use Rattle.station_ledger.{specs.declared.by_moment.ByMoment.ByMoment, specs.ByMoment.{AreByMoment, IsSlotGiven}, specs.Moved.IsExchanged, specs.Runs.by_way, proofs.MomentTurning.{all_then, few_readings, first_move, room_for_slot, rows_then, second_move, some_live, timed_goes, timed_stays, work_then}}
 use Rattle.station_ledger.proofs.by_moment.move_event.Goals as goal
 
 pub slot_of-slot-requires : goal.slot_of-slot-requires

@@ -1,8 +1,6 @@
 use Rattle.std.proofs.Common.{List, sym, ap, subst, ◌∙◌}
 use Rattle.reading_index.specs.Timed.{Timed}
-use Rattle.station_ledger.specs.declared.pairs.Way.TheVariants.{Coming, Going}
-use Rattle.station_ledger.specs.ByMoment.{put_each, take_each}
-use Rattle.station_ledger.specs.Runs.{AreMoved, TheyMove}
+use Rattle.station_ledger.{specs.declared.pairs.Way.TheVariants.{Coming, Going}, specs.ByMoment.{put_each, take_each}, specs.Runs.{AreMoved, TheyMove}}
 use Rattle.station_ledger.proofs.by_moment.move_listed.Goals as goal
 
 pub returns-in-Coming-clause-moved : goal.returns-in-Coming-clause-moved

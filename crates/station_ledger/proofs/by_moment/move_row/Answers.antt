@@ -1,8 +1,6 @@
-use Rattle.std.proofs.Common.{◌≡◌, ◌-◌, ◌∷◌, take, drop, length, ap}
-use Rattle.std.proofs.lemmas.List.{take_rest}
+use Rattle.std.{proofs.Common.{◌≡◌, ◌-◌, ◌∷◌, take, drop, length, ap}, proofs.lemmas.List.take_rest}
 use Rattle.ledger_model.specs.Deltas.{pairs_between}
-use Rattle.station_ledger.specs.ByMoment.{bare}
-use Rattle.station_ledger.proofs.Walks.{may_first, moving_one, first_and_rest}
+use Rattle.station_ledger.{specs.ByMoment.bare, proofs.Walks.{may_first, moving_one, first_and_rest}}
 use Rattle.station_ledger.proofs.by_moment.move_row.Goals as goal
 
 pub move_across-flow-requires : goal.move_across-flow-requires

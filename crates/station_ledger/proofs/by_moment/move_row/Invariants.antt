@@ -1,8 +1,6 @@
 use Rattle.std.proofs.Common.{length}
 use Rattle.ledger_model.specs.Deltas.{pairs_between}
-use Rattle.station_ledger.specs.ByMoment.{bare}
-use Rattle.station_ledger.specs.Runs.{run_pairs}
-use Rattle.station_ledger.proofs.Walks.{IsMoving}
+use Rattle.station_ledger.{specs.ByMoment.bare, specs.Runs.run_pairs, proofs.Walks.IsMoving}
 use Rattle.station_ledger.proofs.by_moment.move_row.Given as goal
 
 -- the pairs so far, and those of the readings that are left

@@ -1,10 +1,7 @@
-use Rattle.std.proofs.Common.{◌≡◌, ◌≤◌, ◌<◌, ◌+◌, ◌-◌, drop, get_or, length, take, sym, subst, arith}
-use Rattle.std.proofs.lemmas.List.{drop_all, drop_more}
-use Rattle.std.proofs.lemmas.Bool.{ltb-true, ltb-false}
+use Rattle.std.{proofs.Common.{◌≡◌, ◌≤◌, ◌<◌, ◌+◌, ◌-◌, drop, get_or, length, take, sym, subst, arith}, proofs.lemmas.List.{drop_all, drop_more}, proofs.lemmas.Bool.{ltb-true, ltb-false}}
 use Rattle.ledger_model.proofs.Callers.{AreFrom}
 use Rattle.reading_index.specs.Timed.{from_on, in_front, AreBelow}
-use Rattle.station_ledger.proofs.MomentListed.{placed, under-to}
-use Rattle.station_ledger.proofs.MomentRanks.{at}
+use Rattle.station_ledger.{proofs.MomentListed.{placed, under-to}, proofs.MomentRanks.at}
 use Rattle.station_ledger.proofs.by_moment.place_of.Goals as goal
 
 pub loop-at-init : goal.loop-at-init

@@ -1,8 +1,5 @@
-use Rattle.std.proofs.Common.{◌≡◌, ◌-◌, ◌∷◌, take, drop, length, sym, ap, subst, ◌∙◌, arith}
-use Rattle.std.proofs.lemmas.List.{take_rest}
-use Rattle.station_ledger.specs.ByMoment.{ArePuttable, put_each}
-use Rattle.station_ledger.proofs.MomentRanks.{length-put}
-use Rattle.station_ledger.proofs.Walks.{first_and_rest}
+use Rattle.std.{proofs.Common.{◌≡◌, ◌-◌, ◌∷◌, take, drop, length, sym, ap, subst, ◌∙◌, arith}, proofs.lemmas.List.take_rest}
+use Rattle.station_ledger.{specs.ByMoment.{ArePuttable, put_each}, proofs.MomentRanks.length-put, proofs.Walks.first_and_rest}
 use Rattle.station_ledger.proofs.by_moment.put_all.Goals as goal
 
 pub put-requires-clause-absent : goal.put-requires-clause-absent

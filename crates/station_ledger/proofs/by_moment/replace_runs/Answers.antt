@@ -1,8 +1,6 @@
 use Rattle.std.proofs.Common.{length, refl, sym, ◌≤◌, ◌∙◌}
 use Rattle.ledger_model.specs.Ranges.{most_readings}
-use Rattle.station_ledger.specs.Quarters.{HoldsPairs}
-use Rattle.station_ledger.specs.Runs.{run_pairs, AreSwapped, HasRoomWithout}
-use Rattle.station_ledger.proofs.MomentRuns.{at_turn, none_left, turn_few, turn_held, turn_less, turn_more, turn_next, turn_of, turn_room, turn_smaller, turning_by, turning_end, turning_start, turning_work}
+use Rattle.station_ledger.{specs.Quarters.HoldsPairs, specs.Runs.{run_pairs, AreSwapped, HasRoomWithout}, proofs.MomentRuns.{at_turn, none_left, turn_few, turn_held, turn_less, turn_more, turn_next, turn_of, turn_room, turn_smaller, turning_by, turning_end, turning_start, turning_work}}
 use Rattle.station_ledger.proofs.by_moment.replace_runs.Goals as goal
 
 pub loop-left-init : goal.loop-left-init

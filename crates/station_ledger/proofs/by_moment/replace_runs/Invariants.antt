@@ -1,8 +1,7 @@
 use Rattle.std.proofs.Common.{◌≡◌, ℕ, List, length}
 use Rattle.ledger_model.specs.Board.{Flowed}
 use Rattle.reading_index.specs.Timed.{owned}
-use Rattle.station_ledger.specs.Runs.{AreToMove}
-use Rattle.station_ledger.proofs.MomentRuns.{IsTurning}
+use Rattle.station_ledger.{specs.Runs.AreToMove, proofs.MomentRuns.IsTurning}
 use Rattle.station_ledger.proofs.by_moment.replace_runs.Given as goal
 
 -- the runs that were moved so far, and the readings that are left

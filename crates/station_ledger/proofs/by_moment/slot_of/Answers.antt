@@ -1,10 +1,6 @@
-use Rattle.std.proofs.Common.{◌≡◌, cond, None, Some, length, refl, sym, ap, ◌∙◌}
-use Rattle.std.specs.Cmp.{eq_by_cmp_equiv}
-use Rattle.std.specs.FinMap.{find}
+use Rattle.std.{proofs.Common.{◌≡◌, cond, None, Some, length, refl, sym, ap, ◌∙◌}, specs.Cmp.eq_by_cmp_equiv, specs.FinMap.find}
 use Rattle.event_chain.specs.Table.{row_of}
-use Rattle.transaction_map.specs.Map.{id_cmp}
-use Rattle.transaction_map.proofs.Found.{found_put, length_put}
-use Rattle.transaction_map.proofs.Rising.{id_total}
+use Rattle.transaction_map.{specs.Map.id_cmp, proofs.Found.{found_put, length_put}, proofs.Rising.id_total}
 use Rattle.station_ledger.proofs.MomentEvents.{not_tied}
 use Rattle.station_ledger.proofs.by_moment.slot_of.Goals as goal
 

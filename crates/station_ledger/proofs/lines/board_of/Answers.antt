@@ -1,10 +1,7 @@
 use Rattle.std.proofs.Common.{sym, subst, ◌∙◌}
 use Rattle.event_chain.specs.Chains.{stored}
-use Rattle.ledger_model.specs.Board.{board_by}
-use Rattle.ledger_model.specs.Quarter.{IsPeriod}
-use Rattle.station_ledger.specs.Lines.{AreStationLines}
-use Rattle.station_ledger.specs.Sums.{AreEvseSums, order_in}
-use Rattle.station_ledger.proofs.BoardLines.{lines_within}
+use Rattle.ledger_model.{specs.Board.board_by, specs.Quarter.IsPeriod}
+use Rattle.station_ledger.{specs.Lines.AreStationLines, specs.Sums.{AreEvseSums, order_in}, proofs.BoardLines.lines_within}
 use Rattle.station_ledger.proofs.lines.board_of.Goals as goal
 
 -- the lines are the board's, and no line has more than the station

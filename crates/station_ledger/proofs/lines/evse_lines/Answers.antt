@@ -1,11 +1,6 @@
-use Rattle.std.proofs.Common.{◌≡◌, ◌+◌, ◌++◌, ◌<◌, ◌∷◌, [], map, sym, ap, subst, ◌∙◌, arith}
-use Rattle.std.specs.Prelude.{IfSome}
-use Rattle.std.proofs.lemmas.Option.{unwrap_or-slice_get}
-use Rattle.std.proofs.lemmas.Grind.{common_steps}
+use Rattle.std.{proofs.Common.{◌≡◌, ◌+◌, ◌++◌, ◌<◌, ◌∷◌, [], map, sym, ap, subst, ◌∙◌, arith}, specs.Prelude.IfSome, proofs.lemmas.Option.unwrap_or-slice_get, proofs.lemmas.Grind.common_steps}
 use Rattle.ledger_model.specs.Ranges.{greatest_evse}
-use Rattle.station_ledger.specs.Moved.{no_sum, sum_at}
-use Rattle.station_ledger.proofs.EvseLines.{line_at, shown_below, line_more, line_same, all_lines}
-use Rattle.station_ledger.proofs.lines.evse_lines.Goals.{then-sum-gt0+in_ok-push, else-sum-gt0}
+use Rattle.station_ledger.{specs.Moved.{no_sum, sum_at}, proofs.EvseLines.{line_at, shown_below, line_more, line_same, all_lines}, proofs.lines.evse_lines.Goals.{then-sum-gt0+in_ok-push, else-sum-gt0}}
 use Rattle.station_ledger.proofs.lines.evse_lines.Goals as goal
 
 -- the next number's line, where its EVSE has a transaction

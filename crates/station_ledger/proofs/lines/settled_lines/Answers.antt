@@ -1,14 +1,8 @@
-use Rattle.std.proofs.Common.{◌≡◌, List, map, sym, ap, subst, ◌∙◌}
-use Rattle.std.specs.Prelude.{IfOk}
+use Rattle.std.{proofs.Common.{◌≡◌, List, map, sym, ap, subst, ◌∙◌}, specs.Prelude.IfOk}
 use Rattle.event_chain.specs.Chains.{stored}
-use Rattle.ledger_model.specs.Board.{Flowed}
-use Rattle.ledger_model.specs.Periods.{Periods}
-use Rattle.ledger_model.specs.declared.settle.Settle.TheVariants.{Even}
-use Rattle.quarter_table.specs.Pairs.{board_flows_by, line_of, rows_of}
-use Rattle.quarter_table.proofs.Boards.{lines_of_station, whole_station}
-use Rattle.station_ledger.specs.Shares.{evenly}
-use Rattle.station_ledger.specs.Sums.{order_in}
-use Rattle.station_ledger.proofs.Sharing.{not_even}
+use Rattle.ledger_model.{specs.Board.Flowed, specs.Periods.Periods, specs.declared.settle.Settle.TheVariants.Even}
+use Rattle.quarter_table.{specs.Pairs.{board_flows_by, line_of, rows_of}, proofs.Boards.{lines_of_station, whole_station}}
+use Rattle.station_ledger.{specs.Shares.evenly, specs.Sums.order_in, proofs.Sharing.not_even}
 use Rattle.station_ledger.proofs.lines.settled_lines.Goals as goal
 
 -- where nothing is shared, the rows that are kept are the board's

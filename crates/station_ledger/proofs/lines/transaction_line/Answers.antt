@@ -1,13 +1,7 @@
 use Rattle.std.proofs.Common.{◌≡◌, ◌<◌, IsSome, Option, Some, unwrap_or, refl, sym, ap, subst, ◌∙◌}
 use Rattle.event_chain.specs.Chains.{stored}
-use Rattle.ledger_model.specs.Gaps.{numbers_of}
-use Rattle.ledger_model.specs.Ranges.{sequence_end}
-use Rattle.station_ledger.specs.declared.standing.Standing.{Standing}
-use Rattle.station_ledger.specs.Lines.{AreStationFlows}
-use Rattle.station_ledger.specs.Sums.{order_in}
-use Rattle.station_ledger.proofs.BoardLines.{own_flows}
-use Rattle.station_ledger.proofs.Numbered.{first_few, last_few}
-use Rattle.station_ledger.proofs.TransactionLines.{first_is_or, last_is_or}
+use Rattle.ledger_model.{specs.Gaps.numbers_of, specs.Ranges.sequence_end}
+use Rattle.station_ledger.{specs.declared.standing.Standing.Standing, specs.Lines.AreStationFlows, specs.Sums.order_in, proofs.BoardLines.own_flows, proofs.Numbered.{first_few, last_few}, proofs.TransactionLines.{first_is_or, last_is_or}}
 use Rattle.station_ledger.proofs.lines.transaction_line.Goals as goal
 
 -- what is kept is what was asked for

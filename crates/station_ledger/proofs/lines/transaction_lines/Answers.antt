@@ -1,10 +1,7 @@
-use Rattle.std.proofs.Common.{◌++◌, ◌∷◌, [], List, ℕ, map, option_map, sym, ap, ◌∙◌, arith}
-use Rattle.std.proofs.lemmas.List.{length-map, take_all}
+use Rattle.std.{proofs.Common.{◌++◌, ◌∷◌, [], List, ℕ, map, option_map, sym, ap, ◌∙◌, arith}, proofs.lemmas.List.{length-map, take_all}}
 use Rattle.event_chain.specs.Chains.{stored}
 use Rattle.ledger_model.specs.Board.{shown_by}
-use Rattle.station_ledger.specs.declared.standing.Standing.{Standing}
-use Rattle.station_ledger.specs.Sums.{order_in}
-use Rattle.station_ledger.proofs.TransactionLines.{kept_ids, found_at, line_more}
+use Rattle.station_ledger.{specs.declared.standing.Standing.Standing, specs.Sums.order_in, proofs.TransactionLines.{kept_ids, found_at, line_more}}
 use Rattle.station_ledger.proofs.lines.transaction_lines.Goals as goal
 
 -- what has an id is kept

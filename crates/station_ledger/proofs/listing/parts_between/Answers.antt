@@ -1,10 +1,5 @@
-use Rattle.std.proofs.Common.{List, sym, subst, ◌∙◌}
-use Rattle.std.specs.Prelude.{All}
-use Rattle.std.proofs.lemmas.Result.{IfOk-weaker}
-use Rattle.ledger_model.specs.Energy.{change_of}
-use Rattle.ledger_model.specs.Moment.{IsMoment}
-use Rattle.ledger_model.specs.Parts.{Part, parts_by}
-use Rattle.ledger_model.specs.Quarter.{IsPeriod, IsQuarterOf}
+use Rattle.std.{proofs.Common.{List, sym, subst, ◌∙◌}, specs.Prelude.All, proofs.lemmas.Result.IfOk-weaker}
+use Rattle.ledger_model.{specs.Energy.change_of, specs.Moment.IsMoment, specs.Parts.{Part, parts_by}, specs.Quarter.{IsPeriod, IsQuarterOf}}
 use Rattle.station_ledger.proofs.Timely.{parts_own}
 use Rattle.station_ledger.proofs.listing.parts_between.Goals as goal
 

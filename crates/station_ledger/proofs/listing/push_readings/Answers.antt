@@ -1,5 +1,4 @@
-use Rattle.std.proofs.Common.{◌≡◌, ◌+◌, ◌-◌, ◌≤◌, ◌++◌, ◌∷◌, [], append-nil, append_assoc, length, sym, ap, ◌∙◌, arith}
-use Rattle.std.proofs.lemmas.List.{length-append}
+use Rattle.std.{proofs.Common.{◌≡◌, ◌+◌, ◌-◌, ◌≤◌, ◌++◌, ◌∷◌, [], append-nil, append_assoc, length, sym, ap, ◌∙◌, arith}, proofs.lemmas.List.length-append}
 use Rattle.reading_index.specs.declared.placed.PlacedReading.{PlacedReading}
 use Rattle.station_ledger.specs.Listing.{placed_from}
 use Rattle.station_ledger.proofs.listing.push_readings.Goals as goal

@@ -1,6 +1,5 @@
 use Rattle.std.proofs.Common.{◌≡◌, ◌≤◌, ◌-◌, ◌++◌, length}
-use Rattle.station_ledger.specs.Listing.{placed_from}
-use Rattle.station_ledger.specs.Quarters.{readings_at}
+use Rattle.station_ledger.{specs.Listing.placed_from, specs.Quarters.readings_at}
 use Rattle.station_ledger.proofs.listing.push_readings.Given as goal
 
 -- the readings that are left come behind those that are listed, with the next places

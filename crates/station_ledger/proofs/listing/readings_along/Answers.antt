@@ -1,10 +1,6 @@
-use Rattle.std.proofs.Common.{◌≡◌, ◌<◌, ◌++◌, ◌∷◌, length, ap, subst, ◌∙◌}
-use Rattle.std.specs.Prelude.{IfSome}
+use Rattle.std.{proofs.Common.{◌≡◌, ◌<◌, ◌++◌, ◌∷◌, length, ap, subst, ◌∙◌}, specs.Prelude.IfSome}
 use Rattle.gap_list.specs.Walk.{left, StandsAt}
-use Rattle.station_ledger.specs.Listing.{placed_from}
-use Rattle.station_ledger.specs.Numbered.{AreNumbers}
-use Rattle.station_ledger.specs.Quarters.{readings_at}
-use Rattle.station_ledger.proofs.Sharing.{next_number, walked}
+use Rattle.station_ledger.{specs.Listing.placed_from, specs.Numbered.AreNumbers, specs.Quarters.readings_at, proofs.Sharing.{next_number, walked}}
 use Rattle.station_ledger.proofs.listing.readings_along.Goals as goal
 
 pub loop-place-preserved : goal.loop-place-preserved

@@ -1,9 +1,6 @@
-use Rattle.std.proofs.Common.{◌≡◌, ◌++◌, length}
-use Rattle.std.specs.List.{flat_map}
+use Rattle.std.{proofs.Common.{◌≡◌, ◌++◌, length}, specs.List.flat_map}
 use Rattle.gap_list.specs.Walk.{left, StandsAt}
-use Rattle.station_ledger.specs.Listing.{placed_from}
-use Rattle.station_ledger.specs.Numbered.{AreNumbers}
-use Rattle.station_ledger.specs.Quarters.{readings_at}
+use Rattle.station_ledger.{specs.Listing.placed_from, specs.Numbered.AreNumbers, specs.Quarters.readings_at}
 use Rattle.station_ledger.proofs.listing.readings_along.Given as goal
 
 -- the readings of the numbers that are left come behind those that are listed

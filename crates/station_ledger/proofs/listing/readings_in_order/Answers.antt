@@ -1,10 +1,6 @@
-use Rattle.std.proofs.Common.{◌≡◌, sym, ap, subst}
-use Rattle.std.specs.Prelude.{IfOk, IfSome}
+use Rattle.std.{proofs.Common.{◌≡◌, sym, ap, subst}, specs.Prelude.{IfOk, IfSome}, proofs.lemmas.Result.IfOk-weaker}
 use Rattle.event_chain.specs.Chains.{stored}
-use Rattle.station_ledger.specs.Listing.{placed_by}
-use Rattle.station_ledger.specs.ByMoment.{AreByMoment}
-use Rattle.station_ledger.specs.Sums.{order_in, order_of}
-use Rattle.std.proofs.lemmas.Result.{IfOk-weaker}
+use Rattle.station_ledger.{specs.Listing.placed_by, specs.ByMoment.AreByMoment, specs.Sums.{order_in, order_of}}
 use Rattle.station_ledger.proofs.listing.readings_in_order.Goals as goal
 
 pub returns-in-Some : goal.returns-in-Some

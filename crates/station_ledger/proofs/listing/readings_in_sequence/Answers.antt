@@ -1,12 +1,7 @@
-use Rattle.std.proofs.Common.{◌≡◌, ℕ, List, sym, ap, subst, ◌∙◌}
-use Rattle.std.specs.Prelude.{IfOk}
-use Rattle.std.specs.List.{flat_map}
+use Rattle.std.{proofs.Common.{◌≡◌, ℕ, List, sym, ap, subst, ◌∙◌}, specs.Prelude.IfOk, specs.List.flat_map}
 use Rattle.event_chain.specs.Chains.{stored}
 use Rattle.reading_index.specs.declared.placed.PlacedReading.{PlacedReading}
-use Rattle.station_ledger.specs.Listing.{placed_from}
-use Rattle.station_ledger.specs.Numbered.{AreNumbers}
-use Rattle.station_ledger.specs.Quarters.{readings_at}
-use Rattle.station_ledger.proofs.Sharing.{read_along, walk_numbers}
+use Rattle.station_ledger.{specs.Listing.placed_from, specs.Numbered.AreNumbers, specs.Quarters.readings_at, proofs.Sharing.{read_along, walk_numbers}}
 use Rattle.station_ledger.proofs.listing.readings_in_sequence.Goals as goal
 
 pub readings_along-requires : goal.readings_along-requires

@@ -1,9 +1,6 @@
 use Rattle.std.proofs.Common.{◌++◌, map, sym, ap, ◌∙◌}
-use Rattle.reading_index.specs.Ranks.{owner}
-use Rattle.reading_index.specs.Timed.{owned, placed_at}
-use Rattle.station_ledger.proofs.MomentLists.{placed-timed}
-use Rattle.station_ledger.proofs.Sharing.{none_in_time}
-use Rattle.station_ledger.proofs.listing.readings_in_time.Goals.{in-Some+in_ok-list, in_default}
+use Rattle.reading_index.{specs.Ranks.owner, specs.Timed.{owned, placed_at}}
+use Rattle.station_ledger.{proofs.MomentLists.placed-timed, proofs.Sharing.none_in_time, proofs.listing.readings_in_time.Goals.{in-Some+in_ok-list, in_default}}
 use Rattle.station_ledger.proofs.listing.readings_in_time.Goals as goal
 
 -- those under the slot of the transaction; without a slot it has no live event

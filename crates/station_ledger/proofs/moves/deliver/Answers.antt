@@ -2,11 +2,7 @@
 use Rattle.std.proofs.Common.{refl, sym, subst, ◌∙◌, arith}
 use Rattle.event_chain.specs.Chains.{stored}
 use Rattle.ledger_model.specs.Event.{toward}
-use Rattle.station_ledger.specs.declared.pairs.Way.TheVariants.{Coming}
-use Rattle.station_ledger.specs.Sides.{has_some}
-use Rattle.station_ledger.specs.Sums.{AreTurning, order_in}
-use Rattle.station_ledger.proofs.Commands.{delivered, delivered_there, delivered_voided, delivered_spends}
-use Rattle.station_ledger.proofs.moves.deliver.Goals.{After-look_near}
+use Rattle.station_ledger.{specs.declared.pairs.Way.TheVariants.Coming, specs.Sides.has_some, specs.Sums.{AreTurning, order_in}, proofs.Commands.{delivered, delivered_there, delivered_voided, delivered_spends}, proofs.moves.deliver.Goals.After-look_near}
 use Rattle.station_ledger.proofs.moves.deliver.Goals as goal
 
 turning : (c : After-look_near) → AreTurning Coming (stored c.args.chains.now) c.admit-around.new.self c.args.key.now c.admit-around.result (record c.args.sums.now { kept = c.look_near.new.self })

@@ -1,8 +1,7 @@
 use Rattle.std.proofs.Common.{sym, subst, arith}
 use Rattle.std.specs.FinMap as finite
 use Rattle.event_chain.specs.Chains.{stored}
-use Rattle.station_ledger.specs.Sums.{AreSummed, order_in}
-use Rattle.station_ledger.proofs.Commands.{found_voided, erased, erased_voided, some_voided, summed_same, summed_voided}
+use Rattle.station_ledger.{specs.Sums.{AreSummed, order_in}, proofs.Commands.{found_voided, erased, erased_voided, some_voided, summed_same, summed_voided}}
 use Rattle.station_ledger.proofs.moves.erase.Goals as goal
 
 pub overflow_sub-sums : goal.overflow_sub-sums

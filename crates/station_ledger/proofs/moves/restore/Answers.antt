@@ -2,10 +2,7 @@ use Rattle.std.proofs.Common.{arith}
 use Rattle.std.specs.FinMap as finite
 use Rattle.event_chain.specs.Chains.{stored}
 use Rattle.ledger_model.specs.ByDirection.{in_direction}
-use Rattle.station_ledger.specs.declared.pairs.Way.TheVariants.{Coming}
-use Rattle.station_ledger.specs.Sums.{AreTurning, order_in}
-use Rattle.station_ledger.proofs.Commands.{found_voided, restored, restored_voided, some_voided, restored_spends, summed_voided}
-use Rattle.station_ledger.proofs.moves.restore.Goals.{After-relink}
+use Rattle.station_ledger.{specs.declared.pairs.Way.TheVariants.Coming, specs.Sums.{AreTurning, order_in}, proofs.Commands.{found_voided, restored, restored_voided, some_voided, restored_spends, summed_voided}, proofs.moves.restore.Goals.After-relink}
 use Rattle.station_ledger.proofs.moves.restore.Goals as goal
 
 turning : (c : After-relink) → AreTurning Coming (stored c.args.chains.now) c.relink.new.self c.args.key.now c.around-place.result c.args.sums.now

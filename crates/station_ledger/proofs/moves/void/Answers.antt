@@ -2,10 +2,7 @@ use Rattle.std.proofs.Common.{arith}
 use Rattle.std.specs.FinMap as finite
 use Rattle.event_chain.specs.Chains.{stored}
 use Rattle.ledger_model.specs.ByDirection.{in_direction}
-use Rattle.station_ledger.specs.declared.pairs.Way.TheVariants.{Going}
-use Rattle.station_ledger.specs.Sums.{AreTurning, order_in}
-use Rattle.station_ledger.proofs.Commands.{found_live, voided, voided_voided_more, voided_spends, summed_voided}
-use Rattle.station_ledger.proofs.moves.void.Goals.{After-unlink}
+use Rattle.station_ledger.{specs.declared.pairs.Way.TheVariants.Going, specs.Sums.{AreTurning, order_in}, proofs.Commands.{found_live, voided, voided_voided_more, voided_spends, summed_voided}, proofs.moves.void.Goals.After-unlink}
 use Rattle.station_ledger.proofs.moves.void.Goals as goal
 
 turning : (c : After-unlink) → AreTurning Going (stored c.args.chains.now) c.unlink.new.self c.args.key.now c.around-place.result c.args.sums.now

@@ -1,5 +1,4 @@
-use Rattle.station_ledger.specs.Sides.{sides_between}
-use Rattle.station_ledger.proofs.Both.{may_first, may_second, did_both}
+use Rattle.station_ledger.{specs.Sides.sides_between, proofs.Both.{may_first, may_second, did_both}}
 use Rattle.station_ledger.proofs.pairs.move_both.Goals as goal
 
 pub move_own-import-requires-clause-may : goal.move_own-import-requires-clause-may

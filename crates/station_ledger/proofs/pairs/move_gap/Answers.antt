@@ -1,5 +1,4 @@
-use Rattle.station_ledger.specs.Sides.{sides_across}
-use Rattle.station_ledger.proofs.Both.{may_first, may_second, did_both}
+use Rattle.station_ledger.{specs.Sides.sides_across, proofs.Both.{may_first, may_second, did_both}}
 use Rattle.station_ledger.proofs.pairs.move_gap.Goals as goal
 
 pub move_across-import-requires : goal.move_across-import-requires

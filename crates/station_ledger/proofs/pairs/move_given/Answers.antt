@@ -1,7 +1,5 @@
-use Rattle.std.proofs.Common.{rules, ◌≡◌, ◌-◌, ◌∷◌, take, drop, length, ap, subst}
-use Rattle.std.proofs.lemmas.List.{take_rest}
-use Rattle.ledger_model.specs.Deltas.{pairs_between}
-use Rattle.ledger_model.specs.Event.{toward}
+use Rattle.std.{proofs.Common.{rules, ◌≡◌, ◌-◌, ◌∷◌, take, drop, length, ap, subst}, proofs.lemmas.List.take_rest}
+use Rattle.ledger_model.{specs.Deltas.pairs_between, specs.Event.toward}
 use Rattle.station_ledger.proofs.Walks.{IsMoving, may_first, moving_one, first_and_rest, toward_first, toward_rest}
 use Rattle.station_ledger.proofs.pairs.move_given.Goals as goal
 

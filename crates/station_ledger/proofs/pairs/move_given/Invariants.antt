@@ -1,6 +1,5 @@
 use Rattle.std.proofs.Common.{length}
-use Rattle.ledger_model.specs.Deltas.{pairs_between}
-use Rattle.ledger_model.specs.Event.{toward}
+use Rattle.ledger_model.{specs.Deltas.pairs_between, specs.Event.toward}
 use Rattle.station_ledger.proofs.Walks.{IsMoving}
 use Rattle.station_ledger.proofs.pairs.move_given.Given as goal
 

@@ -1,11 +1,8 @@
 use Rattle.std.proofs.Common.{arith, ◌∙◌, ◌∷◌, Some, ap, subst, sym}
 use Rattle.energy_flow.specs.Flow.{Energy, difference_of}
-use Rattle.ledger_model.specs.ByDirection.{flows_toward}
-use Rattle.ledger_model.specs.Deltas.{across}
-use Rattle.ledger_model.specs.Settling.{settled_at}
+use Rattle.ledger_model.{specs.ByDirection.flows_toward, specs.Deltas.across, specs.Settling.settled_at}
 use Rattle.quarter_table.specs.Pairs.{rows_of}
-use Rattle.station_ledger.specs.Quarters.{MayMove}
-use Rattle.station_ledger.proofs.Rows.{room_for_row, room_for_pair, room_for_flow, there, held, last}
+use Rattle.station_ledger.{specs.Quarters.MayMove, proofs.Rows.{room_for_row, room_for_pair, room_for_flow, there, held, last}}
 use Rattle.station_ledger.proofs.pairs.move_pair.Goals as goal
 
 pub add-requires-clause-room : goal.add-requires-clause-room

@@ -1,6 +1,5 @@
 use Rattle.ledger_model.specs.Deltas.{pairs_between}
-use Rattle.station_ledger.specs.Quarters.{readings_at}
-use Rattle.station_ledger.proofs.Walks.{IsMoving}
+use Rattle.station_ledger.{specs.Quarters.readings_at, proofs.Walks.IsMoving}
 use Rattle.station_ledger.proofs.pairs.move_stored.Given as goal
 
 -- the pairs so far, and those of the readings that are left

@@ -1,14 +1,8 @@
-use Rattle.std.proofs.Common.{List, ℕ, map, option_map, take, sym, ap, ◌∙◌, arith}
-use Rattle.std.specs.List.{flat_map}
-use Rattle.std.proofs.lemmas.List.{length-map, take_all}
+use Rattle.std.{proofs.Common.{List, ℕ, map, option_map, take, sym, ap, ◌∙◌, arith}, specs.List.flat_map, proofs.lemmas.List.{length-map, take_all}}
 use Rattle.event_chain.specs.Chains.{stored}
 use Rattle.ledger_model.specs.Energy.{followed, pairs_by}
-use Rattle.station_ledger.specs.declared.standing.Standing.{Standing}
-use Rattle.station_ledger.specs.Shares.{with_shares}
-use Rattle.station_ledger.specs.Sums.{order_in}
+use Rattle.station_ledger.{specs.declared.standing.Standing.Standing, specs.Shares.with_shares, specs.Sums.order_in, proofs.Sharing.{placed_readings, shares-append, taken_more}, proofs.TransactionLines.kept_ids}
 use Rattle.reading_index.specs.declared.placed.PlacedReading.{PlacedReading}
-use Rattle.station_ledger.proofs.Sharing.{placed_readings, shares-append, taken_more}
-use Rattle.station_ledger.proofs.TransactionLines.{kept_ids}
 use Rattle.station_ledger.proofs.shares.share_direction.Goals as goal
 
 -- the shares of the next transaction

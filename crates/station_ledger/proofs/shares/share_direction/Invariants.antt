@@ -1,9 +1,7 @@
-use Rattle.std.proofs.Common.{◌≡◌, map, take}
-use Rattle.std.specs.List.{flat_map}
+use Rattle.std.{proofs.Common.{◌≡◌, map, take}, specs.List.flat_map}
 use Rattle.event_chain.specs.Chains.{stored}
 use Rattle.ledger_model.specs.Energy.{pairs_by}
-use Rattle.station_ledger.specs.Shares.{with_shares}
-use Rattle.station_ledger.specs.Sums.{order_in}
+use Rattle.station_ledger.{specs.Shares.with_shares, specs.Sums.order_in}
 use Rattle.station_ledger.proofs.shares.share_direction.Given as goal
 
 -- the shares of the transactions so far

@@ -1,11 +1,7 @@
-use Rattle.std.proofs.Common.{◌≡◌, ◌-◌, ◌∷◌, List, None, take, drop, length, map, sym, ap, ◌∙◌}
-use Rattle.std.proofs.lemmas.List.{take_rest}
-use Rattle.ledger_model.specs.Deltas.{pairs_between}
-use Rattle.ledger_model.specs.Event.{MeterReading}
+use Rattle.std.{proofs.Common.{◌≡◌, ◌-◌, ◌∷◌, List, None, take, drop, length, map, sym, ap, ◌∙◌}, proofs.lemmas.List.take_rest}
+use Rattle.ledger_model.{specs.Deltas.pairs_between, specs.Event.MeterReading}
 use Rattle.reading_index.specs.declared.placed.PlacedReading.{PlacedReading}
-use Rattle.station_ledger.specs.Shares.{with_shares}
-use Rattle.station_ledger.proofs.Sharing.{empty, followed_between, none_left, stepped}
-use Rattle.station_ledger.proofs.Walks.{first_and_rest}
+use Rattle.station_ledger.{specs.Shares.with_shares, proofs.Sharing.{empty, followed_between, none_left, stepped}, proofs.Walks.first_and_rest}
 use Rattle.station_ledger.proofs.shares.share_row.Goals as goal
 
 readings : List PlacedReading → List MeterReading

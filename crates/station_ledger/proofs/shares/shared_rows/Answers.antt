@@ -1,11 +1,7 @@
 use Rattle.std.proofs.Common.{List, ap, ◌∙◌}
 use Rattle.event_chain.specs.Chains.{stored}
-use Rattle.ledger_model.specs.Energy.{Pair, all_pairs_by}
-use Rattle.ledger_model.specs.declared.reading.Direction.{Direction}
-use Rattle.ledger_model.specs.declared.reading.Direction.TheVariants.{Import, Export}
-use Rattle.station_ledger.specs.Shares.{with_shares}
-use Rattle.station_ledger.specs.Sums.{order_in}
-use Rattle.station_ledger.proofs.Sharing.{rows_shared}
+use Rattle.ledger_model.{specs.Energy.{Pair, all_pairs_by}, specs.declared.reading.Direction.Direction, specs.declared.reading.Direction.TheVariants.{Import, Export}}
+use Rattle.station_ledger.{specs.Shares.with_shares, specs.Sums.order_in, proofs.Sharing.rows_shared}
 use Rattle.station_ledger.proofs.shares.shared_rows.Goals as goal
 
 pub returns : goal.returns

@@ -1,8 +1,7 @@
 use Rattle.std.proofs.Common.{sym, ◌∙◌}
 use Rattle.ledger_model.specs.Complete.{kinds_of}
 use Rattle.event_chain.specs.Chains.{stored}
-use Rattle.station_ledger.specs.Standing.{starts_and_ends_by}
-use Rattle.station_ledger.proofs.EndKinds.{by_ends, not_two}
+use Rattle.station_ledger.{specs.Standing.starts_and_ends_by, proofs.EndKinds.{by_ends, not_two}}
 use Rattle.station_ledger.proofs.standing.has_ends.Goals as goal
 
 pub returns-then-end_count-ne2 : goal.returns-then-end_count-ne2

@@ -1,6 +1,5 @@
 use Rattle.std.proofs.Common.{sym, ◌∙◌}
-use Rattle.ledger_model.specs.Complete.{kinds_of, starts_and_ends}
-use Rattle.ledger_model.specs.Gaps.{numbers_of, missing}
+use Rattle.ledger_model.{specs.Complete.{kinds_of, starts_and_ends}, specs.Gaps.{numbers_of, missing}}
 use Rattle.event_chain.specs.Chains.{stored}
 use Rattle.station_ledger.proofs.EndNumbers.{none_missing, some_missing}
 use Rattle.station_ledger.proofs.standing.is_whole.Goals as goal

@@ -1,15 +1,7 @@
-use Rattle.std.proofs.Common.{◌≡◌, ◌-◌, Some, slice_get, unwrap_or, sym, ap, ◌∙◌, arith}
-use Rattle.std.proofs.lemmas.Bool.{ne_eqb}
-use Rattle.std.proofs.lemmas.List.{length-map}
-use Rattle.ledger_model.specs.Complete.{kinds_of, starts_and_ends, is_complete}
-use Rattle.ledger_model.specs.Content.{Entry, live_of}
-use Rattle.ledger_model.specs.Gaps.{numbers_of, missing}
-use Rattle.ledger_model.proofs.NumberLemmas.{numbers-AreRising}
+use Rattle.std.{proofs.Common.{◌≡◌, ◌-◌, Some, slice_get, unwrap_or, sym, ap, ◌∙◌, arith}, proofs.lemmas.Bool.ne_eqb, proofs.lemmas.List.length-map}
+use Rattle.ledger_model.{specs.Complete.{kinds_of, starts_and_ends, is_complete}, specs.Content.{Entry, live_of}, specs.Gaps.{numbers_of, missing}, proofs.NumberLemmas.numbers-AreRising}
 use Rattle.event_chain.specs.Chains.{stored}
-use Rattle.station_ledger.specs.Standing.{starts_and_ends_by}
-use Rattle.station_ledger.proofs.EndKinds.{by_ends}
-use Rattle.station_ledger.proofs.EndNumbers.{fills, first_is, none_first, none_last, none_missing, some_missing, kept_some, kept_none}
-use Rattle.station_ledger.proofs.standing.standing_of.Goals.{then-missing-eq0, else-missing-eq0, in_default-via-in-Some+in_default, in_default-via-in_default}
+use Rattle.station_ledger.{specs.Standing.starts_and_ends_by, proofs.EndKinds.by_ends, proofs.EndNumbers.{fills, first_is, none_first, none_last, none_missing, some_missing, kept_some, kept_none}, proofs.standing.standing_of.Goals.{then-missing-eq0, else-missing-eq0, in_default-via-in-Some+in_default, in_default-via-in_default}}
 use Rattle.station_ledger.proofs.standing.standing_of.Goals as goal
 
 pub overflow_sub-missing-in-Some-Some : goal.overflow_sub-missing-in-Some-Some

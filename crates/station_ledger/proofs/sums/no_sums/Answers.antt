@@ -1,7 +1,5 @@
-use Rattle.std.proofs.Common.{◌≡◌, ℕ, zero, suc, ◌+◌, ◌≤◌, List, [], ◌∷◌, ◌++◌, length, refl, sym, ap, ◌∙◌, subst}
-use Rattle.std.proofs.lemmas.List.{length_push}
-use Rattle.station_ledger.specs.declared.totals.EvseSum.{EvseSum}
-use Rattle.station_ledger.specs.Moved.{sum_at, no_sum}
+use Rattle.std.{proofs.Common.{◌≡◌, ℕ, zero, suc, ◌+◌, ◌≤◌, List, [], ◌∷◌, ◌++◌, length, refl, sym, ap, ◌∙◌, subst}, proofs.lemmas.List.length_push}
+use Rattle.station_ledger.{specs.declared.totals.EvseSum.EvseSum, specs.Moved.{sum_at, no_sum}}
 use Rattle.station_ledger.proofs.sums.no_sums.Goals as goal
 
 -- A sum of nothing put behind such sums leaves each of them one.

@@ -1,11 +1,7 @@
 use Rattle.std.proofs.Common.{IfSome, ap, subst, sym, ◌∙◌}
-use Rattle.ledger_model.specs.Energy.{flows_of_by}
-use Rattle.ledger_model.proofs.NumberLemmas.{numbers-AreRising}
-use Rattle.transaction_map.specs.Map.{Mapped}
-use Rattle.transaction_map.specs.Places.{IsAt}
-use Rattle.station_ledger.specs.Sums.{order_in, order_of}
-use Rattle.station_ledger.proofs.OneLess.{all_less}
-use Rattle.station_ledger.proofs.Settled.{turned, all_may, if_some, own_may, can_replace, replaced}
+use Rattle.ledger_model.{specs.Energy.flows_of_by, proofs.NumberLemmas.numbers-AreRising}
+use Rattle.transaction_map.{specs.Map.Mapped, specs.Places.IsAt}
+use Rattle.station_ledger.{specs.Sums.{order_in, order_of}, proofs.OneLess.all_less, proofs.Settled.{turned, all_may, if_some, own_may, can_replace, replaced}}
 use Rattle.station_ledger.proofs.sums.turn_event.Goals as goal
 
 pub standing_after-is-requires : goal.standing_after-is-requires

@@ -1,15 +1,7 @@
 use Rattle.std.proofs.Common.{ap, subst, sym, arith}
-use Rattle.event_chain.specs.Chains.{stored}
-use Rattle.event_chain.specs.Room.{readings_under}
-use Rattle.ledger_model.specs.declared.order.Order.TheVariants.{Moment}
-use Rattle.ledger_model.specs.declared.reading.Direction.TheVariants.{Import, Export}
-use Rattle.station_ledger.specs.Moved.{IsExchanged}
-use Rattle.station_ledger.specs.Quarters.{IsWork}
-use Rattle.station_ledger.specs.Runs.{by_way}
-use Rattle.station_ledger.specs.Spent.{most_turned}
-use Rattle.station_ledger.specs.Sums.{AreQuarterRows, order_of}
-use Rattle.station_ledger.proofs.Exchanges.{rows_by, turned_in_time, turned_in_turn, were}
-use Rattle.station_ledger.proofs.Settled.{gone_held, came_room, if_some, table_filled, exchanged}
+use Rattle.event_chain.{specs.Chains.stored, specs.Room.readings_under}
+use Rattle.ledger_model.{specs.declared.order.Order.TheVariants.Moment, specs.declared.reading.Direction.TheVariants.{Import, Export}}
+use Rattle.station_ledger.{specs.Moved.IsExchanged, specs.Quarters.IsWork, specs.Runs.by_way, specs.Spent.most_turned, specs.Sums.{AreQuarterRows, order_of}, proofs.Exchanges.{rows_by, turned_in_time, turned_in_turn, were}, proofs.Settled.{gone_held, came_room, if_some, table_filled, exchanged}}
 use Rattle.station_ledger.proofs.sums.turn_pairs.Goals as goal
 
 pub move_event-requires : goal.move_event-requires

@@ -1,8 +1,5 @@
 use Rattle.std.proofs.Common.{rules, ◌≡◌, ◌≤◌, ◌+◌, [], refl, sym, subst, arith, ◌∙◌}
-use Rattle.station_link.specs.declared.session.Ended.{Ended}
-use Rattle.station_link.specs.Attended.{IsAttended}
-use Rattle.station_link.proofs.Attended.{and_then, none_yet}
-use Rattle.station_link.proofs.session.answer_all.Goals.{in-Ok-true, in-Ok-false}
+use Rattle.station_link.{specs.declared.session.Ended.Ended, specs.Attended.IsAttended, proofs.Attended.{and_then, none_yet}, proofs.session.answer_all.Goals.{in-Ok-true, in-Ok-false}}
 use Rattle.station_link.proofs.session.answer_all.Goals as goal
 
 pub loop-turn-init : goal.loop-turn-init

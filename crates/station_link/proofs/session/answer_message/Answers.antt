@@ -1,7 +1,5 @@
 use Rattle.std.proofs.Common.{◌++◌, ap, ◌∙◌}
-use Rattle.station_link.specs.Answer.{reply_of}
-use Rattle.station_link.specs.Attended.{if_seen}
-use Rattle.station_link.proofs.Attended.{one_text}
+use Rattle.station_link.{specs.Answer.reply_of, specs.Attended.if_seen, proofs.Attended.one_text}
 use Rattle.station_link.proofs.session.answer_message.Goals as goal
 
 pub returns-in_err-send_reply-in-Text-clause-attended : goal.returns-in_err-send_reply-in-Text-clause-attended

@@ -1,10 +1,6 @@
 use Rattle.std.proofs.Common.{sym, ◌∙◌, ap, subst, ◌≡◌}
 use Rattle.ocppj_frame.specs.Call.{id_of, payload_of}
-use Rattle.transaction_event.specs.declared.fault.PayloadFault.TheVariants.{OutOfMemory}
-use Rattle.transaction_event.specs.Growth.{PayloadGrows}
-use Rattle.transaction_event.specs.Reply.{fault_reply}
-use Rattle.transaction_event.specs.Request.{event_reading}
-use Rattle.transaction_event.proofs.Replies.{fault_tells, fault_answers}
+use Rattle.transaction_event.{specs.declared.fault.PayloadFault.TheVariants.OutOfMemory, specs.Growth.PayloadGrows, specs.Reply.fault_reply, specs.Request.event_reading, proofs.Replies.{fault_tells, fault_answers}}
 use Rattle.transaction_event.proofs.message.event_asked.Goals as goal
 
 pub returns-in-Err-clause-meaning : goal.returns-in-Err-clause-meaning

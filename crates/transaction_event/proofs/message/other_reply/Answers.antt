@@ -1,17 +1,7 @@
-use Rattle.std.proofs.Common.{◌≡◌, ◌≢◌, ◌∙◌, ℕ, false, List, get_or, inl, inr, refl, sym, ap, arith, codes}
-use Rattle.std.specs.Prelude.{IsTrue, ◌↔◌}
-use Rattle.std.proofs.lemmas.Bool.{false≢true}
+use Rattle.std.{proofs.Common.{◌≡◌, ◌≢◌, ◌∙◌, ℕ, false, List, get_or, inl, inr, refl, sym, ap, arith, codes}, specs.Prelude.{IsTrue, ◌↔◌}, proofs.lemmas.Bool.false≢true}
 use Rattle.serde_json.specs.Data.{Data}
-use Rattle.ocppj_frame.specs.declared.action.Action.{Action}
-use Rattle.ocppj_frame.specs.declared.action.Action.TheVariants.{BootNotification, Heartbeat, StatusNotification, MeterValues, TransactionEvent}
-use Rattle.ocppj_frame.specs.declared.body.Body.{Body}
-use Rattle.ocppj_frame.specs.declared.body.Body.TheVariants.{Empty, Now, Boot}
-use Rattle.ocppj_frame.specs.Call.{id_of, action_of, payload_of}
-use Rattle.ocppj_frame.specs.Frame.{Called}
-use Rattle.ocppj_frame.specs.Reply.{call_result, heartbeat, boot, result_bytes}
-use Rattle.transaction_event.specs.Message.{Ready, called}
-use Rattle.transaction_event.specs.MessageMeaning.{IsMemoryReply}
-use Rattle.transaction_event.specs.Reply.{memory_reply}
+use Rattle.ocppj_frame.{specs.declared.action.Action.Action, specs.declared.action.Action.TheVariants.{BootNotification, Heartbeat, StatusNotification, MeterValues, TransactionEvent}, specs.declared.body.Body.Body, specs.declared.body.Body.TheVariants.{Empty, Now, Boot}, specs.Call.{id_of, action_of, payload_of}, specs.Frame.Called, specs.Reply.{call_result, heartbeat, boot, result_bytes}}
+use Rattle.transaction_event.{specs.Message.{Ready, called}, specs.MessageMeaning.IsMemoryReply, specs.Reply.memory_reply}
 use Rattle.transaction_event.proofs.message.other_reply.Goals as goal
 
 -- the result is what its call means

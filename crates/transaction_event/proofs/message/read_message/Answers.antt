@@ -1,7 +1,5 @@
 use Rattle.std.proofs.Common.{sym, ◌∙◌, subst}
-use Rattle.ocppj_frame.specs.Frame.{Frame, Called}
-use Rattle.ocppj_frame.specs.Call.{id_of, payload_of}
-use Rattle.ocppj_frame.specs.declared.action.Action.{Action}
+use Rattle.ocppj_frame.{specs.Frame.{Frame, Called}, specs.Call.{id_of, payload_of}, specs.declared.action.Action.Action}
 use Rattle.transaction_event.specs.MessageMeaning.{IsMeaningOfFrame, with_reply}
 use Rattle.transaction_event.proofs.message.read_message.Goals as goal
 

@@ -1,8 +1,6 @@
 use Rattle.std.proofs.Common.{◌≡◌}
 use Rattle.marked_json.specs.Reading.{left_of}
-use Rattle.transaction_event.specs.Steps.{for_each}
-use Rattle.transaction_event.specs.MeterValues.{meter_value}
-use Rattle.transaction_event.specs.Growth.{GrowsAmong, MeterValueGrows}
+use Rattle.transaction_event.{specs.Steps.for_each, specs.MeterValues.meter_value, specs.Growth.{GrowsAmong, MeterValueGrows}}
 use Rattle.transaction_event.proofs.meter.elements_in_turn.Given as goal
 
 -- what is still to come, from what was read so far, gives what the whole list gives, and needs more where that does

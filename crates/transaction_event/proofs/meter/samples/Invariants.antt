@@ -1,8 +1,6 @@
 use Rattle.std.proofs.Common.{◌≡◌}
 use Rattle.marked_json.specs.Reading.{left_of}
-use Rattle.transaction_event.specs.Steps.{for_each}
-use Rattle.transaction_event.specs.Sampled.{sample}
-use Rattle.transaction_event.specs.Growth.{GrowsAmong, SampleGrows}
+use Rattle.transaction_event.{specs.Steps.for_each, specs.Sampled.sample, specs.Growth.{GrowsAmong, SampleGrows}}
 use Rattle.transaction_event.proofs.meter.samples.Given as goal
 
 -- what is still to come, from what was read so far, gives what the whole list gives, and needs more where that does

@@ -1,16 +1,8 @@
-use Rattle.std.proofs.Common.{◌≡◌, ◌∙◌, ℕ, Bool, List, Option, Ok, Err, sym, ap, codes}
-use Rattle.std.proofs.lemmas.Result.{err_from_is_err_and}
+use Rattle.std.{proofs.Common.{◌≡◌, ◌∙◌, ℕ, Bool, List, Option, Ok, Err, sym, ap, codes}, proofs.lemmas.Result.err_from_is_err_and}
 use Rattle.serde_json.specs.Data.{Data}
-use Rattle.ledger_model.specs.declared.kind.Kind.{Kind}
-use Rattle.ledger_model.specs.Event.{MeterReading}
-use Rattle.ledger_model.specs.Key.{KeyName}
+use Rattle.ledger_model.{specs.declared.kind.Kind.Kind, specs.Event.MeterReading, specs.Key.KeyName}
 use Rattle.marked_json.specs.Reading.{text_of}
-use Rattle.transaction_event.specs.Member.{required}
-use Rattle.transaction_event.specs.MeterValues.{meter_values}
-use Rattle.transaction_event.specs.Request.{Request, kind_of, key_of, evse_of, has_token, request_of}
-use Rattle.transaction_event.specs.RequestMembers.{request_with}
-use Rattle.transaction_event.specs.Steps.{Checked, ◌>>=◌}
-use Rattle.transaction_event.specs.Timestamp.{timestamp}
+use Rattle.transaction_event.{specs.Member.required, specs.MeterValues.meter_values, specs.Request.{Request, kind_of, key_of, evse_of, has_token, request_of}, specs.RequestMembers.request_with, specs.Steps.{Checked, ◌>>=◌}, specs.Timestamp.timestamp}
 use Rattle.transaction_event.proofs.request.read_event.Goals as goal
 
 -- the steps that are left, from the last on

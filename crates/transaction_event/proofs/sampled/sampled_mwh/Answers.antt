@@ -1,20 +1,10 @@
 use borrow.Author.Rules.{rules}
-use Rattle.std.proofs.Common.{◌≡◌, ◌≢◌, ◌≤◌, ◌∙◌, ℕ, List, Option, option_map, Result, Ok, Err, refl, sym, ap, ap₂, codes, FitsSigned, w8}
-use Rattle.std.specs.Result.{MatchResult, IsErrAnd, IfOk, IfErr}
-use Rattle.std.proofs.lemmas.Int.{to_z-of_z}
-use Rattle.std.proofs.lemmas.Result.{err_from_is_err_and}
+use Rattle.std.{proofs.Common.{◌≡◌, ◌≢◌, ◌≤◌, ◌∙◌, ℕ, List, Option, option_map, Result, Ok, Err, refl, sym, ap, ap₂, codes, FitsSigned, w8}, specs.Result.{MatchResult, IsErrAnd, IfOk, IfErr}, proofs.lemmas.Int.to_z-of_z, proofs.lemmas.Result.err_from_is_err_and}
 use Rattle.serde_json.specs.Data.{Data}
 use Rattle.ledger_model.specs.Ranges.{greatest_reading}
 use Rattle.marked_json.specs.Reading.{node, number_of}
-use Rattle.reading_decimal.specs.declared.decimal.DecimalFault.{DecimalFault}
-use Rattle.reading_decimal.specs.Decimal.{mwh_reading}
-use Rattle.transaction_event.specs.declared.fault.PayloadFault.{PayloadFault}
-use Rattle.transaction_event.specs.declared.fault.PayloadFault.TheVariants.{Decimal, OutOfMemory}
-use Rattle.transaction_event.specs.Member.{object_of, required, optional}
-use Rattle.transaction_event.specs.Sampled.{decimal, sampled_mwh}
-use Rattle.transaction_event.specs.Scale.{Scaling, scale_of}
-use Rattle.transaction_event.specs.Steps.{Checked, ◌>>=◌}
-use Rattle.transaction_event.proofs.AdmissibleRequests.{mwh_in_range}
+use Rattle.reading_decimal.{specs.declared.decimal.DecimalFault.DecimalFault, specs.Decimal.mwh_reading}
+use Rattle.transaction_event.{specs.declared.fault.PayloadFault.PayloadFault, specs.declared.fault.PayloadFault.TheVariants.{Decimal, OutOfMemory}, specs.Member.{object_of, required, optional}, specs.Sampled.{decimal, sampled_mwh}, specs.Scale.{Scaling, scale_of}, specs.Steps.{Checked, ◌>>=◌}, proofs.AdmissibleRequests.mwh_in_range}
 use Rattle.transaction_event.proofs.sampled.sampled_mwh.Goals as goal
 
 -- the steps that are left, from the last on

@@ -1,7 +1,5 @@
-use Rattle.std.proofs.Common.{rules}
-use Rattle.std.proofs.lemmas.Fn.{always_returns_same}
-use Rattle.transaction_map.specs.Map.{id_cmp}
-use Rattle.transaction_map.proofs.Places.{searched}
+use Rattle.std.{proofs.Common.rules, proofs.lemmas.Fn.always_returns_same}
+use Rattle.transaction_map.{specs.Map.id_cmp, proofs.Places.searched}
 use Rattle.transaction_map.proofs.map.place.Goals as goal
 
 -- the closure compares a row's id, and the rows rise

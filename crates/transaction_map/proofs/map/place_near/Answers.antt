@@ -1,6 +1,5 @@
 use Rattle.std.proofs.Common.{sym, ap, ◌∙◌}
-use Rattle.transaction_map.proofs.Places.{at_from_found}
-use Rattle.transaction_map.proofs.Rising.{tied_ids}
+use Rattle.transaction_map.{proofs.Places.at_from_found, proofs.Rising.tied_ids}
 use Rattle.transaction_map.proofs.map.place_near.Goals as goal
 
 pub returns-then-is_of-clause-at : goal.returns-then-is_of-clause-at

@@ -1,5 +1,4 @@
-use Rattle.std.proofs.Common.{arith, cond, sym, ap, ◌∙◌}
-use Rattle.std.specs.List.{insert}
+use Rattle.std.{proofs.Common.{arith, cond, sym, ap, ◌∙◌}, specs.List.insert}
 use Rattle.transaction_map.proofs.Places.{at_within, gap_within, find_gap, put_gap, written}
 use Rattle.transaction_map.proofs.map.put_in.Goals as goal
 

@@ -1,20 +1,8 @@
 use Rattle.std.proofs.Common.{◌≡◌, ◌+◌, ◌<◌, ◌^◌, None, Some, false, IfSome, is_some, option_map, length, sym, ap, ◌∙◌, subst, arith}
-use Rattle.event_chain.specs.Placed.{carriers_of}
-use Rattle.ledger_model.specs.ByDirection.{in_direction}
+use Rattle.event_chain.{specs.Placed.carriers_of, specs.declared.row.TableRow.TableRow, specs.Table.{Table, row_of, with_row, IsRowAt}, specs.Chains.{Chained, stored}, specs.Room.room_of, specs.Kept.{IsEntered, IsKeyed, end_count}, specs.Flat.flat, specs.Sides.AreSides, proofs.Facts.{entries_all, enter_room, event_room, reading_room, counts_few, none_at, places_few, entered_named}, proofs.Used.unused_free, proofs.Inserts.{inserted, inserted_events}}
+use Rattle.ledger_model.{specs.ByDirection.in_direction, specs.Deltas.first_reading, specs.Event.toward}
 use Rattle.std.specs.FinMap as finite
-use Rattle.ledger_model.specs.Deltas.{first_reading}
-use Rattle.ledger_model.specs.Event.{toward}
 use Rattle.key_index.specs.Key.{rank}
-use Rattle.event_chain.specs.declared.row.TableRow.{TableRow}
-use Rattle.event_chain.specs.Table.{Table, row_of, with_row, IsRowAt}
-use Rattle.event_chain.specs.Chains.{Chained, stored}
-use Rattle.event_chain.specs.Room.{room_of}
-use Rattle.event_chain.specs.Kept.{IsEntered, IsKeyed, end_count}
-use Rattle.event_chain.specs.Flat.{flat}
-use Rattle.event_chain.specs.Sides.{AreSides}
-use Rattle.event_chain.proofs.Facts.{entries_all, enter_room, event_room, reading_room, counts_few, none_at, places_few, entered_named}
-use Rattle.event_chain.proofs.Used.{unused_free}
-use Rattle.event_chain.proofs.Inserts.{inserted, inserted_events}
 use Rattle.event_chain.proofs.chains.Chains.admit.Goals as goal
 
 pub around_of-requires-clause-keyed : goal.around_of-requires-clause-keyed

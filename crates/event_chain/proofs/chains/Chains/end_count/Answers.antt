@@ -1,10 +1,6 @@
-use Rattle.std.proofs.Common.{ℕ, sym, ap, ◌∙◌}
-use Rattle.std.specs.List.{count_by}
+use Rattle.std.{proofs.Common.{ℕ, sym, ap, ◌∙◌}, specs.List.count_by}
 use Rattle.ledger_model.specs.Complete.{kinds_of}
-use Rattle.event_chain.specs.Chains.{Chained, stored}
-use Rattle.event_chain.specs.Kept.{is_end}
-use Rattle.event_chain.proofs.Counts.{ends_counted}
-use Rattle.event_chain.proofs.Facts.{entries_all}
+use Rattle.event_chain.{specs.Chains.{Chained, stored}, specs.Kept.is_end, proofs.Counts.ends_counted, proofs.Facts.entries_all}
 use Rattle.event_chain.proofs.chains.Chains.end_count.Goals as goal
 
 pub returns : goal.returns

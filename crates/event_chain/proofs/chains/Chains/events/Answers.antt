@@ -1,10 +1,5 @@
 use Rattle.std.proofs.Common.{◌≡◌, IfOk, is_some, map, sym, ap, subst, ◌∙◌}
-use Rattle.event_chain.specs.Chains.{Chained, stored}
-use Rattle.event_chain.specs.EventLines.{events_of, line_at}
-use Rattle.event_chain.specs.Flat.{place_of, segment}
-use Rattle.event_chain.specs.Placed.{Index}
-use Rattle.event_chain.proofs.Facts.{entries_all}
-use Rattle.event_chain.proofs.Lives.{events_absent, events_under}
+use Rattle.event_chain.{specs.Chains.{Chained, stored}, specs.EventLines.{events_of, line_at}, specs.Flat.{place_of, segment}, specs.Placed.Index, proofs.Facts.entries_all, proofs.Lives.{events_absent, events_under}}
 use Rattle.event_chain.proofs.chains.Chains.events.Goals as goal
 
 pub lines_under-requires-clause-held : goal.lines_under-requires-clause-held

@@ -1,11 +1,6 @@
 use Rattle.std.proofs.Common.{subst, sym, ap, ◌∙◌}
 use Rattle.ledger_model.specs.Evse.{evse_of}
-use Rattle.event_chain.specs.Chains.{Chained, stored}
-use Rattle.event_chain.specs.Edits.{IsStored, first_under, evse_at}
-use Rattle.event_chain.specs.Kept.{is_naming}
-use Rattle.event_chain.proofs.Facts.{entries_all}
-use Rattle.event_chain.proofs.Lives.{evse_number}
-use Rattle.event_chain.proofs.Members.{all_held, first_held}
+use Rattle.event_chain.{specs.Chains.{Chained, stored}, specs.Edits.{IsStored, first_under, evse_at}, specs.Kept.is_naming, proofs.Facts.entries_all, proofs.Lives.evse_number, proofs.Members.{all_held, first_held}}
 use Rattle.event_chain.proofs.chains.Chains.evse.Goals as goal
 
 pub evse_at-requires : goal.evse_at-requires

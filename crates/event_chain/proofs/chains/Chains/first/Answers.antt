@@ -1,10 +1,6 @@
 use Rattle.std.proofs.Common.{slice_get, option_map, sym, ap, ◌∙◌}
 use Rattle.ledger_model.specs.Gaps.{numbers_of}
-use Rattle.event_chain.specs.Chains.{Chained, stored}
-use Rattle.event_chain.specs.Edits.{first_under}
-use Rattle.event_chain.specs.Walk.{number_in}
-use Rattle.event_chain.proofs.Facts.{entries_all}
-use Rattle.event_chain.proofs.Lives.{first_number}
+use Rattle.event_chain.{specs.Chains.{Chained, stored}, specs.Edits.first_under, specs.Walk.number_in, proofs.Facts.entries_all, proofs.Lives.first_number}
 use Rattle.event_chain.proofs.chains.Chains.first.Goals as goal
 
 pub returns : goal.returns

@@ -1,11 +1,6 @@
 use Rattle.std.proofs.Common.{length, ◌-◌, slice_get, option_map, sym, ap, ◌∙◌}
 use Rattle.ledger_model.specs.Gaps.{numbers_of}
-use Rattle.event_chain.specs.Chains.{Chained, stored}
-use Rattle.event_chain.specs.Edits.{last_under}
-use Rattle.event_chain.specs.Walk.{number_in}
-use Rattle.event_chain.proofs.Facts.{entries_all}
-use Rattle.event_chain.proofs.Lives.{last_number}
-use Rattle.event_chain.proofs.Rows.{row_below}
+use Rattle.event_chain.{specs.Chains.{Chained, stored}, specs.Edits.last_under, specs.Walk.number_in, proofs.Facts.entries_all, proofs.Lives.last_number, proofs.Rows.row_below}
 use Rattle.event_chain.proofs.chains.Chains.last.Goals as goal
 
 pub last_live-requires : goal.last_live-requires

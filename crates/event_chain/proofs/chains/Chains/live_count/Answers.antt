@@ -1,8 +1,6 @@
 use Rattle.std.proofs.Common.{ℕ, length, sym, ap, ◌∙◌}
 use Rattle.ledger_model.specs.Content.{live_of}
-use Rattle.event_chain.specs.Chains.{Chained, stored}
-use Rattle.event_chain.proofs.Counts.{live_counted}
-use Rattle.event_chain.proofs.Facts.{entries_all}
+use Rattle.event_chain.{specs.Chains.{Chained, stored}, proofs.Counts.live_counted, proofs.Facts.entries_all}
 use Rattle.event_chain.proofs.chains.Chains.live_count.Goals as goal
 
 pub returns : goal.returns

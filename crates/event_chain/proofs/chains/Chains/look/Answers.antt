@@ -1,10 +1,7 @@
 use Rattle.std.proofs.Common.{Option, Some, sym, ap, ◌∙◌}
 use Rattle.std.specs.FinMap as finite
 use Rattle.event_store.specs.Slots.{Held}
-use Rattle.event_chain.specs.Chains.{Chained}
-use Rattle.event_chain.specs.Flat.{stored_in, event_at}
-use Rattle.event_chain.proofs.Facts.{get_place}
-use Rattle.event_chain.proofs.Marks.{held_place}
+use Rattle.event_chain.{specs.Chains.Chained, specs.Flat.{stored_in, event_at}, proofs.Facts.get_place, proofs.Marks.held_place}
 use Rattle.event_chain.proofs.chains.Chains.look.Goals as goal
 
 pub get-requires : goal.get-requires

@@ -1,8 +1,6 @@
 use Rattle.std.proofs.Common.{sym, ap, ◌∙◌}
 use Rattle.ledger_model.specs.Deltas.{first_reading, last_reading, own_readings, before_key, behind_key}
-use Rattle.event_chain.specs.Table.{row_of}
-use Rattle.event_chain.specs.Chains.{Chained, stored}
-use Rattle.event_chain.proofs.Facts.{entries_all}
+use Rattle.event_chain.{specs.Table.row_of, specs.Chains.{Chained, stored}, proofs.Facts.entries_all}
 use Rattle.event_chain.proofs.chains.Chains.neighbours.Goals as goal
 
 pub sides_of-requires-clause-keyed : goal.sides_of-requires-clause-keyed

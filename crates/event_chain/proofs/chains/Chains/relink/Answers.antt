@@ -1,19 +1,7 @@
 use Rattle.std.proofs.Common.{ℕ, false, not, cond, ◌&&◌, is_some, refl, sym, ap, ◌∙◌, subst, arith}
 use Rattle.std.specs.FinMap as finite
-use Rattle.ledger_model.specs.ByDirection.{in_direction}
-use Rattle.ledger_model.specs.Deltas.{first_reading}
-use Rattle.ledger_model.specs.Event.{toward}
-use Rattle.ledger_model.specs.Content.{Stored}
-use Rattle.ledger_model.specs.Step.{marked}
-use Rattle.event_chain.specs.declared.row.TableRow.{TableRow}
-use Rattle.event_chain.specs.Table.{with_row}
-use Rattle.event_chain.specs.Chains.{Chained}
-use Rattle.event_chain.specs.Room.{found_of}
-use Rattle.event_chain.specs.Placed.{Index, carriers_of}
-use Rattle.event_chain.specs.Kept.{IsChains, events_of, end_count, is_end, is_live, is_carrier, is_naming}
-use Rattle.event_chain.proofs.Facts.{found_voided}
-use Rattle.event_chain.proofs.Used.{unused_voided}
-use Rattle.event_chain.proofs.Marks.{is_placed, location_event, location_here, location_within, location_voided, location_is, location_absent, location_few, in_indexes, marked_chains, marked_events}
+use Rattle.ledger_model.{specs.ByDirection.in_direction, specs.Deltas.first_reading, specs.Event.toward, specs.Content.Stored, specs.Step.marked}
+use Rattle.event_chain.{specs.declared.row.TableRow.TableRow, specs.Table.with_row, specs.Chains.Chained, specs.Room.found_of, specs.Placed.{Index, carriers_of}, specs.Kept.{IsChains, events_of, end_count, is_end, is_live, is_carrier, is_naming}, proofs.Facts.found_voided, proofs.Used.unused_voided, proofs.Marks.{is_placed, location_event, location_here, location_within, location_voided, location_is, location_absent, location_few, in_indexes, marked_chains, marked_events}}
 use Rattle.event_chain.proofs.chains.Chains.relink.Goals as goal
 
 pub locate-at-requires : goal.locate-at-requires

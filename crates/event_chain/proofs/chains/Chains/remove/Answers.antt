@@ -1,19 +1,8 @@
 use Rattle.std.proofs.Common.{◌+◌, ◌&&◌, not, List, None, is_some, set, refl, sym, ap, ◌∙◌, subst}
 use Rattle.std.specs.FinMap as finite
-use Rattle.event_chain.specs.Placed.{carriers_of}
-use Rattle.ledger_model.specs.Deltas.{first_reading}
-use Rattle.ledger_model.specs.Event.{toward}
+use Rattle.event_chain.{specs.Placed.carriers_of, specs.Chains.Chained, specs.Room.found_of, specs.Edits.out, specs.Flat.{EventPlace, flat}, specs.Kept.{events_of, is_live, is_carrier, is_naming, IsLeft}, proofs.Facts.{found_voided, seal, all_rising}, proofs.Effects.map_out, proofs.Ops.{out_chains, out_all}, proofs.Marks.{location_absent, is_placed, location_event, location_here, location_voided, location_within}}
+use Rattle.ledger_model.{specs.Deltas.first_reading, specs.Event.toward, specs.Key.key_cmp}
 use Rattle.event_store.specs.Slots.{readings_in}
-use Rattle.event_chain.specs.Chains.{Chained}
-use Rattle.event_chain.specs.Room.{found_of}
-use Rattle.event_chain.specs.Edits.{out}
-use Rattle.event_chain.specs.Flat.{EventPlace, flat}
-use Rattle.ledger_model.specs.Key.{key_cmp}
-use Rattle.event_chain.specs.Kept.{events_of, is_live, is_carrier, is_naming, IsLeft}
-use Rattle.event_chain.proofs.Facts.{found_voided, seal, all_rising}
-use Rattle.event_chain.proofs.Effects.{map_out}
-use Rattle.event_chain.proofs.Ops.{out_chains, out_all}
-use Rattle.event_chain.proofs.Marks.{location_absent, is_placed, location_event, location_here, location_voided, location_within}
 use Rattle.event_chain.proofs.chains.Chains.remove.Goals as goal
 
 pub locate-at-requires : goal.locate-at-requires

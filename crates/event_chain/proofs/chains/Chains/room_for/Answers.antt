@@ -1,9 +1,6 @@
 use Rattle.std.proofs.Common.{not, ◌&&◌, is_some, nat_le, true, false, length, refl, sym, ap, ◌∙◌, arith}
 use Rattle.std.specs.FinMap as finite
-use Rattle.event_chain.specs.Table.{row_of}
-use Rattle.event_chain.specs.Chains.{Chained}
-use Rattle.event_chain.specs.Room.{room_of}
-use Rattle.event_chain.proofs.Facts.{room_answer, le_test, more_test, lt_test, ge_test}
+use Rattle.event_chain.{specs.Table.row_of, specs.Chains.Chained, specs.Room.room_of, proofs.Facts.{room_answer, le_test, more_test, lt_test, ge_test}}
 use Rattle.event_chain.proofs.chains.Chains.room_for.Goals as goal
 
 pub returns-then-lacks_place : goal.returns-then-lacks_place

@@ -1,13 +1,5 @@
 use Rattle.std.proofs.Common.{ℕ, option_map, sym, ap, ◌∙◌, subst}
-use Rattle.event_chain.specs.Chains.{Chained, stored}
-use Rattle.event_chain.specs.Edits.{IsStored, first_under, last_under, kind_in, evse_at}
-use Rattle.event_chain.specs.Kept.{is_live, is_naming, IsTxStanding}
-use Rattle.event_chain.specs.Walk.{number_in}
-use Rattle.event_chain.proofs.Counts.{live_counted, ends_counted}
-use Rattle.event_chain.proofs.Facts.{entries_all}
-use Rattle.event_chain.proofs.Lives.{first_number, last_number, first_kind, last_kind, evse_number}
-use Rattle.event_chain.proofs.Members.{all_held, first_held, last_held}
-use Rattle.event_chain.proofs.Rows.{row_below}
+use Rattle.event_chain.{specs.Chains.{Chained, stored}, specs.Edits.{IsStored, first_under, last_under, kind_in, evse_at}, specs.Kept.{is_live, is_naming, IsTxStanding}, specs.Walk.number_in, proofs.Counts.{live_counted, ends_counted}, proofs.Facts.entries_all, proofs.Lives.{first_number, last_number, first_kind, last_kind, evse_number}, proofs.Members.{all_held, first_held, last_held}, proofs.Rows.row_below}
 use Rattle.event_chain.proofs.chains.Chains.standing.Goals as goal
 
 pub last_live-last-requires : goal.last_live-last-requires

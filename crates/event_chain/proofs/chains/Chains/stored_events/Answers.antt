@@ -1,6 +1,5 @@
 use Rattle.std.proofs.Common.{length, sym, ap, ◌∙◌}
-use Rattle.event_chain.specs.Chains.{Chained, stored}
-use Rattle.event_chain.proofs.Facts.{entries_all}
+use Rattle.event_chain.{specs.Chains.{Chained, stored}, proofs.Facts.entries_all}
 use Rattle.event_chain.proofs.chains.Chains.stored_events.Goals as goal
 
 pub returns : goal.returns

@@ -1,7 +1,6 @@
 use Rattle.std.proofs.Common.{◌≡◌, ◌-◌, sym, ap, ◌∙◌, arith}
 use Rattle.ledger_model.specs.Step.{readings_stored}
-use Rattle.event_chain.specs.Chains.{Chained, stored}
-use Rattle.event_chain.proofs.Facts.{entries_all}
+use Rattle.event_chain.{specs.Chains.{Chained, stored}, proofs.Facts.entries_all}
 use Rattle.event_chain.proofs.chains.Chains.stored_readings.Goals as goal
 
 pub returns : goal.returns

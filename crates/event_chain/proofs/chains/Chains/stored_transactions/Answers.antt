@@ -1,7 +1,6 @@
 use Rattle.std.proofs.Common.{length, sym, ap, ◌∙◌}
 use Rattle.ledger_model.specs.Content.{transactions_of}
-use Rattle.event_chain.specs.Chains.{Chained, stored}
-use Rattle.event_chain.proofs.Facts.{entries_all, ids_count}
+use Rattle.event_chain.{specs.Chains.{Chained, stored}, proofs.Facts.{entries_all, ids_count}}
 use Rattle.event_chain.proofs.chains.Chains.stored_transactions.Goals as goal
 
 pub returns : goal.returns

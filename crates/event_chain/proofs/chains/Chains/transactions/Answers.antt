@@ -1,8 +1,6 @@
 use Rattle.std.proofs.Common.{sym, ap, ◌∙◌}
 use Rattle.ledger_model.specs.Content.{transactions_of}
-use Rattle.event_chain.specs.Chains.{Chained, stored}
-use Rattle.event_chain.proofs.Facts.{entries_all}
-use Rattle.event_chain.proofs.Ids.{ids_flat}
+use Rattle.event_chain.{specs.Chains.{Chained, stored}, proofs.Facts.entries_all, proofs.Ids.ids_flat}
 use Rattle.event_chain.proofs.chains.Chains.transactions.Goals as goal
 
 pub returns : goal.returns

@@ -1,15 +1,7 @@
 use Rattle.std.proofs.Common.{ℕ, true, not, cond, Some, None, ◌&&◌, is_some, refl, sym, ap, ◌∙◌, subst, arith}
 use Rattle.std.specs.FinMap as finite
-use Rattle.ledger_model.specs.Content.{Stored}
-use Rattle.ledger_model.specs.Step.{marked}
-use Rattle.event_chain.specs.declared.row.TableRow.{TableRow}
-use Rattle.event_chain.specs.Table.{with_row}
-use Rattle.event_chain.specs.Chains.{Chained}
-use Rattle.event_chain.specs.Room.{found_of}
-use Rattle.event_chain.specs.Placed.{Index, carriers_of}
-use Rattle.event_chain.specs.Kept.{IsChains, events_of, end_count, is_end, is_live}
-use Rattle.event_chain.proofs.Facts.{found_live}
-use Rattle.event_chain.proofs.Marks.{is_placed, location_event, location_here, location_voided, location_is, location_sub, location_live, location_ends, out_indexes, marked_chains, marked_events}
+use Rattle.ledger_model.{specs.Content.Stored, specs.Step.marked}
+use Rattle.event_chain.{specs.declared.row.TableRow.TableRow, specs.Table.with_row, specs.Chains.Chained, specs.Room.found_of, specs.Placed.{Index, carriers_of}, specs.Kept.{IsChains, events_of, end_count, is_end, is_live}, proofs.Facts.found_live, proofs.Marks.{is_placed, location_event, location_here, location_voided, location_is, location_sub, location_live, location_ends, out_indexes, marked_chains, marked_events}}
 use Rattle.event_chain.proofs.chains.Chains.unlink.Goals as goal
 
 pub locate-at-requires : goal.locate-at-requires

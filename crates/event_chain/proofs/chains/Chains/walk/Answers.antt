@@ -1,11 +1,6 @@
 use Rattle.std.proofs.Common.{option_map, sym, ap, ◌∙◌}
 use Rattle.ledger_model.specs.Gaps.{numbers_of}
-use Rattle.event_chain.specs.declared.row.TableRow.{TableRow}
-use Rattle.event_chain.specs.Chains.{Chained, stored}
-use Rattle.event_chain.specs.Walk.{numbers_at}
-use Rattle.event_chain.proofs.Facts.{entries_all}
-use Rattle.event_chain.proofs.Lives.{live_numbers}
-use Rattle.event_chain.proofs.Used.{live_under}
+use Rattle.event_chain.{specs.declared.row.TableRow.TableRow, specs.Chains.{Chained, stored}, specs.Walk.numbers_at, proofs.Facts.entries_all, proofs.Lives.live_numbers, proofs.Used.live_under}
 use Rattle.event_chain.proofs.chains.Chains.walk.Goals as goal
 
 pub over-requires : goal.over-requires

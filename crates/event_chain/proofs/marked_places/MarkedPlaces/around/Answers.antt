@@ -1,8 +1,6 @@
 use Rattle.std.proofs.Common.{option_map, Some, None, sym, ap, ◌∙◌, subst}
-use Rattle.key_index.specs.Marks.{marked}
-use Rattle.key_index.specs.Entries.{below, from, first_of, last_of, AreRising}
-use Rattle.event_chain.specs.Placed.{Index, marked_places, place_in}
-use Rattle.event_chain.proofs.MarkedIndexes.{marked_below, marked_from, marked_rising, first_place_in, last_place_in}
+use Rattle.key_index.{specs.Marks.marked, specs.Entries.{below, from, first_of, last_of, AreRising}}
+use Rattle.event_chain.{specs.Placed.{Index, marked_places, place_in}, proofs.MarkedIndexes.{marked_below, marked_from, marked_rising, first_place_in, last_place_in}}
 use Rattle.event_chain.proofs.marked_places.MarkedPlaces.around.Goals as goal
 
 pub returns-in-Some-clause-before : goal.returns-in-Some-clause-before

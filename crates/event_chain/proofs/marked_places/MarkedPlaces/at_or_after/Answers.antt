@@ -1,8 +1,6 @@
 use Rattle.std.proofs.Common.{option_map, Some, None, sym, ap, ◌∙◌, subst}
-use Rattle.key_index.specs.Marks.{marked}
-use Rattle.key_index.specs.Entries.{from, first_of, AreRising}
-use Rattle.event_chain.specs.Placed.{Index, marked_places, place_in}
-use Rattle.event_chain.proofs.MarkedIndexes.{marked_from, marked_rising, first_place_in}
+use Rattle.key_index.{specs.Marks.marked, specs.Entries.{from, first_of, AreRising}}
+use Rattle.event_chain.{specs.Placed.{Index, marked_places, place_in}, proofs.MarkedIndexes.{marked_from, marked_rising, first_place_in}}
 use Rattle.event_chain.proofs.marked_places.MarkedPlaces.at_or_after.Goals as goal
 
 pub returns-in-Some-clause-first : goal.returns-in-Some-clause-first

@@ -1,8 +1,6 @@
 use Rattle.std.proofs.Common.{option_map, Some, None, sym, ap, ◌∙◌, subst}
-use Rattle.key_index.specs.Marks.{marked}
-use Rattle.key_index.specs.Entries.{below, last_of, AreRising}
-use Rattle.event_chain.specs.Placed.{Index, marked_places, place_in}
-use Rattle.event_chain.proofs.MarkedIndexes.{marked_below, marked_rising, last_place_in}
+use Rattle.key_index.{specs.Marks.marked, specs.Entries.{below, last_of, AreRising}}
+use Rattle.event_chain.{specs.Placed.{Index, marked_places, place_in}, proofs.MarkedIndexes.{marked_below, marked_rising, last_place_in}}
 use Rattle.event_chain.proofs.marked_places.MarkedPlaces.before.Goals as goal
 
 pub returns-in-Some-clause-last : goal.returns-in-Some-clause-last

@@ -1,7 +1,6 @@
 use Rattle.std.proofs.Common.{option_map, None, sym, ap, ◌∙◌, subst}
 use Rattle.key_index.specs.Entries.{from, first_of, AreRising}
-use Rattle.event_chain.specs.Placed.{Placed, place_in}
-use Rattle.event_chain.proofs.MarkedIndexes.{marked_from, marked_rising, first_place_in}
+use Rattle.event_chain.{specs.Placed.{Placed, place_in}, proofs.MarkedIndexes.{marked_from, marked_rising, first_place_in}}
 use Rattle.event_chain.proofs.place_index.PlaceIndex.first_from.Goals as goal
 
 pub returns-clause-first : goal.returns-clause-first

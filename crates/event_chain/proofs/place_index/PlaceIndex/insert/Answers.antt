@@ -1,12 +1,6 @@
-use Rattle.std.proofs.Common.{Some, sym, ap, ◌∙◌, subst, arith}
-use Rattle.std.proofs.lemmas.List.{length-map}
-use Rattle.std.specs.Ordering.{nat_cmp}
-use Rattle.std.specs.FinMap.{put}
+use Rattle.std.{proofs.Common.{Some, sym, ap, ◌∙◌, subst, arith}, proofs.lemmas.List.length-map, specs.Ordering.nat_cmp, specs.FinMap.put}
 use Rattle.key_index.specs.declared.filed.Mark.TheVariants.{Live}
-use Rattle.event_chain.specs.Edits.{CanPutIn, IsLiveMore}
-use Rattle.event_chain.specs.Placed.{index, marked_index, place_in, placed, Placed}
-use Rattle.event_chain.proofs.MarkedIndexes.{marked_rising, marked_absent, filed_absent, stored_more, lives_more}
-use Rattle.event_chain.proofs.Lists.{listed_put, listed_same}
+use Rattle.event_chain.{specs.Edits.{CanPutIn, IsLiveMore}, specs.Placed.{index, marked_index, place_in, placed, Placed}, proofs.MarkedIndexes.{marked_rising, marked_absent, filed_absent, stored_more, lives_more}, proofs.Lists.{listed_put, listed_same}}
 use Rattle.event_chain.proofs.place_index.PlaceIndex.insert.Goals as goal
 
 pub link_live-requires-clause-absent : goal.link_live-requires-clause-absent

@@ -1,9 +1,6 @@
 use Rattle.std.proofs.Common.{Some, subst}
-use Rattle.key_index.specs.declared.filed.Mark.TheVariants.{Live}
-use Rattle.event_chain.specs.Lists.{AreOwn}
-use Rattle.event_chain.specs.Placed.{Placed}
-use Rattle.key_index.specs.Entries.{AreRising}
-use Rattle.event_chain.proofs.MarkedIndexes.{marked_rising}
+use Rattle.key_index.{specs.declared.filed.Mark.TheVariants.Live, specs.Entries.AreRising}
+use Rattle.event_chain.{specs.Lists.AreOwn, specs.Placed.Placed, proofs.MarkedIndexes.marked_rising}
 use Rattle.event_chain.proofs.place_index.PlaceIndex.live.Goals as goal
 
 pub returns-clause-rising : goal.returns-clause-rising

@@ -1,10 +1,6 @@
 use Rattle.std.proofs.Common.{Some, ap, ◌∙◌}
 use Rattle.key_index.specs.declared.filed.Mark.TheVariants.{Live}
-use Rattle.event_chain.specs.Flat.{place_of}
-use Rattle.event_chain.specs.Lists.{slot_after}
-use Rattle.event_chain.specs.Placed.{marked_index, Placed}
-use Rattle.event_chain.proofs.MarkedIndexes.{marked_rising}
-use Rattle.event_chain.proofs.Lists.{slot_present, next_present}
+use Rattle.event_chain.{specs.Flat.place_of, specs.Lists.slot_after, specs.Placed.{marked_index, Placed}, proofs.MarkedIndexes.marked_rising, proofs.Lists.{slot_present, next_present}}
 use Rattle.event_chain.proofs.place_index.PlaceIndex.next.Goals as goal
 
 pub next-requires : goal.next-requires

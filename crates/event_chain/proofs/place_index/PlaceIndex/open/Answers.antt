@@ -1,9 +1,7 @@
 use Rattle.std.proofs.Common.{ℕ, Some, ap, sym, subst}
-use Rattle.key_index.specs.Entries.{AreRising}
-use Rattle.key_index.specs.declared.filed.Mark.TheVariants.{Live}
+use Rattle.key_index.{specs.Entries.AreRising, specs.declared.filed.Mark.TheVariants.Live}
 use Rattle.key_index.specs.Index as keyed
-use Rattle.event_chain.specs.Placed.{marked_places, marked_index}
-use Rattle.event_chain.proofs.Lists.{listed_same, listed_none}
+use Rattle.event_chain.{specs.Placed.{marked_places, marked_index}, proofs.Lists.{listed_same, listed_none}}
 use Rattle.event_chain.proofs.place_index.PlaceIndex.open.Goals as goal
 
 pub invariant_of-result : goal.invariant_of-result

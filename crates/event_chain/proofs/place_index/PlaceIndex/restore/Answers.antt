@@ -1,11 +1,6 @@
-use Rattle.std.proofs.Common.{is_some, refl, sym, ap, ◌∙◌, subst, Some}
-use Rattle.std.specs.Ordering.{nat_cmp}
-use Rattle.std.specs.FinMap.{put}
+use Rattle.std.{proofs.Common.{is_some, refl, sym, ap, ◌∙◌, subst, Some}, specs.Ordering.nat_cmp, specs.FinMap.put}
 use Rattle.key_index.specs.declared.filed.Mark.TheVariants.{Live}
-use Rattle.event_chain.specs.Edits.{CanRestore, IsLiveMore}
-use Rattle.event_chain.specs.Placed.{index, marked_index, placed, Placed}
-use Rattle.event_chain.proofs.MarkedIndexes.{marked_rising, filed_there, live_marks, stored_stays, lives_again}
-use Rattle.event_chain.proofs.Lists.{listed_put, listed_same}
+use Rattle.event_chain.{specs.Edits.{CanRestore, IsLiveMore}, specs.Placed.{index, marked_index, placed, Placed}, proofs.MarkedIndexes.{marked_rising, filed_there, live_marks, stored_stays, lives_again}, proofs.Lists.{listed_put, listed_same}}
 use Rattle.event_chain.proofs.place_index.PlaceIndex.restore.Goals as goal
 
 pub link_live-requires-clause-absent : goal.link_live-requires-clause-absent

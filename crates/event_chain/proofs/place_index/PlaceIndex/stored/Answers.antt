@@ -1,7 +1,6 @@
 use Rattle.std.proofs.Common.{None, subst}
-use Rattle.event_chain.specs.Placed.{Placed}
+use Rattle.event_chain.{specs.Placed.Placed, proofs.MarkedIndexes.marked_rising}
 use Rattle.key_index.specs.Entries.{AreRising}
-use Rattle.event_chain.proofs.MarkedIndexes.{marked_rising}
 use Rattle.event_chain.proofs.place_index.PlaceIndex.stored.Goals as goal
 
 pub returns-clause-rising : goal.returns-clause-rising

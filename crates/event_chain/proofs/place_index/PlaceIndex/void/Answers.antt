@@ -1,12 +1,6 @@
 use Rattle.std.proofs.Common.{false, Some, is_some, refl, sym, ap, ◌∙◌, subst}
-use Rattle.event_chain.specs.Links.{linked_out}
-use Rattle.key_index.specs.declared.filed.Mark.TheVariants.{Live}
-use Rattle.key_index.specs.declared.filed.Marks.{Marks}
-use Rattle.event_chain.specs.Flat.{place_of}
-use Rattle.event_chain.specs.Edits.{out, IsLiveLess}
-use Rattle.event_chain.specs.Placed.{index, marked_index, placed, Placed}
-use Rattle.event_chain.proofs.MarkedIndexes.{marked_rising, filed_there, stored_stays, lives_less}
-use Rattle.event_chain.proofs.Lists.{sides_present, slot_present, prev_present, next_present, listed_out, listed_same}
+use Rattle.event_chain.{specs.Links.linked_out, specs.Flat.place_of, specs.Edits.{out, IsLiveLess}, specs.Placed.{index, marked_index, placed, Placed}, proofs.MarkedIndexes.{marked_rising, filed_there, stored_stays, lives_less}, proofs.Lists.{sides_present, slot_present, prev_present, next_present, listed_out, listed_same}}
+use Rattle.key_index.{specs.declared.filed.Mark.TheVariants.Live, specs.declared.filed.Marks.Marks}
 use Rattle.event_chain.proofs.place_index.PlaceIndex.void.Goals as goal
 
 abbrev unmarked : Marks

@@ -1,8 +1,5 @@
 use Rattle.std.proofs.Common.{◌≡◌, ◌<◌, ap, sym, ◌∙◌, subst, refl, arith, None}
-use Rattle.event_chain.specs.declared.row.TableRow.{TableRow}
-use Rattle.event_chain.specs.Table.{Table, IsFresh, row_of}
-use Rattle.event_chain.specs.TableKept.{IsTable, AreSpare}
-use Rattle.event_chain.proofs.TableKept.{IsTable-add, last_spare, slotted}
+use Rattle.event_chain.{specs.declared.row.TableRow.TableRow, specs.Table.{Table, IsFresh, row_of}, specs.TableKept.{IsTable, AreSpare}, proofs.TableKept.{IsTable-add, last_spare, slotted}}
 use Rattle.event_chain.proofs.table.TransactionTable.add.Goals as goal
 
 pub invariant_of-self : goal.invariant_of-self

@@ -1,6 +1,5 @@
 use Rattle.std.proofs.Common.{◌≡◌, ◌-◌, ◌≤◌, [], length, vec_capacity}
-use Rattle.event_chain.proofs.TableKept.{AreFrom}
-use Rattle.event_chain.specs.TableKept.{AreSpare}
+use Rattle.event_chain.{proofs.TableKept.AreFrom, specs.TableKept.AreSpare}
 use Rattle.event_chain.proofs.table.TransactionTable.open.Given as goal
 
 abbrev pub invariant-loop-handed : goal.invariant-loop-handed

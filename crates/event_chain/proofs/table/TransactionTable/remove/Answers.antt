@@ -1,7 +1,5 @@
 use Rattle.std.proofs.Common.{sym, ◌∙◌, subst, arith}
-use Rattle.event_chain.specs.Table.{without_row}
-use Rattle.event_chain.specs.TableKept.{IsTable}
-use Rattle.event_chain.proofs.TableKept.{IsTable-remove, slotted}
+use Rattle.event_chain.{specs.Table.without_row, specs.TableKept.IsTable, proofs.TableKept.{IsTable-remove, slotted}}
 use Rattle.event_chain.proofs.table.TransactionTable.remove.Goals as goal
 
 pub invariant_of-self : goal.invariant_of-self

@@ -1,8 +1,5 @@
 use Rattle.std.proofs.Common.{ap, sym, ◌∙◌, subst, arith, option_map}
-use Rattle.event_chain.specs.declared.row.TableRow.{TableRow}
-use Rattle.event_chain.specs.Table.{Table, row_of}
-use Rattle.event_chain.specs.TableKept.{IsTable}
-use Rattle.event_chain.proofs.TableKept.{IsTable-set, slot_there, slotted}
+use Rattle.event_chain.{specs.declared.row.TableRow.TableRow, specs.Table.{Table, row_of}, specs.TableKept.IsTable, proofs.TableKept.{IsTable-set, slot_there, slotted}}
 use Rattle.event_chain.proofs.table.TransactionTable.set_at.Goals as goal
 
 pub invariant_of-self : goal.invariant_of-self

@@ -1,9 +1,5 @@
-use Rattle.std.proofs.Common.{◌≡◌, ℕ, suc, ◌+◌, ◌<◌, List, ◌∷◌, Some, length, map, slice_get, drop, sym, ap, ◌∙◌, arith}
-use Rattle.std.proofs.lemmas.List.{length-map}
-use Rattle.std.proofs.lemmas.Option.{slice_get_within}
-use Rattle.event_chain.specs.Table.{TxRow}
-use Rattle.event_chain.proofs.Drops.{drop_some, drop_none}
-use Rattle.event_chain.proofs.tx_ids.TxIdsIterator.next.Goals.{After-copied}
+use Rattle.std.{proofs.Common.{◌≡◌, ℕ, suc, ◌+◌, ◌<◌, List, ◌∷◌, Some, length, map, slice_get, drop, sym, ap, ◌∙◌, arith}, proofs.lemmas.List.length-map, proofs.lemmas.Option.slice_get_within}
+use Rattle.event_chain.{specs.Table.TxRow, proofs.Drops.{drop_some, drop_none}, proofs.tx_ids.TxIdsIterator.next.Goals.After-copied}
 use Rattle.event_chain.proofs.tx_ids.TxIdsIterator.next.Goals as goal
 
 -- The ids of the table's rows.

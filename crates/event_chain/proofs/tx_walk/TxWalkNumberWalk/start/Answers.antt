@@ -1,9 +1,6 @@
 use Rattle.std.proofs.Common.{◌<◌, length, slice_get, sym, ap, ◌∙◌, subst}
-use Rattle.event_chain.specs.Placed.{Index}
+use Rattle.event_chain.{specs.Placed.Index, specs.Flat.segment, specs.Walk.numbers_at, proofs.Walks.{numbers_rising, start_some, start_stands, start_none}}
 use Rattle.ledger_model.specs.BoardLaws.{AreRising}
-use Rattle.event_chain.specs.Flat.{segment}
-use Rattle.event_chain.specs.Walk.{numbers_at}
-use Rattle.event_chain.proofs.Walks.{numbers_rising, start_some, start_stands, start_none}
 use Rattle.event_chain.proofs.tx_walk.TxWalkNumberWalk.start.Goals as goal
 
 pub returns-in-Some-first_place-clause-rising : goal.returns-in-Some-first_place-clause-rising

@@ -1,6 +1,5 @@
 use Rattle.std.proofs.Common.{◌≡◌, length}
-use Rattle.ledger_model.specs.Deltas.{last_reading}
-use Rattle.ledger_model.specs.Event.{toward}
+use Rattle.ledger_model.{specs.Deltas.last_reading, specs.Event.toward}
 use Rattle.event_store.proofs.Lasts.{last_or}
 use Rattle.event_store.proofs.event_ref.EventRef.last_by_all.Given as goal
 

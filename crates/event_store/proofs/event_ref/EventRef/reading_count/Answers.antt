@@ -1,6 +1,5 @@
 use Rattle.std.proofs.Common.{length, sym, ap, ◌∙◌}
-use Rattle.event_store.specs.Slots.{Held}
-use Rattle.event_store.proofs.Runs.{chain_long}
+use Rattle.event_store.{specs.Slots.Held, proofs.Runs.chain_long}
 use Rattle.event_store.proofs.event_ref.EventRef.reading_count.Goals as goal
 
 pub returns : goal.returns

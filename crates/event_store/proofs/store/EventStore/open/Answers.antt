@@ -1,6 +1,5 @@
 use Rattle.std.proofs.Common.{ap, ◌∙◌}
-use Rattle.event_store.specs.Store.{slots_in}
-use Rattle.event_store.proofs.Views.{slots_free}
+use Rattle.event_store.{specs.Store.slots_in, proofs.Views.slots_free}
 use Rattle.event_store.proofs.store.EventStore.open.Goals as goal
 
 pub returns-clause-slots : goal.returns-clause-slots

@@ -1,6 +1,5 @@
 use Rattle.std.proofs.Common.{refl, length, ap, sym, ◌∙◌, set, Some, false, ℕ}
-use Rattle.event_store.specs.Slots.{Slots}
-use Rattle.event_store.proofs.Views.{put_in}
+use Rattle.event_store.{specs.Slots.Slots, proofs.Views.put_in}
 use Rattle.event_store.proofs.store.EventStore.put.Goals as goal
 
 pub invariant_of-self : goal.invariant_of-self

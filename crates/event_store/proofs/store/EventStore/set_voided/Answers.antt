@@ -1,6 +1,5 @@
 use Rattle.std.proofs.Common.{ap}
-use Rattle.event_store.specs.Slots.{Slots}
-use Rattle.event_store.proofs.Views.{voided_slots}
+use Rattle.event_store.{specs.Slots.Slots, proofs.Views.voided_slots}
 use Rattle.event_store.proofs.store.EventStore.set_voided.Goals as goal
 
 pub returns-clause-slots : goal.returns-clause-slots

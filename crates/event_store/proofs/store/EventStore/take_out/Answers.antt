@@ -1,6 +1,5 @@
 use Rattle.std.proofs.Common.{refl, ap, ◌∙◌, set, None, arith}
-use Rattle.event_store.specs.Slots.{Slots}
-use Rattle.event_store.proofs.Views.{taken_out, slot_readings}
+use Rattle.event_store.{specs.Slots.Slots, proofs.Views.{taken_out, slot_readings}}
 use Rattle.event_store.proofs.store.EventStore.take_out.Goals as goal
 
 pub invariant_of-self : goal.invariant_of-self

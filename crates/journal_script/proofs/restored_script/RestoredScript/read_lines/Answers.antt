@@ -1,10 +1,6 @@
 use Rattle.std.proofs.Common.{◌∙◌, false, ap, subst, sym, arith}
-use Rattle.script_lines.specs.declared.line_reader.LineEnd.TheVariants.{Feed}
-use Rattle.script_lines.specs.Reading.{line_of}
-use Rattle.journal_script.specs.Place.{place_of}
-use Rattle.journal_script.specs.Reading.{Place, ReadsLine, held_line, read_line, read_on}
-use Rattle.journal_script.proofs.LinesRead.{Goes, goes_on, goes_same, goes_until, one_less}
-use Rattle.journal_script.proofs.Growing.{grows_on}
+use Rattle.script_lines.{specs.declared.line_reader.LineEnd.TheVariants.Feed, specs.Reading.line_of}
+use Rattle.journal_script.{specs.Place.place_of, specs.Reading.{Place, ReadsLine, held_line, read_line, read_on}, proofs.LinesRead.{Goes, goes_on, goes_same, goes_until, one_less}, proofs.Growing.grows_on}
 use Rattle.journal_script.proofs.restored_script.RestoredScript.read_lines.Goals as goal
 
 pub lines-preserved : goal.lines-preserved

@@ -1,7 +1,5 @@
 use Rattle.std.proofs.Common.{◌≡◌, ◌+◌, ◌≤◌}
-use Rattle.journal_script.specs.Restoring.{Grows}
-use Rattle.journal_script.specs.Place.{place_of, posts_of}
-use Rattle.journal_script.proofs.LinesRead.{Goes}
+use Rattle.journal_script.{specs.Restoring.Grows, specs.Place.{place_of, posts_of}, proofs.LinesRead.Goes}
 use Rattle.journal_script.proofs.restored_script.RestoredScript.read_lines.Given as goal
 
 abbrev pub invariant-lines : goal.invariant-lines

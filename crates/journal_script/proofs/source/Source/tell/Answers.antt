@@ -1,6 +1,5 @@
 use Rattle.script_lines.specs.Lines.{line_bytes}
-use Rattle.journal_script.specs.Reading.{held_line}
-use Rattle.journal_script.proofs.LinesRead.{told_line}
+use Rattle.journal_script.{specs.Reading.held_line, proofs.LinesRead.told_line}
 use Rattle.journal_script.proofs.source.Source.tell.Goals as goal
 
 pub returns-clause-step : goal.returns-clause-step

@@ -1,8 +1,5 @@
-use Rattle.std.proofs.Common.{ap, sym, ◌∙◌, subst}
-use Rattle.std.specs.Prelude.{All}
-use Rattle.std.specs.Sync.Mutex.{mutex_guard_value}
-use Rattle.kept_desk.specs.Journal.{Ledger}
-use Rattle.kept_desk.specs.Kept.{IsLeftOwn}
+use Rattle.std.{proofs.Common.{ap, sym, ◌∙◌, subst}, specs.Prelude.All, specs.Sync.Mutex.mutex_guard_value}
+use Rattle.kept_desk.{specs.Journal.Ledger, specs.Kept.IsLeftOwn}
 use Rattle.kept_desk.proofs.at_moment.AtMomentNotesKeptCellMoment.note.Goals as goal
 
 pub returns : goal.returns

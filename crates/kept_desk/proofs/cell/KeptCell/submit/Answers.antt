@@ -1,10 +1,7 @@
 use Rattle.std.proofs.Common.{[], refl, ap, sym, subst, ◌∙◌, arith}
-use Rattle.ledger_model.specs.declared.answer.Answer.TheVariants.{Repeat, Refused}
-use Rattle.ledger_model.specs.Laws.{IsAccepted}
-use Rattle.ledger_model.specs.Step.{answer}
+use Rattle.ledger_model.{specs.declared.answer.Answer.TheVariants.{Repeat, Refused}, specs.Laws.IsAccepted, specs.Step.answer}
 use Rattle.site_book.specs.Book.{Book}
-use Rattle.station_cell.specs.Settle.{cell_after}
-use Rattle.station_cell.proofs.Settled.{judged_here}
+use Rattle.station_cell.{specs.Settle.cell_after, proofs.Settled.judged_here}
 use Rattle.site_desk.proofs.Submits.{submitted}
 use Rattle.kept_desk.proofs.cell.KeptCell.submit.Goals as goal
 

@@ -1,17 +1,10 @@
 use Rattle.std.proofs.Common.{Option, ap, sym, ◌∙◌, subst}
-use Rattle.ledger_model.specs.declared.answer.Answer.{Answer}
-use Rattle.ledger_model.specs.Laws.{IsAccepted}
-use Rattle.ledger_model.specs.Step.{answer}
+use Rattle.ledger_model.{specs.declared.answer.Answer.Answer, specs.Laws.IsAccepted, specs.Step.answer}
 use Rattle.station_cell.specs.Cell.{IsInService}
 use Rattle.station_ledger.specs.Judged.{IsJudged}
 use Rattle.site_book.specs.Book.{Known}
-use Rattle.site_desk.specs.Roster.{StandsAt}
-use Rattle.site_desk.specs.Submit.{CanJudge}
-use Rattle.kept_desk.specs.Entries.{entry}
-use Rattle.kept_desk.specs.Kept.{IsReceived}
-use Rattle.kept_desk.specs.Speaking.{SpeaksOf}
-use Rattle.kept_desk.proofs.Left.{kept_more}
-use Rattle.kept_desk.proofs.Received.{received}
+use Rattle.site_desk.{specs.Roster.StandsAt, specs.Submit.CanJudge}
+use Rattle.kept_desk.{specs.Entries.entry, specs.Kept.IsReceived, specs.Speaking.SpeaksOf, proofs.Left.kept_more, proofs.Received.received}
 use Rattle.kept_desk.proofs.cell.KeptCell.submit_written.Goals as goal
 
 pub write-requires-clause-speaks : goal.write-requires-clause-speaks

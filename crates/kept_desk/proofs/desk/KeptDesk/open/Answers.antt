@@ -1,8 +1,6 @@
 use Rattle.std.proofs.Common.{length, sym, ap, ◌∙◌, subst, arith}
 use Rattle.ledger_model.specs.declared.command.Command.{Command}
-use Rattle.kept_desk.specs.Journal.{Ledger}
-use Rattle.kept_desk.specs.Opened.{AreFirst}
-use Rattle.kept_desk.proofs.Names.{named_places}
+use Rattle.kept_desk.{specs.Journal.Ledger, specs.Opened.AreFirst, proofs.Names.named_places}
 use Rattle.kept_desk.proofs.desk.KeptDesk.open.Goals as goal
 
 pub open-log-requires-clause-table : goal.open-log-requires-clause-table

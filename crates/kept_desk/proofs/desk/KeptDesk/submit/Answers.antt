@@ -1,5 +1,4 @@
-use Rattle.std.proofs.Common.{ap, sym, subst, ◌∙◌}
-use Rattle.std.specs.Prelude.{slice_get}
+use Rattle.std.{proofs.Common.{ap, sym, subst, ◌∙◌}, specs.Prelude.slice_get}
 use Rattle.site_desk.specs.Roster.{Roster}
 use Rattle.kept_desk.specs.Speaking.{SpeaksOf}
 use Rattle.kept_desk.proofs.desk.KeptDesk.submit.Goals as goal

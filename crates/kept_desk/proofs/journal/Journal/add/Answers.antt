@@ -1,11 +1,5 @@
-use Rattle.std.proofs.Common.{◌≡◌, false, [], ◌∷◌, ◌++◌, ap, sym, ◌∙◌, subst}
-use Rattle.std.proofs.lemmas.List.Elements.{All-push}
-use Rattle.kept_desk.specs.declared.entry.Entry.{Entry}
-use Rattle.kept_desk.specs.Entries.{entry}
-use Rattle.kept_desk.specs.Journal.{IsWritten, OwnEntries}
-use Rattle.kept_desk.specs.Rule.{keeping}
-use Rattle.kept_desk.specs.Speaking.{AreSpoken, SpeaksOf}
-use Rattle.kept_desk.proofs.Lines.{cut, added}
+use Rattle.std.{proofs.Common.{◌≡◌, false, [], ◌∷◌, ◌++◌, ap, sym, ◌∙◌, subst}, proofs.lemmas.List.Elements.All-push}
+use Rattle.kept_desk.{specs.declared.entry.Entry.Entry, specs.Entries.entry, specs.Journal.{IsWritten, OwnEntries}, specs.Rule.keeping, specs.Speaking.{AreSpoken, SpeaksOf}, proofs.Lines.{cut, added}}
 use Rattle.kept_desk.proofs.journal.Journal.add.Goals as goal
 
 pub invariant_of-self : goal.invariant_of-self

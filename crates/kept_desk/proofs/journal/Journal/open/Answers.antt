@@ -1,10 +1,5 @@
-use Rattle.std.proofs.Common.{[], length, ap, sym, ◌∙◌, subst}
-use Rattle.std.proofs.lemmas.List.Elements.{All-nil}
-use Rattle.kept_desk.specs.declared.entry.Entry.{Entry}
-use Rattle.kept_desk.specs.Held.{Sits}
-use Rattle.kept_desk.specs.Rule.{keeping}
-use Rattle.kept_desk.specs.Speaking.{AreSpoken, SpeaksOf}
-use Rattle.kept_desk.proofs.Lines.{none}
+use Rattle.std.{proofs.Common.{[], length, ap, sym, ◌∙◌, subst}, proofs.lemmas.List.Elements.All-nil}
+use Rattle.kept_desk.{specs.declared.entry.Entry.Entry, specs.Held.Sits, specs.Rule.keeping, specs.Speaking.{AreSpoken, SpeaksOf}, proofs.Lines.none}
 use Rattle.kept_desk.proofs.journal.Journal.open.Goals as goal
 
 pub invariant_of-result : goal.invariant_of-result

@@ -1,6 +1,5 @@
 use Rattle.std.proofs.Common.{ap, ◌∙◌}
-use Rattle.key_index.specs.Entries.{below, from, first_of, last_of}
-use Rattle.key_index.specs.Marks.{marked}
+use Rattle.key_index.{specs.Entries.{below, from, first_of, last_of}, specs.Marks.marked}
 use Rattle.key_index.proofs.index.KeyIndex.around_marked.Goals as goal
 
 pub returns-clause-before : goal.returns-clause-before

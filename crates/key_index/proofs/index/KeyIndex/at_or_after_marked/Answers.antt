@@ -1,6 +1,5 @@
 use Rattle.std.proofs.Common.{ap, ◌∙◌}
-use Rattle.key_index.specs.Entries.{from, first_of}
-use Rattle.key_index.specs.Marks.{marked}
+use Rattle.key_index.{specs.Entries.{from, first_of}, specs.Marks.marked}
 use Rattle.key_index.proofs.index.KeyIndex.at_or_after_marked.Goals as goal
 
 pub returns : goal.returns

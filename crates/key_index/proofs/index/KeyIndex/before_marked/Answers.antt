@@ -1,6 +1,5 @@
 use Rattle.std.proofs.Common.{ap, ◌∙◌}
-use Rattle.key_index.specs.Entries.{below, last_of}
-use Rattle.key_index.specs.Marks.{marked}
+use Rattle.key_index.{specs.Entries.{below, last_of}, specs.Marks.marked}
 use Rattle.key_index.proofs.index.KeyIndex.before_marked.Goals as goal
 
 pub returns : goal.returns

@@ -1,5 +1,4 @@
-use Rattle.std.proofs.Common.{◌≤◌, Some, arith, sym, ap, ◌∙◌}
-use Rattle.std.proofs.lemmas.Bool.Decides.{nat_tests}
+use Rattle.std.{proofs.Common.{◌≤◌, Some, arith, sym, ap, ◌∙◌}, proofs.lemmas.Bool.Decides.nat_tests}
 use Rattle.key_index.proofs.Orders.{first_filed}
 use Rattle.key_index.proofs.index.KeyIndex.get.Goals as goal
 

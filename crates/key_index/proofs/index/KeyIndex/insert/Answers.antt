@@ -1,11 +1,5 @@
-use Rattle.std.proofs.Common.{◌≡◌, ◌<◌, ◌++◌, ◌∷◌, [], None, length, get_or, subst, sym, ap, ◌∙◌, arith, length-set}
-use Rattle.std.specs.List.{insert}
-use Rattle.std.proofs.lemmas.List.Edits.{length-insert}
-use Rattle.key_index.specs.Entries.{below, from, filed_at, AreRising}
-use Rattle.key_index.specs.Leaves.{all_of, AreFilled}
-use Rattle.key_index.proofs.Edits.{filled_round, filled_set}
-use Rattle.key_index.proofs.Cuts.{rising_put, length_put}
-use Rattle.key_index.proofs.Placing.{put_place}
+use Rattle.std.{proofs.Common.{◌≡◌, ◌<◌, ◌++◌, ◌∷◌, [], None, length, get_or, subst, sym, ap, ◌∙◌, arith, length-set}, specs.List.insert, proofs.lemmas.List.Edits.length-insert}
+use Rattle.key_index.{specs.Entries.{below, from, filed_at, AreRising}, specs.Leaves.{all_of, AreFilled}, proofs.Edits.{filled_round, filled_set}, proofs.Cuts.{rising_put, length_put}, proofs.Placing.put_place}
 use Rattle.key_index.proofs.index.KeyIndex.insert.Goals as goal
 
 pub returns-then-len-lt-LEAF_SIZE-clause-entries : goal.returns-then-len-lt-LEAF_SIZE-clause-entries

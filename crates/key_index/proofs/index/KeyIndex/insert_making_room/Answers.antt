@@ -1,11 +1,5 @@
-use Rattle.std.proofs.Common.{◌≡◌, ℕ, ◌<◌, List, ◌++◌, ◌∷◌, [], None, length, get_or, set, subst, sym, ap, ◌∙◌, arith, length-set}
-use Rattle.std.proofs.lemmas.List.Edits.{length-insert}
-use Rattle.std.specs.List.{insert}
-use Rattle.key_index.specs.Entries.{Entry, below, from, filed_at, AreRising}
-use Rattle.key_index.specs.Leaves.{all_of, AreFilled}
-use Rattle.key_index.proofs.Orders.{below_within}
-use Rattle.key_index.proofs.Edits.{filled_set}
-use Rattle.key_index.proofs.Cuts.{rising_leaf, put_all, rising_put, length_put}
+use Rattle.std.{proofs.Common.{◌≡◌, ℕ, ◌<◌, List, ◌++◌, ◌∷◌, [], None, length, get_or, set, subst, sym, ap, ◌∙◌, arith, length-set}, proofs.lemmas.List.Edits.length-insert, specs.List.insert}
+use Rattle.key_index.{specs.Entries.{Entry, below, from, filed_at, AreRising}, specs.Leaves.{all_of, AreFilled}, proofs.Orders.below_within, proofs.Edits.filled_set, proofs.Cuts.{rising_leaf, put_all, rising_put, length_put}}
 use Rattle.key_index.proofs.index.KeyIndex.insert_making_room.Goals as goal
 
 -- An entry put in, given by its parts.

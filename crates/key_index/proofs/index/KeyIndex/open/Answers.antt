@@ -1,6 +1,5 @@
 use Rattle.std.proofs.Common.{[], ◌∷◌, length, subst, sym, ap, arith, length-append}
-use Rattle.key_index.specs.Leaves.{AreEmpty}
-use Rattle.key_index.proofs.Edits.{empty_more}
+use Rattle.key_index.{specs.Leaves.AreEmpty, proofs.Edits.empty_more}
 use Rattle.key_index.proofs.index.KeyIndex.open.Goals as goal
 
 pub loop-preserved : goal.loop-preserved

@@ -1,5 +1,4 @@
-use Rattle.std.proofs.Common.{◌≡◌, ◌≤◌, length}
-use Rattle.std.specs.Vec.{vec_capacity}
+use Rattle.std.{proofs.Common.{◌≡◌, ◌≤◌, length}, specs.Vec.vec_capacity}
 use Rattle.key_index.specs.Leaves.{AreEmpty}
 use Rattle.key_index.proofs.index.KeyIndex.open.Given as goal
 

@@ -1,9 +1,5 @@
-use Rattle.std.proofs.Common.{◌≡◌, ◌<◌, ◌++◌, suc, true, [], is_some, length, take, drop, get_or, subst, sym, ap, ◌∙◌, arith, length-set, length-append}
-use Rattle.std.specs.List.{remove}
-use Rattle.key_index.specs.Entries.{below, from, filed_at, AreRising}
-use Rattle.key_index.specs.Leaves.{all_of, AreFilled}
-use Rattle.key_index.proofs.Edits.{filled_round}
-use Rattle.key_index.proofs.Cuts.{rising_leaf, from_at, out_all, present_in, place_within, set_round, rising_out, length_out}
+use Rattle.std.{proofs.Common.{◌≡◌, ◌<◌, ◌++◌, suc, true, [], is_some, length, take, drop, get_or, subst, sym, ap, ◌∙◌, arith, length-set, length-append}, specs.List.remove}
+use Rattle.key_index.{specs.Entries.{below, from, filed_at, AreRising}, specs.Leaves.{all_of, AreFilled}, proofs.Edits.filled_round, proofs.Cuts.{rising_leaf, from_at, out_all, present_in, place_within, set_round, rising_out, length_out}}
 use Rattle.key_index.proofs.index.KeyIndex.remove.Goals as goal
 
 pub take_out-requires : goal.take_out-requires

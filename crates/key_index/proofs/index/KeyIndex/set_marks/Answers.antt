@@ -1,12 +1,5 @@
 use Rattle.std.proofs.Common.{◌≡◌, ◌++◌, suc, true, [], is_some, length, drop, get_or, subst, sym, ap, ◌∙◌, arith, length-set, length-append}
-use Rattle.key_index.specs.Entries.{below, from, filed_at, AreRising}
-use Rattle.key_index.specs.Leaves.{all_of, AreFilled}
-use Rattle.key_index.specs.Marks.{mark_at}
-use Rattle.key_index.proofs.Orders.{cut_whole}
-use Rattle.key_index.proofs.Edits.{filled_round, filled_set}
-use Rattle.key_index.proofs.Cuts.{rising_leaf, from_at, present_in, place_within}
-use Rattle.key_index.proofs.Counting.{length-mark_at}
-use Rattle.key_index.proofs.Placing.{mark_all, rising_mark}
+use Rattle.key_index.{specs.Entries.{below, from, filed_at, AreRising}, specs.Leaves.{all_of, AreFilled}, specs.Marks.mark_at, proofs.Orders.cut_whole, proofs.Edits.{filled_round, filled_set}, proofs.Cuts.{rising_leaf, from_at, present_in, place_within}, proofs.Counting.length-mark_at, proofs.Placing.{mark_all, rising_mark}}
 use Rattle.key_index.proofs.index.KeyIndex.set_marks.Goals as goal
 
 pub mark-requires : goal.mark-requires

@@ -1,7 +1,5 @@
 use Rattle.std.proofs.Common.{◌≡◌, length, drop, ap, sym, ◌∙◌, arith}
-use Rattle.key_index.specs.Entries.{first_of}
-use Rattle.key_index.specs.Marks.{marked}
-use Rattle.key_index.proofs.Nearest.{none_back}
+use Rattle.key_index.{specs.Entries.first_of, specs.Marks.marked, proofs.Nearest.none_back}
 use Rattle.key_index.proofs.leaf.Leaf.first_marked.Goals as goal
 
 pub returns-then-of-eq0 : goal.returns-then-of-eq0

@@ -1,9 +1,5 @@
-use Rattle.std.proofs.Common.{◌≡◌, ◌+◌, ◌≤◌, length, set, ap, ◌∙◌, arith}
-use Rattle.std.specs.List.{copy_within, insert}
-use Rattle.std.proofs.lemmas.List.Edits.{length-insert}
-use Rattle.key_index.specs.Marks.{has_mark, marked, weigh}
-use Rattle.key_index.proofs.Counting.{count_within, count_put}
-use Rattle.key_index.proofs.Edits.{put_between}
+use Rattle.std.{proofs.Common.{◌≡◌, ◌+◌, ◌≤◌, length, set, ap, ◌∙◌, arith}, specs.List.{copy_within, insert}, proofs.lemmas.List.Edits.length-insert}
+use Rattle.key_index.{specs.Marks.{has_mark, marked, weigh}, proofs.Counting.{count_within, count_put}, proofs.Edits.put_between}
 use Rattle.key_index.proofs.leaf.Leaf.insert.Goals as goal
 
 pub more-self-inside-requires : goal.more-self-inside-requires

@@ -1,7 +1,5 @@
 use Rattle.std.proofs.Common.{◌≡◌, ◌<◌, ◌-◌, length, take, ap, sym, ◌∙◌, arith}
-use Rattle.key_index.specs.Entries.{last_of}
-use Rattle.key_index.specs.Marks.{has_mark, marked}
-use Rattle.key_index.proofs.Nearest.{last_found, none_front}
+use Rattle.key_index.{specs.Entries.last_of, specs.Marks.{has_mark, marked}, proofs.Nearest.{last_found, none_front}}
 use Rattle.key_index.proofs.leaf.Leaf.last_marked.Goals as goal
 
 pub returns-then-of-eq0 : goal.returns-then-of-eq0

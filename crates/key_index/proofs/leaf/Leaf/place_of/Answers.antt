@@ -1,7 +1,5 @@
-use Rattle.std.proofs.Common.{◌+◌, ◌-◌, ◌/◌, ◌<◌, ◌≤◌, length, get_or, subst, sym, arith}
-use Rattle.std.proofs.lemmas.Bool.Decides.{nat_tests}
-use Rattle.key_index.specs.Entries.{AreRising}
-use Rattle.key_index.proofs.Orders.{place_more, place_less, below_within}
+use Rattle.std.{proofs.Common.{◌+◌, ◌-◌, ◌/◌, ◌<◌, ◌≤◌, length, get_or, subst, sym, arith}, proofs.lemmas.Bool.Decides.nat_tests}
+use Rattle.key_index.{specs.Entries.AreRising, proofs.Orders.{place_more, place_less, below_within}}
 use Rattle.key_index.proofs.leaf.Leaf.place_of.Goals as goal
 
 pub loop-low-init : goal.loop-low-init

@@ -1,7 +1,5 @@
-use Rattle.std.proofs.Common.{◌<◌, length, ap, arith}
-use Rattle.std.proofs.lemmas.List.Edits.{length-remove}
-use Rattle.key_index.specs.Marks.{has_mark, marked, weigh}
-use Rattle.key_index.proofs.Counting.{count_out, count_has}
+use Rattle.std.{proofs.Common.{◌<◌, length, ap, arith}, proofs.lemmas.List.Edits.length-remove}
+use Rattle.key_index.{specs.Marks.{has_mark, marked, weigh}, proofs.Counting.{count_out, count_has}}
 use Rattle.key_index.proofs.leaf.Leaf.remove.Goals as goal
 
 pub less-self-inside-requires : goal.less-self-inside-requires

@@ -1,6 +1,5 @@
 use Rattle.std.proofs.Common.{◌≡◌, ◌<◌, length, set, ap, ◌∙◌, arith, length-set}
-use Rattle.key_index.specs.Marks.{has_mark, marked, mark_at, weigh}
-use Rattle.key_index.proofs.Counting.{count_within, count_has, count_set, set_mark}
+use Rattle.key_index.{specs.Marks.{has_mark, marked, mark_at, weigh}, proofs.Counting.{count_within, count_has, count_set, set_mark}}
 use Rattle.key_index.proofs.leaf.Leaf.set_marks.Goals as goal
 
 pub less-requires : goal.less-requires

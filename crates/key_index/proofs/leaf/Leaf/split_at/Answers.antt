@@ -1,6 +1,5 @@
 use Rattle.std.proofs.Common.{length, ap, arith, length-take}
-use Rattle.key_index.specs.Marks.{marked}
-use Rattle.key_index.proofs.Counting.{count_cut, count_rest}
+use Rattle.key_index.{specs.Marks.marked, proofs.Counting.{count_cut, count_rest}}
 use Rattle.key_index.proofs.leaf.Leaf.split_at.Goals as goal
 
 pub minus-self-inside-requires : goal.minus-self-inside-requires

@@ -1,5 +1,4 @@
-use Rattle.ledger_model.proofs.GapLemmas.{gaps-AreGaps, gaps-only, missing-fills}
-use Rattle.ledger_model.proofs.NumberLemmas.{numbers-AreRising}
+use Rattle.ledger_model.{proofs.GapLemmas.{gaps-AreGaps, gaps-only, missing-fills}, proofs.NumberLemmas.numbers-AreRising}
 use Rattle.ledger_model.proofs.laws.board.gaps_are_missing_numbers.Goals as goal
 
 pub returns : goal.returns

@@ -1,6 +1,4 @@
-use Rattle.ledger_model.proofs.EnergyLemmas.{quarters_shown, quarters_rise, evses_shown, evses_rise}
-use Rattle.ledger_model.proofs.TransactionLemmas.{transactions-any, transactions_rise}
-use Rattle.ledger_model.specs.Content.{live}
+use Rattle.ledger_model.{proofs.EnergyLemmas.{quarters_shown, quarters_rise, evses_shown, evses_rise}, proofs.TransactionLemmas.{transactions-any, transactions_rise}, specs.Content.live}
 use Rattle.ledger_model.proofs.laws.board.shown_once_and_rising.Goals as goal
 
 pub returns : goal.returns

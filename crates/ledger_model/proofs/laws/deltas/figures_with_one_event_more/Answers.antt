@@ -1,5 +1,4 @@
-use Rattle.ledger_model.proofs.OneMore.{evse_counts}
-use Rattle.ledger_model.proofs.OneMoreFigures.{events_more, transactions_more, complete_more, missing_more, voided_delivered, voided_restored, voided_voided, voided_erased}
+use Rattle.ledger_model.{proofs.OneMore.evse_counts, proofs.OneMoreFigures.{events_more, transactions_more, complete_more, missing_more, voided_delivered, voided_restored, voided_voided, voided_erased}}
 use Rattle.ledger_model.proofs.laws.deltas.figures_with_one_event_more.Goals as goal
 
 pub returns : goal.returns

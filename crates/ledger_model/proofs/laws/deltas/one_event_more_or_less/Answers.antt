@@ -1,5 +1,4 @@
-use Rattle.ledger_model.proofs.KeysByNumber.{own_before_key, own_behind_key}
-use Rattle.ledger_model.proofs.OneMoreByCommand.{delivered_more, restored_more, voided_less, erased_same}
+use Rattle.ledger_model.{proofs.KeysByNumber.{own_before_key, own_behind_key}, proofs.OneMoreByCommand.{delivered_more, restored_more, voided_less, erased_same}}
 use Rattle.ledger_model.proofs.laws.deltas.one_event_more_or_less.Goals as goal
 
 pub returns : goal.returns

@@ -1,5 +1,4 @@
-use Rattle.ledger_model.specs.Deltas.{first_reading, last_reading}
-use Rattle.ledger_model.proofs.Splices.{followed_cut, followed_sums, few_across, few_between}
+use Rattle.ledger_model.{specs.Deltas.{first_reading, last_reading}, proofs.Splices.{followed_cut, followed_sums, few_across, few_between}}
 use Rattle.ledger_model.proofs.laws.deltas.pairs_of_readings_put_in.Goals as goal
 
 pub returns : goal.returns

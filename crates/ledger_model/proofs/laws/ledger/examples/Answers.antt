@@ -1,7 +1,5 @@
 use Rattle.std.proofs.Common.{refl}
-use Rattle.ledger_model.specs.Limits.{default_limits}
-use Rattle.ledger_model.specs.Examples.{narrow_limits, first_run, late_event, falling_register, conflict, other_direction, void_and_restore, full_until_erased}
-use Rattle.ledger_model.proofs.Examples.{energy_after, answers_to}
+use Rattle.ledger_model.{specs.Limits.default_limits, specs.Examples.{narrow_limits, first_run, late_event, falling_register, conflict, other_direction, void_and_restore, full_until_erased}, proofs.Examples.{energy_after, answers_to}}
 use Rattle.ledger_model.proofs.laws.ledger.examples.Goals as goal
 
 pub returns-clause-first_run : goal.returns-clause-first_run

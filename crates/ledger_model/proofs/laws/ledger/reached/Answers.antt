@@ -1,6 +1,4 @@
-use Rattle.ledger_model.proofs.ReachedContents.{run_of, reached_by, counts, few_changes}
-use Rattle.ledger_model.proofs.Bounds.{AreKept-reached}
-use Rattle.ledger_model.proofs.FigureBounds.{figures_within}
+use Rattle.ledger_model.{proofs.ReachedContents.{run_of, reached_by, counts, few_changes}, proofs.Bounds.AreKept-reached, proofs.FigureBounds.figures_within}
 use Rattle.ledger_model.proofs.laws.ledger.reached.Goals as goal
 
 pub returns-clause-run : goal.returns-clause-run

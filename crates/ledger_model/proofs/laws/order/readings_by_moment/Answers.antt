@@ -1,5 +1,4 @@
-use Rattle.ledger_model.specs.ReadingOrder.{taken_when}
-use Rattle.ledger_model.proofs.InTimeLemmas.{in_time-rises, in_time-stable, in_time-only, in_time-sum, in_time-same, in_time-passed}
+use Rattle.ledger_model.{specs.ReadingOrder.taken_when, proofs.InTimeLemmas.{in_time-rises, in_time-stable, in_time-only, in_time-sum, in_time-same, in_time-passed}}
 use Rattle.ledger_model.proofs.laws.order.readings_by_moment.Goals as goal
 
 pub returns : goal.returns

@@ -1,5 +1,4 @@
-use Rattle.std.proofs.Common.{◌<◌, length, sym, ◌∙◌, arith}
-use Rattle.std.proofs.lemmas.Bool.Decides.{nat_tests}
+use Rattle.std.{proofs.Common.{◌<◌, length, sym, ◌∙◌, arith}, proofs.lemmas.Bool.Decides.nat_tests}
 use Rattle.ledger_model.proofs.Ids.{IsFoldedId-from_parts}
 use Rattle.ledger_model.proofs.tx_id.TxId.new.Goals as goal
 

@@ -1,5 +1,4 @@
-use Rattle.std.proofs.Common.{All, subst, sym}
-use Rattle.std.proofs.lemmas.List.Elements.{All-nil}
+use Rattle.std.{proofs.Common.{All, subst, sym}, proofs.lemmas.List.Elements.All-nil}
 use Rattle.live_server.specs.Browsing.{IsSeenWithBoards}
 use Rattle.live_server.proofs.shared.Shared.serve_boards.Goals as goal
 

@@ -1,9 +1,6 @@
-use Rattle.std.proofs.Common.{◌≡◌, Some, None, map, ap, sym, ◌∙◌}
-use Rattle.std.specs.Prelude.{option_and_then}
-use Rattle.serde_json.specs.Find.{as_object}
-use Rattle.serde_json.specs.View.{members_view}
-use Rattle.marked_json.specs.Reading.{node, unless_null}
-use Rattle.marked_json.proofs.WantedMembers.{found_at_end, fields_within, fields_of_none}
+use Rattle.std.{proofs.Common.{◌≡◌, Some, None, map, ap, sym, ◌∙◌}, specs.Prelude.option_and_then}
+use Rattle.serde_json.{specs.Find.as_object, specs.View.members_view}
+use Rattle.marked_json.{specs.Reading.{node, unless_null}, proofs.WantedMembers.{found_at_end, fields_within, fields_of_none}}
 use Rattle.marked_json.proofs.node.Node.find.Goals as goal
 
 pub returns-in-Some : goal.returns-in-Some

@@ -1,8 +1,6 @@
 use Rattle.std.proofs.Common.{◌≡◌, ap, ◌∙◌, sym, map, option_map, Some}
-use Rattle.serde_json.specs.Find.{as_array}
-use Rattle.serde_json.specs.View.{view, items_view}
-use Rattle.marked_json.specs.Reading.{list_of, node}
-use Rattle.marked_json.proofs.Places.{list_of-items_of}
+use Rattle.serde_json.{specs.Find.as_array, specs.View.{view, items_view}}
+use Rattle.marked_json.{specs.Reading.{list_of, node}, proofs.Places.list_of-items_of}
 use Rattle.marked_json.proofs.node.Node.items.Goals as goal
 
 pub returns : goal.returns

@@ -1,8 +1,6 @@
-use Rattle.std.proofs.Common.{◌≡◌, ◌<◌, ap, ◌∙◌, sym, option_map, option_and_then, Some, arith}
-use Rattle.std.proofs.lemmas.Str.Pattern.{strip_prefix_char}
+use Rattle.std.{proofs.Common.{◌≡◌, ◌<◌, ap, ◌∙◌, sym, option_map, option_and_then, Some, arith}, proofs.lemmas.Str.Pattern.strip_prefix_char}
 use Rattle.serde_json.specs.Find.{as_str}
-use Rattle.marked_json.specs.Reading.{behind_mark, node}
-use Rattle.marked_json.proofs.Places.{behind_mark-strip}
+use Rattle.marked_json.{specs.Reading.{behind_mark, node}, proofs.Places.behind_mark-strip}
 use Rattle.marked_json.proofs.node.Node.text.Goals as goal
 
 pub returns : goal.returns

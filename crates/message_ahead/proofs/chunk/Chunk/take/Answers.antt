@@ -1,8 +1,5 @@
-use Rattle.std.proofs.Common.{ap, sym, subst, ◌∙◌, Some}
-use Rattle.std.proofs.lemmas.List.Elements.{All-pop}
-use Rattle.std.specs.Arc.{arc_value}
-use Rattle.message_ahead.specs.Ahead.{IsFound}
-use Rattle.message_ahead.specs.declared.pieces.Pieces.{Pieces}
+use Rattle.std.{proofs.Common.{ap, sym, subst, ◌∙◌, Some}, proofs.lemmas.List.Elements.All-pop, specs.Arc.arc_value}
+use Rattle.message_ahead.{specs.Ahead.IsFound, specs.declared.pieces.Pieces.Pieces}
 use Rattle.message_ahead.proofs.chunk.Chunk.take.Goals as goal
 
 pub sent_by-requires : goal.sent_by-requires

@@ -1,5 +1,4 @@
-use Rattle.std.proofs.Common.{All, length}
-use Rattle.std.specs.Arc.{arc_value}
+use Rattle.std.{proofs.Common.{All, length}, specs.Arc.arc_value}
 use Rattle.message_ahead.specs.Ahead.{IsFound}
 use Rattle.message_ahead.proofs.chunk.Chunk.take.Given as goal
 

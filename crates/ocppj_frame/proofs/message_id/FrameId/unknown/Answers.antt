@@ -1,7 +1,5 @@
-use Rattle.std.proofs.Common.{◌≤◌, codes, lit≤}
-use Rattle.std.specs.Str.{chars}
-use Rattle.ocppj_frame.specs.Reply.{character_count}
-use Rattle.ocppj_frame.specs.Ranges.{longest_message_id}
+use Rattle.std.{proofs.Common.{◌≤◌, codes, lit≤}, specs.Str.chars}
+use Rattle.ocppj_frame.{specs.Reply.character_count, specs.Ranges.longest_message_id}
 use Rattle.ocppj_frame.proofs.message_id.FrameId.unknown.Goals as goal
 
 -- `-1` is two characters

@@ -1,9 +1,6 @@
 use Rattle.std.proofs.Common.{◌≡◌, ◌<◌, subst, sym, ap, ◌∙◌, arith, length-set}
 use Rattle.ledger_model.specs.ByDirection.{flows_toward, minus_flows, CanMinusFlows}
-use Rattle.quarter_table.specs.declared.row.QuarterRow.{QuarterRow}
-use Rattle.quarter_table.specs.Rows.{row_at, without_pair, set_row, AreInOrder, HavePairs}
-use Rattle.quarter_table.proofs.Replaced.{order_set, pairs_set}
-use Rattle.quarter_table.proofs.Changes.{row_read, removed_there, removed_last}
+use Rattle.quarter_table.{specs.declared.row.QuarterRow.QuarterRow, specs.Rows.{row_at, without_pair, set_row, AreInOrder, HavePairs}, proofs.Replaced.{order_set, pairs_set}, proofs.Changes.{row_read, removed_there, removed_last}}
 use Rattle.quarter_table.proofs.table.QuarterTable.remove.Goals as goal
 
 pub invariant_of-self : goal.invariant_of-self

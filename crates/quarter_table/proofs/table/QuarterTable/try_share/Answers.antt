@@ -1,7 +1,5 @@
-use Rattle.std.proofs.Common.{ap, ◌∙◌, arith}
-use Rattle.std.proofs.lemmas.List.{take_all}
-use Rattle.quarter_table.specs.Pairs.{parts_toward, rows_with}
-use Rattle.quarter_table.proofs.Several.{part_more}
+use Rattle.std.{proofs.Common.{ap, ◌∙◌, arith}, proofs.lemmas.List.take_all}
+use Rattle.quarter_table.{specs.Pairs.{parts_toward, rows_with}, proofs.Several.part_more}
 use Rattle.quarter_table.proofs.table.QuarterTable.try_share.Goals as goal
 
 pub loop-part-preserved : goal.loop-part-preserved

@@ -1,5 +1,4 @@
-use Rattle.std.proofs.Common.{length, ap, sym, ◌∙◌, arith}
-use Rattle.std.specs.Str.Parse.{digits_value_after}
+use Rattle.std.{proofs.Common.{length, ap, sym, ◌∙◌, arith}, specs.Str.Parse.digits_value_after}
 use Rattle.reading_decimal.proofs.DigitRuns.{one_fits, both_fit, digits_value_after-append}
 use Rattle.reading_decimal.proofs.numeral.Numeral.digits_value.Goals as goal
 

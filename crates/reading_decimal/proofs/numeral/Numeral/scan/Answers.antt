@@ -1,7 +1,4 @@
-use Rattle.std.proofs.Common.{sym, ◌∙◌}
-use Rattle.std.proofs.Math.Nat.{sub-zero}
-use Rattle.std.proofs.lemmas.Bool.{eq-eqb, ne_eqb}
-use Rattle.std.specs.Float.Numeral.{scan_numeral}
+use Rattle.std.{proofs.Common.{sym, ◌∙◌}, proofs.Math.Nat.sub-zero, proofs.lemmas.Bool.{eq-eqb, ne_eqb}, specs.Float.Numeral.scan_numeral}
 use Rattle.reading_decimal.proofs.numeral.Numeral.scan.Goals as goal
 
 pub returns-then-byte_at-ne46 : goal.returns-then-byte_at-ne46

@@ -1,7 +1,5 @@
 use Rattle.std.proofs.Common.{ap, ◌∙◌, option_map, arith}
-use Rattle.reading_index.specs.Ranks.{owner_of}
-use Rattle.reading_index.specs.Timed.{TimedReadings, first_of, from_on, in_front, last_of, only_owned, owned, with_rank}
-use Rattle.reading_index.proofs.Ranked.{first_behind, last_in_front}
+use Rattle.reading_index.{specs.Ranks.owner_of, specs.Timed.{TimedReadings, first_of, from_on, in_front, last_of, only_owned, owned, with_rank}, proofs.Ranked.{first_behind, last_in_front}}
 use Rattle.reading_index.proofs.index.ReadingIndex.around.Goals as goal
 
 pub returns-clause-before : goal.returns-clause-before

@@ -1,6 +1,5 @@
 use Rattle.std.proofs.Common.{is_some, ap, ◌∙◌}
-use Rattle.reading_index.specs.Timed.{TimedReadings, has_rank}
-use Rattle.reading_index.proofs.Ranked.{filed_rank}
+use Rattle.reading_index.{specs.Timed.{TimedReadings, has_rank}, proofs.Ranked.filed_rank}
 use Rattle.reading_index.proofs.index.ReadingIndex.holds.Goals as goal
 
 pub returns : goal.returns

@@ -1,6 +1,5 @@
 use Rattle.std.proofs.Common.{subst}
-use Rattle.reading_index.specs.Timed.{TimedReadings, AreRising}
-use Rattle.reading_index.proofs.Ranked.{ranked}
+use Rattle.reading_index.{specs.Timed.{TimedReadings, AreRising}, proofs.Ranked.ranked}
 use Rattle.reading_index.proofs.index.ReadingIndex.len.Goals as goal
 
 pub returns-clause-rising : goal.returns-clause-rising

@@ -1,10 +1,6 @@
 use Rattle.std.proofs.Common.{◌≡◌, ◌+◌, ◌<◌, ◌≤◌, ◌++◌, append-nil, length, map, ◌∷◌, [], List, sym, ap, subst, ◌∙◌, arith}
 use Rattle.key_index.specs.Entries.{AreRising}
-use Rattle.reading_index.specs.Ranks.{owner, owner_of}
-use Rattle.reading_index.specs.Timed.{Timed, TimedReadings, from_on, owned, placed_at}
-use Rattle.reading_index.proofs.Ranked.{owner_up, ranked}
-use Rattle.reading_index.proofs.Listed.{IsFirst, all_owned, filter-ranked, first_left, found_left, none_left, one_more, owner_of-first}
-use Rattle.reading_index.proofs.index.ReadingIndex.list.Goals.{After-place_near-place-in-Some}
+use Rattle.reading_index.{specs.Ranks.{owner, owner_of}, specs.Timed.{Timed, TimedReadings, from_on, owned, placed_at}, proofs.Ranked.{owner_up, ranked}, proofs.Listed.{IsFirst, all_owned, filter-ranked, first_left, found_left, none_left, one_more, owner_of-first}, proofs.index.ReadingIndex.list.Goals.After-place_near-place-in-Some}
 use Rattle.reading_index.proofs.index.ReadingIndex.list.Goals as goal
 
 -- the first key is in front of all of its owner, and is its owner's

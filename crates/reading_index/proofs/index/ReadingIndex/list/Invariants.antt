@@ -1,6 +1,5 @@
 use Rattle.std.proofs.Common.{◌≡◌, ◌≤◌, ◌++◌, length, map}
-use Rattle.reading_index.specs.Ranks.{owner, owner_of}
-use Rattle.reading_index.specs.Timed.{from_on, owned, placed_at}
+use Rattle.reading_index.{specs.Ranks.{owner, owner_of}, specs.Timed.{from_on, owned, placed_at}}
 use Rattle.reading_index.proofs.index.ReadingIndex.list.Given as goal
 
 -- the readings from the key on come behind those that are listed

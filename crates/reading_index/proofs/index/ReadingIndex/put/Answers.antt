@@ -1,8 +1,6 @@
-use Rattle.std.proofs.Common.{ap, ◌∙◌}
-use Rattle.std.specs.Prelude.{map}
+use Rattle.std.{proofs.Common.{ap, ◌∙◌}, specs.Prelude.map}
 use Rattle.ledger_model.specs.InTime.{put_in_time}
-use Rattle.reading_index.specs.Timed.{Timed, TimedReadings, has_rank, with_rank}
-use Rattle.reading_index.proofs.Ranked.{none_filed, put_in}
+use Rattle.reading_index.{specs.Timed.{Timed, TimedReadings, has_rank, with_rank}, proofs.Ranked.{none_filed, put_in}}
 use Rattle.reading_index.proofs.index.ReadingIndex.put.Goals as goal
 
 pub insert-requires-clause-absent : goal.insert-requires-clause-absent

@@ -1,9 +1,7 @@
-use Rattle.std.proofs.Common.{◌≡◌, refl, Option, Some, None, is_some, false, sym, ap, ◌∙◌}
-use Rattle.std.specs.Prelude.{map}
+use Rattle.std.{proofs.Common.{◌≡◌, refl, Option, Some, None, is_some, false, sym, ap, ◌∙◌}, specs.Prelude.map}
 use Rattle.key_index.specs.declared.filed.Filed.{Filed}
 use Rattle.ledger_model.specs.Event.{MeterReading}
-use Rattle.reading_index.specs.Timed.{TimedReadings, with_rank, without}
-use Rattle.reading_index.proofs.Ranked.{none_out, taken_out}
+use Rattle.reading_index.{specs.Timed.{TimedReadings, with_rank, without}, proofs.Ranked.{none_out, taken_out}}
 use Rattle.reading_index.proofs.index.ReadingIndex.take.Goals as goal
 
 no_filed : (o : Option (Filed MeterReading)) → is_some o ≡ false → o ≡ None

@@ -1,7 +1,5 @@
 use Rattle.std.proofs.Common.{sym, ◌∙◌}
-use Rattle.script_ledgers.specs.Drafts.{planned}
-use Rattle.script_ledgers.proofs.Drafting.{declared_once, declared_twice}
-use Rattle.script_ledgers.proofs.Answered.{written_whole}
+use Rattle.script_ledgers.{specs.Drafts.planned, proofs.Drafting.{declared_once, declared_twice}, proofs.Answered.written_whole}
 use Rattle.script_ledgers.proofs.draft.Draft.declare.Goals as goal
 
 pub returns-then-is_some : goal.returns-then-is_some

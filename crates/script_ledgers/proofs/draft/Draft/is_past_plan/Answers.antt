@@ -1,6 +1,5 @@
 use Rattle.std.proofs.Common.{◌∙◌}
-use Rattle.script_ledgers.proofs.Drafting.{past_drafted}
-use Rattle.script_ledgers.specs.contracts.draft.Draft.{the_view}
+use Rattle.script_ledgers.{proofs.Drafting.past_drafted, specs.contracts.draft.Draft.the_view}
 use Rattle.script_ledgers.proofs.draft.Draft.is_past_plan.Goals as goal
 
 pub returns : goal.returns

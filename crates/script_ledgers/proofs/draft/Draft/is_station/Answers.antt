@@ -1,11 +1,6 @@
-use Rattle.std.proofs.Common.{◌≡◌, ◌<◌, List, [], Some, ap, bytes_eq, get_or, length, subst, sym, ◌∙◌}
-use Rattle.std.specs.List.{position}
-use Rattle.std.proofs.lemmas.Bool.{ltb-true}
-use Rattle.std.proofs.lemmas.List.{get_or-map}
-use Rattle.std.proofs.lemmas.Slice.Eq.{bytes_eq-Decides}
+use Rattle.std.{proofs.Common.{◌≡◌, ◌<◌, List, [], Some, ap, bytes_eq, get_or, length, subst, sym, ◌∙◌}, specs.List.position, proofs.lemmas.Bool.ltb-true, proofs.lemmas.List.get_or-map, proofs.lemmas.Slice.Eq.bytes_eq-Decides}
 use Rattle.site_desk.specs.declared.plan.StationPlan.{StationPlan}
-use Rattle.script_ledgers.specs.Drafts.{Drafted}
-use Rattle.script_ledgers.proofs.Boards.{found_once}
+use Rattle.script_ledgers.{specs.Drafts.Drafted, proofs.Boards.found_once}
 use Rattle.script_ledgers.proofs.draft.Draft.is_station.Goals as goal
 
 pub returns-in-Some : goal.returns-in-Some

@@ -1,12 +1,7 @@
-use Rattle.std.proofs.Common.{◌≡◌, [], ◌∷◌, ◌++◌, sym, ap, subst, ◌∙◌, refl, bytes_eq}
-use Rattle.std.specs.List.{position}
-use Rattle.site_desk.specs.declared.plan.SitePlan.{SitePlan}
-use Rattle.site_desk.specs.Plan.{site_number, sites_with}
-use Rattle.ledger_model.specs.declared.order.Order.TheVariants.{Sequence}
-use Rattle.ledger_model.specs.Settling.{default_periods}
-use Rattle.script_ledgers.specs.Drafts.{Drafted, IsPlan, planned}
-use Rattle.script_ledgers.specs.contracts.draft.Draft.{the_view}
-use Rattle.script_ledgers.proofs.Drafting.{joins, past_drafted, past_plan}
+use Rattle.std.{proofs.Common.{◌≡◌, [], ◌∷◌, ◌++◌, sym, ap, subst, ◌∙◌, refl, bytes_eq}, specs.List.position}
+use Rattle.site_desk.{specs.declared.plan.SitePlan.SitePlan, specs.Plan.{site_number, sites_with}}
+use Rattle.ledger_model.{specs.declared.order.Order.TheVariants.Sequence, specs.Settling.default_periods}
+use Rattle.script_ledgers.{specs.Drafts.{Drafted, IsPlan, planned}, specs.contracts.draft.Draft.the_view, proofs.Drafting.{joins, past_drafted, past_plan}}
 use Rattle.script_ledgers.proofs.draft.Draft.join.Goals as goal
 
 pub declare-requires : goal.declare-requires

@@ -1,7 +1,5 @@
 use Rattle.std.proofs.Common.{sym, ◌∙◌}
-use Rattle.script_ledgers.specs.Drafts.{planned}
-use Rattle.script_ledgers.proofs.Answered.{written_whole}
-use Rattle.script_ledgers.proofs.SettledBy.{order_known, order_unknown}
+use Rattle.script_ledgers.{specs.Drafts.planned, proofs.Answered.written_whole, proofs.SettledBy.{order_known, order_unknown}}
 use Rattle.script_ledgers.proofs.draft.Draft.order_by.Goals as goal
 
 pub returns-in_default : goal.returns-in_default

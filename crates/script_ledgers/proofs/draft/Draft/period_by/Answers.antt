@@ -1,8 +1,5 @@
-use Rattle.std.proofs.Common.{sym, ap, ◌∙◌}
-use Rattle.std.specs.Option.{is_some}
-use Rattle.script_ledgers.specs.Drafts.{planned}
-use Rattle.script_ledgers.proofs.Answered.{written_whole}
-use Rattle.script_ledgers.proofs.SettledBy.{period_known, period_unknown}
+use Rattle.std.{proofs.Common.{sym, ap, ◌∙◌}, specs.Option.is_some}
+use Rattle.script_ledgers.{specs.Drafts.planned, proofs.Answered.written_whole, proofs.SettledBy.{period_known, period_unknown}}
 use Rattle.script_ledgers.proofs.draft.Draft.period_by.Goals as goal
 
 pub returns-in_default-site : goal.returns-in_default-site

@@ -1,6 +1,5 @@
 use Rattle.std.proofs.Common.{sym, subst}
-use Rattle.script_ledgers.specs.Drafts.{IsPlan}
-use Rattle.script_ledgers.proofs.SettledBy.{ordered_kept}
+use Rattle.script_ledgers.{specs.Drafts.IsPlan, proofs.SettledBy.ordered_kept}
 use Rattle.script_ledgers.proofs.draft.Draft.set_order.Goals as goal
 
 pub invariant_of-self : goal.invariant_of-self

@@ -1,7 +1,5 @@
 use Rattle.std.proofs.Common.{sym, subst}
-use Rattle.script_ledgers.specs.Drafts.{IsPlan}
-use Rattle.script_ledgers.specs.Script.{lasting}
-use Rattle.script_ledgers.proofs.SettledBy.{settled_kept}
+use Rattle.script_ledgers.{specs.Drafts.IsPlan, specs.Script.lasting, proofs.SettledBy.settled_kept}
 use Rattle.script_ledgers.proofs.draft.Draft.set_period.Goals as goal
 
 pub invariant_of-self : goal.invariant_of-self

@@ -1,8 +1,5 @@
 use Rattle.std.proofs.Common.{sym, ◌∙◌}
-use Rattle.script_ledgers.specs.Drafts.{planned}
-use Rattle.script_ledgers.specs.Script.{settling}
-use Rattle.script_ledgers.proofs.Answered.{written_whole}
-use Rattle.script_ledgers.proofs.SettledBy.{settled_known, settled_unknown}
+use Rattle.script_ledgers.{specs.Drafts.planned, specs.Script.settling, proofs.Answered.written_whole, proofs.SettledBy.{settled_known, settled_unknown}}
 use Rattle.script_ledgers.proofs.draft.Draft.settle_by.Goals as goal
 
 pub returns-in_default : goal.returns-in_default

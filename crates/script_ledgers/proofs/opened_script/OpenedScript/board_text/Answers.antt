@@ -1,18 +1,8 @@
-use Rattle.std.proofs.Common.{◌≡◌, ◌≤◌, ◌<◌, List, length, refl, ap, sym, subst, ◌∙◌, arith}
-use Rattle.std.specs.Prelude.{sum_by}
-use Rattle.std.proofs.lemmas.Option.{slice_get_read}
+use Rattle.std.{proofs.Common.{◌≡◌, ◌≤◌, ◌<◌, List, length, refl, ap, sym, subst, ◌∙◌, arith}, specs.Prelude.sum_by, proofs.lemmas.Option.slice_get_read}
 use Rattle.ledger_model.specs.Ranges.{most_plan_readings}
-use Rattle.board_report.specs.Texts.{board_text}
-use Rattle.site_desk.specs.declared.plan.SitePlan.{SitePlan}
-use Rattle.site_desk.specs.declared.plan.StationPlan.{StationPlan}
-use Rattle.site_desk.specs.Plan.{order_at, period_at}
-use Rattle.board_report.specs.Boards.{AreOpenedFor, boards_at, site_named}
-use Rattle.script_ledgers.specs.Script.{order_named, period_named, stations_of}
-use Rattle.script_ledgers.specs.State.{script_of}
-use Rattle.script_ledgers.proofs.Answered.{value_told}
-use Rattle.script_ledgers.proofs.Boards.{board_is, site_shown, totals_are}
-use Rattle.script_ledgers.proofs.Places.{some_placed}
-use Rattle.script_ledgers.proofs.SettledBy.{order_found, period_found}
+use Rattle.board_report.{specs.Texts.board_text, specs.Boards.{AreOpenedFor, boards_at, site_named}}
+use Rattle.site_desk.{specs.declared.plan.SitePlan.SitePlan, specs.declared.plan.StationPlan.StationPlan, specs.Plan.{order_at, period_at}}
+use Rattle.script_ledgers.{specs.Script.{order_named, period_named, stations_of}, specs.State.script_of, proofs.Answered.value_told, proofs.Boards.{board_is, site_shown, totals_are}, proofs.Places.some_placed, proofs.SettledBy.{order_found, period_found}}
 use Rattle.script_ledgers.proofs.opened_script.OpenedScript.board_text.Goals as goal
 
 pub site_text-requires-clause-planned : goal.site_text-requires-clause-planned

@@ -1,10 +1,6 @@
 use Rattle.std.proofs.Common.{refl, ap}
-use Rattle.script_ledgers.specs.Running.{Settles}
+use Rattle.script_ledgers.{specs.Running.Settles, specs.Script.commanded_to, specs.State.script_of, proofs.Answered.written_whole, proofs.Named.{commanded, is_none, is_of, some_of}}
 use Rattle.script_lines.specs.Texts.{answer_text, ended_line}
-use Rattle.script_ledgers.specs.Script.{commanded_to}
-use Rattle.script_ledgers.specs.State.{script_of}
-use Rattle.script_ledgers.proofs.Answered.{written_whole}
-use Rattle.script_ledgers.proofs.Named.{commanded, is_none, is_of, some_of}
 use Rattle.script_ledgers.proofs.opened_script.OpenedScript.command.Goals as goal
 
 pub returns-in-Some-clause-step : goal.returns-in-Some-clause-step

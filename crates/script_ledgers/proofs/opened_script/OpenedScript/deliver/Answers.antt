@@ -1,10 +1,7 @@
 use Rattle.std.proofs.Common.{ap, ◌∙◌}
 use Rattle.ledger_model.specs.declared.command.Command.TheVariants.{Deliver}
-use Rattle.transaction_event.specs.Reply.{answers_delivery}
-use Rattle.transaction_event.proofs.Deliveries.{each_delivery_is_answered}
-use Rattle.script_ledgers.specs.Running.{Settles}
-use Rattle.script_ledgers.specs.State.{script_of}
-use Rattle.script_ledgers.proofs.Named.{is_at, some_of}
+use Rattle.transaction_event.{specs.Reply.answers_delivery, proofs.Deliveries.each_delivery_is_answered}
+use Rattle.script_ledgers.{specs.Running.Settles, specs.State.script_of, proofs.Named.{is_at, some_of}}
 use Rattle.script_ledgers.proofs.opened_script.OpenedScript.deliver.Goals as goal
 
 pub put_event_reply-requires-clause-delivery : goal.put_event_reply-requires-clause-delivery

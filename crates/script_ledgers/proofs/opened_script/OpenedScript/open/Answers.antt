@@ -1,7 +1,6 @@
 use Rattle.std.proofs.Common.{true, length, ap, sym, subst}
 use Rattle.site_desk.specs.Parts.{AreApart, AreNewBooks, AreNewCells, AreTied}
-use Rattle.script_ledgers.specs.Drafts.{planned}
-use Rattle.script_ledgers.proofs.Opened.{no_posts, none_given, opened_running, opened_world}
+use Rattle.script_ledgers.{specs.Drafts.planned, proofs.Opened.{no_posts, none_given, opened_running, opened_world}}
 use Rattle.script_ledgers.proofs.opened_script.OpenedScript.open.Goals as goal
 
 pub enlist_all-requires : goal.enlist_all-requires

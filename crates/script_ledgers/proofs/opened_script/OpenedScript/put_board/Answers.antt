@@ -1,12 +1,8 @@
 use Rattle.std.proofs.Common.{cond, ◌++◌, sym, ap, ◌∙◌}
 use Rattle.board_report.specs.Texts.{board_text}
 use Rattle.site_desk.specs.declared.plan.SitePlan.{SitePlan}
-use Rattle.script_lines.specs.declared.script_line.LineFault.TheVariants.{UnknownSite}
-use Rattle.script_lines.specs.Texts.{fault_line}
-use Rattle.script_ledgers.specs.Script.{order_named, period_named, shown_site, stations_of}
-use Rattle.script_ledgers.specs.State.{script_of}
-use Rattle.script_ledgers.proofs.Answered.{ok_told}
-use Rattle.script_ledgers.proofs.Places.{none_placed, some_placed}
+use Rattle.script_lines.{specs.declared.script_line.LineFault.TheVariants.UnknownSite, specs.Texts.fault_line}
+use Rattle.script_ledgers.{specs.Script.{order_named, period_named, shown_site, stations_of}, specs.State.script_of, proofs.Answered.ok_told, proofs.Places.{none_placed, some_placed}}
 use Rattle.script_ledgers.proofs.opened_script.OpenedScript.put_board.Goals as goal
 
 pub returns-in_ok-reply-in-Some : goal.returns-in_ok-reply-in-Some

@@ -1,13 +1,9 @@
-use Rattle.std.proofs.Common.{refl, sym, ap, ◌∙◌, ◌++◌, length, arith}
-use Rattle.std.proofs.lemmas.Option.{slice_get_read}
+use Rattle.std.{proofs.Common.{refl, sym, ap, ◌∙◌, ◌++◌, length, arith}, proofs.lemmas.Option.slice_get_read}
 use Rattle.ledger_model.specs.Content.{entries}
 use Rattle.station_cell.specs.Cell.{Cell}
 use Rattle.board_report.proofs.SiteBoards.{some_same}
 use Rattle.station_ledger.specs.Listing.{listing_by}
-use Rattle.script_ledgers.specs.Script.{list_answer, listed, order_named, period_named}
-use Rattle.script_ledgers.specs.State.{script_of}
-use Rattle.script_ledgers.proofs.Answered.{ok_told}
-use Rattle.script_ledgers.proofs.Named.{is_none, is_of}
+use Rattle.script_ledgers.{specs.Script.{list_answer, listed, order_named, period_named}, specs.State.script_of, proofs.Answered.ok_told, proofs.Named.{is_none, is_of}}
 use Rattle.script_ledgers.proofs.opened_script.OpenedScript.put_list.Goals as goal
 
 pub returns-in_ok-listing-in-Some : goal.returns-in_ok-listing-in-Some

@@ -1,15 +1,9 @@
-use Rattle.std.proofs.Common.{refl, sym, ap, ◌∙◌, ◌++◌, length, arith}
-use Rattle.std.proofs.lemmas.Option.{slice_get_read}
-use Rattle.ledger_model.specs.Content.{entries}
+use Rattle.std.{proofs.Common.{refl, sym, ap, ◌∙◌, ◌++◌, length, arith}, proofs.lemmas.Option.slice_get_read}
+use Rattle.ledger_model.{specs.Content.entries, specs.Board.figures_by}
 use Rattle.station_cell.specs.Cell.{Cell}
-use Rattle.ledger_model.specs.Board.{figures_by}
-use Rattle.board_report.specs.Texts.{total_text}
-use Rattle.board_report.proofs.SiteBoards.{some_same}
+use Rattle.board_report.{specs.Texts.total_text, proofs.SiteBoards.some_same}
 use Rattle.script_lines.specs.Texts.{ended_line}
-use Rattle.script_ledgers.specs.Script.{order_named, total_answer}
-use Rattle.script_ledgers.specs.State.{script_of}
-use Rattle.script_ledgers.proofs.Answered.{ok_told}
-use Rattle.script_ledgers.proofs.Named.{is_none, is_of}
+use Rattle.script_ledgers.{specs.Script.{order_named, total_answer}, specs.State.script_of, proofs.Answered.ok_told, proofs.Named.{is_none, is_of}}
 use Rattle.script_ledgers.proofs.opened_script.OpenedScript.put_total.Goals as goal
 
 pub returns-in-Some : goal.returns-in-Some

@@ -1,9 +1,6 @@
-use Rattle.std.proofs.Common.{◌<◌, length, set, refl, sym, ap, subst, ◌∙◌, arith}
-use Rattle.std.specs.Prelude.{slice_get}
-use Rattle.std.proofs.lemmas.Option.{slice_get_read}
+use Rattle.std.{proofs.Common.{◌<◌, length, set, refl, sym, ap, subst, ◌∙◌, arith}, specs.Prelude.slice_get, proofs.lemmas.Option.slice_get_read}
 use Rattle.station_cell.proofs.Settled.{judged_here}
-use Rattle.script_ledgers.specs.Running.{IsRunning}
-use Rattle.script_ledgers.proofs.Settling.{posts_of_one, settles, site_in_books, still_running}
+use Rattle.script_ledgers.{specs.Running.IsRunning, proofs.Settling.{posts_of_one, settles, site_in_books, still_running}}
 use Rattle.script_ledgers.proofs.opened_script.OpenedScript.settle.Goals as goal
 
 pub index_mut-requires : goal.index_mut-requires

@@ -1,8 +1,5 @@
-use Rattle.std.proofs.Common.{rules, ap, ◌∙◌, Ok}
-use Rattle.std.specs.Io.KnownBytes.{Keeps}
-use Rattle.std.proofs.KnownBytes.{Keeps-trans}
-use Rattle.script_lines.proofs.PartOfLine.{goes_on, feeds, overflows, fails}
-use Rattle.script_lines.proofs.line_reader.LineReader.next_line_flushing.Goals.{else-self-via-then-self+else-is_err, else-self-via-else-self}
+use Rattle.std.{proofs.Common.{rules, ap, ◌∙◌, Ok}, specs.Io.KnownBytes.Keeps, proofs.KnownBytes.Keeps-trans}
+use Rattle.script_lines.{proofs.PartOfLine.{goes_on, feeds, overflows, fails}, proofs.line_reader.LineReader.next_line_flushing.Goals.{else-self-via-then-self+else-is_err, else-self-via-else-self}}
 use Rattle.script_lines.proofs.line_reader.LineReader.next_line_flushing.Goals as goal
 
 pub returns-in_err-read_piece-clause-takes : goal.returns-in_err-read_piece-clause-takes

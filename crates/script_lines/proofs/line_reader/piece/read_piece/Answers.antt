@@ -1,7 +1,4 @@
-use Rattle.std.proofs.Common.{◌+◌, ◌<◌, ◌≤◌, length, take, arith, subst, refl, length-take, length-take-le}
-use Rattle.std.specs.Io.KnownBytes.{Consumes}
-use Rattle.std.specs.Io.BufRead.{FillKeeps}
-use Rattle.std.proofs.BufReadLemmas.{Consumes_shown}
+use Rattle.std.{proofs.Common.{◌+◌, ◌<◌, ◌≤◌, length, take, arith, subst, refl, length-take, length-take-le}, specs.Io.KnownBytes.Consumes, specs.Io.BufRead.FillKeeps, proofs.BufReadLemmas.Consumes_shown}
 use Rattle.script_lines.proofs.Pieces.{nonempty, front_again, found_none, none_before, line_in_front, part_told, line_told}
 use Rattle.script_lines.proofs.line_reader.piece.read_piece.Goals as goal
 

@@ -1,7 +1,5 @@
-use Rattle.std.proofs.Common.{rules, arith, ◌≡◌, set, None, Some, ap, sym, ◌∙◌, subst}
-use Rattle.std.proofs.lemmas.Grind.{elements}
-use Rattle.site_book.specs.Tables.{NamedBy}
-use Rattle.site_book.proofs.Named.{set_back}
+use Rattle.std.{proofs.Common.{rules, arith, ◌≡◌, set, None, Some, ap, sym, ◌∙◌, subst}, proofs.lemmas.Grind.elements}
+use Rattle.site_book.{specs.Tables.NamedBy, proofs.Named.set_back}
 use Rattle.site_book.proofs.book.SiteBook.open.Goals as goal
 
 pub returns-in-Err-clause-stays : goal.returns-in-Err-clause-stays

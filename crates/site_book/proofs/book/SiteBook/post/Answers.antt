@@ -1,14 +1,6 @@
-use Rattle.std.proofs.Common.{◌≡◌, ◌+◌, List, length, ap, sym, ◌∙◌, subst, refl, rules, [], ◌∷◌, ◌++◌}
-use Rattle.std.proofs.lemmas.List.{length_push}
-use Rattle.std.proofs.lemmas.Option.{get_or_from_slice_get}
-use Rattle.std.proofs.Math.Seq.{map-set_same}
-use Rattle.site_book.specs.declared.row.BookRow.{BookRow}
+use Rattle.std.{proofs.Common.{◌≡◌, ◌+◌, List, length, ap, sym, ◌∙◌, subst, refl, rules, [], ◌∷◌, ◌++◌}, proofs.lemmas.List.length_push, proofs.lemmas.Option.get_or_from_slice_get, proofs.Math.Seq.map-set_same}
+use Rattle.site_book.{specs.declared.row.BookRow.BookRow, specs.Kept.AreRows, specs.Book.Admits, specs.Rule.{numbers_of, writing, seeing}, proofs.Books.{admitted, rows-posted, totals-posted, totals-part}, proofs.Totals.{totals-words, part-at_most}}
 use Rattle.ledger_model.specs.Posts.{Post, totals_after}
-use Rattle.site_book.specs.Kept.{AreRows}
-use Rattle.site_book.specs.Book.{Admits}
-use Rattle.site_book.specs.Rule.{numbers_of, writing, seeing}
-use Rattle.site_book.proofs.Books.{admitted, rows-posted, totals-posted, totals-part}
-use Rattle.site_book.proofs.Totals.{totals-words, part-at_most}
 use Rattle.site_book.proofs.book.SiteBook.post.Goals as goal
 
 pub replaced-totals-requires-clause-words : goal.replaced-totals-requires-clause-words

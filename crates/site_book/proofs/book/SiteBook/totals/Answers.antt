@@ -1,7 +1,5 @@
-use Rattle.std.proofs.Common.{◌≡◌, length, map, ◌∙◌, subst}
-use Rattle.std.specs.List.{range_with_len}
-use Rattle.ledger_model.specs.Board.{sum_of_figures}
-use Rattle.ledger_model.specs.Posts.{row_after}
+use Rattle.std.{proofs.Common.{◌≡◌, length, map, ◌∙◌, subst}, specs.List.range_with_len}
+use Rattle.ledger_model.{specs.Board.sum_of_figures, specs.Posts.row_after}
 use Rattle.site_book.proofs.Totals.{totals-sums}
 use Rattle.site_book.proofs.book.SiteBook.totals.Goals as goal
 

@@ -1,7 +1,5 @@
-use Rattle.std.proofs.Common.{IsTrue, sym, ◌∙◌, subst}
-use Rattle.std.proofs.lemmas.Bool.{false≢true}
-use Rattle.site_book.specs.Tables.{HasTable}
-use Rattle.site_book.proofs.Named.{has-read, has-past}
+use Rattle.std.{proofs.Common.{IsTrue, sym, ◌∙◌, subst}, proofs.lemmas.Bool.false≢true}
+use Rattle.site_book.{specs.Tables.HasTable, proofs.Named.{has-read, has-past}}
 use Rattle.site_book.proofs.tables.Tables.has.Goals as goal
 
 pub returns-in-Some : goal.returns-in-Some

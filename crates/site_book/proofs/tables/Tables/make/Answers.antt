@@ -1,6 +1,5 @@
 use Rattle.std.proofs.Common.{◌≡◌, ◌+◌, [], ◌∷◌, ◌++◌, length, Some, ap, sym, ◌∙◌, subst, length-append}
-use Rattle.site_book.specs.Tables.{Unopened, HasTable}
-use Rattle.site_book.proofs.Named.{has-more}
+use Rattle.site_book.{specs.Tables.{Unopened, HasTable}, proofs.Named.has-more}
 use Rattle.site_book.proofs.tables.Tables.make.Goals as goal
 
 pub loop-preserved : goal.loop-preserved

@@ -1,6 +1,5 @@
 use Rattle.std.proofs.Common.{refl}
-use Rattle.site_book.specs.Rule.{shown}
-use Rattle.site_book.proofs.Moves.{begins}
+use Rattle.site_book.{specs.Rule.shown, proofs.Moves.begins}
 use Rattle.site_book.proofs.tables.Unused.new.Goals as goal
 
 pub of_words-requires : goal.of_words-requires

@@ -1,12 +1,8 @@
-use Rattle.std.proofs.Common.{◌≡◌, ◌<◌, length, get_or, slice_get, ap, sym, ◌∙◌, subst, arith}
-use Rattle.std.proofs.lemmas.Option.{slice_get_within, get_or_from_slice_get}
-use Rattle.ledger_model.specs.Board.{figures_by}
-use Rattle.ledger_model.specs.Content.{entries}
-use Rattle.ledger_model.specs.Posts.{row_after}
+use Rattle.std.{proofs.Common.{◌≡◌, ◌<◌, length, get_or, slice_get, ap, sym, ◌∙◌, subst, arith}, proofs.lemmas.Option.{slice_get_within, get_or_from_slice_get}}
+use Rattle.ledger_model.{specs.Board.figures_by, specs.Content.entries, specs.Posts.row_after}
 use Rattle.site_book.specs.Book.{Book}
 use Rattle.station_cell.specs.Cell.{Cell}
-use Rattle.site_desk.specs.Close.{Ended}
-use Rattle.site_desk.proofs.Ends.{tied_at, book_at}
+use Rattle.site_desk.{specs.Close.Ended, proofs.Ends.{tied_at, book_at}}
 use Rattle.site_desk.proofs.closed.Closed.row.Goals as goal
 
 pub index-requires : goal.index-requires

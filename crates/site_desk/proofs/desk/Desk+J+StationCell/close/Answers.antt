@@ -1,5 +1,4 @@
-use Rattle.std.proofs.Common.{subst}
-use Rattle.std.proofs.lemmas.List.{map-id}
+use Rattle.std.{proofs.Common.subst, proofs.lemmas.List.map-id}
 use Rattle.site_desk.specs.Parts.{AreTied}
 use Rattle.site_desk.proofs.desk.Desk+J+StationCell.close.Goals as goal
 

@@ -1,8 +1,5 @@
-use Rattle.std.proofs.Common.{◌≡◌, ◌<◌, length, map, slice_get, ap, sym, ◌∙◌, subst, arith}
-use Rattle.std.specs.Prelude.{All, vec_len}
-use Rattle.site_desk.specs.Close.{Saw}
-use Rattle.site_desk.specs.Parts.{IsTied}
-use Rattle.site_desk.specs.Roster.{IsDesk}
+use Rattle.std.{proofs.Common.{◌≡◌, ◌<◌, length, map, slice_get, ap, sym, ◌∙◌, subst, arith}, specs.Prelude.{All, vec_len}}
+use Rattle.site_desk.{specs.Close.Saw, specs.Parts.IsTied, specs.Roster.IsDesk}
 use Rattle.site_desk.proofs.desk.Desk.dismantle.Goals as goal
 
 pub give_back_viewers-requires-clause-numbers : goal.give_back_viewers-requires-clause-numbers

@@ -1,7 +1,5 @@
-use Rattle.std.proofs.Common.{ap, ◌∙◌, bytes_eq}
-use Rattle.std.specs.List.{list_any}
-use Rattle.site_desk.specs.declared.roster.StationPlace.{StationPlace}
-use Rattle.site_desk.proofs.Ends.{known_not}
+use Rattle.std.{proofs.Common.{ap, ◌∙◌, bytes_eq}, specs.List.list_any}
+use Rattle.site_desk.{specs.declared.roster.StationPlace.StationPlace, proofs.Ends.known_not}
 use Rattle.site_desk.proofs.desk.Desk.enlist.Goals as goal
 
 pub returns-then-station-number-clause-unknown : goal.returns-then-station-number-clause-unknown

@@ -1,7 +1,5 @@
-use Rattle.std.proofs.Common.{◌≡◌, length, subst, arith}
-use Rattle.std.specs.Prelude.{vec_len}
-use Rattle.site_desk.specs.Roster.{AreNewPlaces}
-use Rattle.site_desk.proofs.Ends.{new_desk}
+use Rattle.std.{proofs.Common.{◌≡◌, length, subst, arith}, specs.Prelude.vec_len}
+use Rattle.site_desk.{specs.Roster.AreNewPlaces, proofs.Ends.new_desk}
 use Rattle.site_desk.proofs.desk.Desk.over.Goals as goal
 
 pub invariant_of-result : goal.invariant_of-result

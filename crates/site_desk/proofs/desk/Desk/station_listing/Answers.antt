@@ -1,9 +1,5 @@
-use Rattle.std.proofs.Common.{ap, ◌∙◌, bytes_eq, get_or, subst}
-use Rattle.std.specs.List.{list_any}
-use Rattle.site_desk.specs.declared.roster.StationPlace.{StationPlace}
-use Rattle.site_desk.specs.Roster.{IsNamed}
-use Rattle.site_desk.proofs.Ends.{known_not}
-use Rattle.site_desk.proofs.Operators.{listing_named}
+use Rattle.std.{proofs.Common.{ap, ◌∙◌, bytes_eq, get_or, subst}, specs.List.list_any}
+use Rattle.site_desk.{specs.declared.roster.StationPlace.StationPlace, specs.Roster.IsNamed, proofs.Ends.known_not, proofs.Operators.listing_named}
 use Rattle.site_desk.proofs.desk.Desk.station_listing.Goals as goal
 
 pub returns-in-Ok-clause-unknown : goal.returns-in-Ok-clause-unknown

@@ -1,7 +1,5 @@
-use Rattle.std.proofs.Common.{◌≡◌, ◌++◌, arith, drop, length, sym, subst, take, take_all, ◌∙◌}
-use Rattle.std.proofs.lemmas.List.{take-append-le}
-use Rattle.site_desk.specs.Parts.{AreApart, AreBooksOf, AreHeld, AreNewBooks, AreRowsKept, HaveFewPosts}
-use Rattle.site_desk.proofs.Posted.{apart_of_plan, books_of_plan, held_of_plan, none_posted}
+use Rattle.std.{proofs.Common.{◌≡◌, ◌++◌, arith, drop, length, sym, subst, take, take_all, ◌∙◌}, proofs.lemmas.List.take-append-le}
+use Rattle.site_desk.{specs.Parts.{AreApart, AreBooksOf, AreHeld, AreNewBooks, AreRowsKept, HaveFewPosts}, proofs.Posted.{apart_of_plan, books_of_plan, held_of_plan, none_posted}}
 use Rattle.site_desk.proofs.parts.Parts.over.Goals as goal
 
 pub post_all-requires-clause-held : goal.post_all-requires-clause-held

@@ -1,7 +1,5 @@
-use Rattle.std.proofs.Common.{◌∙◌, length, slice_index_or, slice_set}
-use Rattle.std.specs.List.{refill}
-use Rattle.site_desk.specs.declared.plan.SitePlan.{SitePlan}
-use Rattle.site_desk.proofs.Declared.{site_set}
+use Rattle.std.{proofs.Common.{◌∙◌, length, slice_index_or, slice_set}, specs.List.refill}
+use Rattle.site_desk.{specs.declared.plan.SitePlan.SitePlan, proofs.Declared.site_set}
 use Rattle.site_desk.proofs.plan.Plan.set_order.Goals as goal
 
 pub returns-clause-sites : goal.returns-clause-sites

@@ -1,9 +1,6 @@
-use Rattle.std.proofs.Common.{◌∙◌, ap, length, slice_index_or, slice_set}
-use Rattle.std.specs.List.{refill}
+use Rattle.std.{proofs.Common.{◌∙◌, ap, length, slice_index_or, slice_set}, specs.List.refill}
 use Rattle.ledger_model.specs.Periods.{Periods}
-use Rattle.site_desk.specs.declared.plan.SitePlan.{SitePlan}
-use Rattle.site_desk.specs.Plan.{sites_changed}
-use Rattle.site_desk.proofs.Declared.{periods_changed, site_set}
+use Rattle.site_desk.{specs.declared.plan.SitePlan.SitePlan, specs.Plan.sites_changed, proofs.Declared.{periods_changed, site_set}}
 use Rattle.site_desk.proofs.plan.Plan.set_period.Goals as goal
 
 pub returns-clause-sites : goal.returns-clause-sites

@@ -1,6 +1,5 @@
 use Rattle.std.proofs.Common.{sym}
-use Rattle.slot_arena.specs.declared.slot.Slot.TheVariants.{Held}
-use Rattle.slot_arena.proofs.Threads.{held_in}
+use Rattle.slot_arena.{specs.declared.slot.Slot.TheVariants.Held, proofs.Threads.held_in}
 use Rattle.slot_arena.proofs.arena.SlotArena.get.Goals as goal
 
 pub seen-requires : goal.seen-requires

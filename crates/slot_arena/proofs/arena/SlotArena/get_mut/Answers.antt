@@ -1,8 +1,5 @@
 use Rattle.std.proofs.Common.{Some, set, refl, sym, ap, ◌∙◌, length-set}
-use Rattle.slot_arena.specs.declared.slot.Slot.TheVariants.{Held}
-use Rattle.slot_arena.specs.Arena.{value_at}
-use Rattle.slot_arena.specs.Free.{value_in}
-use Rattle.slot_arena.proofs.Threads.{held_in, threaded-write, shown_at, shown_set}
+use Rattle.slot_arena.{specs.declared.slot.Slot.TheVariants.Held, specs.Arena.value_at, specs.Free.value_in, proofs.Threads.{held_in, threaded-write, shown_at, shown_set}}
 use Rattle.slot_arena.proofs.arena.SlotArena.get_mut.Goals as goal
 
 pub lent-requires : goal.lent-requires

@@ -1,8 +1,5 @@
 use Rattle.std.proofs.Common.{◌+◌, Some, None, length, set, sym, ap, ◌∙◌, subst, arith, length-set}
-use Rattle.slot_arena.specs.declared.slot.Slot.TheVariants.{Free, Held}
-use Rattle.slot_arena.specs.Free.{values_in, IsThreaded}
-use Rattle.slot_arena.proofs.Rooms.{holding_within}
-use Rattle.slot_arena.proofs.Threads.{held_in, threaded-give, shown_set}
+use Rattle.slot_arena.{specs.declared.slot.Slot.TheVariants.{Free, Held}, specs.Free.{values_in, IsThreaded}, proofs.Rooms.holding_within, proofs.Threads.{held_in, threaded-give, shown_set}}
 use Rattle.slot_arena.proofs.arena.SlotArena.give.Goals as goal
 
 pub vacate-value-requires : goal.vacate-value-requires

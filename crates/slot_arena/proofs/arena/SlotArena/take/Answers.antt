@@ -1,11 +1,5 @@
-use Rattle.std.proofs.Common.{◌≡◌, ℕ, ◌-◌, ◌<◌, ◌↔◌, List, Option, Some, None, length, get_or, set, refl, sym, ap, ◌∙◌, subst, arith, length-set}
-use Rattle.std.proofs.lemmas.Bool.{false≢true}
-use Rattle.slot_arena.specs.declared.slot.Slot.{Slot}
-use Rattle.slot_arena.specs.declared.slot.Slot.TheVariants.{Free, Held}
-use Rattle.slot_arena.specs.Arena.{value_at, held_count, IsFull}
-use Rattle.slot_arena.specs.Free.{value_in, values_in, IsThreaded}
-use Rattle.slot_arena.proofs.Rooms.{holding_within}
-use Rattle.slot_arena.proofs.Threads.{first_links, threaded-take, shown_at, shown_length, shown_set}
+use Rattle.std.{proofs.Common.{◌≡◌, ℕ, ◌-◌, ◌<◌, ◌↔◌, List, Option, Some, None, length, get_or, set, refl, sym, ap, ◌∙◌, subst, arith, length-set}, proofs.lemmas.Bool.false≢true}
+use Rattle.slot_arena.{specs.declared.slot.Slot.Slot, specs.declared.slot.Slot.TheVariants.{Free, Held}, specs.Arena.{value_at, held_count, IsFull}, specs.Free.{value_in, values_in, IsThreaded}, proofs.Rooms.holding_within, proofs.Threads.{first_links, threaded-take, shown_at, shown_length, shown_set}}
 use Rattle.slot_arena.proofs.arena.SlotArena.take.Goals as goal
 
 -- No slot is free exactly if the arena is full.

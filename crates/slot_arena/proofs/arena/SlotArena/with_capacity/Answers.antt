@@ -1,7 +1,5 @@
 use Rattle.std.proofs.Common.{length, sym, ap, ◌∙◌, subst}
-use Rattle.slot_arena.specs.Free.{values_in, IsThreaded}
-use Rattle.slot_arena.proofs.Fresh.{length-links, links_values}
-use Rattle.slot_arena.proofs.Threads.{threaded-new}
+use Rattle.slot_arena.{specs.Free.{values_in, IsThreaded}, proofs.Fresh.{length-links, links_values}, proofs.Threads.threaded-new}
 use Rattle.slot_arena.proofs.arena.SlotArena.with_capacity.Goals as goal
 
 pub invariant_of-result : goal.invariant_of-result

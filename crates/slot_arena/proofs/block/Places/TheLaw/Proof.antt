@@ -10,8 +10,7 @@ use denote.Struct.Laws.{field_copy}
 use denote.Struct.Lending.{of_Lends}
 use Rattle.core.specs.contracts.marker.PhantomData as marker
 use Rattle.slot_arena.specs.contracts.block.Places as places
-use Rattle.slot_arena.proofs.block.Places.TheLaw.Statement.{statement}
-use Rattle.slot_arena.proofs.Sharing.{block_shown, block_lends}
+use Rattle.slot_arena.{proofs.block.Places.TheLaw.Statement.statement, proofs.Sharing.{block_shown, block_lends}}
 
 pub shares : (R : RattleType) (L : Laws R) → statement R L
 shares R L =

@@ -30,18 +30,11 @@ use denote.Ref.{MutBor, MutRef}
 use denote.Signature.{plain, types_at}
 use denote.Steps.{nothing, heard, opens}
 use denote.Triple.Walked.{Stays, stay_dropped, walk_of, Goes-dropped, Goes-spent_ref}
-use Rattle.core.proofs.mem.Param.{El, R, el_x, args}
-use Rattle.core.proofs.ptr.Rows.{times_below, one_below}
-use Rattle.std.proofs.raw_atomic.Walks.{proved_at, leaves}
-use Rattle.std.specs.Prelude.{Some, None}
-use Rattle.std_alloc.proofs.RcSteps.{word, word-Good}
-use Rattle.std_alloc.proofs.VecSteps.Shapes.{after}
-use Rattle.slot_arena.specs.Place.{Holds}
-use Rattle.slot_arena.specs.Owned.{place_at, places_at, owned_places}
-use Rattle.slot_arena.specs.Lent.{with_row}
+use Rattle.core.{proofs.mem.Param.{El, R, el_x, args}, proofs.ptr.Rows.{times_below, one_below}}
+use Rattle.std.{proofs.raw_atomic.Walks.{proved_at, leaves}, specs.Prelude.{Some, None}}
+use Rattle.std_alloc.{proofs.RcSteps.{word, word-Good}, proofs.VecSteps.Shapes.after}
+use Rattle.slot_arena.{specs.Place.Holds, specs.Owned.{place_at, places_at, owned_places}, specs.Lent.with_row, proofs.Rooms.{Row, First, Mark, PlaceValue, step_of, word_told, holding_within, others, taken_out, put_back}, proofs.block.Places.lent.Statement.statement}
 use Rattle.slot_arena.specs.contracts.block.Places.lent as f
-use Rattle.slot_arena.proofs.Rooms.{Row, First, Mark, PlaceValue, step_of, word_told, holding_within, others, taken_out, put_back}
-use Rattle.slot_arena.proofs.block.Places.lent.Statement.{statement}
 use Rattle.slot_arena.proofs.block.Places.lent.Code as code
 
 module _ (E : El) (p : (Row E).Denot) (index rb ro : ℕ) (vs : List Val) (b o : ℕ) where

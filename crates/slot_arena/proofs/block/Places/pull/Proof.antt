@@ -25,19 +25,12 @@ use denote.RawPtr.{Ptr, in_a_block}
 use denote.Signature.{plain, types_at}
 use denote.Steps.{nothing, heard, opens, closes}
 use denote.Triple.Walked.{Stays, stay_dropped, stay_ref, walk_of, Goes-dropped, Goes-ref}
-use Rattle.core.proofs.mem.Param.{El, R, args, elτ}
+use Rattle.core.{proofs.mem.Param.{El, R, args, elτ}, proofs.ptr.Rows.{times_below, one_below}}
 use Rattle.core.proofs.ptr.Rows as rows
-use Rattle.core.proofs.ptr.Rows.{times_below, one_below}
-use Rattle.std.proofs.raw_atomic.Walks.{proved_at, leaves}
-use Rattle.std.specs.Prelude.{Some, None}
-use Rattle.std_alloc.proofs.RawLayout.{as_raw}
-use Rattle.std_alloc.proofs.RcSteps.{Good, word, word-Good}
-use Rattle.std_alloc.proofs.VecSteps.Shapes.{after}
-use Rattle.slot_arena.specs.Place.{Holds}
-use Rattle.slot_arena.specs.Owned.{place_at, places_at, owned_places}
+use Rattle.std.{proofs.raw_atomic.Walks.{proved_at, leaves}, specs.Prelude.{Some, None}}
+use Rattle.std_alloc.{proofs.RawLayout.as_raw, proofs.RcSteps.{Good, word, word-Good}, proofs.VecSteps.Shapes.after}
+use Rattle.slot_arena.{specs.Place.Holds, specs.Owned.{place_at, places_at, owned_places}, proofs.Rooms.{Row, First, PlaceValue, step_of, word_told, holding_within, others, taken_out, put_back}, proofs.block.Places.pull.Statement.statement}
 use Rattle.slot_arena.specs.contracts.block.Places.pull as f
-use Rattle.slot_arena.proofs.Rooms.{Row, First, PlaceValue, step_of, word_told, holding_within, others, taken_out, put_back}
-use Rattle.slot_arena.proofs.block.Places.pull.Statement.{statement}
 use Rattle.slot_arena.proofs.block.Places.pull.Code as code
 
 pub pull_spec : {M : Type 1} → statement M

@@ -25,18 +25,12 @@ use denote.RawPtr.{Ptr, in_a_block}
 use denote.Signature.{plain, types_at}
 use denote.Steps.{nothing, heard, opens, closes}
 use denote.Triple.Walked.{Stays, stay_dropped, stay_ref, walk_of, Goes-dropped, Goes-ref}
-use Rattle.core.proofs.mem.Param.{El, R, args, elτ}
+use Rattle.core.{proofs.mem.Param.{El, R, args, elτ}, proofs.ptr.Rows.{times_below, one_below}}
 use Rattle.core.proofs.ptr.Rows as rows
-use Rattle.core.proofs.ptr.Rows.{times_below, one_below}
-use Rattle.std.proofs.raw_atomic.Walks.{proved_at, leaves}
-use Rattle.std.specs.Prelude.{Some, None}
-use Rattle.std_alloc.proofs.RawLayout.{as_written}
-use Rattle.std_alloc.proofs.RcSteps.{word, word-Good}
-use Rattle.std_alloc.proofs.VecSteps.Shapes.{after}
-use Rattle.slot_arena.specs.Owned.{place_at, places_at, owned_places}
+use Rattle.std.{proofs.raw_atomic.Walks.{proved_at, leaves}, specs.Prelude.{Some, None}}
+use Rattle.std_alloc.{proofs.RawLayout.as_written, proofs.RcSteps.{word, word-Good}, proofs.VecSteps.Shapes.after}
+use Rattle.slot_arena.{specs.Owned.{place_at, places_at, owned_places}, proofs.Rooms.{Row, First, PlaceValue, step_of, word_told, value_told, others, taken_out, put_back}, proofs.block.Places.put.Statement.statement}
 use Rattle.slot_arena.specs.contracts.block.Places.put as f
-use Rattle.slot_arena.proofs.Rooms.{Row, First, PlaceValue, step_of, word_told, value_told, others, taken_out, put_back}
-use Rattle.slot_arena.proofs.block.Places.put.Statement.{statement}
 use Rattle.slot_arena.proofs.block.Places.put.Code as code
 
 pub put_spec : {M : Type 1} → statement M

@@ -26,17 +26,11 @@ use denote.Builtin.{RefOf, usize}
 use denote.Signature.{plain, types_at}
 use denote.Steps.{nothing, heard}
 use denote.Triple.Walked.{Stays, stay_dropped, walk_of, Goes-dropped}
-use Rattle.core.proofs.mem.Param.{El, R, args}
-use Rattle.core.proofs.ptr.Rows.{times_below, one_below}
-use Rattle.std.proofs.raw_atomic.Walks.{proved_at, leaves}
-use Rattle.std.specs.Prelude.{Some, None}
-use Rattle.std_alloc.proofs.RcSteps.{word, word-Good}
-use Rattle.std_alloc.proofs.VecSteps.Shapes.{after}
-use Rattle.slot_arena.specs.Place.{Holds}
-use Rattle.slot_arena.specs.Owned.{place_lent, lent_places}
+use Rattle.core.{proofs.mem.Param.{El, R, args}, proofs.ptr.Rows.{times_below, one_below}}
+use Rattle.std.{proofs.raw_atomic.Walks.{proved_at, leaves}, specs.Prelude.{Some, None}}
+use Rattle.std_alloc.{proofs.RcSteps.{word, word-Good}, proofs.VecSteps.Shapes.after}
+use Rattle.slot_arena.{specs.Place.Holds, specs.Owned.{place_lent, lent_places}, proofs.Rooms.{Row, First, PlaceValue, step_of, word_told, holding_within, place_shown}, proofs.block.Places.seen.Statement.statement}
 use Rattle.slot_arena.specs.contracts.block.Places.seen as f
-use Rattle.slot_arena.proofs.Rooms.{Row, First, PlaceValue, step_of, word_told, holding_within, place_shown}
-use Rattle.slot_arena.proofs.block.Places.seen.Statement.{statement}
 use Rattle.slot_arena.proofs.block.Places.seen.Code as code
 
 pub seen_spec : {M : Type 1} → statement M

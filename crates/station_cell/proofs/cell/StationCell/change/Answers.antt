@@ -1,8 +1,6 @@
 use Rattle.std.proofs.Common.{refl, ap, sym, ◌∙◌, arith}
 use Rattle.station_ledger.specs.Ledger.{Ledger}
-use Rattle.station_cell.specs.Settle.{cell_after}
-use Rattle.station_cell.proofs.Counts.{count_at, count_read, count_part, one_more, cell_more}
-use Rattle.station_cell.proofs.Settled.{cell_changed}
+use Rattle.station_cell.{specs.Settle.cell_after, proofs.Counts.{count_at, count_read, count_part, one_more, cell_more}, proofs.Settled.cell_changed}
 use Rattle.station_cell.proofs.cell.StationCell.change.Goals as goal
 
 pub overflow_add-index_mut : goal.overflow_add-index_mut

@@ -1,12 +1,8 @@
 use Rattle.std.proofs.Common.{rules, refl, sym, ap, subst, ◌∙◌}
 use Rattle.std.specs.FinMap as finite
-use Rattle.ledger_model.specs.Limits.{Bounds}
-use Rattle.ledger_model.specs.Step.{Reached, answer, events_after}
+use Rattle.ledger_model.{specs.Limits.Bounds, specs.Step.{Reached, answer, events_after}}
 use Rattle.event_chain.specs.Chains.{stored}
-use Rattle.station_ledger.specs.Kept.{content_in}
-use Rattle.station_ledger.specs.Ledger.{Ledger}
-use Rattle.station_ledger.specs.Sums.{AreAllowed, AreSummed, order_in}
-use Rattle.station_ledger.proofs.Reaching.{allowed, reached_next}
+use Rattle.station_ledger.{specs.Kept.content_in, specs.Ledger.Ledger, specs.Sums.{AreAllowed, AreSummed, order_in}, proofs.Reaching.{allowed, reached_next}}
 use Rattle.station_ledger.proofs.ledger.StationLedger.apply_judged.Goals as goal
 
 pub carry_out-requires : goal.carry_out-requires

@@ -1,14 +1,7 @@
 use Rattle.std.proofs.Common.{◌≡◌, IfOk, sym, subst}
-use Rattle.ledger_model.specs.Board.{board_by}
-use Rattle.ledger_model.specs.Content.{entries}
-use Rattle.ledger_model.specs.Limits.{Bounds}
-use Rattle.ledger_model.proofs.Callers.{AreKept-reached}
+use Rattle.ledger_model.{specs.Board.board_by, specs.Content.entries, specs.Limits.Bounds, proofs.Callers.AreKept-reached}
 use Rattle.event_chain.specs.Chains.{stored}
-use Rattle.station_ledger.specs.Kept.{content_in}
-use Rattle.station_ledger.specs.Ledger.{Ledger}
-use Rattle.station_ledger.specs.Sums.{AreAllowed, AreSummed, order_in}
-use Rattle.station_ledger.proofs.Numbered.{numbered}
-use Rattle.station_ledger.proofs.Reaching.{allowed}
+use Rattle.station_ledger.{specs.Kept.content_in, specs.Ledger.Ledger, specs.Sums.{AreAllowed, AreSummed, order_in}, proofs.Numbered.numbered, proofs.Reaching.allowed}
 use Rattle.station_ledger.proofs.ledger.StationLedger.board.Goals as goal
 
 pub board_of-requires-clause-within : goal.board_of-requires-clause-within

@@ -1,15 +1,8 @@
 use Rattle.std.proofs.Common.{sym, ap, subst, ◌∙◌}
 use Rattle.energy_flow.specs.Flow.{Energy}
-use Rattle.ledger_model.specs.Board.{figures_by}
-use Rattle.ledger_model.specs.Content.{entries}
-use Rattle.ledger_model.specs.declared.reading.Direction.TheVariants.{Import, Export}
-use Rattle.ledger_model.specs.Limits.{Bounds}
-use Rattle.ledger_model.specs.Figures.{AreWithin}
-use Rattle.ledger_model.proofs.Callers.{figures_within}
+use Rattle.ledger_model.{specs.Board.figures_by, specs.Content.entries, specs.declared.reading.Direction.TheVariants.{Import, Export}, specs.Limits.Bounds, specs.Figures.AreWithin, proofs.Callers.figures_within}
 use Rattle.event_chain.specs.Chains.{stored}
-use Rattle.station_ledger.specs.Kept.{content_in}
-use Rattle.station_ledger.specs.Ledger.{Ledger}
-use Rattle.station_ledger.specs.Sums.{order_in}
+use Rattle.station_ledger.{specs.Kept.content_in, specs.Ledger.Ledger, specs.Sums.order_in}
 use Rattle.station_ledger.proofs.ledger.StationLedger.figures.Goals as goal
 
 pub returns-clause-value : goal.returns-clause-value

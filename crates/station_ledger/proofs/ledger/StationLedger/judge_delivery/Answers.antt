@@ -1,10 +1,8 @@
 use Rattle.std.proofs.Common.{cond, option_map, sym, ap, ◌∙◌}
 use Rattle.std.specs.FinMap as finite
-use Rattle.ledger_model.specs.declared.answer.Answer.TheVariants.{Repeat, Refused}
-use Rattle.ledger_model.specs.declared.answer.Refusal.TheVariants.{ConflictingEvent}
+use Rattle.ledger_model.{specs.declared.answer.Answer.TheVariants.{Repeat, Refused}, specs.declared.answer.Refusal.TheVariants.ConflictingEvent}
 use Rattle.event_store.specs.Slots.{Held}
-use Rattle.station_ledger.specs.Ledger.{Ledger}
-use Rattle.station_ledger.proofs.Judged.{answer_known}
+use Rattle.station_ledger.{specs.Ledger.Ledger, proofs.Judged.answer_known}
 use Rattle.station_ledger.proofs.ledger.StationLedger.judge_delivery.Goals as goal
 
 pub returns-then-same_as : goal.returns-then-same_as

@@ -1,9 +1,6 @@
-use Rattle.std.proofs.Common.{◌≡◌, List, [], count_by, sym, ap, subst, ◌∙◌}
+use Rattle.std.{proofs.Common.{◌≡◌, List, [], count_by, sym, ap, subst, ◌∙◌}, specs.FinMap.FinMap}
 use Rattle.std.specs.FinMap as finite
-use Rattle.std.specs.FinMap.{FinMap}
-use Rattle.ledger_model.specs.Content.{Entry, Stored}
-use Rattle.ledger_model.specs.Key.{key_cmp}
-use Rattle.ledger_model.proofs.ListedRuns.{none_listed}
+use Rattle.ledger_model.{specs.Content.{Entry, Stored}, specs.Key.key_cmp, proofs.ListedRuns.none_listed}
 use Rattle.station_ledger.specs.Sums.{AreSummed}
 use Rattle.station_ledger.proofs.ledger.StationLedger.open.Goals as goal
 

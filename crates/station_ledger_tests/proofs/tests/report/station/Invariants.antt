@@ -1,6 +1,5 @@
 use Rattle.std.proofs.Common.{◌≡◌}
-use Rattle.ledger_model.specs.Limits.{default_limits}
-use Rattle.ledger_model.specs.Settling.{default_periods}
+use Rattle.ledger_model.{specs.Limits.default_limits, specs.Settling.default_periods}
 use Rattle.station_ledger_tests.proofs.tests.report.station.Given as goal
 
 -- the limits and the period stay

@@ -1,12 +1,6 @@
-use Rattle.std.proofs.Common.{◌≡◌, ℕ, List, ◌∷◌, [], ◌++◌, sym, subst, arith}
-use Rattle.std.proofs.lemmas.List.Elements.{All-append, All-cons, All-nil}
-use Rattle.std.proofs.lemmas.List.Sums.{sum_by-append}
-use Rattle.ledger_model.specs.Board.{Board}
-use Rattle.ledger_model.specs.Limits.{Bounds, default_limits}
-use Rattle.ledger_model.specs.Settling.{default_periods}
-use Rattle.board_report.specs.Plans.{AreBoardsWithin}
-use Rattle.board_report.specs.Sums.{AreOfPeriod}
-use Rattle.board_report.proofs.PlanLemmas.{plans_fit, AreBoardsWithin-more}
+use Rattle.std.{proofs.Common.{◌≡◌, ℕ, List, ◌∷◌, [], ◌++◌, sym, subst, arith}, proofs.lemmas.List.Elements.{All-append, All-cons, All-nil}, proofs.lemmas.List.Sums.sum_by-append}
+use Rattle.ledger_model.{specs.Board.Board, specs.Limits.{Bounds, default_limits}, specs.Settling.default_periods}
+use Rattle.board_report.{specs.Plans.AreBoardsWithin, specs.Sums.AreOfPeriod, proofs.PlanLemmas.{plans_fit, AreBoardsWithin-more}}
 use Rattle.station_ledger_tests.proofs.tests.report.stations.Goals as goal
 
 -- one station more

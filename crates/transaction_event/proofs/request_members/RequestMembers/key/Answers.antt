@@ -1,15 +1,8 @@
-use Rattle.std.proofs.Common.{◌≡◌, ◌∙◌, ◌-◌, ℕ, ℤ, pos, unsigned_abs, List, option_map, Ok, Err, ap, codes}
-use Rattle.std.proofs.lemmas.Result.{err_from_is_err_and}
+use Rattle.std.{proofs.Common.{◌≡◌, ◌∙◌, ◌-◌, ℕ, ℤ, pos, unsigned_abs, List, option_map, Ok, Err, ap, codes}, proofs.lemmas.Result.err_from_is_err_and}
 use Rattle.serde_json.specs.Data.{Data}
-use Rattle.ledger_model.specs.Key.{KeyName}
-use Rattle.ledger_model.specs.Ranges.{sequence_end}
+use Rattle.ledger_model.{specs.Key.KeyName, specs.Ranges.sequence_end}
 use Rattle.marked_json.specs.Reading.{node, text_of}
-use Rattle.transaction_event.specs.Integer.{required_integer, required_integer_of}
-use Rattle.transaction_event.specs.Member.{object_of, required, required_of}
-use Rattle.transaction_event.specs.Request.{tx_named, key_of}
-use Rattle.transaction_event.specs.declared.request_members.RequestMembers.{RequestMembers}
-use Rattle.transaction_event.specs.RequestMembers.{AreFound, request_with}
-use Rattle.transaction_event.specs.Steps.{Checked, ◌>>=◌}
+use Rattle.transaction_event.{specs.Integer.{required_integer, required_integer_of}, specs.Member.{object_of, required, required_of}, specs.Request.{tx_named, key_of}, specs.declared.request_members.RequestMembers.RequestMembers, specs.RequestMembers.{AreFound, request_with}, specs.Steps.{Checked, ◌>>=◌}}
 use Rattle.transaction_event.proofs.request_members.RequestMembers.key.Goals as goal
 
 -- the steps that are left, from the last on

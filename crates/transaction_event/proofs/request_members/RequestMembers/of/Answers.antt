@@ -1,9 +1,6 @@
-use Rattle.std.proofs.Common.{◌≡◌, ◌∙◌, ℕ, List, Option, option_map, map, get_or, ap, sym}
-use Rattle.std.proofs.Math.ListN.{get_or-map}
+use Rattle.std.{proofs.Common.{◌≡◌, ◌∙◌, ℕ, List, Option, option_map, map, get_or, ap, sym}, proofs.Math.ListN.get_or-map}
 use Rattle.serde_json.specs.Data.{Data}
-use Rattle.marked_json.specs.declared.wanted.Wanted.{Wanted}
-use Rattle.marked_json.specs.Reading.{node, field_of}
-use Rattle.marked_json.specs.Wanted.{found}
+use Rattle.marked_json.{specs.declared.wanted.Wanted.Wanted, specs.Reading.{node, field_of}, specs.Wanted.found}
 use Rattle.transaction_event.proofs.request_members.RequestMembers.of.Goals as goal
 
 -- one of the members that were found

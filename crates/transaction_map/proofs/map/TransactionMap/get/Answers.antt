@@ -1,7 +1,5 @@
-use Rattle.std.proofs.Common.{arith, sym, ap, ◌∙◌, Some}
-use Rattle.std.specs.FinMap.{find}
-use Rattle.transaction_map.specs.Map.{id_cmp}
-use Rattle.transaction_map.proofs.Places.{at_within, find_gap, find_at}
+use Rattle.std.{proofs.Common.{arith, sym, ap, ◌∙◌, Some}, specs.FinMap.find}
+use Rattle.transaction_map.{specs.Map.id_cmp, proofs.Places.{at_within, find_gap, find_at}}
 use Rattle.transaction_map.proofs.map.TransactionMap.get.Goals as goal
 
 pub index-requires : goal.index-requires

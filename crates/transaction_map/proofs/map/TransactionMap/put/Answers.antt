@@ -1,7 +1,5 @@
-use Rattle.std.proofs.Common.{◌≡◌, ◌<◌, arith, ap, sym, subst, None, length}
-use Rattle.std.specs.FinMap.{find}
-use Rattle.transaction_map.specs.Map.{AreRising, id_cmp}
-use Rattle.transaction_map.proofs.Found.{rising_put, within_put}
+use Rattle.std.{proofs.Common.{◌≡◌, ◌<◌, arith, ap, sym, subst, None, length}, specs.FinMap.find}
+use Rattle.transaction_map.{specs.Map.{AreRising, id_cmp}, proofs.Found.{rising_put, within_put}}
 use Rattle.transaction_map.proofs.map.TransactionMap.put.Goals as goal
 
 pub invariant_of-self : goal.invariant_of-self

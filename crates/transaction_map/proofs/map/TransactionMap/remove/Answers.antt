@@ -1,6 +1,5 @@
 use Rattle.std.proofs.Common.{arith, ap, sym, subst, length}
-use Rattle.transaction_map.specs.Map.{AreRising}
-use Rattle.transaction_map.proofs.Found.{rising_out, within_out}
+use Rattle.transaction_map.{specs.Map.AreRising, proofs.Found.{rising_out, within_out}}
 use Rattle.transaction_map.proofs.map.TransactionMap.remove.Goals as goal
 
 pub invariant_of-self : goal.invariant_of-self

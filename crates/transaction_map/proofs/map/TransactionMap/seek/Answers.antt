@@ -1,8 +1,5 @@
-use Rattle.std.proofs.Common.{arith, sym, ap, subst, ◌∙◌, Some}
-use Rattle.std.specs.FinMap.{find}
-use Rattle.transaction_map.specs.Map.{id_cmp}
-use Rattle.transaction_map.specs.Places.{IsAt}
-use Rattle.transaction_map.proofs.Places.{at_within, find_gap, find_at}
+use Rattle.std.{proofs.Common.{arith, sym, ap, subst, ◌∙◌, Some}, specs.FinMap.find}
+use Rattle.transaction_map.{specs.Map.id_cmp, specs.Places.IsAt, proofs.Places.{at_within, find_gap, find_at}}
 use Rattle.transaction_map.proofs.map.TransactionMap.seek.Goals as goal
 
 pub index-requires : goal.index-requires

@@ -1,8 +1,5 @@
 use Rattle.std.proofs.Common.{arith, ap, sym, subst, length}
-use Rattle.transaction_map.specs.Map.{AreRising}
-use Rattle.transaction_map.specs.Places.{IsAt}
-use Rattle.transaction_map.proofs.Found.{rising_put}
-use Rattle.transaction_map.proofs.Places.{length_put}
+use Rattle.transaction_map.{specs.Map.AreRising, specs.Places.IsAt, proofs.Found.rising_put, proofs.Places.length_put}
 use Rattle.transaction_map.proofs.map.TransactionMap.set_at.Goals as goal
 
 pub write_at-requires : goal.write_at-requires

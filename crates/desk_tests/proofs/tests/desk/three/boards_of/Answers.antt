@@ -1,11 +1,6 @@
-use Rattle.std.proofs.Common.{◌≤◌, [], ◌∷◌, sym, subst, arith}
-use Rattle.std.specs.List.{sum_by}
-use Rattle.std.proofs.lemmas.List.Sums.{sum_by-cons}
-use Rattle.ledger_model.specs.Limits.{Bounds}
-use Rattle.ledger_model.specs.Ranges.{most_plan_readings}
-use Rattle.board_report.specs.Plans.{AreBoardsWithin}
-use Rattle.board_report.specs.Sums.{station_quarters, QuartersFit}
-use Rattle.board_report.proofs.PlanLemmas.{plans_fit}
+use Rattle.std.{proofs.Common.{◌≤◌, [], ◌∷◌, sym, subst, arith}, specs.List.sum_by, proofs.lemmas.List.Sums.sum_by-cons}
+use Rattle.ledger_model.{specs.Limits.Bounds, specs.Ranges.most_plan_readings}
+use Rattle.board_report.{specs.Plans.AreBoardsWithin, specs.Sums.{station_quarters, QuartersFit}, proofs.PlanLemmas.plans_fit}
 use Rattle.desk_tests.proofs.tests.desk.three.boards_of.Goals as goal
 
 -- two stations store no more readings than a plan may
