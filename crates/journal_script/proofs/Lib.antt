@@ -16,4 +16,8 @@ mod NotJson
 mod Unheard
 mod Spoiled
 pub mod Cuts
+mod HeadWords
+mod HeadLines
+pub mod Declaring
+pub mod HeadLaw
 pub mod OneScript

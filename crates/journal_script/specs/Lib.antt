@@ -1,5 +1,6 @@
 pub mod Speaking
 pub mod Journals
+pub mod Head
 pub mod Cuts
 pub mod OneScript
 pub mod Restoring

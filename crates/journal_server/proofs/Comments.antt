@@ -2,8 +2,8 @@
 use Rattle.std.proofs.Common.{◌≡◌, ◌&&◌, ℕ, Bool, true, false, not, List, [], ◌∷◌, ◌++◌, Some, inr, refl, sym, ap, subst, ◌∙◌, append_assoc}
 use Rattle.script_lines.{specs.LineMeaning.{line_meaning, nothing}, specs.Lines.lines_of, specs.Ranges.longest_line}
 use Rattle.script_ledgers.specs.Script.{start, step_by, script_after}
-use Rattle.journal_script.{specs.declared.restored.Restored.Restored, specs.Cuts.run_begins, specs.Journals.{EndsWhole, Shows}, specs.Restoring.{IsRestored, run_line}, proofs.Whole.{after_both, lines_apart}}
-use Rattle.journal_server.specs.Served.{Leaves, after}
+use Rattle.journal_script.{specs.Head.after, specs.declared.restored.Restored.Restored, specs.Cuts.run_begins, specs.Journals.{EndsWhole, Shows}, specs.Restoring.{IsRestored, run_line}, proofs.Whole.{after_both, lines_apart}}
+use Rattle.journal_server.specs.Served.{Leaves}
 
 one_line : lines_of longest_line run_begins ≡ Some run_line ∷ []
 one_line = refl

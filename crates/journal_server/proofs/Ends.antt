@@ -2,24 +2,14 @@
 use Rattle.std.{proofs.Common.{◌≡◌, ℕ, zero, suc, ◌<◌, ◌≤◌, Bool, List, [], ◌∷◌, ◌++◌, Option, None, Some, Result, Ok, Err, OnOk, IfOk, All, length, slice_get, refl, sym, ap, subst, ◌∙◌, arith}, specs.Prelude.{IsOk, ⊤}, specs.Io.KnownBytes.{Appends, append_known}, proofs.lemmas.List.Elements.{All-cons, All-head, All-nil, All-tail}, proofs.lemmas.List.length-map, proofs.lemmas.Option.slice_get_within}
 use Rattle.board_report.{specs.Texts.board_text, specs.Closed.{boards_text, closed_site}}
 use Rattle.kept_desk.{specs.declared.entry.Entry.Entry, specs.Entries.{of_station, text_of, IsNote}, specs.Journal.IsWritten, specs.Speaking.{AreSpoken, Speaks, SpeaksOf}, proofs.Fronts.entry_accepted, specs.Kept.{AreBoardsBehind, IsLeftFrom, commands_of}, specs.Opened.{AreFirst, content_or_empty, contents_of, names_of}}
-use Rattle.journal_script.{specs.Journals.{AreLeft, HasOnce, IsSpoken, station_name}, proofs.Boards.boards_are_those_of_cells, proofs.Journals.journals_are_scripts, specs.Restoring.Grows}
+use Rattle.journal_script.{proofs.HeadLaw.has_once, specs.Head.after, specs.Journals.{AreLeft, HasOnce, IsSpoken, station_name}, proofs.Boards.boards_are_those_of_cells, proofs.Journals.journals_are_scripts, specs.Restoring.Grows}
 use Rattle.live_server.specs.Told.{Tells, operator_input}
 use Rattle.site_book.specs.Prefix.{IsPrefix}
 use Rattle.site_desk.{specs.declared.roster.StationPlace.StationPlace, specs.declared.plan.SitePlan.SitePlan, specs.declared.plan.StationPlan.StationPlan, specs.Plan.plan_fault, specs.Roster.{AreCellsOf, AreNewPlaces}, proofs.NewParts.{planned_names, planned_sites}}
 use Rattle.ledger_model.{specs.Content.Content, specs.Limits.Bounds}
 use Rattle.station_cell.specs.Cell.{Cell}
-use Rattle.journal_server.{specs.Left.Left, specs.Served.{AreAccepted, AreLeftFrom, Declares, IsEnded, IsItsScript, IsKeptAnswer, IsNewRun, IsToldOf, Leaves, TellsNew, TellsRestored, after, joined}}
+use Rattle.journal_server.{specs.Left.Left, specs.Served.{AreAccepted, AreLeftFrom, Declares, IsEnded, IsItsScript, IsKeptAnswer, IsNewRun, IsToldOf, Leaves, TellsNew, TellsRestored, joined}}
 use Rattle.script_lines.specs.Lines.{Line}
-
-all_placed : (n : ℕ) (stations : List StationPlan) → ((k : ℕ) (s : StationPlan) → slice_get stations k ≡ Some s → s.site < n) → All (λ s. s.site < n) stations
-all_placed n [] each = All-nil (λ s. s.site < n)
-all_placed n (s ∷ stations) each = All-cons (λ s. s.site < n) s stations (each zero s refl) (all_placed n stations (λ k t at. each (suc k) t at))
-
--- a plan without a fault has each name once
-pub has_once : (sites : List SitePlan) (stations : List StationPlan) → plan_fault sites stations ≡ None → HasOnce sites stations
-has_once sites stations none =
-    let names = planned_names sites stations none in
-    record { sites_once = names.0; stations_once = names.1; placed = all_placed (length sites) stations (λ k s at. planned_sites sites stations k s none at) }
 
 -- a name that is not empty is that of a station which the plan has
 named_there : (stations : List StationPlan) (k : ℕ) → 0 < length (names_of stations k) → k < length stations
@@ -228,10 +218,6 @@ ended_as name name' first first' before before' sites stations left tells more n
 pub all_front : {X : Type 0} (P : X → Type 0) (xs ys : List X) → All P (xs ++ ys) → All P xs
 all_front P [] ys h = All-nil P
 all_front P (x ∷ xs) ys h = All-cons P x xs (All-head P x (xs ++ ys) h) (all_front P xs ys (All-tail P x (xs ++ ys) h))
-
-pub all_back : {X : Type 0} (P : X → Type 0) (xs ys : List X) → All P (xs ++ ys) → All P ys
-all_back P [] ys h = h
-all_back P (x ∷ xs) ys h = all_back P xs ys (All-tail P x (xs ++ ys) h)
 
 -- moments that begin a list, by what is handed out
 pub begin_those : {S F : Type 0} (r : Result S F) (handed : S → List (List Entry)) (all : List (List Entry)) (log : List Entry)

@@ -1,4 +1,3 @@
-pub mod Head
 pub mod Left
 pub mod Served
 pub mod Simulated

@@ -2,7 +2,7 @@
 use Rattle.std.{specs.Prelude.{◌≡◌, ℕ, zero, suc, ◌+◌, ◌<◌, Bool, false, true, List, [], ◌∷◌, ◌++◌, length, Option, IfSome, Some, All, OnOk, map, slice_get}, specs.declared.result.Result.Result, specs.Io.KnownBytes.{Consumes, append_known}}
 use Rattle.board_report.specs.Closed.{boards_text}
 use Rattle.kept_desk.{specs.declared.entry.Entry.Entry, specs.Entries.{entry, of_station, text_of}, specs.Journal.IsWritten, specs.Kept.{AreBoardsBehind, IsAcceptedBehind, IsLeftFrom, IsReceived, IsWrittenDown, commands_of}, specs.Opened.contents_of}
-use Rattle.journal_script.{specs.Cuts.run_begins, specs.Journals.{EndsWhole, IsSpoken, Shows}, specs.Restoring.{Grows, HasNoListen, IsListen, loses, marked_by}}
+use Rattle.journal_script.{specs.Cuts.run_begins, specs.Head.after, specs.Journals.{EndsWhole, IsSpoken, Shows}, specs.Restoring.{Grows, HasNoListen, IsListen, loses, marked_by}}
 use Rattle.ledger_model.{specs.declared.answer.Answer.Answer, specs.declared.command.Command.Command, specs.Content.{Content, empty_content}}
 use Rattle.site_book.{specs.Book.Known, specs.Prefix.IsPrefix}
 use Rattle.script_lines.{specs.LineMeaning.{asks_board, line_meaning}, specs.Lines.{Line, lines_of}, specs.Ranges.longest_line}
@@ -13,10 +13,6 @@ use Rattle.running_desk.specs.Ordered.{lines_in}
 use Rattle.station_cell.specs.Cell.{Cell, Held}
 use Rattle.station_link.specs.Attended.{IsAnswered}
 use Rattle.journal_server.specs.Left.{Left}
-
--- The state of a replay after these bytes.
-abbrev pub after : List ℕ → Script
-after bytes = script_after start (lines_of longest_line bytes)
 
 -- A script, in whole lines, that ends with these sites and stations, with the contents of these
 -- cells.

@@ -22,9 +22,7 @@
 //! ```
 #![tactic(auto)]
 
-mod declared;
 mod fault;
-mod receipt_time;
 mod run;
 mod serve;
 mod serving;

@@ -6,12 +6,11 @@ ghost use Rattle.script_lines.{specs.Lines.lines_of, specs.Ranges.longest_line};
 ghost use Rattle.journal_server.{specs.Left.left_of, specs.Served.{IsNewRun, IsRefused, IsRestoredRun, TellsNew, TellsRestored}};
 ghost use Rattle.live_server.specs.Told.{operator_input};
 
-use crate::declared::{are_in_order, journal_head, run_head};
 use crate::fault::JournalFault;
 use crate::run::{Ends, Served, new_cells, run_plan};
 use board_report::BoardsFault;
 use itoa::Buffer;
-use journal_script::{RestoreFault, Restored, restore};
+use journal_script::{RestoreFault, Restored, are_in_order, journal_head, restore, run_head};
 use live_server::Live;
 use script_lines::write_bytes;
 use server_parts::{Host, Input, Output, ServiceFault};

@@ -1,19 +1,21 @@
 //! A desk with a journal, as a live server serves it.
 ghost use Rattle.std.specs.Prelude.{◌≡◌, IfOk, None, OnErr, Some, slice_get};
+ghost use Rattle.kept_desk.specs.Entries.{IsNote};
 ghost use Rattle.ledger_model.{specs.declared.answer.Answer.Answer, specs.declared.answer.Refusal.Refusal, specs.declared.command.Command.Command};
 ghost use Rattle.script_lines.{specs.LineMeaning.{commands, line_meaning}, specs.Lines.line_bytes};
 ghost use Rattle.site_desk.{specs.declared.roster.StationPlace.StationPlace, specs.Roster.IsNamed, specs.Submit.Submitted};
 ghost use Rattle.station_link.specs.Answer.{Asks, IsSubmitted};
 
-use crate::receipt_time::receipt_note;
-use journal_script::{is_script_line, laws, message_line};
+use arrayvec::ArrayString;
+use journal_script::{RECEIPT_BYTES, is_script_line, laws, message_line, receipt_note};
 use kept_desk::{KeptCell, KeptDesk, Moment, Opening};
 use ledger_model::{Answer, Command, Name, Refusal};
 use running_desk::{MayBreak, Seen, Serves};
+use server_parts::SystemMoments;
 use site_book::{Naming, Told};
 use site_desk::{BoardFault, Desk, Gate, NoGate};
 use station_cell::Pass;
-use station_link::{Delivers, Ordered};
+use station_link::{Delivers, MomentSource, Ordered};
 use std::alloc::{AllocError, Global};
 use std::io::Write;
 use std::sync::Wait;
@@ -28,6 +30,19 @@ pub(crate) struct Serving<J: Naming, K: Opening, W: Write + Drop> {
     pub(crate) kept: KeptDesk<J, K, W>,
     // Whether a comment with the time of its receipt is in front of each line.
     pub(crate) has_receipt_times: bool,
+}
+
+impl<J: Naming, K: Opening, W: Write + Drop> Serving<J, K, W> {
+    // What is in front of a line that is taken now: a comment with the present moment if that is asked for.
+    fn note<R: Clock>(&self, rt: &R) -> ArrayString<RECEIPT_BYTES>
+        ensures { IsNote result.bytes }
+    {
+        receipt_note(if self.has_receipt_times {
+            SystemMoments { rt }.now()
+        } else {
+            None
+        })
+    }
 }
 
 // The answer that nothing more is accepted.
@@ -66,18 +81,14 @@ impl<J: Naming + Send + Sync, K: Opening + Send + Sync, W: Write + Drop> Deliver
         if name.text().is_empty() {
             return Ok(exhausted());
         }
-        let note = receipt_note(rt, self.has_receipt_times);
+        let note = self.note(rt);
         laws::events();
         let mut line = Vec::with_capacity(alloc, text.len().saturating_add(LINE_START))?;
         if !message_line(alloc, &mut line, name, text, &key, &event)? {
             return Ok(exhausted());
         }
-        let command = Command::Deliver(key, event);
-        let note = note.as_str().as_bytes();
-        Ok(
-            self.kept
-                .submit(rt, pass, command, note, line.as_slice(), gate),
-        )
+        let (command, note) = (Command::Deliver(key, event), note.as_str().as_bytes());
+        Ok(self.kept.submit(rt, pass, command, note, &line, gate))
     }
 }
 
@@ -109,9 +120,9 @@ impl<J: Naming + Send + Sync, K: Opening + Send + Sync, W: Write + Drop> Serves
         if name.text().is_empty() || !is_script_line(bytes) {
             return exhausted();
         }
-        let note = receipt_note(rt, self.has_receipt_times);
-        self.kept
-            .submit(rt, pass, what, note.as_str().as_bytes(), bytes, &NoGate)
+        let note = self.note(rt);
+        let note = note.as_str().as_bytes();
+        self.kept.submit(rt, pass, what, note, bytes, &NoGate)
     }
 
     fn boards<R: Wait>(

@@ -3,7 +3,7 @@
 //! A script has one line for each step: a declaration, a message of a station, or an operator's command or question.
 //! [`LineReader`] reads it line by line within limits, and flushes the output before it waits for more input.
 //! [`read_line`] says what a line means, or which fault it has. [`put_line`], [`put_fault`] and [`put_answer`] make the
-//! answers, and [`write_bytes`] writes them. This crate knows no ledgers.
+//! answers, and [`write_bytes`] writes them. [`script_help`] is the help on all lines. This crate knows no ledgers.
 //!
 //! The crate's contract: each line that is read is the next of those that the definition cuts the bytes into,
 //! and its meaning is that of the definition `line_meaning`.
@@ -15,6 +15,7 @@
 #![tactic(auto)]
 
 mod fault;
+mod help;
 mod line_reader;
 mod script_line;
 mod text;

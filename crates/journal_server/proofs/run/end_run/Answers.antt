@@ -3,7 +3,8 @@ use Rattle.site_book.specs.Prefix.{IsPrefix}
 use Rattle.board_report.{specs.Closed.boards_text, proofs.ClosedSites.closed_of}
 use Rattle.kept_desk.specs.Journal.{IsWritten}
 use Rattle.site_desk.specs.Close.{changes_of}
-use Rattle.journal_server.proofs.Ends.{all_back, all_front, begin_those}
+use Rattle.journal_script.proofs.Declaring.{all_back}
+use Rattle.journal_server.proofs.Ends.{all_front, begin_those}
 use Rattle.journal_server.proofs.run.end_run.Goals as goal
 
 pub write_boards-requires-clause-closed : goal.write_boards-requires-clause-closed

@@ -1,8 +1,8 @@
 use Rattle.std.proofs.Common.{[], ◌∷◌}
 use Rattle.script_ledgers.specs.Drafts.{site_name}
 use Rattle.script_lines.specs.LineMeaning.{declares}
-use Rattle.journal_server.{specs.Head.limits_meaning, proofs.HeadLines.{adds_both, adds_station, on_ok}}
-use Rattle.journal_server.proofs.declared.put_station.Goals as goal
+use Rattle.journal_script.{specs.Head.limits_meaning, proofs.HeadLines.{adds_both, adds_station, on_ok}}
+use Rattle.journal_script.proofs.head.put_station.Goals as goal
 
 pub returns : goal.returns
 returns c =

@@ -1,7 +1,7 @@
 use Rattle.std.proofs.Common.{take}
 use Rattle.journal_script.specs.Cuts.{run_begins}
-use Rattle.journal_server.specs.Head.{Adds, sites_meanings, stations_meanings}
-use Rattle.journal_server.proofs.declared.journal_head.Given as goal
+use Rattle.journal_script.specs.Head.{Adds, sites_meanings, stations_meanings}
+use Rattle.journal_script.proofs.head.journal_head.Given as goal
 
 abbrev pub invariant-loop-station : goal.invariant-loop-station
 invariant-loop-station l = Adds run_begins l.head.items (stations_meanings l.sites (take l.station-index l.station-items))

@@ -1,11 +1,14 @@
 -- What the head of a new run declares.
 use Rattle.std.specs.Prelude.{◌≡◌, ℕ, suc, Bool, true, ◌==◌, ◌&&◌, nat_lt, if◌then◌else◌, List, [], ◌∷◌, ◌++◌, All, flat_map, map}
 use Rattle.journal_script.specs.Journals.{EndsWhole}
-use Rattle.journal_server.specs.Served.{after}
 use Rattle.ledger_model.{specs.declared.order.Order.Order, specs.declared.order.Order.TheVariants.{Sequence, Moment}, specs.declared.settle.Settle.Settle, specs.declared.settle.Settle.TheVariants.{Later, Closing, Even}, specs.Limits.{AreBounds, Bounds}}
-use Rattle.script_ledgers.{specs.Drafts.{planned_world, site_name}, specs.Script.is_period}
+use Rattle.script_ledgers.{specs.Drafts.{planned_world, site_name}, specs.Script.{Script, is_period, script_after, start}}
 use Rattle.script_lines.{specs.LineMeaning.{LineMeaning, sets_limits, declares, sets_period, sets_order, sets_settle, line_meaning}, specs.Lines.lines_of, specs.Ranges.longest_line}
 use Rattle.site_desk.{specs.declared.plan.SitePlan.SitePlan, specs.declared.plan.StationPlan.StationPlan}
+
+-- The state of a replay after these bytes.
+abbrev pub after : List ℕ → Script
+after bytes = script_after start (lines_of longest_line bytes)
 
 -- The text of a head, read as a script in whole lines, leaves these sites and stations, without events.
 pub record IsHeadOf (sites : List SitePlan) (stations : List StationPlan) (head : List ℕ) : Type 0 where

@@ -1,11 +1,10 @@
 -- The lines of a head, and what they add to it.
 use Rattle.std.{proofs.Common.{◌≡◌, ℕ, ◌+◌, ◌^◌, ◌<◌, true, cond, List, [], ◌∷◌, ◌++◌, All, Err, None, Ok, OnOk, Result, Some, codes, decimal, flat_map, get_or, length, map, take, refl, sym, ap, subst, ◌∙◌, inl, inr, arith, append_assoc, append-nil}, specs.Io.BufRead.strip_last, proofs.lemmas.Bool.{le-leb, leb-true}, proofs.lemmas.List.{flat_map_more, get_or-map, map-append, take_more}, proofs.lemmas.List.Elements.{All-append, All-cons, All-nil}}
-use Rattle.journal_script.{proofs.Whole.lines_apart, specs.Cuts.run_begins, specs.Restoring.run_line}
+use Rattle.journal_script.{proofs.Whole.lines_apart, specs.Cuts.run_begins, specs.Restoring.run_line, specs.Head.{Adds, HasValues, limits_meaning, meanings_of}, proofs.HeadWords.{IsLine, IsWord, behind, is_word-decimal, is_word-name, number_read, plain_line, words_are, words_say}}
 use Rattle.ledger_model.{specs.Limits.{AreBounds, Bounds}, specs.Name.is_name, specs.Quarter.IsPeriod, specs.declared.order.Order.TheVariants.Moment, specs.declared.settle.Settle.Settle}
 use Rattle.script_ledgers.{specs.Drafts.site_name, specs.Script.is_period}
 use Rattle.script_lines.{proofs.Cuts.cut-ended, specs.LineMeaning.{LineMeaning, ◌>>=◌, declares, line_meaning, limits_line, name, nothing, order_line, period_line, sets_limits, sets_order, sets_period, sets_settle, settle_line, settle_word, station_line}, specs.Lines.{lines_of, unended}, specs.Ranges.longest_line}
 use Rattle.site_desk.specs.declared.plan.SitePlan.{SitePlan}
-use Rattle.journal_server.{specs.Head.{Adds, HasValues, limits_meaning, meanings_of}, proofs.Words.{IsLine, IsWord, behind, is_word-decimal, is_word-name, number_read, plain_line, words_are, words_say}}
 
 -- ---- lines and heads
 

@@ -1,7 +1,7 @@
 use Rattle.std.proofs.Common.{codes, refl, subst}
 use Rattle.ledger_model.specs.declared.settle.Settle.TheVariants.{Closing, Even}
-use Rattle.journal_server.{specs.Head.{Adds, settle_meanings}, proofs.HeadLines.{adds_settle, on_ok}}
-use Rattle.journal_server.proofs.declared.put_settle.Goals as goal
+use Rattle.journal_script.{specs.Head.{Adds, settle_meanings}, proofs.HeadLines.{adds_settle, on_ok}}
+use Rattle.journal_script.proofs.head.put_settle.Goals as goal
 
 pub returns-in-Closing : goal.returns-in-Closing
 returns-in-Closing c =

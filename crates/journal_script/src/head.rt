@@ -1,11 +1,10 @@
-//! The declarations of a plan, as a script.
+//! How a journal begins: the first line of a run, and the declarations of a plan.
 ghost use Rattle.std.specs.Prelude.{◌≡◌, ◌≤◌, ◌<◌, ◌+◌, ◌++◌, [], ◌∷◌, true, None, IfOk, OnOk, flat_map, length};
-ghost use Rattle.journal_script.specs.Cuts.{run_begins};
+ghost use Rattle.journal_script.{specs.Cuts.run_begins, specs.Head.{Adds, IsHeadOf, are_in_order, limits_meaning, order_meanings, settle_meanings, site_meanings, station_meanings}};
 ghost use Rattle.site_desk.specs.Plan.{plan_fault};
-ghost use Rattle.journal_server.specs.Head.{Adds, IsHeadOf, are_in_order, limits_meaning, order_meanings, settle_meanings, site_meanings, station_meanings};
 
+use crate::left_out::RUN_LINE;
 use itoa::Buffer;
-use journal_script::RUN_LINE;
 use ledger_model::{Limits, Order, Settle};
 use site_desk::{Plan, SitePlan, StationPlan};
 use std::alloc::{AllocError, Global};
@@ -13,8 +12,8 @@ use std::alloc::{AllocError, Global};
 // The end of a journal's head. A script to restore has the same mark before its line `listen`.
 const MARK: &[u8] = b"#\n";
 
-// How a run begins in a journal: its first line.
-pub(crate) fn run_head(alloc: Global) -> Result<Vec<u8>, AllocError>
+/// How a run begins in a journal: its first line.
+pub fn run_head(alloc: Global) -> Result<Vec<u8>, AllocError>
     ensures { IfOk result (λ head. head.items ≡ run_begins) }
 {
     let mut head = Vec::new(alloc);
@@ -23,9 +22,11 @@ pub(crate) fn run_head(alloc: Global) -> Result<Vec<u8>, AllocError>
     Ok(head)
 }
 
-// Returns whether these stations mention all sites from the number `seen` on, each for the first time in the order of
-// the numbers. A script can declare sites in no other order. The sites below that number were mentioned before.
-pub(crate) fn are_in_order(stations: &[StationPlan], seen: u16, sites: u16) -> bool
+/// Returns whether these stations mention all sites from the number `seen` on, each for the first time in the order of
+/// the numbers. A script can declare sites in no other order. The sites below that number were mentioned before.
+///
+/// Condition: `seen` and the number of stations are at most 64 together.
+pub fn are_in_order(stations: &[StationPlan], seen: u16, sites: u16) -> bool
     requires { seen + length stations.now ≤ 64 }
     ensures { result ≡ are_in_order seen sites stations.now }
 {
@@ -39,8 +40,11 @@ pub(crate) fn are_in_order(stations: &[StationPlan], seen: u16, sites: u16) -> b
     }
 }
 
-// How a journal begins: the first line of its run, the declarations of the plan, and the mark.
-pub(crate) fn journal_head(alloc: Global, plan: &Plan) -> Result<Vec<u8>, AllocError>
+/// How a journal begins: the first line of its run, the declarations of the plan, and the mark.
+///
+/// Conditions: the plan has no fault ([`Plan::fault`](site_desk::Plan::fault)), and its stations mention its sites in
+/// their order ([`are_in_order`]).
+pub fn journal_head(alloc: Global, plan: &Plan) -> Result<Vec<u8>, AllocError>
     requires faultless { plan_fault plan.now.sites.items plan.now.stations.items ≡ None }
     requires in_order { are_in_order 0 (length plan.now.sites.items) plan.now.stations.items ≡ true }
     ensures { IfOk result (λ head. IsHeadOf plan.now.sites.items plan.now.stations.items head.items) }

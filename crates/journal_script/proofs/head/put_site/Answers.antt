@@ -1,8 +1,8 @@
 use Rattle.std.proofs.Common.{[], ◌∷◌, ◌++◌, ◌∙◌, ap, decimal, subst}
 use Rattle.ledger_model.specs.Quarter.{IsPeriod}
 use Rattle.script_lines.specs.LineMeaning.{sets_period}
-use Rattle.journal_server.{specs.Head.{order_meanings, settle_meanings}, proofs.HeadLines.{adds_both, adds_period, on_ok}}
-use Rattle.journal_server.proofs.declared.put_site.Goals as goal
+use Rattle.journal_script.{specs.Head.{order_meanings, settle_meanings}, proofs.HeadLines.{adds_both, adds_period, on_ok}}
+use Rattle.journal_script.proofs.head.put_site.Goals as goal
 
 pub returns : goal.returns
 returns c =

@@ -1,6 +1,6 @@
 use Rattle.std.proofs.Common.{subst, sym}
-use Rattle.journal_server.{specs.Head.{Adds, order_meanings}, proofs.HeadLines.{adds_order, on_ok}}
-use Rattle.journal_server.proofs.declared.put_order.Goals as goal
+use Rattle.journal_script.{specs.Head.{Adds, order_meanings}, proofs.HeadLines.{adds_order, on_ok}}
+use Rattle.journal_script.proofs.head.put_order.Goals as goal
 
 pub returns-in-Moment : goal.returns-in-Moment
 returns-in-Moment c =

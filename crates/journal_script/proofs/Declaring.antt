@@ -5,7 +5,11 @@ use Rattle.script_ledgers.{proofs.Boards.{at_site, one_place}, proofs.Drafting.{
 use Rattle.script_lines.{specs.LineMeaning.{LineMeaning, declares, line_meaning}, specs.Lines.Line, specs.declared.script_line.LineFault.TheVariants.PlanLimit, specs.Texts.fault_line}
 use Rattle.site_desk.{specs.declared.plan.SitePlan.SitePlan, specs.declared.plan.StationPlan.StationPlan, specs.Plan.{has_twice, is_past, site_number, sites_changed}}
 use Rattle.site_desk.specs.Plan as plan
-use Rattle.journal_server.{specs.Head.{HasValues, are_in_order, limits_meaning, station_meanings, stations_meanings}, proofs.Ends.all_back}
+use Rattle.journal_script.specs.Head.{HasValues, are_in_order, limits_meaning, station_meanings, stations_meanings}
+
+pub all_back : {X : Type 0} (P : X → Type 0) (xs ys : List X) → All P (xs ++ ys) → All P ys
+all_back P [] ys h = h
+all_back P (x ∷ xs) ys h = all_back P xs ys (All-tail P x (xs ++ ys) h)
 
 -- the script behind lines of these meanings
 abbrev pub steps : Script → List LineMeaning → Script

@@ -1,6 +1,6 @@
 use Rattle.std.proofs.Common.{◌∙◌, ap, arith, decimal}
-use Rattle.journal_server.proofs.HeadLines.{adds_limits, on_ok}
-use Rattle.journal_server.proofs.declared.put_limits.Goals as goal
+use Rattle.journal_script.proofs.HeadLines.{adds_limits, on_ok}
+use Rattle.journal_script.proofs.head.put_limits.Goals as goal
 
 pub returns : goal.returns
 returns c = on_ok c.put_line.result _ _
