@@ -148,24 +148,34 @@ fn run_over<
 {
     let alloc = rt.alloc();
     let live = journalling.live;
-    let Ends {
-        listener,
-        journal,
-        console,
-        lines,
-    } = ends;
-    let (kept, viewers) = open_over::<J, K, W>(alloc, plan, desk_parts, live.glances, journal)?;
+    let (kept, viewers) = open_over::<J, K, W>(
+        alloc,
+        plan,
+        desk_parts,
+        live.glances,
+        ends.journal,
+    )?;
+    let has_receipt_times = journalling.has_receipt_times;
     let serving = Serving {
         kept,
-        has_receipt_times: journalling.has_receipt_times,
+        has_receipt_times,
     };
+    let listener = ends.listener;
     let run = Run {
         rt,
         plan,
         live,
         listener,
     };
-    let ran = serve_plan_at(run, &serving, passes, viewers, input, console, lines)?;
+    let ran = serve_plan_at(
+        run,
+        &serving,
+        passes,
+        viewers,
+        input,
+        ends.console,
+        ends.lines,
+    )?;
     end_run(alloc, plan, serving.kept, ran)
 }
 
@@ -189,14 +199,9 @@ fn open_over<J: Naming, K: Opening, W: Output>(
     ensures opened { IfOk result (λ r. AreNewPlaces plan.now.sites.items plan.now.stations.items r.0.stations) }
     ensures sites { IfOk result (λ r. r.0.sites ≡ length plan.now.sites.items) }
 {
-    let DeskParts {
-        tables,
-        table,
-        cells,
-    } = desk_parts;
     let each = if glances > 0 { 1 } else { 0 };
-    let parts = Parts::over(alloc, tables, plan, cells, each)?;
-    let (kept, numbered) = KeptDesk::open(alloc, plan, parts, table, journal)?;
+    let parts = Parts::over(alloc, desk_parts.tables, plan, desk_parts.cells, each)?;
+    let (kept, numbered) = KeptDesk::open(alloc, plan, parts, desk_parts.table, journal)?;
     let mut viewers = Vec::with_capacity(alloc, numbered.len())?;
     for (_site, viewer) in numbered {
         viewers.push(viewer)?;
@@ -242,21 +247,12 @@ fn end_run<J: Naming + Send + Sync, K: Opening + Send + Sync, W: Output, T: Outp
     ensures { IfOk result (λ s. IsEnded K.name K.first K.before plan.now.sites.items plan.now.stations.items (left_of W.contents s)
         (λ log. (s.console ≡ ran.output) × OnOk s.ended (IsOk ran.ended) × IfOk ran.ended (λ seen. All (λ m. IsPrefix m log) seen.items))) }
 {
-    let Ran {
-        passes,
-        viewers,
-        answers: texts,
-        boards: browsed_boards,
-        ended,
-        output: console,
-    } = ran;
-    let answers = texts.len();
-    let browsed = browsed_boards.len();
-    let (ended, seen) = seen_of(alloc, ended);
-    let more = with_more(seen, texts)?;
-    let moments = with_more(more, browsed_boards)?;
+    let (answers, browsed) = (ran.answers.len(), ran.boards.len());
+    let (ended, seen) = seen_of(alloc, ran.ended);
+    let more = with_more(seen, ran.answers)?;
+    let moments = with_more(more, ran.boards)?;
     let mut boards = Vec::new(alloc);
-    let closed = match kept.close(passes, viewers, moments) {
+    let closed = match kept.close(ran.passes, ran.viewers, moments) {
         Ok(closed) => closed,
         Err(refused) => return Err(ServiceFault::from(refused.fault)),
     };
@@ -273,6 +269,6 @@ fn end_run<J: Naming + Send + Sync, K: Opening + Send + Sync, W: Output, T: Outp
         answers,
         browsed,
         ended,
-        console,
+        console: ran.output,
     })
 }

@@ -10,7 +10,7 @@ use crate::fault::JournalFault;
 use crate::run::{Ends, Served, new_cells, run_plan};
 use board_report::BoardsFault;
 use itoa::Buffer;
-use journal_script::{RestoreFault, Restored, are_in_order, journal_head, restore, run_head};
+use journal_script::{RestoreFault, are_in_order, journal_head, restore, run_head};
 use live_server::Live;
 use script_lines::write_bytes;
 use server_parts::{Host, Input, Output, ServiceFault};
@@ -169,14 +169,16 @@ pub fn serve_restored<R: Host, I: Input, W: Output, T: Output, L: Output>(
         console,
         lines,
     };
-    let Restored {
-        draft,
-        cells,
-        passes,
-        has_lost: _,
-    } = restored;
-    let journalling = restoring.journalling;
-    match run_plan(rt, draft.plan(), cells, passes, journalling, input, ends) {
+    let (plan, journalling) = (restored.draft.plan(), restoring.journalling);
+    match run_plan(
+        rt,
+        plan,
+        restored.cells,
+        restored.passes,
+        journalling,
+        input,
+        ends,
+    ) {
         Ok(served) => Ok(served),
         Err(fault) => Err(JournalFault::Service(fault)),
     }

@@ -53,26 +53,15 @@ pub fn simulate<R: Host + RandomSource, T: Output>(
         return Err(JournalFault::Service(ServiceFault::from(fault)));
     }
     let served = served?;
-    let Served {
-        journal,
-        unwritten,
-        is_broken,
-        boards,
-        passes,
-        answers,
-        browsed,
-        ended,
-        console: _,
-    } = served;
     Ok(Served {
-        journal,
-        unwritten,
-        is_broken,
-        boards,
-        passes,
-        answers,
-        browsed,
-        ended,
+        journal: served.journal,
+        unwritten: served.unwritten,
+        is_broken: served.is_broken,
+        boards: served.boards,
+        passes: served.passes,
+        answers: served.answers,
+        browsed: served.browsed,
+        ended: served.ended,
         console,
     })
 }

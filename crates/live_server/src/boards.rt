@@ -8,7 +8,7 @@ use crate::reply::{Status, response};
 use crate::request::{Request, read_request};
 use crate::shared::Shared;
 use ledger_model::Name;
-use running_desk::{Running, Serves, site_of};
+use running_desk::{Serves, site_of};
 use site_desk::Plan;
 use station_link::Attendant;
 use std::alloc::{AllocError, Global};
@@ -18,7 +18,7 @@ use std::net::TcpStream;
 use std::snapshot::Snapshot;
 use std::sync::Wait;
 use std::sync::atomic::AtomicBool;
-use std::thread::Promise;
+use std::thread::{Promise, Threads};
 use std::time::Clock;
 
 // How many bytes the head of a request may have.
@@ -42,7 +42,7 @@ const PAGE: &str = "text/html; charset=utf-8";
 const NO_MEMORY: &[u8] =
     b"HTTP/1.1 503 Service Unavailable\r\nContent-Length: 0\r\nConnection: close\r\n\r\n";
 
-impl<S: Serves, R: Wait + Clock, L: Write + Drop> Shared<'_, S, R, L> {
+impl<S: Serves, R: Threads + Wait + Clock, L: Write + Drop> Shared<'_, S, R, L> {
     // Answers one request after the other until the server closes. Returns what was seen of the desk's journal with the
     // boards.
     pub(crate) fn serve_boards(&self, acceptor: &Acceptor) -> Vec<S::Seen>
@@ -77,32 +77,57 @@ impl<S: Serves, R: Wait + Clock, L: Write + Drop> Shared<'_, S, R, L> {
             return;
         };
         connection.serves();
-        let _ = match answer_noted(self.rt, self.alloc, &self.running, request, seen) {
+        let _ = match self.answer_noted(request, seen) {
             Ok(bytes) => write_answer(&connection, &mut stream, &bytes),
             Err(_) => write_answer(&connection, &mut stream, NO_MEMORY),
         };
     }
-}
 
-// The bytes that answer a request. What was seen with a board is put to the rest first: no browser gets a board
-// without it.
-fn answer_noted<S: Serves, R: Wait>(
-    rt: &R,
-    alloc: Global,
-    running: &Running<'_, S>,
-    request: Request,
-    seen: &mut Vec<S::Seen>,
-) -> Result<Vec<u8>, AllocError>
-    requires { All (IsSeenWithBoards (S.shows running.now.serves.now)) seen.old.items }
-    ensures all { All (IsSeenWithBoards (S.shows running.now.serves.now)) seen.new.items }
-    ensures noted { IfOk result (λ bytes. IsNoted (S.shows running.now.serves.now) running.now.plan.now.sites.items running.now.desk.now.stations
-        request bytes.items seen.old.items seen.new.items) }
-{
-    let (bytes, own) = answer(rt, alloc, running, request)?;
-    if let Some(own) = own {
-        seen.push(own)?;
+    // The bytes that answer a request. What was seen with a board is put to the rest first: no browser gets a board
+    // without it.
+    fn answer_noted(&self, request: Request, seen: &mut Vec<S::Seen>) -> Result<Vec<u8>, AllocError>
+        requires { All (IsSeenWithBoards (S.shows self.now.running.serves.now)) seen.old.items }
+        ensures all { All (IsSeenWithBoards (S.shows self.now.running.serves.now)) seen.new.items }
+        ensures noted { IfOk result (λ bytes. IsNoted (S.shows self.now.running.serves.now) self.now.running.plan.now.sites.items self.now.running.desk.now.stations
+            request bytes.items seen.old.items seen.new.items) }
+    {
+        let (bytes, own) = self.answer(request)?;
+        if let Some(own) = own {
+            seen.push(own)?;
+        }
+        Ok(bytes)
     }
-    Ok(bytes)
+
+    // The bytes that answer a request, and what was seen with a board.
+    fn answer(&self, request: Request) -> Result<Answered<S::Seen>, AllocError>
+        ensures { IfOk result (λ r. IsBrowsed (S.shows self.now.running.serves.now) self.now.running.plan.now.sites.items self.now.running.desk.now.stations request r.0.items r.1) }
+    {
+        match request {
+            Request::Sites => Ok((answer_sites(self.alloc, self.running.plan)?, None)),
+            Request::Board(name) => self.answer_board(&name),
+            Request::Elsewhere => told(self.alloc, Status::NotFound),
+            Request::NotAllowed => told(self.alloc, Status::NotAllowed),
+            Request::Malformed | Request::Unfinished => told(self.alloc, Status::Malformed),
+        }
+    }
+
+    // The board of the site of this name. It waits for the locks of the site, and for a write to the journal that is under
+    // way, as an operator's board does.
+    fn answer_board(&self, name: &Name) -> Result<Answered<S::Seen>, AllocError>
+        ensures { IfOk result (λ r. IsBoardAnswer (S.shows self.now.running.serves.now) self.now.running.plan.now.sites.items self.now.running.desk.now.stations
+            (position (λ s. bytes_eq name.now s.name) self.now.running.plan.now.sites.items) r.0.items r.1) }
+    {
+        let Some(site) = site_of(self.running.plan, name) else {
+            return told(self.alloc, Status::NotFound);
+        };
+        match self.running.board(site) {
+            Ok((text, seen)) => {
+                let bytes = response(self.alloc, Status::Found, TEXT, &text)?;
+                Ok((bytes, Some(seen)))
+            }
+            Err(_) => told(self.alloc, Status::NoMemory),
+        }
+    }
 }
 
 // The promise that the thread that answers browsers returns what was seen with boards of this desk.
@@ -174,24 +199,6 @@ fn read_rest<S: Read>(stream: &mut S) {
 // The bytes of an answer, and what was seen of the desk's journal with a board.
 type Answered<M> = (Vec<u8>, Option<M>);
 
-// The bytes that answer a request, and what was seen with a board.
-fn answer<S: Serves, R: Wait>(
-    rt: &R,
-    alloc: Global,
-    running: &Running<'_, S>,
-    request: Request,
-) -> Result<Answered<S::Seen>, AllocError>
-    ensures { IfOk result (λ r. IsBrowsed (S.shows running.now.serves.now) running.now.plan.now.sites.items running.now.desk.now.stations request r.0.items r.1) }
-{
-    match request {
-        Request::Sites => Ok((answer_sites(alloc, running.plan)?, None)),
-        Request::Board(name) => answer_board(rt, alloc, running, &name),
-        Request::Elsewhere => told(alloc, Status::NotFound),
-        Request::NotAllowed => told(alloc, Status::NotAllowed),
-        Request::Malformed | Request::Unfinished => told(alloc, Status::Malformed),
-    }
-}
-
 // An answer with only its status.
 fn told<M>(alloc: Global, status: Status) -> Result<Answered<M>, AllocError>
     ensures { IfOk result (λ r. (r.0.items ≡ status_bytes status) × (r.1 ≡ None)) }
@@ -200,26 +207,6 @@ fn told<M>(alloc: Global, status: Status) -> Result<Answered<M>, AllocError>
         response(alloc, status, TEXT, status.text().as_bytes())?,
         None,
     ))
-}
-
-// The board of the site of this name. It waits for the locks of the site, and for a write to the journal that is under
-// way, as an operator's board does.
-fn answer_board<S: Serves, R: Wait>(
-    rt: &R,
-    alloc: Global,
-    running: &Running<'_, S>,
-    name: &Name,
-) -> Result<Answered<S::Seen>, AllocError>
-    ensures { IfOk result (λ r. IsBoardAnswer (S.shows running.now.serves.now) running.now.plan.now.sites.items running.now.desk.now.stations
-        (position (λ s. bytes_eq name.now s.name) running.now.plan.now.sites.items) r.0.items r.1) }
-{
-    let Some(site) = site_of(running.plan, name) else {
-        return told(alloc, Status::NotFound);
-    };
-    match running.board(rt, alloc, site) {
-        Ok((text, seen)) => Ok((response(alloc, Status::Found, TEXT, &text)?, Some(seen))),
-        Err(_) => told(alloc, Status::NoMemory),
-    }
 }
 
 // The list of sites, each a link to its board.

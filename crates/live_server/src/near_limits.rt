@@ -12,11 +12,13 @@ use std::sync::Wait;
 use std::sync::atomic::{AtomicBool, Ordering};
 use std::time::Clock;
 
+// What a station's limits count.
+const COUNTED: [&str; 4] = ["transactions", "events", "readings", "changes"];
+
 // The limits of a station, and whether each was reported.
 #[derive(Drop)]
 struct StationLimits {
-    limits: Limits,
-    // For transactions, events, readings and changes.
+    limits: [u64; 4],
     reported: [AtomicBool; 4],
 }
 
@@ -24,8 +26,14 @@ impl StationLimits {
     // These limits; none was reported yet.
     fn of(limits: Limits) -> Self {
         let none = || AtomicBool::new(false);
+        let (transactions, events) = (limits.transactions(), limits.events());
         StationLimits {
-            limits,
+            limits: [
+                transactions.into(),
+                events.into(),
+                limits.readings().into(),
+                limits.changes(),
+            ],
             reported: [none(), none(), none(), none()],
         }
     }
@@ -59,25 +67,11 @@ impl NearLimits {
         let Some(own) = self.stations.get(station as usize) else {
             return;
         };
-        let most = &own.limits;
-        let (of_transactions, transactions) = (most.transactions(), used.transactions);
-        let rows = [
-            (
-                "transactions",
-                u64::from(transactions),
-                u64::from(of_transactions),
-            ),
-            ("events", u64::from(used.events), u64::from(most.events())),
-            (
-                "readings",
-                u64::from(used.readings),
-                u64::from(most.readings()),
-            ),
-            ("changes", used.changes, most.changes()),
-        ];
-        for (reported, (what, used, limit)) in own.reported.iter().zip(rows.iter()) {
-            if is_new(reported, *used, *limit) {
-                log.tell_near(rt, name, what, *used, *limit);
+        let (transactions, events) = (used.transactions.into(), used.events.into());
+        let used = [transactions, events, used.readings.into(), used.changes];
+        for row in 0..COUNTED.len() {
+            if is_new(&own.reported[row], used[row], own.limits[row]) {
+                log.tell_near(rt, name, COUNTED[row], used[row], own.limits[row]);
             }
         }
     }

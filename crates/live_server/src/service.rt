@@ -10,7 +10,7 @@ use crate::acceptor::{Acceptor, Acceptors};
 use crate::boards::SeenWithBoards;
 use crate::shared::{Shared, Viewers};
 use core::thread::{Anything, Stack};
-use running_desk::{Running, Serves, operate};
+use running_desk::{Running, Serves};
 use server_parts::{Host, Input, Output, ServiceFault};
 use site_book::Viewer;
 use site_desk::Plan;
@@ -99,15 +99,10 @@ pub fn serve_plan_at<S: Serves + Sync, R: Host, I: Input, W: Output, L: Output>(
     ensures tells { IfOk result (λ r. IfOk r.ended (λ seen. Tells S.gives (S.shows serves.now) run.entry.plan.now.sites.items (S.roster serves.now).stations
         (lines_in (operator_input run.entry.live.connections (I.remaining input.old))) (W.contents output) (W.contents r.output) seen.items)) }
 {
-    let Run {
-        rt,
-        plan,
-        live,
-        listener,
-    } = run;
-    let acceptors = Acceptors::open(rt, listener, live, &mut output)?;
-    let running = Running::open(plan, serves, passes);
-    let shared = Shared::open(rt, rt.alloc(), running, live, lines)?;
+    let (rt, live) = (run.rt, run.live);
+    let acceptors = Acceptors::open(rt, run.listener, live, &mut output)?;
+    let running = Running::open(rt, rt.alloc(), run.plan, serves, passes);
+    let shared = Shared::open(running, live, lines)?;
     let (ended, boards, viewers, output) = serve_beside(
         &shared, &acceptors, viewers, input, output,
     );
@@ -199,7 +194,7 @@ fn answer_lines<S: Serves, R: Host, I: Input, W: Output, L: Output>(
 {
     match shared.live.connections {
         _ if !is_started => Err(ServiceFault::OutOfMemory),
-        None => operate(shared.rt, shared.alloc, &shared.running, input, output),
+        None => shared.running.operate(input, output),
         Some(_) => {
             shared.workers.wait_for_all(shared.rt);
             Ok(Vec::new(shared.alloc))

@@ -69,12 +69,8 @@ impl<S: Serves, R: Threads + Wait + Clock, L: Write + Drop> Shared<'_, S, R, L> 
         connection: &Connection<'_, R>,
         greeted: Greeted<ConnectionStream<'_, R>>,
     ) {
-        let Greeted {
-            mut socket,
-            asked,
-            shown,
-        } = greeted;
-        match self.running.let_in(self.rt, asked) {
+        let mut socket = greeted.socket;
+        match self.running.let_in(greeted.asked) {
             Ok((name, pass)) => {
                 self.workers.begin(self.rt, worker, pass.station());
                 self.attend(&mut socket, &name, pass, connection);
@@ -82,7 +78,7 @@ impl<S: Serves, R: Threads + Wait + Clock, L: Write + Drop> Shared<'_, S, R, L> 
             Err(why) => {
                 connection.leaves();
                 refuse(&mut socket, why);
-                self.log.tell_refused(self.rt, why, &shown);
+                self.log.tell_refused(self.rt, why, &greeted.shown);
             }
         }
     }
@@ -118,18 +114,12 @@ impl<S: Serves, R: Threads + Wait + Clock, L: Write + Drop> Shared<'_, S, R, L> 
     fn finish(&self, name: &Name, before: u64, end: SessionEnd<S::Seen>)
         requires { All (IsAnswered S.gives) end.seen.items }
     {
-        let SessionEnd {
-            why,
-            pass,
-            messages: _,
-            texts,
-            seen,
-        } = end;
-        self.answers.lock(self.rt).add(seen);
-        if let Some(pass) = pass {
+        self.answers.lock(self.rt).add(end.seen);
+        if let Some(pass) = end.pass {
             let changes = pass.changes().saturating_sub(before);
-            self.log.tell_ended(self.rt, name, why, texts, changes);
-            let _lost = self.running.lay(self.rt, pass);
+            self.log
+                .tell_ended(self.rt, name, end.why, end.texts, changes);
+            let _lost = self.running.lay(pass);
         }
     }
 }

@@ -23,7 +23,7 @@ pub(crate) type Viewers<S> = Vec<Viewer<<S as Delivers>::Names>>;
 pub(crate) struct Shared<'a, S: Serves, R, L: Write + Drop> {
     pub(crate) rt: &'a R,
     pub(crate) alloc: Global,
-    pub(crate) running: Running<'a, S>,
+    pub(crate) running: Running<'a, S, R>,
     pub(crate) live: Live,
     pub(crate) workers: Workers,
     pub(crate) log: Log<L>,
@@ -34,18 +34,13 @@ pub(crate) struct Shared<'a, S: Serves, R, L: Write + Drop> {
 
 impl<'a, S: Serves, R, L: Write + Drop> Shared<'a, S, R, L> {
     // A running desk, its workers, which serve nobody yet, and the log of these lines.
-    pub(crate) fn open(
-        rt: &'a R,
-        alloc: Global,
-        running: Running<'a, S>,
-        live: Live,
-        lines: L,
-    ) -> Result<Self, AllocError>
+    pub(crate) fn open(running: Running<'a, S, R>, live: Live, lines: L) -> Result<Self, AllocError>
         ensures plan { IfOk result (λ s. s.running.plan.now ≡ running.entry.plan.now) }
         ensures serves { IfOk result (λ s. s.running.serves.now ≡ running.entry.serves.now) }
         ensures desk { IfOk result (λ s. s.running.desk.now ≡ running.entry.desk.now) }
         ensures live { IfOk result (λ s. s.live ≡ live) }
     {
+        let (rt, alloc) = (running.rt, running.alloc);
         let near = NearLimits::open(alloc, running.plan)?;
         let workers = Workers::open(alloc, running.plan, live.connections)?;
         Ok(Shared {

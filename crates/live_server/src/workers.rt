@@ -34,11 +34,8 @@ impl Workers {
         plan: &Plan,
         connections: Option<u8>,
     ) -> Result<Self, AllocError> {
-        let workers = plan
-            .stations
-            .len()
-            .saturating_mul(2)
-            .saturating_add(SPARE_WORKERS);
+        let sessions = plan.stations.len().saturating_mul(2);
+        let workers = sessions.saturating_add(SPARE_WORKERS);
         let mut marks = Vec::with_capacity(alloc, workers)?;
         for _ in 0..workers {
             marks.push(AtomicBool::new(false))?;

@@ -19,14 +19,11 @@ mod station_words;
 
 use crate::run::{Streams, refuse_unread, run};
 use gathered_input::{Readiness, gathered};
+use server_parts::{Host, Output};
 use std::io::{Read, Write};
-use std::net::{Net, TcpListener, TcpStream};
 use std::process::ExitCode;
 use std::random::RandomSource;
 use std::rt::Env;
-use std::sync::Wait;
-use std::thread::Threads;
-use std::time::Clock;
 use std::{env, io};
 
 fn main(rt: HostRuntime) -> ExitCode {
@@ -37,19 +34,12 @@ fn main(rt: HostRuntime) -> ExitCode {
 
 // Runs the program with the words of the process, and gives its exit status.
 fn run_words<
-    X: AllocGlobal
-        + Env
-        + Threads
-        + Wait
-        + Clock
-        + RandomSource
-        + Sync
-        + Net<Listener = TcpListener, Stream = TcpStream>,
+    X: Host + Env + RandomSource,
     R: Read + Readiness + Drop,
-    W: Write + Send + Drop,
-    C: Write + Send + Drop,
+    W: Output,
+    C: Output,
     E: Write + Drop,
-    L: Write + Send + Drop,
+    L: Output,
 >(rt: &X, input: R, output: W, console: C, errors: E, lines: L) -> u8 {
     let streams = Streams {
         input,
@@ -59,11 +49,9 @@ fn run_words<
         lines,
     };
     match program_words(rt) {
-        Ok(words) => {
-            run::<(X, R, W, C, E, L), _>(rt, words.as_slice(), streams)
-                .ended
-                .status
-        }
+        Ok(words) => run::<(X, R, W, C, E, L), _>(rt, &words, streams)
+            .ended
+            .status,
         Err(error) => refuse_unread(streams, error.kind()).status,
     }
 }

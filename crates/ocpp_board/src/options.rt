@@ -319,32 +319,23 @@ fn sim_command<'a>(alloc: Global) -> Result<Command<'a>, AllocError>
         .about("Plays simulated stations against a server in the same process")
         .after_help(SIM_EXAMPLE);
     let command = with_option(command, stations_option(alloc))?;
-    let command = with_option(command, events_option(alloc))?;
-    Ok(command)
+    with_option(command, events_option(alloc))
 }
 
 fn stations_option<'a>(alloc: Global) -> Arg<'a>
     ensures { IsOption result }
 {
-    option(
-        alloc,
-        "stations",
-        "COUNT",
-        "2",
-        "How many stations, 1 to 64",
-    )
-    .value_parser(value_parser!(u16).range(1..=i64::from(MAX_SIMULATED_STATIONS)))
+    let help = "How many stations, 1 to 64";
+    option(alloc, "stations", "COUNT", "2", help).value_parser(value_parser!(u16).range(
+        1..=i64::from(MAX_SIMULATED_STATIONS),
+    ))
 }
 
 fn events_option<'a>(alloc: Global) -> Arg<'a>
     ensures { IsOption result }
 {
-    option(
-        alloc,
-        "events",
-        "COUNT",
-        "3",
-        "How many events each sends, 2 to 64",
-    )
-    .value_parser(value_parser!(u32).range(2..=i64::from(MAX_SIMULATED_EVENTS)))
+    let help = "How many events each sends, 2 to 64";
+    option(alloc, "events", "COUNT", "3", help).value_parser(value_parser!(u32).range(
+        2..=i64::from(MAX_SIMULATED_EVENTS),
+    ))
 }

@@ -1,7 +1,7 @@
 //! What a run of the program takes from its process.
 
 use gathered_input::Readiness;
-use server_parts::Host;
+use server_parts::{Host, Output};
 use std::io::{Read, Write};
 use std::random::RandomSource;
 
@@ -12,22 +12,22 @@ pub trait Process {
     /// Standard input.
     type Input: Read + Readiness + Drop;
     /// Standard output.
-    type Output: Write + Send + Drop;
+    type Output: Output;
     /// Standard error, as the console of a server with a journal.
-    type Console: Write + Send + Drop;
+    type Console: Output;
     /// Standard error, as a run reports its end there.
     type Errors: Write + Drop;
     /// Standard error, as a server shows totals and logs sessions there.
-    type Lines: Write + Send + Drop;
+    type Lines: Output;
 }
 
 impl<
     X: Host + RandomSource,
     R: Read + Readiness + Drop,
-    W: Write + Send + Drop,
-    C: Write + Send + Drop,
+    W: Output,
+    C: Output,
     E: Write + Drop,
-    L: Write + Send + Drop,
+    L: Output,
 > Process for (X, R, W, C, E, L) {
     type Runtime = X;
 

@@ -135,10 +135,7 @@ fn end_unwritten<W: Write + Drop, C, E: Write>(
                 passes: served.passes,
             }
         }
-        Err(fault) => {
-            let ended = end_server(alloc, None, errors, Err(fault), plan);
-            unserved(alloc, ended)
-        }
+        Err(fault) => unserved(alloc, end_server(alloc, None, errors, Err(fault), plan)),
     }
 }
 
@@ -163,10 +160,7 @@ fn end_journalled<W, C: Write, E: Write>(
                 passes: served.passes,
             }
         }
-        Err(fault) => {
-            let ended = end_server(alloc, None, errors, Err(fault), plan);
-            unserved(alloc, ended)
-        }
+        Err(fault) => unserved(alloc, end_server(alloc, None, errors, Err(fault), plan)),
     }
 }
 

@@ -3,18 +3,18 @@
 //! A [`Running`] desk is the desk of a plan with a pool of passes ([`PassPool`]). A session puts its
 //! pass into the pool at its end, and a later session of the same station takes it from there. So a station gives out
 //! only as many passes as it needed at one time. An operator's line borrows a pass in the same way. The desk is anything
-//! that [`Serves`]: a plain one, or one that keeps more. [`operate`] answers an operator's lines, one after the other;
+//! that [`Serves`]: a plain one, or one that keeps more. [`Running::operate`] answers an operator's lines, one after the other;
 //! each answer is out before the next line is read.
 //!
-//! The crate's contract: [`operate`] writes the answers to the lines that come, in their order, up to a line `close`
+//! The crate's contract: [`Running::operate`] writes the answers to the lines that come, in their order, up to a line `close`
 //! (`AddsReplies` of `specs/Replies.antt`). If the bytes of the reader are known, these lines are its lines. Each
 //! answer is a replay's answer to the same line at contents that accepted commands reach (`IsReply` of
 //! `specs/Replied.antt`). The answer to a command is the desk's answer to just that command, with a pass of the station
 //! that the line names. A board is that of the site that the line names.
 //!
 //! ```text
-//! let running = Running::open(&plan, &desk, passes);
-//! operate(rt, alloc, &running, &mut input, &mut output)?;   // until the input ends or says `close`
+//! let running = Running::open(rt, alloc, &plan, &desk, passes);
+//! running.operate(&mut input, &mut output)?;   // until the input ends or says `close`
 //! let passes = running.into_passes();
 //! ```
 #![tactic(auto)]
@@ -26,8 +26,7 @@ mod pass_pool;
 mod running;
 mod serves;
 
-pub use operator::operate;
 pub use orders::Came;
 pub use pass_pool::PassPool;
-pub use running::{PassFault, Running, site_of};
+pub use running::{Running, site_of};
 pub use serves::{MayBreak, Seen, Serves};

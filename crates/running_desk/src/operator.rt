@@ -2,11 +2,11 @@
 ghost use Rattle.std.{specs.Prelude.{◌≡◌, ℕ, List, [], ◌++◌, IfOk, OnOk, Some, slice_get}, specs.List.position, specs.Str.bytes_eq};
 ghost use Rattle.script_lines.{specs.LineMeaning.{commands, line_meaning}, specs.Lines.line_bytes, specs.declared.script_line.LineFault.LineFault, specs.Texts.fault_line};
 ghost use Rattle.site_desk.{specs.declared.roster.StationPlace.StationPlace, specs.Roster.IsNamed};
-ghost use Rattle.running_desk.{specs.declared.running.PassFault.PassFault, specs.Replied.{IsBoard, IsCommandLine, IsCommanded, IsList, IsMessageLine, IsMessaged, IsReply, IsSent, IsSubmitted, IsTotals, totals_line}, specs.Ordered.{ends, lines_in}, specs.Replies.{AddsReplies, AddsReply}};
-ghost use Rattle.station_link.specs.Attended.{if_seen};
+ghost use Rattle.running_desk.{specs.Replied.{IsBoard, IsCommandLine, IsCommanded, IsList, IsMessageLine, IsMessaged, IsReply, IsSent, IsSubmitted, IsTotals, totals_line}, specs.Ordered.{ends, lines_in}, specs.Replies.{AddsReplies, AddsReply}};
+ghost use Rattle.station_link.{specs.Attended.if_seen, specs.declared.ending.Why.Why};
 
 use crate::orders::{Came, Orders};
-use crate::running::{PassFault, Running, site_of};
+use crate::running::{Running, site_of};
 use crate::serves::Serves;
 use board_report::{BoardsFault, energy_text, export_text, total_text, write_out};
 use energy_flow::Flow;
@@ -17,7 +17,7 @@ use script_lines::{LineFault, ScriptLine, TxList, put_answer, put_fault, put_lin
 use server_parts::{ServiceFault, SystemMoments};
 use site_desk::{BoardFault, NoGate};
 use station_cell::Pass;
-use station_link::{answer_text, present};
+use station_link::{Why, answer_text, present};
 use std::alloc::{AllocError, Global};
 use std::io::{BufRead, Write};
 use std::sync::Wait;
@@ -38,36 +38,229 @@ const MOST_ANSWER: usize = 513;
 // meets.
 const TORN: &str = "fault Torn";
 
-/// Answers line after line of the input until it ends, a line says `close`, or no change is accepted any more, which is
-/// a `WriteFault`. An answer is out before the next line is read. While there is no line, it looks ten times a second
-/// whether changes are still accepted. It returns what was seen of the desk's journal with the answers, in their order.
-pub fn operate<S: Serves, R: Threads + Wait + Clock, I: BufRead + Readiness, W: Write>(
-    rt: &R,
-    alloc: Global,
-    running: &Running<'_, S>,
-    input: &mut I,
-    writer: &mut W,
-) -> Result<Vec<S::Seen>, ServiceFault>
-    ensures { IfOk result (λ seen. AddsReplies S.gives (S.shows running.now.serves.now) running.now.plan.now.sites.items running.now.desk.now.stations
-        (lines_in (I.remaining input.old)) (W.contents writer.old) (W.contents writer.new) seen.items) }
-{
-    let mut orders = Orders::open(rt, alloc, input, running.serves);
-    let mut seen = Vec::new(alloc);
-    for _ in rt.forever() {
-        let came = orders.next()?;
-        if is_last(came, orders.line()) {
-            return Ok(seen);
+// How a line was answered: with what was seen of the desk's journal, if anything was.
+type Answered<M> = Result<Option<M>, AllocError>;
+
+impl<S: Serves, R: Threads + Wait + Clock> Running<'_, S, R> {
+    /// Answers line after line of the input until it ends, a line says `close`, or no change is accepted any more, which is
+    /// a `WriteFault`. An answer is out before the next line is read. While there is no line, it looks ten times a second
+    /// whether changes are still accepted. It returns what was seen of the desk's journal with the answers, in their order.
+    pub fn operate<I: BufRead + Readiness, W: Write>(
+        &self,
+        input: &mut I,
+        writer: &mut W,
+    ) -> Result<Vec<S::Seen>, ServiceFault>
+        ensures { IfOk result (λ seen. AddsReplies S.gives (S.shows self.now.serves.now) self.now.plan.now.sites.items self.now.desk.now.stations
+            (lines_in (I.remaining input.old)) (W.contents writer.old) (W.contents writer.new) seen.items) }
+    {
+        let mut orders = Orders::open(self.rt, self.alloc, input, self.serves);
+        let mut seen = Vec::new(self.alloc);
+        for _ in self.rt.forever() {
+            let came = orders.next()?;
+            if is_last(came, orders.line()) {
+                return Ok(seen);
+            }
+            let own = self.put_reply(orders.line(), writer)?;
+            keep(&mut seen, own)?;
+            if self.serves.is_broken() {
+                return Err(ServiceFault::Output(BoardsFault::WriteFault));
+            }
+            if let Came::LastLine = came {
+                return Ok(seen);
+            }
         }
-        let own = put_reply(rt, alloc, running, orders.line(), writer)?;
-        keep(&mut seen, own)?;
-        if running.serves.is_broken() {
-            return Err(ServiceFault::Output(BoardsFault::WriteFault));
+        unreachable!()
+    }
+
+    // Writes the answer to a line.
+    fn put_reply<W: Write>(
+        &self,
+        line: Option<&[u8]>,
+        writer: &mut W,
+    ) -> Result<Option<S::Seen>, ServiceFault>
+        ensures { IfOk result (λ seen. AddsReply S.gives (S.shows self.now.serves.now) self.now.plan.now.sites.items self.now.desk.now.stations
+            (line_bytes line.entry) (W.contents writer.old) (W.contents writer.new) seen) }
+    {
+        let mut reply = Vec::new(self.alloc);
+        let (text, seen) = match self.answer_line(line, &mut reply) {
+            Ok(seen) => (reply.as_slice(), seen),
+            Err(_) => (NO_MEMORY, None),
+        };
+        write_out(writer, text)?;
+        Ok(seen)
+    }
+
+    // Appends the answer to an operator's line, which is that of a script's line after its declarations. Moments come
+    // from the clock, so a line that gives one is `BadLine`.
+    fn answer_line(&self, line: Option<&[u8]>, reply: &mut Vec<u8>) -> Answered<S::Seen>
+        requires { reply.old.items ≡ [] }
+        ensures { IfOk result
+            (λ seen. IsReply S.gives (S.shows self.now.serves.now) self.now.plan.now.sites.items self.now.desk.now.stations
+            (line_meaning (line_bytes line.entry)) reply.new.items seen) }
+    {
+        match read_line(line) {
+            ScriptLine::Sends(name, text) => return self.receive(&name, text, reply),
+            ScriptLine::Commands(name, what) => {
+                return self.put_command(&name, what, line, reply);
+            }
+            ScriptLine::AsksBoard(name) => return self.put_board(&name, reply),
+            ScriptLine::Nothing => {}
+            ScriptLine::Fails(fault) => put_fault(reply, fault)?,
+            ScriptLine::Limits(_, _, _, _)
+            | ScriptLine::Declares(_, _)
+            | ScriptLine::SetsPeriod(_, _)
+            | ScriptLine::SetsOrder(_, _)
+            | ScriptLine::SetsSettle(_, _) => put_fault(reply, LineFault::DeclaredLate)?,
+            ScriptLine::Tells(_) => put_fault(reply, LineFault::BadLine)?,
+            ScriptLine::AsksEnergy(name) => self.put_totals(&name, WhichTotals::Import, reply)?,
+            ScriptLine::AsksExport(name) => self.put_totals(&name, WhichTotals::Export, reply)?,
+            ScriptLine::AsksTotal(name) => self.put_totals(&name, WhichTotals::Figures, reply)?,
+            ScriptLine::Lists(what, name, tx) => self.put_list(what, &name, &tx, reply)?,
+            ScriptLine::Marks(word) => put_mark(reply, &word)?,
         }
-        if let Came::LastLine = came {
-            return Ok(seen);
+        Ok(None)
+    }
+
+    // Delivers a message of the station of this name at the clock's moment, and appends its reply.
+    fn receive(&self, name: &Name, text: &str, reply: &mut Vec<u8>) -> Answered<S::Seen>
+        requires { reply.old.items ≡ [] }
+        ensures sent { OnOk result ((moment : ℕ) × IsSent self.now.desk.now.stations name.now text.now moment reply.new.items) }
+        ensures messaged { IfOk result (λ seen. IsMessaged S.gives self.now.desk.now.stations name.now text.now reply.new.items seen) }
+    {
+        match self.pass_of(name) {
+            Ok(mut pass) => {
+                let delivered = self.deliver(&mut pass, text, reply);
+                let _lost = self.lay(pass);
+                delivered
+            }
+            Err(fault) => {
+                put_pass_fault(reply, fault)?;
+                Ok(None)
+            }
         }
     }
-    unreachable!()
+
+    // Delivers a message with a pass, and appends its reply.
+    fn deliver(&self, pass: &mut Pass, text: &str, reply: &mut Vec<u8>) -> Answered<S::Seen>
+        requires { reply.old.items ≡ [] }
+        ensures { IfOk result (λ seen. IsMessageLine S.gives self.now.desk.now.stations pass.old text.now pass.new reply.new.items seen) }
+    {
+        reply.reserve(MOST_ANSWER)?;
+        let now = present(&mut SystemMoments { rt: self.rt });
+        let answered = answer_text(self.serves, self.rt, self.alloc, pass, text, now, &NoGate);
+        match answered.text {
+            Some(text) => put_line(reply, text.as_str())?,
+            None => put_line(reply, "silent")?,
+        }
+        Ok(answered.seen)
+    }
+
+    // Submits an operator's command on the station of this name, and appends its answer.
+    fn put_command(
+        &self,
+        name: &Name,
+        what: Command,
+        line: Option<&[u8]>,
+        reply: &mut Vec<u8>,
+    ) -> Answered<S::Seen>
+        requires line { line_meaning (line_bytes line) ≡ commands name.now what }
+        requires empty { reply.old.items ≡ [] }
+        ensures answer { OnOk result (IsCommanded self.now.desk.now.stations name.now what reply.new.items) }
+        ensures submitted { IfOk result (λ seen. IsSubmitted S.gives self.now.desk.now.stations name.now what reply.new.items seen) }
+    {
+        match self.pass_of(name) {
+            Ok(mut pass) => {
+                let submitted = self.submit(&mut pass, name, what, line, reply);
+                let _lost = self.lay(pass);
+                submitted
+            }
+            Err(fault) => {
+                put_pass_fault(reply, fault)?;
+                Ok(None)
+            }
+        }
+    }
+
+    // Submits an operator's command with a pass of the station of this name, and appends its answer.
+    fn submit(
+        &self,
+        pass: &mut Pass,
+        name: &Name,
+        what: Command,
+        line: Option<&[u8]>,
+        reply: &mut Vec<u8>,
+    ) -> Answered<S::Seen>
+        requires named { IsNamed self.now.desk.now.stations name.now pass.old.station }
+        requires line { line_meaning (line_bytes line) ≡ commands name.now what }
+        requires empty { reply.old.items ≡ [] }
+        ensures { IfOk result (λ seen. (at : StationPlace) → slice_get self.now.desk.now.stations pass.old.station ≡ Some at
+            → IsCommandLine (S.gives pass.old.station at) at pass.old what pass.new reply.new.items seen) }
+    {
+        reply.reserve(MOST_ANSWER)?;
+        let (answer, _told, seen) = self.serves.command(self.rt, pass, name, what, line);
+        put_answer(reply, answer)?;
+        Ok(seen)
+    }
+
+    // Appends totals of the station of this name.
+    fn put_totals(
+        &self,
+        name: &Name,
+        asked: WhichTotals,
+        reply: &mut Vec<u8>,
+    ) -> Result<(), AllocError>
+        requires { reply.old.items ≡ [] }
+        ensures { OnOk result (IsTotals self.now.desk.now.stations name.now asked reply.new.items) }
+    {
+        match self.desk.station_totals(self.rt, name) {
+            Ok(totals) => put_total(reply, asked, totals),
+            Err(BoardFault::UnknownStation) => put_fault(reply, LineFault::UnknownStation),
+            Err(BoardFault::Torn) => put_line(reply, TORN),
+            Err(BoardFault::OutOfMemory) => Err(AllocError),
+        }
+    }
+
+    // Appends a list of a transaction of the station of this name.
+    fn put_list(
+        &self,
+        what: TxList,
+        name: &Name,
+        tx: &TxId,
+        reply: &mut Vec<u8>,
+    ) -> Result<(), AllocError>
+        requires { reply.old.items ≡ [] }
+        ensures { OnOk result (IsList self.now.desk.now.stations what name.now tx.now reply.new.items) }
+    {
+        match self.desk.station_listing(self.rt, self.alloc, name, tx) {
+            Ok(listing) => put_listed(self.alloc, reply, what, name, tx, &listing),
+            Err(BoardFault::UnknownStation) => put_fault(reply, LineFault::UnknownStation),
+            Err(BoardFault::Torn) => put_line(reply, TORN),
+            Err(BoardFault::OutOfMemory) => Err(AllocError),
+        }
+    }
+
+    // Appends the board of the site of this name.
+    fn put_board(&self, name: &Name, reply: &mut Vec<u8>) -> Answered<S::Seen>
+        requires { reply.old.items ≡ [] }
+        ensures { IfOk result (λ seen. IsBoard (S.shows self.now.serves.now) self.now.plan.now.sites.items self.now.desk.now.stations
+            (position (λ s. bytes_eq name.now s.name) self.now.plan.now.sites.items) reply.new.items seen) }
+    {
+        let Some(site) = site_of(self.plan, name) else {
+            put_fault(reply, LineFault::UnknownSite)?;
+            return Ok(None);
+        };
+        match self.board(site) {
+            Ok((text, seen)) => {
+                *reply = text;
+                Ok(Some(seen))
+            }
+            Err(BoardFault::OutOfMemory) => Err(AllocError),
+            Err(BoardFault::Torn | BoardFault::UnknownStation) => {
+                put_line(reply, TORN)?;
+                Ok(None)
+            }
+        }
+    }
 }
 
 // Appends what was seen with an answer, if anything was, to what was seen before.
@@ -94,168 +287,14 @@ fn is_last(came: Came, line: Option<&[u8]>) -> bool
     }
 }
 
-// Writes the answer to a line.
-fn put_reply<S: Serves, R: Threads + Wait + Clock, W: Write>(
-    rt: &R,
-    alloc: Global,
-    running: &Running<'_, S>,
-    line: Option<&[u8]>,
-    writer: &mut W,
-) -> Result<Option<S::Seen>, ServiceFault>
-    ensures { IfOk result (λ seen. AddsReply S.gives (S.shows running.now.serves.now) running.now.plan.now.sites.items running.now.desk.now.stations
-        (line_bytes line.entry) (W.contents writer.old) (W.contents writer.new) seen) }
-{
-    let mut reply = Vec::new(alloc);
-    let (text, seen) = match answer_line(rt, alloc, running, line, &mut reply) {
-        Ok(seen) => (reply.as_slice(), seen),
-        Err(_) => (NO_MEMORY, None),
-    };
-    write_out(writer, text)?;
-    Ok(seen)
-}
-
-// Appends the answer to an operator's line, which is that of a script's line after its declarations. Moments come
-// from the clock, so a line that gives one is `BadLine`.
-fn answer_line<S: Serves, R: Threads + Wait + Clock>(
-    rt: &R,
-    alloc: Global,
-    running: &Running<'_, S>,
-    line: Option<&[u8]>,
-    reply: &mut Vec<u8>,
-) -> Result<Option<S::Seen>, AllocError>
-    requires { reply.old.items ≡ [] }
-    ensures { IfOk result
-        (λ seen. IsReply S.gives (S.shows running.now.serves.now) running.now.plan.now.sites.items running.now.desk.now.stations
-        (line_meaning (line_bytes line.entry)) reply.new.items seen) }
-{
-    match read_line(line) {
-        ScriptLine::Sends(name, text) => return receive(rt, alloc, running, &name, text, reply),
-        ScriptLine::Commands(name, what) => {
-            return put_command(rt, running, &name, what, line, reply);
-        }
-        ScriptLine::AsksBoard(name) => return put_board(rt, alloc, running, &name, reply),
-        ScriptLine::Nothing => {}
-        ScriptLine::Fails(fault) => put_fault(reply, fault)?,
-        ScriptLine::Limits(_, _, _, _)
-        | ScriptLine::Declares(_, _)
-        | ScriptLine::SetsPeriod(_, _)
-        | ScriptLine::SetsOrder(_, _)
-        | ScriptLine::SetsSettle(_, _) => put_fault(reply, LineFault::DeclaredLate)?,
-        ScriptLine::Tells(_) => put_fault(reply, LineFault::BadLine)?,
-        ScriptLine::AsksEnergy(name) => put_totals(rt, running, &name, WhichTotals::Import, reply)?,
-        ScriptLine::AsksExport(name) => put_totals(rt, running, &name, WhichTotals::Export, reply)?,
-        ScriptLine::AsksTotal(name) => put_totals(rt, running, &name, WhichTotals::Figures, reply)?,
-        ScriptLine::Lists(what, name, tx) => put_list(rt, alloc, running, what, &name, &tx, reply)?,
-        ScriptLine::Marks(word) => put_mark(reply, &word)?,
-    }
-    Ok(None)
-}
-
-// Delivers a message of the station of this name at the clock's moment, and appends its reply.
-fn receive<S: Serves, R: Threads + Wait + Clock>(
-    rt: &R,
-    alloc: Global,
-    running: &Running<'_, S>,
-    name: &Name,
-    text: &str,
-    reply: &mut Vec<u8>,
-) -> Result<Option<S::Seen>, AllocError>
-    requires { reply.old.items ≡ [] }
-    ensures sent { OnOk result ((moment : ℕ) × IsSent running.now.desk.now.stations name.now text.now moment reply.new.items) }
-    ensures messaged { IfOk result (λ seen. IsMessaged S.gives running.now.desk.now.stations name.now text.now reply.new.items seen) }
-{
-    match running.pass_of(rt, name) {
-        Ok(mut pass) => {
-            let delivered = deliver(rt, alloc, running, &mut pass, text, reply);
-            let _lost = running.lay(rt, pass);
-            delivered
-        }
-        Err(fault) => {
-            put_pass_fault(reply, fault)?;
-            Ok(None)
-        }
-    }
-}
-
-// Delivers a message with a pass, and appends its reply.
-fn deliver<S: Serves, R: Threads + Wait + Clock>(
-    rt: &R,
-    alloc: Global,
-    running: &Running<'_, S>,
-    pass: &mut Pass,
-    text: &str,
-    reply: &mut Vec<u8>,
-) -> Result<Option<S::Seen>, AllocError>
-    requires { reply.old.items ≡ [] }
-    ensures { IfOk result (λ seen. IsMessageLine S.gives running.now.desk.now.stations pass.old text.now pass.new reply.new.items seen) }
-{
-    reply.reserve(MOST_ANSWER)?;
-    let now = present(&mut SystemMoments { rt });
-    let answered = answer_text(running.serves, rt, alloc, pass, text, now, &NoGate);
-    match answered.text {
-        Some(text) => put_line(reply, text.as_str())?,
-        None => put_line(reply, "silent")?,
-    }
-    Ok(answered.seen)
-}
-
-// Submits an operator's command on the station of this name, and appends its answer.
-fn put_command<S: Serves, R: Threads + Wait + Clock>(
-    rt: &R,
-    running: &Running<'_, S>,
-    name: &Name,
-    what: Command,
-    line: Option<&[u8]>,
-    reply: &mut Vec<u8>,
-) -> Result<Option<S::Seen>, AllocError>
-    requires line { line_meaning (line_bytes line) ≡ commands name.now what }
-    requires empty { reply.old.items ≡ [] }
-    ensures answer { OnOk result (IsCommanded running.now.desk.now.stations name.now what reply.new.items) }
-    ensures submitted { IfOk result (λ seen. IsSubmitted S.gives running.now.desk.now.stations name.now what reply.new.items seen) }
-{
-    match running.pass_of(rt, name) {
-        Ok(mut pass) => {
-            let submitted = submit(rt, running, &mut pass, name, what, line, reply);
-            let _lost = running.lay(rt, pass);
-            submitted
-        }
-        Err(fault) => {
-            put_pass_fault(reply, fault)?;
-            Ok(None)
-        }
-    }
-}
-
-// Submits an operator's command with a pass of the station of this name, and appends its answer.
-fn submit<S: Serves, R: Threads + Wait + Clock>(
-    rt: &R,
-    running: &Running<'_, S>,
-    pass: &mut Pass,
-    name: &Name,
-    what: Command,
-    line: Option<&[u8]>,
-    reply: &mut Vec<u8>,
-) -> Result<Option<S::Seen>, AllocError>
-    requires named { IsNamed running.now.desk.now.stations name.now pass.old.station }
-    requires line { line_meaning (line_bytes line) ≡ commands name.now what }
-    requires empty { reply.old.items ≡ [] }
-    ensures { IfOk result (λ seen. (at : StationPlace) → slice_get running.now.desk.now.stations pass.old.station ≡ Some at
-        → IsCommandLine (S.gives pass.old.station at) at pass.old what pass.new reply.new.items seen) }
-{
-    reply.reserve(MOST_ANSWER)?;
-    let (answer, _told, seen) = running.serves.command(rt, pass, name, what, line);
-    put_answer(reply, answer)?;
-    Ok(seen)
-}
-
 // Appends why there was no pass.
-fn put_pass_fault(reply: &mut Vec<u8>, fault: PassFault) -> Result<(), AllocError>
+fn put_pass_fault(reply: &mut Vec<u8>, fault: Why) -> Result<(), AllocError>
     requires { reply.old.items ≡ [] }
-    ensures { OnOk result ((fault ≡ PassFault.UnknownStation) × (reply.new.items ≡ fault_line LineFault.UnknownStation)) }
+    ensures { OnOk result ((fault ≡ Why.UnknownStation) × (reply.new.items ≡ fault_line LineFault.UnknownStation)) }
 {
     match fault {
-        PassFault::UnknownStation => put_fault(reply, LineFault::UnknownStation),
-        PassFault::TooManyPasses | PassFault::OutOfMemory => Err(AllocError),
+        Why::UnknownStation => put_fault(reply, LineFault::UnknownStation),
+        _ => Err(AllocError),
     }
 }
 
@@ -265,25 +304,6 @@ pub enum WhichTotals {
     Figures,
     Import,
     Export,
-}
-
-// Appends totals of the station of this name.
-fn put_totals<S: Serves, R: Wait>(
-    rt: &R,
-    running: &Running<'_, S>,
-    name: &Name,
-    asked: WhichTotals,
-    reply: &mut Vec<u8>,
-) -> Result<(), AllocError>
-    requires { reply.old.items ≡ [] }
-    ensures { OnOk result (IsTotals running.now.desk.now.stations name.now asked reply.new.items) }
-{
-    match running.desk.station_totals(rt, name) {
-        Ok(totals) => put_total(reply, asked, totals),
-        Err(BoardFault::UnknownStation) => put_fault(reply, LineFault::UnknownStation),
-        Err(BoardFault::Torn) => put_line(reply, TORN),
-        Err(BoardFault::OutOfMemory) => Err(AllocError),
-    }
 }
 
 // Appends the line of the totals that the line asks for: the figures, the imported or the exported energy.
@@ -299,55 +319,5 @@ fn put_total(
         WhichTotals::Figures => put_line(reply, total_text(&totals.0).as_str()),
         WhichTotals::Import => put_line(reply, energy_text(totals.1).as_str()),
         WhichTotals::Export => put_line(reply, export_text(totals.2).as_str()),
-    }
-}
-
-// Appends a list of a transaction of the station of this name.
-fn put_list<S: Serves, R: Wait>(
-    rt: &R,
-    alloc: Global,
-    running: &Running<'_, S>,
-    what: TxList,
-    name: &Name,
-    tx: &TxId,
-    reply: &mut Vec<u8>,
-) -> Result<(), AllocError>
-    requires { reply.old.items ≡ [] }
-    ensures { OnOk result (IsList running.now.desk.now.stations what name.now tx.now reply.new.items) }
-{
-    match running.desk.station_listing(rt, alloc, name, tx) {
-        Ok(listing) => put_listed(alloc, reply, what, name, tx, &listing),
-        Err(BoardFault::UnknownStation) => put_fault(reply, LineFault::UnknownStation),
-        Err(BoardFault::Torn) => put_line(reply, TORN),
-        Err(BoardFault::OutOfMemory) => Err(AllocError),
-    }
-}
-
-// Appends the board of the site of this name.
-fn put_board<S: Serves, R: Wait>(
-    rt: &R,
-    alloc: Global,
-    running: &Running<'_, S>,
-    name: &Name,
-    reply: &mut Vec<u8>,
-) -> Result<Option<S::Seen>, AllocError>
-    requires { reply.old.items ≡ [] }
-    ensures { IfOk result (λ seen. IsBoard (S.shows running.now.serves.now) running.now.plan.now.sites.items running.now.desk.now.stations
-        (position (λ s. bytes_eq name.now s.name) running.now.plan.now.sites.items) reply.new.items seen) }
-{
-    let Some(site) = site_of(running.plan, name) else {
-        put_fault(reply, LineFault::UnknownSite)?;
-        return Ok(None);
-    };
-    match running.board(rt, alloc, site) {
-        Ok((text, seen)) => {
-            *reply = text;
-            Ok(Some(seen))
-        }
-        Err(BoardFault::OutOfMemory) => Err(AllocError),
-        Err(BoardFault::Torn | BoardFault::UnknownStation) => {
-            put_line(reply, TORN)?;
-            Ok(None)
-        }
     }
 }

@@ -1,9 +1,9 @@
 //! The desk of a plan while it is served.
 ghost use Rattle.std.{specs.Prelude.{◌≡◌, ◌≤◌, ◌<◌, Err, IfErr, IfOk, IfSome, Some, false, length, sum_by}, specs.List.{list_any, position}, specs.Str.bytes_eq};
 ghost use Rattle.ledger_model.specs.Ranges.{most_plan_readings};
-ghost use Rattle.running_desk.{specs.declared.running.PassFault.PassFault, specs.Replied.IsShownBoard};
+ghost use Rattle.running_desk.{specs.Replied.IsShownBoard};
 ghost use Rattle.site_desk.specs.Roster.{AreNewPlaces, IsNamed};
-ghost use Rattle.station_link.specs.Session.{MayLackPass};
+ghost use Rattle.station_link.{specs.Session.MayLackPass, specs.declared.ending.Why.Why};
 
 use crate::pass_pool::PassPool;
 use crate::serves::Serves;
@@ -16,20 +16,13 @@ use std::alloc::Global;
 use std::sync::{Mutex, Wait};
 use std::thread::Threads;
 
-/// Why there is no pass.
-#[derive(Clone, Copy, Debug, PartialEq, Eq)]
-pub enum PassFault {
-    /// No station of the desk has this name.
-    UnknownStation,
-    /// The station gave out 65,536 passes.
-    TooManyPasses,
-    /// There is no memory to put it back into the pool later.
-    OutOfMemory,
-}
-
 /// The desk of a plan while it is served, with a pool for the passes of its stations.
 #[derive(Drop)]
-pub struct Running<'a, S: Serves> {
+pub struct Running<'a, S: Serves, R> {
+    /// Threads, locks and the clock.
+    pub rt: &'a R,
+    /// Memory.
+    pub alloc: Global,
     /// The plan.
     pub plan: &'a Plan,
     /// What is served.
@@ -43,12 +36,12 @@ pub struct Running<'a, S: Serves> {
     ghost readings: { sum_by (λ s. s.limits.readings) plan.now.stations.items ≤ most_plan_readings },
 }
 
-impl<'a, S: Serves> Running<'a, S> {
+impl<'a, S: Serves, R> Running<'a, S, R> {
     /// The desk of this plan, with the passes that were given out before in the pool.
     ///
     /// Conditions: the desk was opened for this plan, and the plan's limits allow no more than 1,048,576
     /// readings in all.
-    pub fn open(plan: &'a Plan, serves: &'a S, passes: Vec<Pass>) -> Self
+    pub fn open(rt: &'a R, alloc: Global, plan: &'a Plan, serves: &'a S, passes: Vec<Pass>) -> Self
         requires opened { AreNewPlaces plan.now.sites.items plan.now.stations.items (S.roster serves.now).stations }
         requires readings { sum_by (λ s. s.limits.readings) plan.now.stations.items ≤ most_plan_readings }
         ensures plan { result.plan.now ≡ plan.now }
@@ -58,6 +51,8 @@ impl<'a, S: Serves> Running<'a, S> {
         let desk = serves.desk();
         let pool = Mutex::new(PassPool::of(passes));
         Running {
+            rt,
+            alloc,
             plan,
             serves,
             desk,
@@ -65,100 +60,82 @@ impl<'a, S: Serves> Running<'a, S> {
         }
     }
 
+    /// All passes in the pool.
+    pub fn into_passes(self) -> Vec<Pass> {
+        self.pool.into_inner().into_passes()
+    }
+}
+
+impl<S: Serves, R: Threads + Wait> Running<'_, S, R> {
     /// A pass of the station of this name: one from the pool, or else a new one; then the pool has room for it from
     /// now on. It may wait for the station's lock.
-    pub fn pass_of<R: Wait + Threads>(&self, rt: &R, name: &Name) -> Result<Pass, PassFault>
-        ensures unknown { result ≡ Err PassFault.UnknownStation → list_any (λ s. bytes_eq name.now s.name) self.now.desk.now.stations ≡ false }
+    pub fn pass_of(&self, name: &Name) -> Result<Pass, Why>
+        ensures lacks { IfErr result MayLackPass }
+        ensures unknown { result ≡ Err Why.UnknownStation → list_any (λ s. bytes_eq name.now s.name) self.now.desk.now.stations ≡ false }
         ensures named { IfOk result (λ p. IsNamed self.now.desk.now.stations name.now p.station) }
     {
         let Some(station) = self.desk.number(name) else {
-            return Err(PassFault::UnknownStation);
+            return Err(Why::UnknownStation);
         };
-        match self.left_pass(rt, station) {
+        match self.left_pass(station) {
             Some(pass) => Ok(pass),
-            None => self.new_pass(rt, name),
+            None => self.new_pass(name),
         }
     }
 
     // A pass of this station from the pool.
-    fn left_pass<R: Wait>(&self, rt: &R, station: u16) -> Option<Pass>
+    fn left_pass(&self, station: u16) -> Option<Pass>
         ensures { IfSome result (λ p. p.station ≡ station) }
     {
-        self.pool.lock(rt).take(station)
+        self.pool.lock(self.rt).take(station)
     }
 
     // A new pass of the station of this name.
-    fn new_pass<R: Wait + Threads>(&self, rt: &R, name: &Name) -> Result<Pass, PassFault>
-        ensures unknown { result ≡ Err PassFault.UnknownStation → list_any (λ s. bytes_eq name.now s.name) self.now.desk.now.stations ≡ false }
+    fn new_pass(&self, name: &Name) -> Result<Pass, Why>
+        ensures lacks { IfErr result MayLackPass }
+        ensures unknown { result ≡ Err Why.UnknownStation → list_any (λ s. bytes_eq name.now s.name) self.now.desk.now.stations ≡ false }
         ensures named { IfOk result (λ p. IsNamed self.now.desk.now.stations name.now p.station) }
     {
-        if self.pool.lock(rt).reserve().is_err() {
-            return Err(PassFault::OutOfMemory);
+        if self.pool.lock(self.rt).reserve().is_err() {
+            return Err(Why::OutOfMemory);
         }
-        match self.desk.enlist(rt, name) {
+        match self.desk.enlist(self.rt, name) {
             Ok(pass) => Ok(pass),
-            Err(EnlistFault::UnknownStation) => Err(PassFault::UnknownStation),
-            Err(EnlistFault::TooManyPasses) => Err(PassFault::TooManyPasses),
+            Err(EnlistFault::UnknownStation) => Err(Why::UnknownStation),
+            Err(EnlistFault::TooManyPasses) => Err(Why::TooManyPasses),
         }
     }
 
     /// Puts a pass back into the pool, for the next session of its station. The error gives it back if there is no room
     /// for it, which no run meets: room is made before a pass is given out.
-    pub fn lay<R: Wait>(&self, rt: &R, pass: Pass) -> Result<(), Pass>
+    pub fn lay(&self, pass: Pass) -> Result<(), Pass>
         ensures { IfErr result (λ back. back ≡ pass) }
     {
-        self.pool.lock(rt).lay(pass)
-    }
-
-    /// All passes in the pool.
-    pub fn into_passes(self) -> Vec<Pass> {
-        self.pool.into_inner().into_passes()
+        self.pool.lock(self.rt).lay(pass)
     }
 
     /// A pass of the station that a request asks for, with its name.
-    pub fn let_in<R: Threads + Wait>(
-        &self,
-        rt: &R,
-        asked: Result<Name, Why>,
-    ) -> Result<(Name, Pass), Why>
+    pub fn let_in(&self, asked: Result<Name, Why>) -> Result<(Name, Pass), Why>
         ensures { IfOk result (λ r. IsNamed self.now.desk.now.stations r.0 r.1.station) }
     {
         let name = asked?;
-        match self.pass_of(rt, &name) {
-            Ok(pass) => Ok((name, pass)),
-            Err(fault) => Err(why_of(fault)),
-        }
+        let pass = self.pass_of(&name)?;
+        Ok((name, pass))
     }
 
     /// The text of the board of the site of this number, counted from 0, with what was seen of the journal then. It
     /// waits for the locks of the site, and for a write to the journal that is under way.
     ///
     /// Condition: the plan has the site ([`site_of`] tests it).
-    pub fn board<R: Wait>(
-        &self,
-        rt: &R,
-        alloc: Global,
-        site: u16,
-    ) -> Result<(Vec<u8>, S::Seen), BoardFault>
+    pub fn board(&self, site: u16) -> Result<(Vec<u8>, S::Seen), BoardFault>
         requires { site < length self.now.plan.now.sites.items }
         ensures { IfOk result (λ r. IsShownBoard (S.shows self.now.serves.now) self.now.plan.now.sites.items self.now.desk.now.stations site r.0.items (Some r.1)) }
     {
-        let (boards, totals, seen) = self.serves.boards(rt, alloc, site)?;
-        match running_text(alloc, self.plan, site, boards, totals) {
+        let (boards, totals, seen) = self.serves.boards(self.rt, self.alloc, site)?;
+        match running_text(self.alloc, self.plan, site, boards, totals) {
             Ok(text) => Ok((text, seen)),
             Err(_) => Err(BoardFault::OutOfMemory),
         }
-    }
-}
-
-// Why a station that got no pass is refused.
-fn why_of(fault: PassFault) -> Why
-    ensures { MayLackPass result }
-{
-    match fault {
-        PassFault::UnknownStation => Why::UnknownStation,
-        PassFault::TooManyPasses => Why::TooManyPasses,
-        PassFault::OutOfMemory => Why::OutOfMemory,
     }
 }
 

@@ -1,14 +1,14 @@
 use Rattle.std.proofs.Common.{inl}
 use Rattle.board_report.proofs.ClosedSites.{value_told}
 use Rattle.running_desk.proofs.Replied.{commanded}
-use Rattle.running_desk.proofs.operator.put_command.Goals as goal
+use Rattle.running_desk.proofs.running.Running.put_command.Goals as goal
 
 pub returns-in-Ok-clause-answer : goal.returns-in-Ok-clause-answer
 returns-in-Ok-clause-answer g c =
     let named = c.in-Ok.ensures.named in
     let after = c.submit-submitted.new in
     value_told c.submit-submitted.result
-    _ _ (λ seen h. commanded (g.S.Delivers.gives c.in-Ok.pass.station named.place) seen c.args.running.now.desk.now.stations
+    _ _ (λ seen h. commanded (g.S.Delivers.gives c.in-Ok.pass.station named.place) seen c.args.self.now.desk.now.stations
     c.args.name.now c.in-Ok.pass c.args.what after.pass after.reply.items named (h named.place named.there))
     c.submit-submitted.ensures
 

@@ -1,6 +1,6 @@
 use Rattle.std.proofs.Common.{sym, ◌∙◌}
 use Rattle.running_desk.proofs.Replies.{ended_at, finished_at, goes_on_at, nothing}
-use Rattle.running_desk.proofs.operator.operate.Goals as goal
+use Rattle.running_desk.proofs.running.Running.operate.Goals as goal
 
 pub loop-init : goal.loop-init
 loop-init g c = nothing _ _ _ _ _ _ _ _ c.open-orders.ensures.coming c.new-seen.ensures.items
