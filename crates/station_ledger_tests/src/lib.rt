@@ -1,4 +1,4 @@
-//! The tests of `station_ledger`, with drawn commands against sums made from scratch, and of `board_report`.
+//! The tests of `station_ledger` and of `board_report`.
 #![tactic(auto)]
 
 #[cfg(test)]

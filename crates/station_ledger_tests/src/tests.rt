@@ -1,9 +1,5 @@
-//! Tests of a ledger that stored rows can't make: how many differences a change evaluates, a board without memory,
-//! and drawn commands.
-mod against;
-mod drawn;
+//! Tests of a ledger that stored rows can't make: how many differences a change evaluates, and boards without memory.
 mod report;
-mod scratch;
 
 use energy_flow::Work;
 use ledger_model::{
