@@ -247,7 +247,8 @@ fn end_run<J: Naming + Send + Sync, K: Opening + Send + Sync, W: Output, T: Outp
     ensures { IfOk result (λ s. IsEnded K.name K.first K.before plan.now.sites.items plan.now.stations.items (left_of W.contents s)
         (λ log. (s.console ≡ ran.output) × OnOk s.ended (IsOk ran.ended) × IfOk ran.ended (λ seen. All (λ m. IsPrefix m log) seen.items))) }
 {
-    let (answers, browsed) = (ran.answers.len(), ran.boards.len());
+    let answers = ran.answers.len();
+    let browsed = ran.boards.len();
     let (ended, seen) = seen_of(alloc, ran.ended);
     let more = with_more(seen, ran.answers)?;
     let moments = with_more(more, ran.boards)?;
