@@ -1,5 +1,5 @@
-//! The tests of `site_book` and `site_desk`. `tests/scenes/living.py` tests whole servers, and
-//! `tests/scenes/journalling.py` those with a journal.
+//! The tests of `station_ledger`, `site_book`, `site_desk` and `board_report`. `tests/scenes/living.py` tests whole
+//! servers, and `tests/scenes/journalling.py` those with a journal.
 #![tactic(auto)]
 
 #[cfg(test)]

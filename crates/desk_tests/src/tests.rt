@@ -1,1 +1,2 @@
 mod desk;
+mod ledger;

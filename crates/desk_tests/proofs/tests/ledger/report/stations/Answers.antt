@@ -1,7 +1,7 @@
 use Rattle.std.{proofs.Common.{◌≡◌, ℕ, List, ◌∷◌, [], ◌++◌, sym, subst, arith}, proofs.lemmas.List.Elements.{All-append, All-cons, All-nil}, proofs.lemmas.List.Sums.sum_by-append}
 use Rattle.ledger_model.{specs.Board.Board, specs.Limits.{Bounds, default_limits}, specs.Settling.default_periods}
 use Rattle.board_report.{specs.Plans.AreBoardsWithin, specs.Sums.AreOfPeriod, proofs.PlanLemmas.{plans_fit, AreBoardsWithin-more}}
-use Rattle.station_ledger_tests.proofs.tests.report.stations.Goals as goal
+use Rattle.desk_tests.proofs.tests.ledger.report.stations.Goals as goal
 
 -- one station more
 pub loop-name-preserved : goal.loop-name-preserved
