@@ -1,7 +1,9 @@
-"""The sources of the crates can be read: no line is past 200 characters, but for imports and texts."""
+"""The sources of the crates: no line is past 200 characters, but for imports and texts, and imports are merged."""
 
 from collections.abc import Iterator
 from pathlib import Path
+
+from tests.imports import merged, unmerged
 
 CRATES = Path(__file__).resolve().parents[2] / "crates"
 MOST = 200
@@ -18,3 +20,25 @@ def long_lines() -> Iterator[str]:
 
 def test_no_line_is_too_long() -> None:
     assert not list(long_lines())
+
+
+def test_imports_name_each_library_once() -> None:
+    assert not [path for path, _ in unmerged()]
+
+
+def test_imports_are_merged_by_library() -> None:
+    lines = """use Rattle.std.specs.List.{map}
+use Rattle.flow.specs.Flow.{Energy, plus}
+use Rattle.std.{specs.List.{filter, map}, specs.Str.bytes_eq as same}
+use Rattle.flow.specs.Flow as flow"""
+    assert (
+        merged(lines, False)
+        == """use Rattle.std.{specs.List.{map, filter}, specs.Str.bytes_eq as same}
+use Rattle.flow.specs.Flow.{Energy, plus}
+use Rattle.flow.specs.Flow as flow"""
+    )
+
+
+def test_only_runs_of_clauses_imports_are_merged_in_code() -> None:
+    apart = "ghost use Rattle.a.specs.B.{c};\n\nfn f() {}\nghost use Rattle.a.specs.B.{d};"
+    assert merged(apart, True) == apart

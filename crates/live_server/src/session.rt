@@ -114,8 +114,9 @@ impl<S: Serves, R: Threads + Wait + Clock, L: Write + Drop> Shared<'_, S, R, L> 
     fn finish(&self, name: &Name, before: u64, end: SessionEnd<S::Seen>)
         requires { All (IsAnswered S.gives) end.seen.items }
     {
+        let (why, texts, pass) = (end.why, end.texts, end.pass);
         self.answers.lock(self.rt).add(end.seen);
-        if let Some(pass) = end.pass {
+        if let Some(pass) = pass {
             let changes = pass.changes().saturating_sub(before);
             self.log
                 .tell_ended(self.rt, name, end.why, end.texts, changes);

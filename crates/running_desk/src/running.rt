@@ -1,7 +1,7 @@
 //! The desk of a plan while it is served.
 ghost use Rattle.std.{specs.Prelude.{◌≡◌, ◌≤◌, ◌<◌, Err, IfErr, IfOk, IfSome, Some, false, length, sum_by}, specs.List.{list_any, position}, specs.Str.bytes_eq};
 ghost use Rattle.ledger_model.specs.Ranges.{most_plan_readings};
-ghost use Rattle.running_desk.{specs.Replied.IsShownBoard};
+ghost use Rattle.running_desk.specs.Replied.{IsShownBoard};
 ghost use Rattle.site_desk.specs.Roster.{AreNewPlaces, IsNamed};
 ghost use Rattle.station_link.{specs.Session.MayLackPass, specs.declared.ending.Why.Why};
 

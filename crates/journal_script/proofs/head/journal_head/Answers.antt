@@ -1,6 +1,5 @@
 use Rattle.std.proofs.Common.{◌∙◌, ap, arith, length, subst, take_all}
-use Rattle.journal_script.specs.Cuts.{run_begins}
-use Rattle.journal_script.{specs.Head.{Adds, site_meanings, sites_meanings, station_meanings, stations_meanings}, proofs.HeadLaw.head_is, proofs.HeadLines.adds_more}
+use Rattle.journal_script.{specs.Cuts.run_begins, specs.Head.{Adds, site_meanings, sites_meanings, station_meanings, stations_meanings}, proofs.HeadLaw.head_is, proofs.HeadLines.adds_more}
 use Rattle.journal_script.proofs.head.journal_head.Goals as goal
 
 pub loop-station-preserved : goal.loop-station-preserved

@@ -1,6 +1,5 @@
 use Rattle.std.proofs.Common.{take}
-use Rattle.journal_script.specs.Cuts.{run_begins}
-use Rattle.journal_script.specs.Head.{Adds, sites_meanings, stations_meanings}
+use Rattle.journal_script.{specs.Cuts.run_begins, specs.Head.{Adds, sites_meanings, stations_meanings}}
 use Rattle.journal_script.proofs.head.journal_head.Given as goal
 
 abbrev pub invariant-loop-station : goal.invariant-loop-station
