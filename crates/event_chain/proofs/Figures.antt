@@ -1,5 +1,5 @@
 -- What is counted of each transaction, under the edits of its events.
-use Rattle.std.{proofs.Common.{◌≡◌, ℕ, ◌+◌, true, false, not, cond, ◌&&◌, List, [], ◌∷◌, Option, Some, None, map, sum_by, refl, sym, ap, ◌∙◌, subst, arith, inl, inr}, specs.Str.bytes_eq, proofs.lemmas.Slice.Eq.bytes_eq-Decides, specs.Ordering.eq_by_cmp, specs.FinMap.{find, put}, proofs.lemmas.List.Sums.{sum_by-cons, sum_by-append}}
+use Rattle.std.{proofs.lemmas.Grind.common_steps, proofs.Common.{◌≡◌, ℕ, ◌+◌, true, false, not, cond, ◌&&◌, List, [], ◌∷◌, Option, Some, None, map, sum_by, refl, sym, ap, ◌∙◌, subst, arith, inl, inr}, specs.Str.bytes_eq, proofs.lemmas.Slice.Eq.bytes_eq-Decides, specs.Ordering.eq_by_cmp, specs.FinMap.{find, put}, proofs.lemmas.List.Sums.{sum_by-cons, sum_by-append}}
 use Rattle.ledger_model.{specs.Key.{KeyName, key_cmp}, specs.Content.{Entry, Stored}, specs.Entries.{IsRising, entries_without}}
 use Rattle.event_store.specs.Slots.{Held}
 use Rattle.event_chain.{specs.declared.row.TableRow.TableRow, specs.Table.{TxRow, id_cmp, row_of}, specs.Flat.{EventPlace, entry_of, segment, entries_of, flat}, specs.Kept.{live_one, end_one, is_end, IsFigured, AreFigured, IsNamed}, proofs.Decided.{id_test, not_so, denied}, proofs.Sums.{at_key, sum_put, sum_without}}
@@ -50,8 +50,7 @@ void_live tx key s voided = ap (λ v. cond {A = ℕ} (bytes_eq tx key.tx && not 
 
 -- Nor as an end.
 pub void_end : (tx : List ℕ) (key : KeyName) (s : Stored) → s.voided ≡ true → end_one tx (key, s) ≡ 0
-void_end tx key s voided = ap (λ v. cond {A = ℕ} (bytes_eq tx key.tx && not v && is_end s.event.kind) 1 0) voided
-    ∙ elim (bytes_eq tx key.tx) as (λ b. cond {A = ℕ} (b && false && is_end s.event.kind) 1 0 ≡ 0) [ true ↦ refl | false ↦ refl ]
+void_end tx key s voided = grind (arith, common_steps)
 
 -- A transaction has one row.
 one_row : (o : Option TableRow) (a b : TableRow) → o ≡ Some a → o ≡ Some b → a ≡ b

@@ -1,6 +1,6 @@
 -- The places of an index that have a mark, or all: how its edits change them.
-use Rattle.std.{proofs.Common.{◌≡◌, ℕ, ◌≤◌, nat_lt, ◌==◌, Bool, true, false, not, cond, List, [], ◌∷◌, ◌++◌, Option, Some, None, is_some, map, option_map, drop, refl, sym, ap, ◌∙◌, subst, arith}, proofs.lemmas.Bool.Decides.Decides-eqb, proofs.lemmas.List.map-append, proofs.lemmas.List.Elements.filter-append, specs.Ordering.{is_eq, nat_cmp}, specs.FinMap.put}
-use Rattle.ledger_model.{proofs.Directions.each_way, specs.ByDirection.in_direction, specs.declared.by_direction.ByDirection.ByDirection, specs.declared.reading.Direction.Direction, specs.declared.reading.Direction.TheVariants.{Import, Export}}
+use Rattle.std.{proofs.lemmas.Grind.common_steps, proofs.Common.{◌≡◌, ℕ, ◌≤◌, nat_lt, ◌==◌, Bool, true, false, cond, List, [], ◌∷◌, ◌++◌, Option, Some, None, is_some, map, option_map, drop, refl, sym, ap, ◌∙◌, subst, arith}, proofs.lemmas.Bool.Decides.Decides-eqb, proofs.lemmas.List.map-append, proofs.lemmas.List.Elements.filter-append, specs.Ordering.nat_cmp, specs.FinMap.put}
+use Rattle.ledger_model.{proofs.Directions.each_way, specs.ByDirection.in_direction, specs.declared.by_direction.ByDirection.ByDirection, specs.declared.reading.Direction.TheVariants.{Import, Export}}
 use Rattle.key_index.specs.Index as keyed
 use Rattle.key_index.{specs.declared.filed.Mark.Mark, specs.declared.filed.Mark.TheVariants.{Live, Imports, Exports, Names}, specs.declared.filed.Marks.Marks, specs.declared.filed.Filed.Filed, specs.Entries.{Entry, below, from, filed_at, first_of, last_of, AreAbove, AreRising}, proofs.Orders.{cut_none, cut_whole, last_cons}, specs.Marks.{has_mark, marked, mark_at}}
 use Rattle.event_chain.{specs.Flat.{EventPlace, place_of}, specs.Edits.{put_if, out, IsLiveLess, IsLiveMore, IsLiveSame, IsNotLive}, specs.Placed.{carriers_of, index, marked_places, marked_index, passes, place_in, placed}, proofs.Decided.not_so, proofs.Places.{found_at, put_is, out_is, not_less}}
@@ -13,9 +13,7 @@ marked_nil (Some m) = refl
 -- The places of entries with one in front.
 marked_on : (o : Option Mark) (e : Entry ℕ) (es : List (Entry ℕ)) → marked_places o (e ∷ es) ≡ cond (passes o e.1.marks) (place_in e ∷ marked_places o es) (marked_places o es)
 marked_on None e es = refl
-marked_on (Some m) e es =
-    elim (has_mark m e.1.marks) as (λ b. map place_in (cond b (e ∷ marked m es) (marked m es))
-    ≡ cond b (place_in e ∷ map place_in (marked m es)) (map place_in (marked m es))) [ true ↦ refl | false ↦ refl ]
+marked_on (Some m) e es = grind (arith, common_steps)
 
 -- The places of two lists.
 marked_both : (o : Option Mark) (xs ys : List (Entry ℕ)) → marked_places o (xs ++ ys) ≡ marked_places o xs ++ marked_places o ys
@@ -25,24 +23,12 @@ marked_both (Some m) xs ys = ap (map place_in) (filter-append (λ e. has_mark m 
 -- Entries above a number have places above it.
 marked_above : (o : Option Mark) (n : ℕ) (es : List (Entry ℕ)) → AreAbove n es → AreAbove n (marked_places o es)
 marked_above o n [] h = subst (AreAbove n) (sym (marked_nil o)) tt
-marked_above o n (e ∷ es) h =
-    subst (AreAbove n) (sym (marked_on o e es))
-    (elim (passes o e.1.marks) as (λ b. AreAbove n (cond b (place_in e ∷ marked_places o es) (marked_places o es))) [
-      | true ↦
-          (h.0, marked_above o n es h.1)
-      | false ↦ marked_above o n es h.1
-    ])
+marked_above o n (e ∷ es) h = grind (arith, common_steps, marked_on, marked_above o n es h.1)
 
 -- The places with a mark rise.
 pub marked_rising : (o : Option Mark) (es : List (Entry ℕ)) → AreRising es → AreRising (marked_places o es)
 marked_rising o [] h = subst AreRising (sym (marked_nil o)) tt
-marked_rising o (e ∷ es) h =
-    subst AreRising (sym (marked_on o e es))
-    (elim (passes o e.1.marks) as (λ b. AreRising (cond b (place_in e ∷ marked_places o es) (marked_places o es))) [
-      | true ↦
-          (marked_above o e.0 es h.0, marked_rising o es h.1)
-      | false ↦ marked_rising o es h.1
-    ])
+marked_rising o (e ∷ es) h = grind (arith, common_steps, marked_on, marked_above, marked_rising o es h.1)
 
 -- None has the rank.
 slot_none : (r n : ℕ) (xs : List EventPlace) → AreAbove n xs → r ≤ n → filed_at r xs ≡ None
@@ -53,23 +39,7 @@ slot_none r n (x ∷ xs) h le = let up = h.0 in ap (λ b. cond b (Some x.1) None
 pub marked_below : (o : Option Mark) (r : ℕ) (es : List (Entry ℕ)) → AreRising es → marked_places o (below r es) ≡ below r (marked_places o es)
 marked_below o r [] h = marked_nil o ∙ sym (ap (below r) (marked_nil o))
 marked_below o r (e ∷ es) h =
-    let P = place_in e in let L = marked_places o es in let rest = marked_below o r es h.1 in
-    elim (nat_lt e.0 r) as (λ b. nat_lt e.0 r ≡ b → marked_places o (cond b (e ∷ below r es) []) ≡ below r (marked_places o (e ∷ es))) [
-      | true ↦ λ y.
-          marked_on o e (below r es)
-          ∙ elim (passes o e.1.marks) as (λ p. cond p (place_in e ∷ marked_places o (below r es)) (marked_places o (below r es))
-          ≡ below r (cond p (place_in e ∷ marked_places o es) (marked_places o es))) [
-            | true ↦ ap (λ (l : List EventPlace). place_in e ∷ l) rest ∙ sym (ap (λ b. cond b (place_in e ∷ below r (marked_places o es)) []) y)
-            | false ↦ rest
-          ]
-          ∙ sym (ap (below r) (marked_on o e es))
-      | false ↦ λ never.
-          marked_nil o
-          ∙ sym (ap (below r) (marked_on o e es) ∙ elim (passes o e.1.marks) as (λ p. below r (cond p (place_in e ∷ marked_places o es) (marked_places o es)) ≡ []) [
-            | true ↦ ap (λ b. cond b (place_in e ∷ below r (marked_places o es)) []) never
-            | false ↦ (cut_none r e.0 (marked_places o es) (marked_above o e.0 es h.0) (not_less e.0 r never)).0
-          ])
-    ] refl
+    let P = place_in e in let L = marked_places o es in let rest = marked_below o r es h.1 in grind (arith, common_steps, marked_on, marked_nil, cut_none, marked_above, not_less)
 
 -- And what is left.
 pub marked_from : (o : Option Mark) (r : ℕ) (es : List (Entry ℕ)) → AreRising es → marked_places o (from r es) ≡ from r (marked_places o es)
@@ -105,15 +75,7 @@ last_place_in (x ∷ y ∷ xs) = last_cons (place_in x) (place_in y) (map place_
 -- Where no entry has the rank, no place with a mark has.
 pub marked_absent : (o : Option Mark) (r : ℕ) (es : List (Entry ℕ)) → place_of r (marked_places None es) ≡ None → place_of r (marked_places o es) ≡ None
 marked_absent o r [] none = ap (place_of r) (marked_nil o)
-marked_absent o r (e ∷ es) none =
-    elim (is_eq (nat_cmp r e.0)) as (λ b. is_eq (nat_cmp r e.0) ≡ b → cond b (Some e.1.value) (place_of r (map place_in es)) ≡ None → place_of r (marked_places o (e ∷ es)) ≡ None) [
-      | true ↦ λ _ f. cc
-      | false ↦ λ y left.
-          ap (place_of r) (marked_on o e es) ∙ elim (passes o e.1.marks) as (λ p. place_of r (cond p (place_in e ∷ marked_places o es) (marked_places o es)) ≡ None) [
-            | true ↦ ap (λ b. cond b (Some e.1.value) (place_of r (marked_places o es))) y ∙ marked_absent o r es left
-            | false ↦ marked_absent o r es left
-          ]
-    ] refl none
+marked_absent o r (e ∷ es) none = grind (arith, common_steps, marked_on, marked_absent o r es)
 
 -- The slot under a rank.
 slot_filed : (r : ℕ) (l : List (Entry ℕ)) → filed_at r (map place_in l) ≡ option_map (λ (f : Filed ℕ). f.value) (filed_at r l)
@@ -150,11 +112,7 @@ pub marked_put : (o : Option Mark) (r : ℕ) (f : Filed ℕ) (es : List (Entry �
     → place_of r (marked_places None es) ≡ None
     → marked_places o (below r es ++ (r, f) ∷ from r es) ≡ put_if (passes o f.marks) r f.value (marked_places o es)
 marked_put o r f es h none =
-    let absent : filed_at r (from r (marked_places o es)) ≡ None = found_at r (marked_places o es) (marked_rising o es h) ∙ marked_absent o r es none in
-    marked_both o (below r es) ((r, f) ∷ from r es) ∙ (λ i. marked_below o r es h i ++ marked_on o (r, f) (from r es) i)
-    ∙ ap (λ l. below r (marked_places o es) ++ cond (passes o f.marks) ((r, f.value) ∷ l) l) (marked_from o r es h)
-    ∙ elim (passes o f.marks) as (λ b. below r (marked_places o es) ++ cond b ((r, f.value) ∷ from r (marked_places o es)) (from r (marked_places o es))
-    ≡ put_if b r f.value (marked_places o es)) [ true ↦ put_is r f.value (marked_places o es) absent | false ↦ cut_whole r (marked_places o es) ]
+    let absent : filed_at r (from r (marked_places o es)) ≡ None = found_at r (marked_places o es) (marked_rising o es h) ∙ marked_absent o r es none in grind (arith, common_steps, marked_both, marked_below, marked_on, marked_from, put_is, cut_whole)
 
 -- An entry that is found is the first of what is left.
 from_parts : (r : ℕ) (f : Filed ℕ) (l : List (Entry ℕ)) → filed_at r l ≡ Some f → (rest : List (Entry ℕ)) × (l ≡ (r, f) ∷ rest)
@@ -173,11 +131,7 @@ from_rising r (e ∷ es) h = elim (nat_lt e.0 r) as (λ b. AreRising (cond b (fr
 -- Nothing is left out where the rank is absent.
 pub out_absent : (r : ℕ) (xs : List EventPlace) → place_of r xs ≡ None → out r xs ≡ xs
 out_absent r [] none = refl
-out_absent r (x ∷ xs) none =
-    elim (is_eq (nat_cmp r x.0)) as (λ b. cond b (Some x.1) (place_of r xs) ≡ None → cond (not b) (x ∷ out r xs) (out r xs) ≡ x ∷ xs) [
-      | true ↦ λ f. cc
-      | false ↦ λ left. ap (λ (l : List EventPlace). x ∷ l) (out_absent r xs left)
-    ] none
+out_absent r (x ∷ xs) none = grind (arith, common_steps, out_absent r xs)
 
 module _ (o : Option Mark) (r : ℕ) (f : Filed ℕ) (es : List (Entry ℕ)) (h : AreRising es) (there : filed_at r (from r es) ≡ Some f) where
   abbrev L : List EventPlace

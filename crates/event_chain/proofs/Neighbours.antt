@@ -1,5 +1,5 @@
 -- The readings on either side of a key's place, by the places of the live events that have readings.
-use Rattle.std.{proofs.Common.{◌≡◌, ℕ, suc, ◌-◌, ◌<◌, ◌/◌, ◌%◌, ◌^◌, ◌==◌, nat_lt, Bool, true, false, not, cond, ◌&&◌, List, [], ◌∷◌, ◌++◌, Option, Some, None, is_some, length, map, slice_get, refl, sym, ap, ◌∙◌, arith, append-nil, length-append}, specs.List.{filter, flat_map}, specs.Str.bytes_eq}
+use Rattle.std.{proofs.lemmas.Grind.common_steps, proofs.Common.{◌≡◌, ℕ, suc, ◌-◌, ◌<◌, ◌/◌, ◌%◌, ◌^◌, ◌==◌, nat_lt, Bool, true, false, not, cond, ◌&&◌, List, [], ◌∷◌, ◌++◌, Option, Some, None, is_some, length, map, slice_get, refl, sym, ap, ◌∙◌, arith, append-nil, length-append}, specs.List.{filter, flat_map}, specs.Str.bytes_eq}
 use Rattle.slot_arena.specs.Arena.{IsHeld}
 use Rattle.key_index.{specs.Entries.last_of, specs.Key.{rank, slot_back}, proofs.Orders.last_cons}
 use Rattle.ledger_model.{specs.Key.KeyName, specs.declared.reading.Direction.Direction, specs.Event.{MeterReading, toward}, specs.Content.{Entry, Stored}, specs.Deltas.{first_reading, last_reading, own_readings, before_key, behind_key}, proofs.Callers.{own_before_key, own_behind_key}}
@@ -72,12 +72,8 @@ module _ (d : Direction) where
       ≡ flat_map readings_of (filter f (cond (mine && (not voided && is_some (first_reading rs))) (e ∷ carries) carries))
   one_carrying f e false voided rs is lives carries rest = rest
   one_carrying f e true true rs is lives carries rest = rest
-  one_carrying f e true false [] is lives carries rest =
-      elim (f e) as (λ b. flat_map readings_of (cond b (e ∷ filter f lives) (filter f lives))
-      ≡ flat_map readings_of (filter f carries)) [ true ↦ ap (λ (xs : List MeterReading). xs ++ flat_map readings_of (filter f lives)) is ∙ rest | false ↦ rest ]
-  one_carrying f e true false (r ∷ rs) is lives carries rest =
-      elim (f e) as (λ b. flat_map readings_of (cond b (e ∷ filter f lives) (filter f lives))
-      ≡ flat_map readings_of (cond b (e ∷ filter f carries) (filter f carries))) [ true ↦ ap (λ (xs : List MeterReading). readings_of e ++ xs) rest | false ↦ rest ]
+  one_carrying f e true false [] is lives carries rest = grind (arith, common_steps)
+  one_carrying f e true false (r ∷ rs) is lives carries rest = grind (arith, common_steps)
 
   -- The readings of live events are those of the events that have any.
   carrying : (f : Entry → Bool) (tx : List ℕ) (es : List Entry) → flat_map readings_of (filter f (passing_of is_live tx es)) ≡ flat_map readings_of (filter f (passing_of (is_carrier d) tx es))
