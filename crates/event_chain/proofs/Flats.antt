@@ -80,7 +80,7 @@ nat_less a b lt = ap (λ c. cond c Less (cond (a == b) Equal Greater)) ((Decides
 
 -- What comes first is smaller.
 pub less_nat : (a b : ℕ) → T (is_lt (nat_cmp a b)) → a < b
-less_nat a b h = grind (arith, common_steps, Decides-ltb)
+less_nat a b h = grind (arith, common_steps)
 
 -- Of one transaction, the smaller number comes first.
 less_seq : (tx : List ℕ) (a b : ℕ) → a < b → T (is_lt (key_cmp (record { tx = tx; seq = a }) (record { tx = tx; seq = b })))

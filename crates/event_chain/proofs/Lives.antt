@@ -67,7 +67,7 @@ and_false false = refl
 pub live_of_is : (tx : List ℕ) (es : List Entry) → live_of tx es ≡ passing_of is_live tx es
 live_of_is tx [] = refl
 live_of_is tx (e ∷ es) =
-    let rest = live_of_is tx es in grind (arith, common_steps, and_false)
+    let rest = live_of_is tx es in grind (arith, common_steps)
 
 module _ (rows : List TxRow) (es : List EventPlace) (slots : List (Option Held)) (rising : AreRising rows) (ranks : AreRanks es)
     (test : Stored → Bool) (sub : List EventPlace) (is_sub : IsSub test es slots sub) (tx : List ℕ) (row : TableRow)
@@ -110,14 +110,14 @@ pub live_length : (tx : List ℕ) (es : List Entry) → length (live_of tx es) �
 live_length tx es = ap length (live_of_is tx es) ∙ counted es where
   counted : (xs : List Entry) → length (passing_of is_live tx xs) ≡ sum_by (live_one tx) xs
   counted [] = refl
-  counted (e ∷ xs) = let rest = counted xs in grind (arith, common_steps, sum_by-cons)
+  counted (e ∷ xs) = let rest = counted xs in grind (arith, common_steps)
 
 -- How many of them are Started or Ended.
 pub ends_length : (tx : List ℕ) (es : List Entry) → count_by is_end (kinds_of tx es) ≡ sum_by (end_one tx) es
 ends_length tx es = ap (λ (xs : List Entry). count_by is_end (map (λ e. e.1.event.kind) xs)) (live_of_is tx es) ∙ counted es where
   counted : (xs : List Entry) → count_by is_end (map (λ (e : Entry). e.1.event.kind) (passing_of is_live tx xs)) ≡ sum_by (end_one tx) xs
   counted [] = refl
-  counted (e ∷ xs) = let rest = counted xs in grind (arith, common_steps, sum_by-cons, and_assoc)
+  counted (e ∷ xs) = let rest = counted xs in grind (arith, common_steps)
 
 -- The first of what a list is turned into.
 pub first_map : {X Y : Type 0} (f : X → Y) (xs : List X) → slice_get (map f xs) 0 ≡ option_map f (slice_get xs 0)
@@ -168,7 +168,7 @@ all_sub es slots ranks = record { rising = ranks; each = λ r. told (place_of r 
 passing_any : (tx : List ℕ) (es : List Entry) → filter (λ e. bytes_eq tx e.0.tx) es ≡ passing_of any tx es
 unfolding any
 passing_any tx [] = refl
-passing_any tx (e ∷ es) = grind (arith, common_steps, any, passing_any tx es)
+passing_any tx (e ∷ es) = grind (arith, common_steps, passing_any tx es)
 
 pub events_under : (rows : List TxRow) (es : List EventPlace) (slots : List (Option Held)) → AreRising rows → AreRanks es
     → (tx : List ℕ) (row : TableRow) → row_of tx rows ≡ Some row
@@ -284,7 +284,7 @@ seg_found t (e ∷ es) p h is =
 -- The first of a segment is of its transaction.
 seg_home : (t : ℕ) (es : List EventPlace) (p : EventPlace) → slice_get (segment t es) 0 ≡ Some p → p.0 / 2 ^ 31 ≡ t
 seg_home t [] p is = cc
-seg_home t (e ∷ es) p is = grind (arith, common_steps, Decides-eqb, seg_home t es p)
+seg_home t (e ∷ es) p is = grind (arith, common_steps, seg_home t es p)
 
 -- Where a segment has a first place, its transaction has one.
 pub seg_some : (t : ℕ) (es : List EventPlace) (o : Option EventPlace) → AreRanks es → o ≡ slice_get (segment t es) 0 → is_some o ≡ true → HasPlace es t
@@ -297,7 +297,7 @@ seg_bare t es (Some p) is some r s found home = cc
 seg_bare t es None is some r s found home = bare es (sym is) found where
   bare : (ps : List EventPlace) → slice_get (segment t ps) 0 ≡ None → place_of r ps ≡ Some s → ⊥
   bare [] none there = cc
-  bare (p ∷ ps) none there = grind (arith, common_steps, denied, Decides-eqb, rank_test, bare ps)
+  bare (p ∷ ps) none there = grind (arith, common_steps, bare ps)
 
 -- What was chosen was that place.
 pub chosen_place : (test : Stored → Bool) (slots : List (Option Held)) (o : Option ℕ) (s : ℕ) → chosen test slots o ≡ Some s → o ≡ Some s

@@ -27,7 +27,7 @@ module _ (rows new : List TxRow) (es more : List EventPlace) (slots held : List 
 
   -- The event of a number whose place is another is the same.
   same_number : (t seq : ℕ) → (seq < 2 ^ 31 → rank t seq ≡ r0 → ⊥) → event_at held (number_at t seq more) ≡ event_at slots (number_at t seq es)
-  same_number t seq other = grind (arith, common_steps, Decides-ltb)
+  same_number t seq other = grind (arith, common_steps)
 
   -- The event of another key of the transaction is the same.
   same_here : (seq : ℕ) → (seq ≡ key.seq → ⊥) → look_in more held seq (row_of key.tx new) ≡ look_in es slots seq (row_of key.tx rows)
@@ -51,4 +51,4 @@ module _ (rows new : List TxRow) (es more : List EventPlace) (slots held : List 
 
   -- The event of the key is that of its place.
   pub look_here : look new more held key ≡ event_at held (place_of r0 more)
-  look_here = grind (arith, common_steps, Decides-ltb)
+  look_here = grind (arith, common_steps)

@@ -23,7 +23,7 @@ marked_both (Some m) xs ys = ap (map place_in) (filter-append (λ e. has_mark m 
 -- Entries above a number have places above it.
 marked_above : (o : Option Mark) (n : ℕ) (es : List (Entry ℕ)) → AreAbove n es → AreAbove n (marked_places o es)
 marked_above o n [] h = subst (AreAbove n) (sym (marked_nil o)) tt
-marked_above o n (e ∷ es) h = grind (arith, common_steps, marked_on, marked_above o n es h.1)
+marked_above o n (e ∷ es) h = grind (arith, common_steps, marked_above o n es h.1)
 
 -- The places with a mark rise.
 pub marked_rising : (o : Option Mark) (es : List (Entry ℕ)) → AreRising es → AreRising (marked_places o es)
@@ -75,7 +75,7 @@ last_place_in (x ∷ y ∷ xs) = last_cons (place_in x) (place_in y) (map place_
 -- Where no entry has the rank, no place with a mark has.
 pub marked_absent : (o : Option Mark) (r : ℕ) (es : List (Entry ℕ)) → place_of r (marked_places None es) ≡ None → place_of r (marked_places o es) ≡ None
 marked_absent o r [] none = ap (place_of r) (marked_nil o)
-marked_absent o r (e ∷ es) none = grind (arith, common_steps, marked_on, marked_absent o r es)
+marked_absent o r (e ∷ es) none = grind (arith, common_steps, marked_absent o r es)
 
 -- The slot under a rank.
 slot_filed : (r : ℕ) (l : List (Entry ℕ)) → filed_at r (map place_in l) ≡ option_map (λ (f : Filed ℕ). f.value) (filed_at r l)

@@ -62,7 +62,7 @@ no_row o a x y = cc
 
 -- No number of a slot without places has one.
 bare_number : (es : List EventPlace) (t seq : ℕ) → IsBare es t → number_at t seq es ≡ None
-bare_number es t seq bare = grind (arith, common_steps, Decides-ltb)
+bare_number es t seq bare = grind (arith, common_steps)
 
 module _ (rows : List TxRow) (es : List EventPlace) (slots : List (Option Held)) (keyed : IsKeyed rows es slots) where
   -- The slot of a place holds only the event of its rank.
@@ -226,7 +226,7 @@ module _ (rows : List TxRow) (es : List EventPlace) (slots : List (Option Held))
   -- A transaction that went is found no more.
   pub after_left : (new : List TxRow) (left : List EventPlace) (held : List (Option Held)) (tx : List ℕ) (row : TableRow)
       → IsLeft rows new left tx row → (seq : ℕ) → look_in left held seq (row_of tx new) ≡ event_at held (number_at row.slot seq left)
-  after_left new left held tx row is seq = grind (arith, common_steps, bare_number)
+  after_left new left held tx row is seq = grind (arith, common_steps)
 
   -- An event taken out is such a move.
   pub out_move : (new : List TxRow) (key : KeyName) (row : TableRow) (r0 s0 : ℕ) (st : Stored)

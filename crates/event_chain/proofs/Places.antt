@@ -16,7 +16,7 @@ ranks_of (e ∷ es) h = both _ _ (above_below e.0 es h.0) (ranks_of es h.1)
 
 -- A greater number comes after.
 nat_greater : (a b : ℕ) → b < a → nat_cmp a b ≡ Greater
-nat_greater a b lt = grind (arith, common_steps, not_so, Decides-ltb, Decides-eqb)
+nat_greater a b lt = grind (arith, common_steps)
 
 -- A rank below all of a list is not found in it.
 none_below : (r : ℕ) (es : List EventPlace) → AreAbove r es → place_of r es ≡ None
@@ -51,7 +51,7 @@ put_is key slot (e ∷ es) absent =
 -- Greater ranks stay where one is left out.
 without_above : (key : ℕ) (es : List EventPlace) → AreAbove key es → filter (λ e. not (eq_by_cmp nat_cmp key e.0)) es ≡ es
 without_above key [] h = refl
-without_above key (e ∷ es) h = grind (arith, common_steps, nat_less, without_above key es h.1)
+without_above key (e ∷ es) h = grind (arith, common_steps, without_above key es h.1)
 
 -- An index without a key that was there.
 pub out_is : (key : ℕ) (es : List EventPlace) → AreRising es → is_some (filed_at key (from key es)) ≡ true → below key es ++ drop 1 (from key es) ≡ filter (λ e. not (eq_by_cmp nat_cmp key e.0)) es

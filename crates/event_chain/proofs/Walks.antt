@@ -21,7 +21,7 @@ rising_more n (m ∷ ms) h rising = (h.0, rising)
 numbers_above : (t r : ℕ) (es : List EventPlace) → AreAbove r es → r / 2 ^ 31 ≡ t → AllAbove (r % 2 ^ 31) (map number_in (segment t es))
 numbers_above t r [] h home = tt
 numbers_above t r (e ∷ es) h home =
-    let up = h.0 in let rest = numbers_above t r es h.1 home in grind (arith, common_steps, Decides-eqb)
+    let up = h.0 in let rest = numbers_above t r es h.1 home in grind (arith, common_steps)
 
 -- The numbers of a transaction rise.
 pub numbers_rising : (t : ℕ) (es : List EventPlace) → entries.AreRising es → AreRising (map number_in (segment t es))
@@ -42,7 +42,7 @@ left_rising f (e ∷ es) h = elim (f e) as (λ b. entries.AreRising (cond b (e �
 -- All greater ranks are greater.
 above_all : (n : ℕ) (es : List EventPlace) → AreAbove n es → filter (λ e. nat_lt n e.0) es ≡ es
 above_all n [] h = refl
-above_all n (e ∷ es) h = grind (arith, common_steps, Decides-ltb, above_all n es h.1)
+above_all n (e ∷ es) h = grind (arith, common_steps, above_all n es h.1)
 
 -- Those greater than the first are the others.
 behind_first : (e : EventPlace) (es : List EventPlace) → entries.AreRising (e ∷ es) → filter (λ x. nat_lt e.0 x.0) (e ∷ es) ≡ es
@@ -52,7 +52,7 @@ behind_first e es h = grind (arith, common_steps, not_so, Decides-ltb, above_all
 greater_twice : (n m : ℕ) (es : List EventPlace) → n < m → filter (λ e. nat_lt m e.0) (filter (λ e. nat_lt n e.0) es) ≡ filter (λ e. nat_lt m e.0) es
 greater_twice n m [] lt = refl
 greater_twice n m (e ∷ es) lt =
-    let rest = greater_twice n m es lt in let more = filter (λ (x : EventPlace). nat_lt m x.0) es in grind (arith, common_steps, never, not_so, Decides-ltb)
+    let rest = greater_twice n m es lt in let more = filter (λ (x : EventPlace). nat_lt m x.0) es in grind (arith, common_steps)
 
 -- What holds of all holds of those in front of a rank.
 all_below : (P : EventPlace → Type 0) (n : ℕ) (es : List EventPlace) → AllPlaces P es → AllPlaces P (below n es)
@@ -62,7 +62,7 @@ all_below P n (e ∷ es) h = elim (nat_lt e.0 n) as (λ b. AllPlaces P (cond b (
 -- The test holds too of what it leaves.
 all_tested : (P : EventPlace → Type 0) (f : EventPlace → Bool) (es : List EventPlace) → AllPlaces P es → AllPlaces (λ p. (f p ≡ true) × P p) (filter f es)
 all_tested P f [] h = tt
-all_tested P f (e ∷ es) h = grind (arith, common_steps, AllPlaces, all_tested P f es h.1)
+all_tested P f (e ∷ es) h = grind (arith, common_steps, all_tested P f es h.1)
 
 -- No place in front of a slot's has the slot.
 none_front : (s r : ℕ) (es : List EventPlace) → AllPlaces (λ p. p.1 ≡ s → p.0 ≡ r) es → AreBelow r es → AllPlaces (λ p. p.1 ≡ s → ⊥) es
