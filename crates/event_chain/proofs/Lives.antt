@@ -53,16 +53,6 @@ find_passing test tx q (e ∷ es) h =
           ]
     ] refl
 
--- Three tests.
-and_assoc : (a b c : Bool) → cond {A = ℕ} (a && b && c) 1 0 ≡ cond ((a && b) && c) 1 0
-and_assoc true b c = refl
-and_assoc false b c = refl
-
--- What is and false is false.
-and_false : (b : Bool) → (b && false) ≡ false
-and_false true = refl
-and_false false = refl
-
 -- Tests of two filters.
 pub live_of_is : (tx : List ℕ) (es : List Entry) → live_of tx es ≡ passing_of is_live tx es
 live_of_is tx [] = refl

@@ -18,13 +18,6 @@ pub record IsMove (rows new : List TxRow) (es more : List EventPlace) (slots hel
   pub after : (seq : ℕ) → look_in more held seq (row_of key.tx new) ≡ event_at held (number_at slot seq more)
 
 module _ (rows new : List TxRow) (es more : List EventPlace) (slots held : List (Option Held)) (key : KeyName) (slot r0 s0 : ℕ) (move : IsMove rows new es more slots held key slot r0 s0) where
-  -- The event of another place is the same.
-  same_event : (r : ℕ) → (r ≡ r0 → ⊥) → event_at held (place_of r more) ≡ event_at slots (place_of r es)
-  same_event r other = ap (event_at held) (move.ranks r other) ∙ kept (place_of r es) refl where
-    kept : (o : Option ℕ) → place_of r es ≡ o → event_at held o ≡ event_at slots o
-    kept None _ = refl
-    kept (Some s) is = ap Some (move.stays s (λ e. other (move.own r (is ∙ ap Some e))))
-
   -- The event of a number whose place is another is the same.
   same_number : (t seq : ℕ) → (seq < 2 ^ 31 → rank t seq ≡ r0 → ⊥) → event_at held (number_at t seq more) ≡ event_at slots (number_at t seq es)
   same_number t seq other = grind (arith, common_steps)

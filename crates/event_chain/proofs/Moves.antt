@@ -60,10 +60,6 @@ no_slot o a b x y = cc
 no_row : (o : Option TableRow) (a : TableRow) → o ≡ Some a → o ≡ None → ⊥
 no_row o a x y = cc
 
--- No number of a slot without places has one.
-bare_number : (es : List EventPlace) (t seq : ℕ) → IsBare es t → number_at t seq es ≡ None
-bare_number es t seq bare = grind (arith, common_steps)
-
 module _ (rows : List TxRow) (es : List EventPlace) (slots : List (Option Held)) (keyed : IsKeyed rows es slots) where
   -- The slot of a place holds only the event of its rank.
   pub own_rank : (r r0 s0 : ℕ) (st : Stored) → value_at slots s0 ≡ Some (r0, st) → place_of r es ≡ Some s0 → r ≡ r0

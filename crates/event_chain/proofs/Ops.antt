@@ -6,15 +6,6 @@ use Rattle.slot_arena.specs.Arena.{value_at, held_count}
 use Rattle.key_index.specs.Key.{rank}
 use Rattle.event_store.specs.Slots.{Held, Slots}
 
--- All that chains are made of.
-pub record Made : Type 0 where
-  pub table : Table
-  pub store : Slots
-  pub stored : Index
-  pub live : Index
-  pub carriers : Direction → Index
-  pub naming : Index
-
 -- An event counts as live for its transaction.
 pub live_mine : (key : KeyName) (s : Stored) → live_one key.tx (key, s) ≡ cond (not s.voided) 1 0
 live_mine key s = ap (λ b. cond {A = ℕ} (b && not s.voided) 1 0) ((bytes_eq-Decides key.tx key.tx).1 refl)

@@ -234,9 +234,6 @@ module _ (es : List EventPlace) (slots : List (Option Held)) (rising : entries.A
     abbrev behind : List EventPlace
     behind = places_behind at.rank es
 
-    abbrev home_of : ℕ
-    home_of = at.rank / 2 ^ 31
-
     rest_is : drop 1 (numbers_from es slots s) ≡ map number_in behind
     rest_is = ap (drop 1) at.numbers
 
