@@ -43,8 +43,7 @@ first_on t n (e ∷ es) h le = grind (arith, common_steps, not_less, denied, Dec
 
 -- The first place behind a rank, where it is of the rank's transaction.
 pub behind_seg : (t r n : ℕ) (es : List EventPlace) → AreRising es → t ≡ r / 2 ^ 31 → n ≡ r + 1 → at_home t (first_of (from n es)) ≡ slice_get (places_behind r es) 0
-behind_seg t r n es h home up =
-    first_on t n es h (omega (arith, home, up)) ∙ ap (λ xs. slice_get xs 0) (sym (seg_from t r n es up h)) ∙ ap (λ k. slice_get (filter (λ (e : EventPlace). nat_lt r e.0) (segment k es)) 0) home
+behind_seg t r n es h home up = grind (arith, common_steps, first_on, seg_from)
 
 -- Where the first place from a rank on has another rank, it is the first one behind the rank.
 pub from_past : (r n : ℕ) (es : List EventPlace) → n ≡ r + 1 → ((e : EventPlace) → first_of (from r es) ≡ Some e → e.0 ≡ r → ⊥) → from r es ≡ from n es

@@ -34,10 +34,7 @@ seal limits t s st l c n rows transactions slots readings room es le ce ne event
 
 -- No limit is reached.
 fits_all : (a b c : Bool) → cond a NoTransaction (cond b NoEvent (cond c NoReading Fits)) ≡ Fits → (a ≡ false) × ((b ≡ false) × (c ≡ false))
-fits_all true b c h = cc
-fits_all false true c h = cc
-fits_all false false true h = cc
-fits_all false false false h = (refl, (refl, refl))
+fits_all x0 b c h = grind (arith, common_steps)
 
 -- What is not at most another is more.
 more_than : (a b : ℕ) → nat_le a b ≡ false → b < a
@@ -54,8 +51,7 @@ sum_few f (e ∷ es) each = omega (arith, sum_by-cons f e es, each e, sum_few f 
 
 -- A test counts at most one.
 one_at_most : (b : Bool) → cond b 1 0 ≤ 1
-one_at_most true = omega arith
-one_at_most false = omega arith
+one_at_most x0 = grind (arith, common_steps)
 
 -- An entered transaction is named.
 pub entered_named : (rows mid : List TxRow) (tx : List ℕ) (row : TableRow) → IsEntered rows mid tx row → IsNamed rows mid tx row row
@@ -68,13 +64,11 @@ entered_named rows mid tx row entered = record {
 
 -- A found event is live or voided as it is marked.
 pub found_live : (o : Option Stored) → found_of o ≡ Some Live → (s : Stored) × ((o ≡ Some s) × (s.voided ≡ false))
-found_live None h = cc
-found_live (Some s) h = grind (arith, common_steps)
+found_live x0 h = grind (arith, common_steps, common_steps)
 
 -- The same of a voided one.
 pub found_voided : (o : Option Stored) → found_of o ≡ Some Voided → (s : Stored) × ((o ≡ Some s) × (s.voided ≡ true))
-found_voided None h = cc
-found_voided (Some s) h = grind (arith, common_steps)
+found_voided x0 h = grind (arith, common_steps, common_steps)
 
 module _ {limits : Bounds} {table : Table} {store : Slots} {stored live : Index} {carriers : Direction → Index} {naming : Index}
     (chains : IsChains limits table store stored live carriers naming) where
@@ -101,8 +95,7 @@ module _ {limits : Bounds} {table : Table} {store : Slots} {stored live : Index}
   pub get_place : (q : KeyName) → finite.get events q ≡ event_at store.slots (place_at table.rows stored.entries q)
   get_place q = get_look q ∙ placed (row_of q.tx table.rows) where
     placed : (o : Option TableRow) → look_in stored.entries store.slots q.seq o ≡ event_at store.slots (place_in stored.entries q.seq o)
-    placed None = refl
-    placed (Some row) = refl
+    placed x0 = grind (arith, common_steps)
 
   -- As many transactions as the table has rows.
   pub ids_count : length (transactions_of all) ≡ length table.rows
@@ -115,10 +108,7 @@ module _ {limits : Bounds} {table : Table} {store : Slots} {stored live : Index}
 
     -- There is room for a new transaction.
     pub enter_room : row_of tx table.rows ≡ None → length table.rows < table.capacity
-    enter_room absent =
-        let new : has_transaction tx all ≡ false = has_flat tx table.rows stored.entries store.slots chains.keyed.rising chains.keyed.filled ∙ ap is_some absent in
-        let more = more_than limits.transactions (length (transactions_of all)) (sym (ap (λ b. not b && nat_le limits.transactions (length (transactions_of all))) new) ∙ parts.0) in
-        omega (arith, more, ids_count, chains.counted.transactions_are)
+    enter_room absent = grind (arith, common_steps, has_flat, more_than, parts, ids_count)
 
     -- For an event.
     pub event_room : length stored.entries < limits.events
@@ -136,16 +126,11 @@ module _ {limits : Bounds} {table : Table} {store : Slots} {stored live : Index}
       no_event (place_of r0 stored.entries) (ap (λ r. event_at store.slots (place_of r stored.entries)) is
       ∙ sym (ap (λ b. event_at store.slots (cond b (place_of (rank row.slot key.seq) stored.entries) None)) ((Decides-ltb key.seq (2 ^ 31)).1 number)) ∙ sym before ∙ sym (get_look key) ∙ absent) where
         no_event : (o : Option ℕ) → event_at store.slots o ≡ None → o ≡ None
-        no_event None h = refl
-        no_event (Some s) h = cc
+        no_event x0 h = grind (arith, common_steps)
 
   -- The counts of a transaction that was entered are small.
   pub counts_few : (mid : List TxRow) (tx : List ℕ) (row : TableRow) → IsEntered table.rows mid tx row → (row.live ≤ length stored.entries) × (row.ends ≤ length stored.entries)
-  counts_few mid tx row entered =
-      let was = known_figures table.rows mid stored.entries store.slots tx row row (entered_named table.rows mid tx row entered) chains.figured in (
-        omega (arith, was.live, chains.counted.all_are, sum_few (live_one tx) all (λ e. one_at_most (bytes_eq tx e.0.tx && not e.1.voided))),
-        omega (arith, was.ends, chains.counted.all_are, sum_few (end_one tx) all (λ e. one_at_most (bytes_eq tx e.0.tx && not e.1.voided && is_end e.1.event.kind))),
-      )
+  counts_few mid tx row entered = grind (arith, common_steps, known_figures, entered_named, sum_few, one_at_most)
 
   -- There are no more places than events may be.
   pub places_few : length stored.entries ≤ limits.events
@@ -156,12 +141,7 @@ module _ {limits : Bounds} {table : Table} {store : Slots} {stored live : Index}
       → (not (is_some (row_of tx table.rows)) && nat_le limits.transactions (length table.rows)) ≡ a
       → nat_le limits.events (length stored.entries) ≡ b → nat_lt limits.readings (readings_stored all + n) ≡ c
       → room_of limits (finite.entries events) tx n ≡ cond a NoTransaction (cond b NoEvent (cond c NoReading Fits))
-  room_answer tx n a b c a_is b_is c_is =
-      ap (λ es. room_of limits es tx n) entries_all
-      ∙ (λ i. cond (not (has_flat tx table.rows stored.entries store.slots chains.keyed.rising chains.keyed.filled i) && nat_le limits.transactions (ids_count i))
-      NoTransaction
-      (cond (nat_le limits.events (chains.counted.all_are i)) NoEvent (cond (nat_lt limits.readings (readings_stored all + n)) NoReading Fits)))
-      ∙ (λ i. cond (a_is i) NoTransaction (cond (b_is i) NoEvent (cond (c_is i) NoReading Fits)))
+  room_answer tx n a b c a_is b_is c_is = grind (arith, common_steps, entries_all, has_flat, ids_count)
 
 -- No place, no slot.
 none_held : (n : ℕ) → held_count (replicate {A = Option Held} n None) ≡ 0

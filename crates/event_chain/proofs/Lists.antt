@@ -17,8 +17,7 @@ last_slot (p ∷ q ∷ ps) = last_slot (q ∷ ps) ∙ ap (option_map slot_in) (s
 
 -- The first of slots is one.
 first_is_slot : (l : Links) (ss : List ℕ) → AreSlots l ss → (x : ℕ) → head_or None ss ≡ Some x → IsSlot l x
-first_is_slot l [] h x is = cc
-first_is_slot l (s ∷ ss) h x is = let same : s ≡ x = cc in subst (IsSlot l) same h.0
+first_is_slot l x1 h x is = grind (arith, common_steps)
 
 -- So is the last.
 last_is_slot : (l : Links) (ss : List ℕ) → AreSlots l ss → (x : ℕ) → last_or None ss ≡ Some x → IsSlot l x
@@ -61,10 +60,7 @@ not_gone o s a b = cc
 
 -- Nor where one is taken out.
 pub own_out : (r0 : ℕ) (es : List EventPlace) → AreOwn es → AreOwn (out r0 es)
-own_out r0 es own q r s a b =
-    let still : (k : ℕ) → place_of k (out r0 es) ≡ Some s
-    → place_of k es ≡ Some s = λ k at. sym (out_other k r0 es (λ e. not_gone (place_of k (out r0 es)) s at (ap (λ x. place_of x (out r0 es)) e ∙ out_here r0 es))) ∙ at in
-    own q r s (still q a) (still r b)
+own_out r0 es own q r s a b = grind (arith, common_steps, out_other, not_gone, out_here)
 
 -- What is in front of a place put in, and what behind it.
 abbrev pub front_of : ℕ → List EventPlace → List ℕ

@@ -7,18 +7,15 @@ use Rattle.event_chain.{specs.Flat.{EventPlace, place_of}, specs.Edits.{put_if, 
 
 -- No entries have no places.
 marked_nil : (o : Option Mark) → marked_places o [] ≡ []
-marked_nil None = refl
-marked_nil (Some m) = refl
+marked_nil x0 = grind (arith, common_steps)
 
 -- The places of entries with one in front.
 marked_on : (o : Option Mark) (e : Entry ℕ) (es : List (Entry ℕ)) → marked_places o (e ∷ es) ≡ cond (passes o e.1.marks) (place_in e ∷ marked_places o es) (marked_places o es)
-marked_on None e es = refl
-marked_on (Some m) e es = grind (arith, common_steps)
+marked_on x0 e es = grind (arith, common_steps, common_steps)
 
 -- The places of two lists.
 marked_both : (o : Option Mark) (xs ys : List (Entry ℕ)) → marked_places o (xs ++ ys) ≡ marked_places o xs ++ marked_places o ys
-marked_both None xs ys = map-append place_in xs ys
-marked_both (Some m) xs ys = ap (map place_in) (filter-append (λ e. has_mark m e.1.marks) xs ys) ∙ map-append place_in (marked m xs) (marked m ys)
+marked_both x0 xs ys = grind (arith, common_steps, map-append, filter-append)
 
 -- Entries above a number have places above it.
 marked_above : (o : Option Mark) (n : ℕ) (es : List (Entry ℕ)) → AreAbove n es → AreAbove n (marked_places o es)
@@ -32,8 +29,7 @@ marked_rising o (e ∷ es) h = grind (arith, common_steps, marked_on, marked_abo
 
 -- None has the rank.
 slot_none : (r n : ℕ) (xs : List EventPlace) → AreAbove n xs → r ≤ n → filed_at r xs ≡ None
-slot_none r n [] h le = refl
-slot_none r n (x ∷ xs) h le = let up = h.0 in ap (λ b. cond b (Some x.1) None) (not_so _ (Decides-eqb x.0 r) (λ is. absurd (omega arith)))
+slot_none r n x2 h le = grind (arith, common_steps, not_so, Decides-eqb)
 
 -- Places cut at a rank: what is in front.
 pub marked_below : (o : Option Mark) (r : ℕ) (es : List (Entry ℕ)) → AreRising es → marked_places o (below r es) ≡ below r (marked_places o es)
@@ -79,8 +75,7 @@ marked_absent o r (e ∷ es) none = grind (arith, common_steps, marked_absent o 
 
 -- The slot under a rank.
 slot_filed : (r : ℕ) (l : List (Entry ℕ)) → filed_at r (map place_in l) ≡ option_map (λ (f : Filed ℕ). f.value) (filed_at r l)
-slot_filed r [] = refl
-slot_filed r (e ∷ l) = elim (e.0 == r) as (λ b. cond b (Some e.1.value) None ≡ option_map (λ (f : Filed ℕ). f.value) (cond b (Some e.1) None)) [ true ↦ refl | false ↦ refl ]
+slot_filed r x1 = grind (arith, common_steps)
 
 -- What is under a rank, by its place.
 filed_place : (r : ℕ) (es : List (Entry ℕ)) → AreRising es → option_map (λ (f : Filed ℕ). f.value) (filed_at r (from r es)) ≡ place_of r (marked_places None es)
@@ -90,22 +85,19 @@ filed_place r es h = sym (slot_filed r (from r es)) ∙ ap (filed_at r) (marked_
 pub filed_absent : (r : ℕ) (es : List (Entry ℕ)) → AreRising es → place_of r (marked_places None es) ≡ None → filed_at r (from r es) ≡ None
 filed_absent r es h none = no_filed (filed_at r (from r es)) (filed_place r es h ∙ none) where
   no_filed : (o : Option (Filed ℕ)) → option_map (λ (f : Filed ℕ). f.value) o ≡ None → o ≡ None
-  no_filed None is = refl
-  no_filed (Some f) is = cc
+  no_filed x0 is = grind (arith, common_steps)
 
 -- What is filed under a rank that has a place.
 pub filed_there : (r s : ℕ) (es : List (Entry ℕ)) → AreRising es → place_of r (marked_places None es) ≡ Some s → (f : Filed ℕ) × ((filed_at r (from r es) ≡ Some f) × (f.value ≡ s))
 filed_there r s es h at = a_filed (filed_at r (from r es)) (filed_place r es h ∙ at) where
   a_filed : (o : Option (Filed ℕ)) → option_map (λ (f : Filed ℕ). f.value) o ≡ Some s → (f : Filed ℕ) × ((o ≡ Some f) × (f.value ≡ s))
-  a_filed None is = cc
-  a_filed (Some f) is = (f, (refl, cc))
+  a_filed x0 is = grind (arith, common_steps)
 
 -- Something is filed under a rank that has a place.
 pub filed_some : (r : ℕ) (es : List (Entry ℕ)) → AreRising es → is_some (place_of r (marked_places None es)) ≡ true → (f : Filed ℕ) × (filed_at r (from r es) ≡ Some f)
 filed_some r es h some = a_filed (filed_at r (from r es)) (ap is_some (filed_place r es h) ∙ some) where
   a_filed : (o : Option (Filed ℕ)) → is_some (option_map (λ (f : Filed ℕ). f.value) o) ≡ true → (f : Filed ℕ) × (o ≡ Some f)
-  a_filed None is = cc
-  a_filed (Some f) is = (f, refl)
+  a_filed x0 is = grind (arith, common_steps)
 
 -- Places with that of an entry put in.
 pub marked_put : (o : Option Mark) (r : ℕ) (f : Filed ℕ) (es : List (Entry ℕ)) → AreRising es
@@ -175,9 +167,7 @@ module _ (o : Option Mark) (r : ℕ) (f : Filed ℕ) (es : List (Entry ℕ)) (h 
 
     -- Places among which it stays.
     pub marked_stays : passes o f.marks ≡ true → passes o marks ≡ true → marked_places o (below r es ++ mark_at marks 0 (from r es)) ≡ L
-    marked_stays was is = marked_set
-        ∙ ap (λ b. below r L ++ cond b ((r, f.value) ∷ marked_places o rest) (marked_places o rest)) (is ∙ sym was)
-        ∙ ap (λ l. below r L ++ l) (sym left_is) ∙ cut_whole r L
+    marked_stays was is = grind (arith, common_steps, marked_set, left_is, cut_whole)
 
     -- Places that it enters where it was none of them.
     pub marked_enter : place_of r L ≡ None → marked_places o (below r es ++ mark_at marks 0 (from r es)) ≡ put_if (passes o marks) r f.value L
@@ -186,10 +176,7 @@ module _ (o : Option Mark) (r : ℕ) (f : Filed ℕ) (es : List (Entry ℕ)) (h 
         marked_set ∙ ap (λ l. below r L ++ cond (passes o marks) ((r, f.value) ∷ l) l) (sym (behind absent))
         ∙ elim (passes o marks) as (λ b. below r L ++ cond b ((r, f.value) ∷ from r L) (from r L) ≡ put_if b r f.value L) [ true ↦ put_is r f.value L absent | false ↦ cut_whole r L ] where
           behind : filed_at r (from r L) ≡ None → from r L ≡ marked_places o rest
-          behind absent = elim (passes o f.marks) as (λ b. from r L ≡ cond b ((r, f.value) ∷ marked_places o rest) (marked_places o rest) → from r L ≡ marked_places o rest) [
-            | true ↦ λ e. let found : Some f.value ≡ None = sym (ap (λ b. cond b (Some f.value) None) ((Decides-eqb r r).1 refl)) ∙ sym (ap (filed_at r) e) ∙ absent in cc
-            | false ↦ λ e. e
-          ] left_is
+          behind absent = grind (arith, common_steps, Decides-eqb, left_is)
 
 -- The marks of a live event.
 abbrev pub live_marks : ByDirection Bool → Bool → Marks
@@ -240,10 +227,7 @@ module _ (old new : keyed.Index ℕ) (key : ℕ) (up : AreRising old.entries) (r
           naming = each Names;
         } where
           unmarked : (m : Mark) → has_mark m (record { live = false; imports = false; exports = false; names = false }) ≡ false
-          unmarked Live = refl
-          unmarked Imports = refl
-          unmarked Exports = refl
-          unmarked Names = refl
+          unmarked x0 = grind (arith, common_steps)
 
     pub lives_again : (carries : ByDirection Bool) (names_evse : Bool) → marks ≡ live_marks carries names_evse
         → IsNotLive key (placed old) → IsLiveMore key slot carries names_evse (placed old) (placed new)

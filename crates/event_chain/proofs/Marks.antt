@@ -1,5 +1,5 @@
 -- What a mark or a removal may rely on, and what a mark leaves.
-use Rattle.std.{proofs.Common.{◌≡◌, ℕ, zero, suc, ◌+◌, ◌<◌, ◌≤◌, ◌^◌, nat_lt, Bool, true, false, not, cond, ◌&&◌, List, [], ◌∷◌, Option, Some, None, is_some, length, set, refl, sym, ap, ◌∙◌, subst, arith, inl}, specs.FinMap.find}
+use Rattle.std.{proofs.lemmas.Grind.common_steps, proofs.Common.{◌≡◌, ℕ, zero, suc, ◌+◌, ◌<◌, ◌≤◌, ◌^◌, nat_lt, Bool, true, false, not, cond, ◌&&◌, List, [], ◌∷◌, Option, Some, None, is_some, length, set, refl, sym, ap, ◌∙◌, subst, arith, inl}, specs.FinMap.find}
 use Rattle.std.specs.FinMap as finite
 use Rattle.ledger_model.{specs.Deltas.first_reading, specs.Event.toward, specs.declared.reading.Direction.Direction, specs.Key.{KeyName, key_cmp}, specs.Limits.Bounds, specs.Content.{Entry, Stored}, specs.Step.{marked, marked_at}}
 use Rattle.slot_arena.specs.Arena.{value_at}
@@ -23,8 +23,7 @@ same_stored o a b x y = cc
 
 -- What is found has a place.
 some_place : (slots : List (Option Held)) (o : Option ℕ) (s : Stored) → event_at slots o ≡ Some s → is_some o ≡ true
-some_place slots None s h = cc
-some_place slots (Some n) s h = refl
+some_place slots x1 s h = grind (arith, common_steps)
 
 module _ {limits : Bounds} {table : Table} {store : Slots} {stored live : Index} {carriers : Direction → Index} {naming : Index}
     (chains : IsChains limits table store stored live carriers naming) (key : KeyName) where

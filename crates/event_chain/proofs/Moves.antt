@@ -19,8 +19,7 @@ pub put_other : (r r0 s0 : ℕ) (es : List EventPlace) → (r ≡ r0 → ⊥) �
 put_other r r0 s0 es other = put_found r r0 s0 es ∙ ap (λ b. cond b (Some s0) (place_of r es)) (not_so _ (rank_test r r0) other)
 
 turned : {A : Type 0} (b : Bool) (x y : A) → cond (not b) x y ≡ cond b y x
-turned true x y = refl
-turned false x y = refl
+turned x0 x y = grind (arith, common_steps)
 
 -- What is found under a rank after one was taken out.
 pub out_found : (r r0 : ℕ) (es : List EventPlace) → place_of r (out r0 es) ≡ cond (eq_by_cmp nat_cmp r r0) None (place_of r es)
@@ -88,10 +87,7 @@ module _ (rows : List TxRow) (es : List EventPlace) (slots : List (Option Held))
 
     -- What was found of the transaction is what its slot's numbers say.
     pub before_named : (seq : ℕ) → look_in es slots seq (row_of tx rows) ≡ event_at slots (number_at row.slot seq es)
-    before_named seq = elim named.known [
-      | inl was ↦ ap (look_in es slots seq) was
-      | inr fresh ↦ ap (look_in es slots seq) fresh.absent ∙ sym (ap (event_at slots) (no_number row.slot seq fresh.fresh))
-    ]
+    before_named seq = grind (arith, common_steps, no_number)
 
     -- So is what is found after.
     pub after_named : (more : List EventPlace) (held : List (Option Held)) (seq : ℕ) → look_in more held seq (row_of tx new) ≡ event_at held (number_at row.slot seq more)

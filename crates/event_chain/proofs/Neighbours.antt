@@ -17,15 +17,13 @@ module _ (d : Direction) where
 
   -- Readings with a first one are not none.
   some_there : (rs : List MeterReading) → is_some (first_reading rs) ≡ true → 0 < length rs
-  some_there [] is = cc
-  some_there (r ∷ rs) is = omega arith
+  some_there x0 is = grind (arith, common_steps)
 
   -- An event that carries has a reading.
   carries_some : (s : Stored) → is_carrier d s ≡ true → 0 < length (toward d s.event.readings)
   carries_some s is = some_there (toward d s.event.readings) (both (not s.voided) (is_some (first_reading (toward d s.event.readings))) is) where
     both : (a b : Bool) → (a && b) ≡ true → b ≡ true
-    both true b h = h
-    both false b h = cc
+    both x0 b h = grind (arith, common_steps)
 
   -- The events of all places have readings.
   all_carry : (slots : List (Option Held)) (ps : List EventPlace) → AllPlaces (λ p. (is_carrier d) (stored_at slots p.1) ≡ true) ps → AllPlaces (HasReading slots) ps
@@ -39,10 +37,7 @@ module _ (d : Direction) where
 
   -- The last reading is that of the rest, where it has one.
   last_rest : (x : MeterReading) (xs : List MeterReading) → 0 < length xs → last_reading (x ∷ xs) ≡ last_reading xs
-  last_rest x [] some = absurd (omega arith)
-  last_rest x (y ∷ ys) some =
-      let a : length (x ∷ y ∷ ys) - 1 ≡ suc (length ys) = omega arith in let b : length (y ∷ ys) - 1 ≡ length ys = omega arith in
-      ap (slice_get (x ∷ y ∷ ys)) a ∙ sym (ap (slice_get (y ∷ ys)) b)
+  last_rest x x1 some = grind (arith, common_steps)
 
   -- The last reading of two lists is that of the second, where it has one.
   last_back : (xs ys : List MeterReading) → 0 < length ys → last_reading (xs ++ ys) ≡ last_reading ys

@@ -1,5 +1,5 @@
 -- What a table keeps, under its edits.
-use Rattle.std.{proofs.Common.{◌≡◌, ℕ, ◌+◌, ◌<◌, ◌≤◌, true, false, cond, List, [], ◌∷◌, ◌++◌, Option, Some, None, is_some, length, refl, sym, ap, ◌∙◌, subst, arith, inl, inr, length-append, option_map}, specs.Ordering.eq_by_cmp}
+use Rattle.std.{proofs.lemmas.Grind.common_steps, proofs.Common.{◌≡◌, ℕ, ◌+◌, ◌<◌, ◌≤◌, true, false, cond, List, [], ◌∷◌, ◌++◌, Option, Some, None, is_some, length, refl, sym, ap, ◌∙◌, subst, arith, inl, inr, length-append, option_map}, specs.Ordering.eq_by_cmp}
 use Rattle.transaction_map.{proofs.Rising.same_id, proofs.Found.{put_cases, out_cases, rising_put, rising_out, length_put, length_out}}
 use Rattle.event_chain.{specs.declared.row.TableRow.TableRow, specs.Table.{Table, TxRow, AreSlotted, IsFresh, id_cmp, row_of, with_row, without_row}, specs.TableKept.{AreSpare, IsTable}}
 use Rattle.slot_arena.specs.Free.{IsApart}
@@ -150,8 +150,7 @@ open_spare capacity n ss new is lt above h = (
 
 -- The row whose slot is known.
 pub slot_there : (o : Option TableRow) (n : ℕ) → option_map (λ (r : TableRow). r.slot) o ≡ Some n → (row : TableRow) × ((o ≡ Some row) × (n ≡ row.slot))
-slot_there None n h = cc
-slot_there (Some row) n h = (row, (refl, cc))
+slot_there x0 n h = grind (arith, common_steps)
 
 -- Such rows rise, each with a slot of its own.
 pub slotted : (t : Table) (ss : List ℕ) → IsTable t.rows ss t.capacity → AreSlotted t

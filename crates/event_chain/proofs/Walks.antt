@@ -14,8 +14,7 @@ AllAbove n (m ∷ ms) = (n < m) × AllAbove n ms
 
 -- They rise with a smaller one in front.
 rising_more : (n : ℕ) (ns : List ℕ) → AllAbove n ns → AreRising ns → AreRising (n ∷ ns)
-rising_more n [] h rising = tt
-rising_more n (m ∷ ms) h rising = (h.0, rising)
+rising_more n x1 h rising = grind (arith, common_steps)
 
 -- Numbers of greater ranks of one transaction are greater.
 numbers_above : (t r : ℕ) (es : List EventPlace) → AreAbove r es → r / 2 ^ 31 ≡ t → AllAbove (r % 2 ^ 31) (map number_in (segment t es))
@@ -122,8 +121,7 @@ all_under slots (e ∷ es) h = ap (λ b. b && are_under slots es) h.0 ∙ all_un
 
 -- What is known if a test holds.
 told : (b : Bool) (ns : List ℕ) → 0 < length (cond b ns []) → (b ≡ true) × (0 < length ns)
-told true ns some = (refl, some)
-told false ns some = absurd (omega arith)
+told x0 ns some = grind (arith, common_steps)
 
 -- A slot holds one event.
 held_same : (o : Option Held) (a b : Held) → o ≡ Some a → o ≡ Some b → a ≡ b
@@ -273,5 +271,4 @@ start_none (p ∷ ps) none = cc
 
 -- Where it has one there are numbers.
 pub start_stands : (ps : List EventPlace) (e : EventPlace) → slice_get ps 0 ≡ Some e → 0 < length (map number_in ps)
-start_stands [] e none = cc
-start_stands (p ∷ ps) e some = omega arith
+start_stands x0 e none = grind (arith, common_steps)
