@@ -7,8 +7,8 @@ use Rattle.event_chain.{specs.declared.row.TableRow.TableRow, specs.Table.{TxRow
 module _ (rows : List TxRow) (es : List EventPlace) (slots : List (Option Held)) (figured : AreFigured rows (flat rows es slots)) (tx : List ℕ) where
   -- The live events are as many as the table counts.
   pub live_counted : (o : Option TableRow) → o ≡ row_of tx rows → (counts_under o).0 ≡ length (live_of tx (flat rows es slots))
-  live_counted x0 is = grind (arith, common_steps, none_flat, live_zero, live_length)
+  live_counted o is = grind (arith, common_steps, none_flat, live_zero, live_length)
 
   -- So are those that are Started or Ended.
   pub ends_counted : (o : Option TableRow) → o ≡ row_of tx rows → (counts_under o).1 ≡ count_by is_end (kinds_of tx (flat rows es slots))
-  ends_counted x0 is = grind (arith, common_steps, none_flat, end_zero, ends_length)
+  ends_counted o is = grind (arith, common_steps, none_flat, end_zero, ends_length)

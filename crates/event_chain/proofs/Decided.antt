@@ -5,7 +5,7 @@ use Rattle.event_chain.specs.Table.{id_cmp}
 
 -- A test by an order decides equality if its ties are equal.
 tied : {K : Type 0} (R : K → K → Ordering) (o : IsTotalOrder R) (same : IsAntisymmetric R) (x y : K) → Decides (eq_by_cmp R x y) (x ≡ y)
-tied x0 o same x y = grind (arith, common_steps)
+tied R o same x y = grind (arith, common_steps)
 
 -- The test of keys.
 pub key_test : (x y : KeyName) → Decides (eq_by_cmp key_cmp x y) (x ≡ y)
@@ -21,7 +21,7 @@ rank_test x y = tied nat_cmp nat_cmp_total nat_cmp-IsAntisymmetric x y
 
 -- A test of what does not hold is false.
 pub not_so : {P : Type 0} (b : Bool) → Decides b P → (P → ⊥) → b ≡ false
-not_so x0 d never = grind (arith, common_steps)
+not_so b d never = grind (arith, common_steps)
 
 -- What a false test denies.
 pub denied : {P : Type 0} (b : Bool) → Decides b P → b ≡ false → P → ⊥
@@ -29,4 +29,4 @@ denied b d e p = let f : false ≡ true = sym e ∙ d.1 p in cc
 
 -- Tests of what holds together are one.
 pub same_test : {P Q : Type 0} (a b : Bool) → Decides a P → Decides b Q → (P → Q) → (Q → P) → a ≡ b
-same_test x0 b da db pq qp = grind (arith, common_steps)
+same_test a b da db pq qp = grind (arith, common_steps)

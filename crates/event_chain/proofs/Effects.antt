@@ -6,7 +6,7 @@ use Rattle.event_store.specs.Slots.{Held}
 use Rattle.event_chain.{specs.Table.{TxRow, AreRising}, specs.Flat.{EventPlace, place_of, flat, event_at, look}, specs.Kept.AreRanks, proofs.Decided.{key_test, denied}, proofs.Flats.{find_flat, flat_rising, same_flat}, proofs.Looks.{IsMove, look_other, look_here}}
 
 turned : {A : Type 0} (b : Bool) (x y : A) → cond (not b) x y ≡ cond b y x
-turned x0 x y = grind (arith, common_steps)
+turned b x y = grind (arith, common_steps)
 
 -- What is found after an entry was taken out.
 pub find_without : (q key : KeyName) (es : List Entry) → find key_cmp q (entries_without key es) ≡ cond (eq_by_cmp key_cmp q key) None (find key_cmp q es)

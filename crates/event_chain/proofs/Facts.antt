@@ -34,7 +34,7 @@ seal limits t s st l c n rows transactions slots readings room es le ce ne event
 
 -- No limit is reached.
 fits_all : (a b c : Bool) → cond a NoTransaction (cond b NoEvent (cond c NoReading Fits)) ≡ Fits → (a ≡ false) × ((b ≡ false) × (c ≡ false))
-fits_all x0 b c h = grind (arith, common_steps)
+fits_all a b c h = grind (arith, common_steps)
 
 -- What is not at most another is more.
 more_than : (a b : ℕ) → nat_le a b ≡ false → b < a
@@ -51,7 +51,7 @@ sum_few f (e ∷ es) each = omega (arith, sum_by-cons f e es, each e, sum_few f 
 
 -- A test counts at most one.
 one_at_most : (b : Bool) → cond b 1 0 ≤ 1
-one_at_most x0 = grind (arith, common_steps)
+one_at_most b = grind (arith, common_steps)
 
 -- An entered transaction is named.
 pub entered_named : (rows mid : List TxRow) (tx : List ℕ) (row : TableRow) → IsEntered rows mid tx row → IsNamed rows mid tx row row
@@ -64,11 +64,11 @@ entered_named rows mid tx row entered = record {
 
 -- A found event is live or voided as it is marked.
 pub found_live : (o : Option Stored) → found_of o ≡ Some Live → (s : Stored) × ((o ≡ Some s) × (s.voided ≡ false))
-found_live x0 h = grind (arith, common_steps, common_steps)
+found_live o h = grind (arith, common_steps)
 
 -- The same of a voided one.
 pub found_voided : (o : Option Stored) → found_of o ≡ Some Voided → (s : Stored) × ((o ≡ Some s) × (s.voided ≡ true))
-found_voided x0 h = grind (arith, common_steps, common_steps)
+found_voided o h = grind (arith, common_steps)
 
 module _ {limits : Bounds} {table : Table} {store : Slots} {stored live : Index} {carriers : Direction → Index} {naming : Index}
     (chains : IsChains limits table store stored live carriers naming) where
@@ -93,9 +93,7 @@ module _ {limits : Bounds} {table : Table} {store : Slots} {stored live : Index}
 
   -- The event of a key is that of its place.
   pub get_place : (q : KeyName) → finite.get events q ≡ event_at store.slots (place_at table.rows stored.entries q)
-  get_place q = get_look q ∙ placed (row_of q.tx table.rows) where
-    placed : (o : Option TableRow) → look_in stored.entries store.slots q.seq o ≡ event_at store.slots (place_in stored.entries q.seq o)
-    placed x0 = grind (arith, common_steps)
+  get_place q = grind (arith, common_steps, get_look)
 
   -- As many transactions as the table has rows.
   pub ids_count : length (transactions_of all) ≡ length table.rows
@@ -126,7 +124,7 @@ module _ {limits : Bounds} {table : Table} {store : Slots} {stored live : Index}
       no_event (place_of r0 stored.entries) (ap (λ r. event_at store.slots (place_of r stored.entries)) is
       ∙ sym (ap (λ b. event_at store.slots (cond b (place_of (rank row.slot key.seq) stored.entries) None)) ((Decides-ltb key.seq (2 ^ 31)).1 number)) ∙ sym before ∙ sym (get_look key) ∙ absent) where
         no_event : (o : Option ℕ) → event_at store.slots o ≡ None → o ≡ None
-        no_event x0 h = grind (arith, common_steps)
+        no_event o h = grind (arith, common_steps)
 
   -- The counts of a transaction that was entered are small.
   pub counts_few : (mid : List TxRow) (tx : List ℕ) (row : TableRow) → IsEntered table.rows mid tx row → (row.live ≤ length stored.entries) × (row.ends ≤ length stored.entries)

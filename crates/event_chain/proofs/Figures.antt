@@ -58,7 +58,7 @@ one_row o a b x y = cc
 
 -- What counts nothing of a key counts nothing there.
 key_zero : (f : Entry → ℕ) (key : KeyName) (o : Option Stored) → ((s : Stored) → f (key, s) ≡ 0) → at_key f key o ≡ 0
-key_zero f key x2 zero_all = grind (arith, common_steps)
+key_zero f key o zero_all = grind (arith, common_steps)
 
 -- The counts after an event was put in or written.
 pub figured_put : (rows new : List TxRow) (es : List EventPlace) (slots : List (Option Held)) (key : KeyName) (v : Stored) (row after : TableRow)

@@ -5,11 +5,11 @@ use Rattle.slot_arena.specs.Free.{IsApart, AreApart}
 
 -- The first slot of two lists.
 pub head_append : (after : Option ℕ) (xs ys : List ℕ) → head_or after (xs ++ ys) ≡ head_or (head_or after ys) xs
-head_append after x1 ys = grind (arith, common_steps)
+head_append after xs ys = grind (arith, common_steps)
 
 -- The first slot of a list that has one, whatever comes after the list.
 pub head_some : (after : Option ℕ) (xs : List ℕ) (first : ℕ) → head_or None xs ≡ Some first → head_or after xs ≡ Some first
-head_some after x1 first e = grind (arith, common_steps)
+head_some after xs first e = grind (arith, common_steps)
 
 -- The last slot of a list that has one, whatever comes before the list.
 pub last_some : (before : Option ℕ) (xs : List ℕ) (last : ℕ) → last_or None xs ≡ Some last → last_or before xs ≡ Some last

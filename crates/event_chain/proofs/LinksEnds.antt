@@ -21,7 +21,7 @@ chain_next_beside p n to link before (s ∷ ss) after beside chain = let parts =
 pub chain_prev_first : (p n : List (Option ℕ)) (link before : Option ℕ) (ss : List ℕ) (after : Option ℕ) → AreApart ss
     → AreSlots (links p n) ss → IsChain (links p n) before ss after
     → IsChain (links (written p (head_or None ss) link) n) link ss after
-chain_prev_first p n link before x4 after apart slots chain = grind (arith, common_steps, written_same, chain_prev_beside)
+chain_prev_first p n link before ss after apart slots chain = grind (arith, common_steps, written_same, chain_prev_beside)
 
 -- The link of a chain's last slot is written: what comes after the chain is another.
 pub chain_next_last : (p n : List (Option ℕ)) (link before : Option ℕ) (ss : List ℕ) (after : Option ℕ) → AreApart ss

@@ -17,7 +17,7 @@ last_slot (p ∷ q ∷ ps) = last_slot (q ∷ ps) ∙ ap (option_map slot_in) (s
 
 -- The first of slots is one.
 first_is_slot : (l : Links) (ss : List ℕ) → AreSlots l ss → (x : ℕ) → head_or None ss ≡ Some x → IsSlot l x
-first_is_slot l x1 h x is = grind (arith, common_steps)
+first_is_slot l ss h x is = grind (arith, common_steps)
 
 -- So is the last.
 last_is_slot : (l : Links) (ss : List ℕ) → AreSlots l ss → (x : ℕ) → last_or None ss ≡ Some x → IsSlot l x

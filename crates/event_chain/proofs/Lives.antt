@@ -64,9 +64,7 @@ module _ (rows : List TxRow) (es : List EventPlace) (slots : List (Option Held))
     (row_is : row_of tx rows ≡ Some row) where
   -- The event of a number in the sub-index.
   sub_number : (seq : ℕ) → event_at slots (number_at row.slot seq sub) ≡ passing test (event_at slots (number_at row.slot seq es))
-  sub_number seq = grind (arith, common_steps) where
-    told : (o : Option ℕ) → event_at slots (chosen test slots o) ≡ passing test (event_at slots o)
-    told x0 = grind (arith, common_steps)
+  sub_number seq = grind (arith, common_steps)
 
   -- Those of the transaction that pass are those of its segment.
   pub segment_passing : passing_of test tx (flat rows es slots) ≡ map (entry_of tx slots) (segment row.slot sub)
@@ -91,7 +89,7 @@ module _ (rows : List TxRow) (es : List EventPlace) (slots : List (Option Held))
     (test : Stored → Bool) (tx : List ℕ) (absent : row_of tx rows ≡ None) where
   -- None of an absent transaction pass.
   pub none_passing : passing_of test tx (flat rows es slots) ≡ []
-  none_passing = grind (arith, common_steps, common_steps, same_flat, filter_rising, flat_rising, find_passing, find_flat, bytes_eq-Decides)
+  none_passing = grind (arith, common_steps, same_flat, filter_rising, flat_rising, find_passing, find_flat, bytes_eq-Decides)
 
 -- How many live events a transaction has.
 pub live_length : (tx : List ℕ) (es : List Entry) → length (live_of tx es) ≡ sum_by (live_one tx) es
@@ -150,7 +148,7 @@ all_sub : (es : List EventPlace) (slots : List (Option Held)) → AreRanks es �
 unfolding any
 all_sub es slots ranks = record { rising = ranks; each = λ r. told (place_of r es) } where
   told : (o : Option ℕ) → o ≡ chosen any slots o
-  told x0 = grind (arith, common_steps)
+  told o = grind (arith, common_steps)
 
 passing_any : (tx : List ℕ) (es : List Entry) → filter (λ e. bytes_eq tx e.0.tx) es ≡ passing_of any tx es
 unfolding any
@@ -225,7 +223,7 @@ evse_first (Some e) = unwrap_or e.1.event.evse 0
 named : (e : Entry) (mine voided : Bool) (evse : Option ℕ) → e.1.event.evse ≡ evse → (lives names : List Entry)
     → first_or_zero (filter_map (λ x. x.1.event.evse) lives) ≡ evse_first (slice_get names 0)
     → first_or_zero (filter_map (λ x. x.1.event.evse) (cond (mine && not voided) (e ∷ lives) lives)) ≡ evse_first (slice_get (cond (mine && (not voided && is_some evse)) (e ∷ names) names) 0)
-named e x1 voided evse is lives names rest = grind (arith, common_steps, common_steps)
+named e mine voided evse is lives names rest = grind (arith, common_steps)
 
 -- The first EVSE that is named is that of the first event that names one.
 evse_naming : (tx : List ℕ) (es : List Entry) → first_or_zero (filter_map (λ e. e.1.event.evse) (passing_of is_live tx es)) ≡ evse_first (slice_get (passing_of is_naming tx es) 0)
@@ -243,7 +241,7 @@ evse_number rows es names slots rising ranks sub tx =
       placed (p ∷ ps) = refl
 
       told : (o : Option TableRow) → row_of tx rows ≡ o → evse_first (slice_get (passing_of is_naming tx (flat rows es slots)) 0) ≡ evse_at slots (first_under names o)
-      told x0 is = grind (arith, common_steps, none_passing, segment_passing, placed)
+      told o is = grind (arith, common_steps, none_passing, segment_passing, placed)
 
 -- A rank below all is not found.
 pub below_none : (r : ℕ) (es : List EventPlace) → T (below_all nat_cmp r es) → place_of r es ≡ None
@@ -284,4 +282,4 @@ seg_bare t es None is some r s found home = bare es (sym is) found where
 
 -- What was chosen was that place.
 pub chosen_place : (test : Stored → Bool) (slots : List (Option Held)) (o : Option ℕ) (s : ℕ) → chosen test slots o ≡ Some s → o ≡ Some s
-chosen_place test slots x2 s h = grind (arith, common_steps)
+chosen_place test slots o s h = grind (arith, common_steps)

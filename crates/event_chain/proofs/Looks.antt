@@ -28,10 +28,7 @@ module _ (rows new : List TxRow) (es more : List EventPlace) (slots held : List 
 
   -- The event of another transaction is the same.
   same_there : (q : List ℕ) (seq : ℕ) → (q ≡ key.tx → ⊥) → look_in more held seq (row_of q new) ≡ look_in es slots seq (row_of q rows)
-  same_there q seq other = ap (look_in more held seq) (move.others q other) ∙ kept (row_of q rows) refl where
-    kept : (o : Option TableRow) → row_of q rows ≡ o → look_in more held seq o ≡ look_in es slots seq o
-    kept None _ = refl
-    kept (Some row) is = same_number row.slot seq (λ lt e. let r = move.rank_is in let n = move.number in other (move.apart q row is (omega arith)))
+  same_there q seq other = grind (arith, common_steps, same_number)
 
   -- The event of another key is the same.
   pub look_other : (q : KeyName) → (q ≡ key → ⊥) → look new more held q ≡ look rows es slots q

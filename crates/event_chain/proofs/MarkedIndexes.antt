@@ -7,15 +7,15 @@ use Rattle.event_chain.{specs.Flat.{EventPlace, place_of}, specs.Edits.{put_if, 
 
 -- No entries have no places.
 marked_nil : (o : Option Mark) → marked_places o [] ≡ []
-marked_nil x0 = grind (arith, common_steps)
+marked_nil o = grind (arith, common_steps)
 
 -- The places of entries with one in front.
 marked_on : (o : Option Mark) (e : Entry ℕ) (es : List (Entry ℕ)) → marked_places o (e ∷ es) ≡ cond (passes o e.1.marks) (place_in e ∷ marked_places o es) (marked_places o es)
-marked_on x0 e es = grind (arith, common_steps, common_steps)
+marked_on o e es = grind (arith, common_steps)
 
 -- The places of two lists.
 marked_both : (o : Option Mark) (xs ys : List (Entry ℕ)) → marked_places o (xs ++ ys) ≡ marked_places o xs ++ marked_places o ys
-marked_both x0 xs ys = grind (arith, common_steps, map-append, filter-append)
+marked_both o xs ys = grind (arith, common_steps, map-append, filter-append)
 
 -- Entries above a number have places above it.
 marked_above : (o : Option Mark) (n : ℕ) (es : List (Entry ℕ)) → AreAbove n es → AreAbove n (marked_places o es)
@@ -29,7 +29,7 @@ marked_rising o (e ∷ es) h = grind (arith, common_steps, marked_on, marked_abo
 
 -- None has the rank.
 slot_none : (r n : ℕ) (xs : List EventPlace) → AreAbove n xs → r ≤ n → filed_at r xs ≡ None
-slot_none r n x2 h le = grind (arith, common_steps, not_so, Decides-eqb)
+slot_none r n xs h le = grind (arith, common_steps, not_so, Decides-eqb)
 
 -- Places cut at a rank: what is in front.
 pub marked_below : (o : Option Mark) (r : ℕ) (es : List (Entry ℕ)) → AreRising es → marked_places o (below r es) ≡ below r (marked_places o es)
@@ -75,7 +75,7 @@ marked_absent o r (e ∷ es) none = grind (arith, common_steps, marked_absent o 
 
 -- The slot under a rank.
 slot_filed : (r : ℕ) (l : List (Entry ℕ)) → filed_at r (map place_in l) ≡ option_map (λ (f : Filed ℕ). f.value) (filed_at r l)
-slot_filed r x1 = grind (arith, common_steps)
+slot_filed r l = grind (arith, common_steps)
 
 -- What is under a rank, by its place.
 filed_place : (r : ℕ) (es : List (Entry ℕ)) → AreRising es → option_map (λ (f : Filed ℕ). f.value) (filed_at r (from r es)) ≡ place_of r (marked_places None es)
@@ -85,26 +85,25 @@ filed_place r es h = sym (slot_filed r (from r es)) ∙ ap (filed_at r) (marked_
 pub filed_absent : (r : ℕ) (es : List (Entry ℕ)) → AreRising es → place_of r (marked_places None es) ≡ None → filed_at r (from r es) ≡ None
 filed_absent r es h none = no_filed (filed_at r (from r es)) (filed_place r es h ∙ none) where
   no_filed : (o : Option (Filed ℕ)) → option_map (λ (f : Filed ℕ). f.value) o ≡ None → o ≡ None
-  no_filed x0 is = grind (arith, common_steps)
+  no_filed o is = grind (arith, common_steps)
 
 -- What is filed under a rank that has a place.
 pub filed_there : (r s : ℕ) (es : List (Entry ℕ)) → AreRising es → place_of r (marked_places None es) ≡ Some s → (f : Filed ℕ) × ((filed_at r (from r es) ≡ Some f) × (f.value ≡ s))
 filed_there r s es h at = a_filed (filed_at r (from r es)) (filed_place r es h ∙ at) where
   a_filed : (o : Option (Filed ℕ)) → option_map (λ (f : Filed ℕ). f.value) o ≡ Some s → (f : Filed ℕ) × ((o ≡ Some f) × (f.value ≡ s))
-  a_filed x0 is = grind (arith, common_steps)
+  a_filed o is = grind (arith, common_steps)
 
 -- Something is filed under a rank that has a place.
 pub filed_some : (r : ℕ) (es : List (Entry ℕ)) → AreRising es → is_some (place_of r (marked_places None es)) ≡ true → (f : Filed ℕ) × (filed_at r (from r es) ≡ Some f)
 filed_some r es h some = a_filed (filed_at r (from r es)) (ap is_some (filed_place r es h) ∙ some) where
   a_filed : (o : Option (Filed ℕ)) → is_some (option_map (λ (f : Filed ℕ). f.value) o) ≡ true → (f : Filed ℕ) × (o ≡ Some f)
-  a_filed x0 is = grind (arith, common_steps)
+  a_filed o is = grind (arith, common_steps)
 
 -- Places with that of an entry put in.
 pub marked_put : (o : Option Mark) (r : ℕ) (f : Filed ℕ) (es : List (Entry ℕ)) → AreRising es
     → place_of r (marked_places None es) ≡ None
     → marked_places o (below r es ++ (r, f) ∷ from r es) ≡ put_if (passes o f.marks) r f.value (marked_places o es)
-marked_put o r f es h none =
-    let absent : filed_at r (from r (marked_places o es)) ≡ None = found_at r (marked_places o es) (marked_rising o es h) ∙ marked_absent o r es none in grind (arith, common_steps, marked_both, marked_below, marked_on, marked_from, put_is, cut_whole)
+marked_put o r f es h none = grind (arith, common_steps, found_at, marked_rising, marked_absent, marked_both, marked_below, marked_on, marked_from, put_is, cut_whole)
 
 -- An entry that is found is the first of what is left.
 from_parts : (r : ℕ) (f : Filed ℕ) (l : List (Entry ℕ)) → filed_at r l ≡ Some f → (rest : List (Entry ℕ)) × (l ≡ (r, f) ∷ rest)
@@ -171,12 +170,7 @@ module _ (o : Option Mark) (r : ℕ) (f : Filed ℕ) (es : List (Entry ℕ)) (h 
 
     -- Places that it enters where it was none of them.
     pub marked_enter : place_of r L ≡ None → marked_places o (below r es ++ mark_at marks 0 (from r es)) ≡ put_if (passes o marks) r f.value L
-    marked_enter none =
-        let absent : filed_at r (from r L) ≡ None = found_at r L (marked_rising o es h) ∙ none in
-        marked_set ∙ ap (λ l. below r L ++ cond (passes o marks) ((r, f.value) ∷ l) l) (sym (behind absent))
-        ∙ elim (passes o marks) as (λ b. below r L ++ cond b ((r, f.value) ∷ from r L) (from r L) ≡ put_if b r f.value L) [ true ↦ put_is r f.value L absent | false ↦ cut_whole r L ] where
-          behind : filed_at r (from r L) ≡ None → from r L ≡ marked_places o rest
-          behind absent = grind (arith, common_steps, Decides-eqb, left_is)
+    marked_enter none = grind (arith, common_steps, found_at, marked_rising, marked_set, put_is, cut_whole, Decides-eqb, left_is)
 
 -- The marks of a live event.
 abbrev pub live_marks : ByDirection Bool → Bool → Marks
@@ -227,7 +221,7 @@ module _ (old new : keyed.Index ℕ) (key : ℕ) (up : AreRising old.entries) (r
           naming = each Names;
         } where
           unmarked : (m : Mark) → has_mark m (record { live = false; imports = false; exports = false; names = false }) ≡ false
-          unmarked x0 = grind (arith, common_steps)
+          unmarked m = grind (arith, common_steps)
 
     pub lives_again : (carries : ByDirection Bool) (names_evse : Bool) → marks ≡ live_marks carries names_evse
         → IsNotLive key (placed old) → IsLiveMore key slot carries names_evse (placed old) (placed new)

@@ -23,7 +23,7 @@ same_stored o a b x y = cc
 
 -- What is found has a place.
 some_place : (slots : List (Option Held)) (o : Option ℕ) (s : Stored) → event_at slots o ≡ Some s → is_some o ≡ true
-some_place slots x1 s h = grind (arith, common_steps)
+some_place slots o s h = grind (arith, common_steps)
 
 module _ {limits : Bounds} {table : Table} {store : Slots} {stored live : Index} {carriers : Direction → Index} {naming : Index}
     (chains : IsChains limits table store stored live carriers naming) (key : KeyName) where

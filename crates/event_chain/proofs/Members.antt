@@ -33,7 +33,7 @@ all_left P f (p ∷ ps) h = elim (f p) as (λ b. AllPlaces P (cond b (p ∷ filt
 
 -- What was chosen passes the test.
 pub chosen_test : (test : Stored → Bool) (slots : List (Option Held)) (o : Option ℕ) (s : ℕ) → chosen test slots o ≡ Some s → test (stored_at slots s) ≡ true
-chosen_test test slots x2 s h = grind (arith, common_steps, common_steps)
+chosen_test test slots o s h = grind (arith, common_steps)
 
 -- The event of each place passes the index's test.
 pub all_chosen : (test : Stored → Bool) (es sub : List EventPlace) (slots : List (Option Held)) → IsSub test es slots sub → AllPlaces (λ p. test (stored_at slots p.1) ≡ true) sub

@@ -19,7 +19,7 @@ pub put_other : (r r0 s0 : ℕ) (es : List EventPlace) → (r ≡ r0 → ⊥) �
 put_other r r0 s0 es other = put_found r r0 s0 es ∙ ap (λ b. cond b (Some s0) (place_of r es)) (not_so _ (rank_test r r0) other)
 
 turned : {A : Type 0} (b : Bool) (x y : A) → cond (not b) x y ≡ cond b y x
-turned x0 x y = grind (arith, common_steps)
+turned b x y = grind (arith, common_steps)
 
 -- What is found under a rank after one was taken out.
 pub out_found : (r r0 : ℕ) (es : List EventPlace) → place_of r (out r0 es) ≡ cond (eq_by_cmp nat_cmp r r0) None (place_of r es)

@@ -3,7 +3,7 @@ use Rattle.std.{proofs.lemmas.Grind.common_steps, proofs.Common.{arith, ◌≡�
 use Rattle.event_chain.{specs.declared.row.TableRow.TableRow, specs.Table.{TxRow, id_cmp, row_of, with_row, without_row}, specs.Flat.EventPlace, specs.Kept.{IsBare, IsNamed, IsEntered, IsLeft}, proofs.Decided.{id_test, not_so}}
 
 turned : {A : Type 0} (b : Bool) (x y : A) → cond (not b) x y ≡ cond b y x
-turned x0 x y = grind (arith, common_steps)
+turned b x y = grind (arith, common_steps)
 
 -- The row of the transaction that was put in.
 pub row_here : (tx : List ℕ) (r : TableRow) (rows : List TxRow) → row_of tx (with_row tx r rows) ≡ Some r

@@ -17,13 +17,11 @@ module _ (d : Direction) where
 
   -- Readings with a first one are not none.
   some_there : (rs : List MeterReading) → is_some (first_reading rs) ≡ true → 0 < length rs
-  some_there x0 is = grind (arith, common_steps)
+  some_there rs is = grind (arith, common_steps)
 
   -- An event that carries has a reading.
   carries_some : (s : Stored) → is_carrier d s ≡ true → 0 < length (toward d s.event.readings)
-  carries_some s is = some_there (toward d s.event.readings) (both (not s.voided) (is_some (first_reading (toward d s.event.readings))) is) where
-    both : (a b : Bool) → (a && b) ≡ true → b ≡ true
-    both x0 b h = grind (arith, common_steps)
+  carries_some s is = grind (arith, common_steps, some_there)
 
   -- The events of all places have readings.
   all_carry : (slots : List (Option Held)) (ps : List EventPlace) → AllPlaces (λ p. (is_carrier d) (stored_at slots p.1) ≡ true) ps → AllPlaces (HasReading slots) ps
@@ -37,7 +35,7 @@ module _ (d : Direction) where
 
   -- The last reading is that of the rest, where it has one.
   last_rest : (x : MeterReading) (xs : List MeterReading) → 0 < length xs → last_reading (x ∷ xs) ≡ last_reading xs
-  last_rest x x1 some = grind (arith, common_steps)
+  last_rest x xs some = grind (arith, common_steps)
 
   -- The last reading of two lists is that of the second, where it has one.
   last_back : (xs ys : List MeterReading) → 0 < length ys → last_reading (xs ++ ys) ≡ last_reading ys

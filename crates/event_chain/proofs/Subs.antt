@@ -21,7 +21,7 @@ sub_move test es more sub after slots held r0 s0 was moved same own stays ranks 
   ];
 } where
   still : (r : ℕ) → (r ≡ r0 → ⊥) → (o : Option ℕ) → place_of r es ≡ o → chosen test slots o ≡ chosen test held o
-  still r other x2 is = grind (arith, common_steps)
+  still r other o is = grind (arith, common_steps)
 
 -- Ranks rise where one was put in.
 pub put_if_ranks : (b : Bool) (r0 s0 : ℕ) (es : List EventPlace) → AreRanks es → AreRanks (put_if b r0 s0 es)
@@ -35,12 +35,12 @@ out_if_ranks false r0 es h = h
 
 -- Others stay where one was put in.
 pub put_if_others : (b : Bool) (r0 s0 : ℕ) (es : List EventPlace) → OthersSame r0 es (put_if b r0 s0 es)
-put_if_others x0 r0 s0 es r other = grind (arith, common_steps, put_other)
+put_if_others b r0 s0 es r other = grind (arith, common_steps, put_other)
 
 -- Others stay where one was taken out.
 pub out_if_others : (b : Bool) (r0 : ℕ) (es : List EventPlace) → OthersSame r0 es (out_if b r0 es)
-out_if_others x0 r0 es r other = grind (arith, common_steps, out_other)
+out_if_others b r0 es r other = grind (arith, common_steps, out_other)
 
 -- What was put in is found.
 pub put_if_here : (b : Bool) (r0 s0 : ℕ) (es : List EventPlace) → place_of r0 es ≡ None → place_of r0 (put_if b r0 s0 es) ≡ cond b (Some s0) None
-put_if_here x0 r0 s0 es none = grind (arith, common_steps, put_here)
+put_if_here b r0 s0 es none = grind (arith, common_steps, put_here)

@@ -150,7 +150,7 @@ open_spare capacity n ss new is lt above h = (
 
 -- The row whose slot is known.
 pub slot_there : (o : Option TableRow) (n : ℕ) → option_map (λ (r : TableRow). r.slot) o ≡ Some n → (row : TableRow) × ((o ≡ Some row) × (n ≡ row.slot))
-slot_there x0 n h = grind (arith, common_steps)
+slot_there o n h = grind (arith, common_steps)
 
 -- Such rows rise, each with a slot of its own.
 pub slotted : (t : Table) (ss : List ℕ) → IsTable t.rows ss t.capacity → AreSlotted t

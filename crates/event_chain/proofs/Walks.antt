@@ -14,7 +14,7 @@ AllAbove n (m ∷ ms) = (n < m) × AllAbove n ms
 
 -- They rise with a smaller one in front.
 rising_more : (n : ℕ) (ns : List ℕ) → AllAbove n ns → AreRising ns → AreRising (n ∷ ns)
-rising_more n x1 h rising = grind (arith, common_steps)
+rising_more n ns h rising = grind (arith, common_steps)
 
 -- Numbers of greater ranks of one transaction are greater.
 numbers_above : (t r : ℕ) (es : List EventPlace) → AreAbove r es → r / 2 ^ 31 ≡ t → AllAbove (r % 2 ^ 31) (map number_in (segment t es))
@@ -121,7 +121,7 @@ all_under slots (e ∷ es) h = ap (λ b. b && are_under slots es) h.0 ∙ all_un
 
 -- What is known if a test holds.
 told : (b : Bool) (ns : List ℕ) → 0 < length (cond b ns []) → (b ≡ true) × (0 < length ns)
-told x0 ns some = grind (arith, common_steps)
+told b ns some = grind (arith, common_steps)
 
 -- A slot holds one event.
 held_same : (o : Option Held) (a b : Held) → o ≡ Some a → o ≡ Some b → a ≡ b
@@ -224,9 +224,7 @@ module _ (es : List EventPlace) (slots : List (Option Held)) (rising : entries.A
 
   -- A walk starts at the first place of its transaction.
   pub start_some : (t : ℕ) (e : EventPlace) → are_under slots es ≡ true → slice_get (segment t es) 0 ≡ Some e → numbers_from es slots e.1 ≡ map number_in (segment t es)
-  start_some t e all first_is =
-      let split = first_of_some (segment t es) e first_is in let next = first_next es rising t e split.0 split.1 in
-      from_first e split.0 all next.found next.rest ∙ ap (map number_in) (sym split.1)
+  start_some t e all first_is = grind (arith, common_steps, first_of_some, first_next, from_first)
 
   module _ (s : ℕ) (at : IsAt s) where
     abbrev behind : List EventPlace
@@ -237,8 +235,7 @@ module _ (es : List EventPlace) (slots : List (Option Held)) (rising : entries.A
 
     -- The number of the slot's event is the first.
     pub number_read : (h : Held) → value_at slots s ≡ Some h → h.0 % 2 ^ 31 ≡ slice_index (numbers_from es slots s) 0
-    number_read h here = let same : (at.rank, at.stored)
-        ≡ h = held_same (value_at slots s) (at.rank, at.stored) h at.held_is here in ap (λ (x : Held). x.0 % 2 ^ 31) (sym same) ∙ sym (ap (λ ns. slice_index ns 0) at.numbers)
+    number_read h here = grind (arith, common_steps, held_same)
 
     next_from : (e : EventPlace) (ps : List EventPlace) → behind ≡ e ∷ ps → numbers_from es slots e.1 ≡ map number_in behind
     next_from e ps is = let next = behind_next es rising at.rank e ps is in from_first e ps at.all next.found next.rest ∙ ap (map number_in) (sym is)
@@ -252,10 +249,7 @@ module _ (es : List EventPlace) (slots : List (Option Held)) (rising : entries.A
 
     -- There are numbers from it on.
     pub next_stands : (k : ℕ) → Some k ≡ option_map slot_in (slice_get behind 0) → 0 < length (numbers_from es slots k)
-    next_stands k is = step behind refl is where
-      step : (xs : List EventPlace) → behind ≡ xs → Some k ≡ option_map slot_in (slice_get xs 0) → 0 < length (numbers_from es slots k)
-      step [] _ none = cc
-      step (e ∷ ps) xs_is some = let all = ap length (next_some k is ∙ rest_is ∙ ap (map number_in) xs_is) in omega (arith, all)
+    next_stands k is = grind (arith, common_steps, next_some, rest_is)
 
     -- Where there is none behind, the walk is over.
     pub next_none : None ≡ option_map slot_in (slice_get behind 0) → [] ≡ drop 1 (numbers_from es slots s)
@@ -271,4 +265,4 @@ start_none (p ∷ ps) none = cc
 
 -- Where it has one there are numbers.
 pub start_stands : (ps : List EventPlace) (e : EventPlace) → slice_get ps 0 ≡ Some e → 0 < length (map number_in ps)
-start_stands x0 e none = grind (arith, common_steps)
+start_stands ps e none = grind (arith, common_steps)
