@@ -1,4 +1,4 @@
-use Rattle.std.proofs.Common.{ℕ, ◌≡◌, Some, refl, ap, ◌∙◌}
+use Rattle.std.{proofs.lemmas.Grind.common_steps, proofs.Common.{rules, arith, ℕ, ◌≡◌, Some, refl, ap, ◌∙◌}}
 use Rattle.key_index.specs.Index as keyed
 use Rattle.key_index.specs.declared.filed.Mark.{Mark}
 use Rattle.ledger_model.{specs.declared.reading.Direction.Direction, specs.declared.reading.Direction.TheVariants.{Import, Export}}
@@ -11,6 +11,4 @@ marked_toward i Import = refl
 marked_toward i Export = refl
 
 pub returns : goal.returns
-returns c =
-    c.over.ensures ∙ ap (λ (m : Mark). marked_index (Some m) c.self.inside.index) c.mark_of.ensures ∙ marked_toward c.self.inside.index c.args.direction
-    ∙ ap (λ (x : Placed). carriers_of x c.args.direction) c.self.view_is
+returns c = grind (arith, common_steps, marked_toward)
