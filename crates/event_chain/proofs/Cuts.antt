@@ -6,26 +6,22 @@ use Rattle.event_chain.{specs.Flat.{EventPlace, segment}, specs.Edits.{at_home, 
 -- Of greater ranks none is in front.
 none_under : (t r n : ℕ) (es : List EventPlace) → AreAbove n es → r ≤ n → filter (λ e. nat_lt e.0 r) (segment t es) ≡ []
 none_under t r n [] h le = refl
-none_under t r n (e ∷ es) h le =
-    let up = h.0 in let rest = none_under t r n es h.1 le in grind (arith, common_steps)
+none_under t r n (e ∷ es) h le = grind (arith, common_steps, none_under t r n es h.1 le)
 
 -- All greater ranks are behind.
 all_over : (t r n : ℕ) (es : List EventPlace) → AreAbove n es → r ≤ n → filter (λ e. nat_lt r e.0) (segment t es) ≡ segment t es
 all_over t r n [] h le = refl
-all_over t r n (e ∷ es) h le =
-    let up = h.0 in let rest = all_over t r n es h.1 le in grind (arith, common_steps)
+all_over t r n (e ∷ es) h le = grind (arith, common_steps, all_over t r n es h.1 le)
 
 -- Those of a transaction in front of a rank.
 pub seg_below : (t r : ℕ) (es : List EventPlace) → AreRising es → filter (λ e. nat_lt e.0 r) (segment t es) ≡ segment t (below r es)
 seg_below t r [] h = refl
-seg_below t r (e ∷ es) h =
-    let rest = seg_below t r es h.1 in let kept = filter (λ (x : EventPlace). nat_lt x.0 r) (segment t es) in grind (arith, common_steps, none_under, not_less)
+seg_below t r (e ∷ es) h = grind (arith, common_steps, none_under, not_less, seg_below t r es h.1)
 
 -- Those behind it.
 pub seg_from : (t r n : ℕ) (es : List EventPlace) → n ≡ r + 1 → AreRising es → filter (λ e. nat_lt r e.0) (segment t es) ≡ segment t (from n es)
 seg_from t r n [] up h = refl
-seg_from t r n (e ∷ es) up h =
-    let rest = seg_from t r n es up h.1 in let kept = filter (λ (x : EventPlace). nat_lt r x.0) (segment t es) in grind (arith, common_steps, Decides-ltb, not_so, not_less, all_over)
+seg_from t r n (e ∷ es) up h = grind (arith, common_steps, Decides-ltb, not_so, not_less, all_over, seg_from t r n es up h.1)
 
 -- Ranks under a number are under a greater one.
 under_more : (m n : ℕ) (es : List EventPlace) → m ≤ n → AreBelow m es → AreBelow n es
@@ -59,8 +55,7 @@ from_past r n (e ∷ es) up apart =
 -- None of a transaction is behind its last rank.
 none_over : (t r : ℕ) (es : List EventPlace) → r + 1 ≡ rank (t + 1) 0 → filter (λ e. nat_lt r e.0) (segment t es) ≡ []
 none_over t r [] is = refl
-none_over t r (e ∷ es) is =
-    let rest = none_over t r es is in let kept = filter (λ (x : EventPlace). nat_lt r x.0) (segment t es) in grind (arith, common_steps)
+none_over t r (e ∷ es) is = grind (arith, common_steps, none_over t r es is)
 
 -- No place is behind the greatest number.
 pub behind_last : (t number r : ℕ) (es : List EventPlace) → t ≡ r / 2 ^ 31 → number ≡ r % 2 ^ 31 → number ≡ 2147483647 → slice_get (places_behind r es) 0 ≡ None
@@ -71,8 +66,7 @@ pub map_cut : {X : Type 0} (h : EventPlace → X) (f : X → Bool) (g : ℕ → 
     → ((e : EventPlace) → e.0 / 2 ^ 31 ≡ t → f (h e) ≡ g e.0)
     → filter f (map h (segment t es)) ≡ map h (filter (λ e. g e.0) (segment t es))
 map_cut h f g t [] same = refl
-map_cut {X = X} h f g t (e ∷ es) same =
-    let rest = map_cut h f g t es same in let left = filter f (map h (segment t es)) in grind (arith, common_steps)
+map_cut {X = X} h f g t (e ∷ es) same = grind (arith, common_steps, map_cut h f g t es same)
 
 -- A smaller number is that of a smaller rank.
 pub less_rank : (t seq r : ℕ) → r / 2 ^ 31 ≡ t → nat_lt (r % 2 ^ 31) seq ≡ nat_lt r (rank t seq)

@@ -56,8 +56,7 @@ find_passing test tx q (e ∷ es) h =
 -- Tests of two filters.
 pub live_of_is : (tx : List ℕ) (es : List Entry) → live_of tx es ≡ passing_of is_live tx es
 live_of_is tx [] = refl
-live_of_is tx (e ∷ es) =
-    let rest = live_of_is tx es in grind (arith, common_steps)
+live_of_is tx (e ∷ es) = grind (arith, common_steps, live_of_is tx es)
 
 module _ (rows : List TxRow) (es : List EventPlace) (slots : List (Option Held)) (rising : AreRising rows) (ranks : AreRanks es)
     (test : Stored → Bool) (sub : List EventPlace) (is_sub : IsSub test es slots sub) (tx : List ℕ) (row : TableRow)
@@ -96,14 +95,14 @@ pub live_length : (tx : List ℕ) (es : List Entry) → length (live_of tx es) �
 live_length tx es = ap length (live_of_is tx es) ∙ counted es where
   counted : (xs : List Entry) → length (passing_of is_live tx xs) ≡ sum_by (live_one tx) xs
   counted [] = refl
-  counted (e ∷ xs) = let rest = counted xs in grind (arith, common_steps)
+  counted (e ∷ xs) = grind (arith, common_steps, counted xs)
 
 -- How many of them are Started or Ended.
 pub ends_length : (tx : List ℕ) (es : List Entry) → count_by is_end (kinds_of tx es) ≡ sum_by (end_one tx) es
 ends_length tx es = ap (λ (xs : List Entry). count_by is_end (map (λ e. e.1.event.kind) xs)) (live_of_is tx es) ∙ counted es where
   counted : (xs : List Entry) → count_by is_end (map (λ (e : Entry). e.1.event.kind) (passing_of is_live tx xs)) ≡ sum_by (end_one tx) xs
   counted [] = refl
-  counted (e ∷ xs) = let rest = counted xs in grind (arith, common_steps)
+  counted (e ∷ xs) = grind (arith, common_steps, counted xs)
 
 -- The first of what a list is turned into.
 pub first_map : {X Y : Type 0} (f : X → Y) (xs : List X) → slice_get (map f xs) 0 ≡ option_map f (slice_get xs 0)

@@ -34,8 +34,7 @@ slot_none r n xs h le = grind (arith, common_steps, not_so, Decides-eqb)
 -- Places cut at a rank: what is in front.
 pub marked_below : (o : Option Mark) (r : ℕ) (es : List (Entry ℕ)) → AreRising es → marked_places o (below r es) ≡ below r (marked_places o es)
 marked_below o r [] h = marked_nil o ∙ sym (ap (below r) (marked_nil o))
-marked_below o r (e ∷ es) h =
-    let P = place_in e in let L = marked_places o es in let rest = marked_below o r es h.1 in grind (arith, common_steps, marked_on, marked_nil, cut_none, marked_above, not_less)
+marked_below o r (e ∷ es) h = grind (arith, common_steps, marked_on, marked_nil, cut_none, marked_above, not_less, marked_below o r es h.1)
 
 -- And what is left.
 pub marked_from : (o : Option Mark) (r : ℕ) (es : List (Entry ℕ)) → AreRising es → marked_places o (from r es) ≡ from r (marked_places o es)

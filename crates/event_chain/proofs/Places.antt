@@ -98,8 +98,7 @@ first_seg t (e ∷ es) h = grind (arith, common_steps, Decides-ltb, not_so, Deci
 pub last_under_seg : (t : ℕ) (es : List EventPlace) → AreRising es → AreBelow (rank (t + 1) 0) es → at_home t (last_of es) ≡ last_of (segment t es)
 last_under_seg t [] h u = refl
 last_under_seg t (e ∷ []) h u = elim (e.0 / 2 ^ 31 == t) as (λ b. cond b (Some e) None ≡ last_of (cond b (e ∷ []) [])) [ true ↦ refl | false ↦ refl ]
-last_under_seg t (e ∷ f ∷ es) h u =
-    let rest = last_under_seg t (f ∷ es) h.1 u.1 in grind (arith, common_steps, last_cons, Decides-eqb)
+last_under_seg t (e ∷ f ∷ es) h u = grind (arith, common_steps, last_cons, Decides-eqb, last_under_seg t (f ∷ es) h.1 u.1)
 
 -- What is below a rank is under it.
 pub below_under : (n : ℕ) (es : List EventPlace) → AreBelow n (below n es)

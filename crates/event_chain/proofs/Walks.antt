@@ -19,14 +19,12 @@ rising_more n ns h rising = grind (arith, common_steps)
 -- Numbers of greater ranks of one transaction are greater.
 numbers_above : (t r : ℕ) (es : List EventPlace) → AreAbove r es → r / 2 ^ 31 ≡ t → AllAbove (r % 2 ^ 31) (map number_in (segment t es))
 numbers_above t r [] h home = tt
-numbers_above t r (e ∷ es) h home =
-    let up = h.0 in let rest = numbers_above t r es h.1 home in grind (arith, common_steps)
+numbers_above t r (e ∷ es) h home = grind (arith, common_steps, numbers_above t r es h.1 home)
 
 -- The numbers of a transaction rise.
 pub numbers_rising : (t : ℕ) (es : List EventPlace) → entries.AreRising es → AreRising (map number_in (segment t es))
 numbers_rising t [] h = tt
-numbers_rising t (e ∷ es) h =
-    let rest = numbers_rising t es h.1 in grind (arith, common_steps, rising_more, numbers_above, Decides-eqb)
+numbers_rising t (e ∷ es) h = grind (arith, common_steps, rising_more, numbers_above, Decides-eqb, numbers_rising t es h.1)
 
 -- What is left of greater ranks is greater.
 left_above : (n : ℕ) (f : EventPlace → Bool) (es : List EventPlace) → AreAbove n es → AreAbove n (filter f es)
@@ -50,8 +48,7 @@ behind_first e es h = grind (arith, common_steps, not_so, Decides-ltb, above_all
 -- Those greater than a greater rank are among the greater.
 greater_twice : (n m : ℕ) (es : List EventPlace) → n < m → filter (λ e. nat_lt m e.0) (filter (λ e. nat_lt n e.0) es) ≡ filter (λ e. nat_lt m e.0) es
 greater_twice n m [] lt = refl
-greater_twice n m (e ∷ es) lt =
-    let rest = greater_twice n m es lt in let more = filter (λ (x : EventPlace). nat_lt m x.0) es in grind (arith, common_steps)
+greater_twice n m (e ∷ es) lt = grind (arith, common_steps, greater_twice n m es lt)
 
 -- What holds of all holds of those in front of a rank.
 all_below : (P : EventPlace → Type 0) (n : ℕ) (es : List EventPlace) → AllPlaces P es → AllPlaces P (below n es)

@@ -4,5 +4,4 @@ use Rattle.event_chain.{specs.Edits.at_home, proofs.Cuts.{behind_seg, from_past}
 use Rattle.event_chain.proofs.look_ups.behind_found.Goals as goal
 
 pub returns : goal.returns
-returns c =
-    let r = c.args.key in let es = c.args.index.now.entries in let t = c.transaction.result in grind (arith, common_steps, from_past, behind_seg)
+returns c = grind (arith, common_steps, from_past, behind_seg)

@@ -4,8 +4,7 @@ use Rattle.key_index.specs.Entries.{AreRising}
 use Rattle.event_chain.proofs.look_ups.has_place.Goals as goal
 
 pub returns-clause-some : goal.returns-clause-some
-returns-clause-some c has =
-    let es = c.stored-stored.result.entries in grind (arith, common_steps, seg_some, ranks_of)
+returns-clause-some c has = grind (arith, common_steps, seg_some, ranks_of)
 
 pub returns-clause-bare : goal.returns-clause-bare
 returns-clause-bare c has =

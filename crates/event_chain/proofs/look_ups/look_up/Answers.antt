@@ -4,6 +4,4 @@ use Rattle.event_chain.{specs.Table.row_of, specs.Flat.place_of, proofs.Places.p
 use Rattle.event_chain.proofs.look_ups.look_up.Goals as goal
 
 pub returns-in-Some : goal.returns-in-Some
-returns-in-Some c =
-    let es = c.args.places.now.stored.entries in let rows = c.args.table.now.rows in let row = c.in-Some.row in let key = c.args.key.now in
-    let lt : key.seq < 2 ^ 31 = omega (arith, c.seq.ensures.value, c.seq.ensures.range) in grind (arith, common_steps, place_at_row)
+returns-in-Some c = grind (arith, common_steps, place_at_row)

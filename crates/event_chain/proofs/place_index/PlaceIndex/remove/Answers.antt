@@ -19,9 +19,7 @@ invariant_of-self c =
     }
 
 pub returns-clause-stored : goal.returns-clause-stored
-returns-clause-stored c =
-    let m = c.self.inside in let key = c.args.key in let up = c.self.invariant.rising in
-    let filed = filed_some key m.index.entries up (ap (λ (x : Placed). is_some (place_of key x.stored.entries)) c.self.view_is ∙ c.requires.stored) in grind (arith, common_steps, stored_less)
+returns-clause-stored c = grind (arith, common_steps, filed_some, stored_less)
 
 pub returns-clause-lives : goal.returns-clause-lives
 returns-clause-lives c =

@@ -9,14 +9,10 @@ returns-in-Some-first_place-clause-rising c =
     subst AreRising (ap (numbers_at es) (sym c.in-Some.is) ∙ c.self.view_is) (numbers_rising c.in-Some.slot es c.live-index.ensures.rising)
 
 pub returns-in-Some-first_place-clause-all : goal.returns-in-Some-first_place-clause-all
-returns-in-Some-first_place-clause-all c =
-    let m = c.self.inside in let es = m.live.now.live.entries in let t = c.in-Some.slot in
-    let first_is = sym (sym c.in-Some-first_place.is ∙ c.first_place.ensures ∙ ap (λ (x : Index). slice_get (segment t x.entries) 0) c.live-index.ensures.same) in grind (arith, common_steps, start_some)
+returns-in-Some-first_place-clause-all c = grind (arith, common_steps, start_some)
 
 pub returns-in-Some-first_place-clause-stands : goal.returns-in-Some-first_place-clause-stands
-returns-in-Some-first_place-clause-stands c =
-    let m = c.self.inside in let es = m.live.now.live.entries in let t = c.in-Some.slot in
-    let first_is = sym (sym c.in-Some-first_place.is ∙ c.first_place.ensures ∙ ap (λ (x : Index). slice_get (segment t x.entries) 0) c.live-index.ensures.same) in grind (arith, common_steps, start_some, start_stands)
+returns-in-Some-first_place-clause-stands c = grind (arith, common_steps, start_some, start_stands)
 
 pub returns-in-None-first_place-clause-rising : goal.returns-in-None-first_place-clause-rising
 returns-in-None-first_place-clause-rising c =
@@ -24,5 +20,4 @@ returns-in-None-first_place-clause-rising c =
     subst AreRising (ap (numbers_at es) (sym c.in-Some.is) ∙ c.self.view_is) (numbers_rising c.in-Some.slot es c.live-index.ensures.rising)
 
 pub returns-in-None-first_place-clause-all : goal.returns-in-None-first_place-clause-all
-returns-in-None-first_place-clause-all c =
-    let es = c.self.inside.live.now.live.entries in let t = c.in-Some.slot in grind (arith, common_steps, start_none)
+returns-in-None-first_place-clause-all c = grind (arith, common_steps, start_none)
