@@ -1,8 +1,8 @@
 -- What is counted of a transaction, known or not.
-use Rattle.std.{proofs.lemmas.Grind.common_steps, proofs.Common.{arith, ◌≡◌, ℕ, List, Option, Some, None, length, sym, ◌∙◌}, specs.List.count_by}
+use Rattle.std.{proofs.lemmas.Grind.common_steps, proofs.Common.{arith, ◌≡◌, ℕ, List, Option, length}, specs.List.count_by}
 use Rattle.ledger_model.{specs.Content.live_of, specs.Complete.kinds_of}
 use Rattle.event_store.specs.Slots.{Held}
-use Rattle.event_chain.{specs.declared.row.TableRow.TableRow, specs.Table.{TxRow, row_of}, specs.Flat.{EventPlace, flat}, specs.Kept.{live_one, end_one, is_end, AreFigured}, specs.Edits.counts_under, proofs.Figures.{none_flat, live_zero, end_zero}, proofs.Lives.{live_length, ends_length}}
+use Rattle.event_chain.{specs.declared.row.TableRow.TableRow, specs.Table.{TxRow, row_of}, specs.Flat.{EventPlace, flat}, specs.Kept.{is_end, AreFigured}, specs.Edits.counts_under, proofs.Figures.{none_flat, live_zero, end_zero}, proofs.Lives.{live_length, ends_length}}
 
 module _ (rows : List TxRow) (es : List EventPlace) (slots : List (Option Held)) (figured : AreFigured rows (flat rows es slots)) (tx : List ℕ) where
   -- The live events are as many as the table counts.

@@ -1,5 +1,5 @@
 -- Tests of keys and ranks, and what they decide.
-use Rattle.std.{proofs.lemmas.Grind.common_steps, proofs.Common.{arith, ◌≡◌, ℕ, Bool, true, false, List, refl, sym, ap, ◌∙◌}, specs.Bool.Decides, specs.Ordering.{is_eq, eq_by_cmp, nat_cmp}, specs.Cmp.{IsTotalOrder, eq_by_cmp_equiv, nat_cmp_total}, specs.Cmp.Lexicographic.nat_list_cmp_total, specs.FinMap.{IsAntisymmetric, nat_cmp-IsAntisymmetric, slice_cmp-IsAntisymmetric}, specs.declared.cmp.Ordering.Ordering, specs.declared.cmp.Ordering.TheVariants.{Less, Equal, Greater}}
+use Rattle.std.{proofs.lemmas.Grind.common_steps, proofs.Common.{arith, ◌≡◌, ℕ, Bool, true, false, List, sym, ◌∙◌}, specs.Bool.Decides, specs.Ordering.{eq_by_cmp, nat_cmp}, specs.Cmp.{IsTotalOrder, nat_cmp_total}, specs.Cmp.Lexicographic.nat_list_cmp_total, specs.FinMap.{IsAntisymmetric, nat_cmp-IsAntisymmetric, slice_cmp-IsAntisymmetric}, specs.declared.cmp.Ordering.Ordering}
 use Rattle.ledger_model.{specs.Key.{KeyName, key_cmp}, proofs.Callers.{key_total, exact_keys}}
 use Rattle.event_chain.specs.Table.{id_cmp}
 

@@ -1,11 +1,12 @@
 -- What chains know before an operation.
-use Rattle.std.{proofs.lemmas.Grind.common_steps, proofs.Common.{◌≡◌, ℕ, zero, suc, ◌+◌, ◌<◌, ◌≤◌, ◌^◌, nat_lt, nat_le, Bool, true, false, not, cond, ◌&&◌, List, [], ◌∷◌, Option, Some, None, is_some, length, sum_by, replicate, refl, sym, ap, ◌∙◌, subst, arith, inl, inr, le-leb, leb-true}, specs.Str.bytes_eq, proofs.lemmas.List.Sums.{count_by-le-length, sum_by-cons}, specs.FinMap.FinMap, proofs.lemmas.Bool.cases_lt, proofs.lemmas.List.{length-map, length-replicate}, proofs.lemmas.Bool.Decides.Decides-ltb}
+use Rattle.std.{proofs.lemmas.Grind.common_steps, proofs.Common.{◌≡◌, ℕ, zero, suc, ◌+◌, ◌<◌, ◌≤◌, ◌^◌, nat_lt, nat_le, Bool, true, false, not, cond, ◌&&◌, List, [], ◌∷◌, Option, Some, None, is_some, length, sum_by, replicate, refl, sym, ap, ◌∙◌, subst, arith, inl, inr, le-leb, leb-true}, proofs.lemmas.List.Sums.{count_by-le-length, sum_by-cons}, specs.FinMap.FinMap, proofs.lemmas.Bool.cases_lt, proofs.lemmas.List.{length-map, length-replicate}, proofs.lemmas.Bool.Decides.Decides-ltb}
 use Rattle.std.specs.FinMap as finite
 use Rattle.ledger_model.{specs.declared.reading.Direction.Direction, specs.Key.{KeyName, key_cmp}, specs.Limits.Bounds, specs.Content.{Entry, Stored, has_transaction, transactions_of}, specs.Step.readings_stored, specs.Entries.IsRising}
 use Rattle.slot_arena.specs.Arena.{held_count}
 use Rattle.key_index.specs.Key.{rank}
-use Rattle.event_chain.{specs.Placed.{Index, index}, specs.declared.row.TableRow.TableRow, specs.Table.{Table, TxRow, row_of}, specs.declared.answers.Room.TheVariants.{Fits, NoTransaction, NoEvent, NoReading}, specs.declared.answers.Found.TheVariants.{Live, Voided}, specs.Room.{room_of, found_of}, specs.Flat.{EventPlace, place_of, event_at, flat, look_in, look}, specs.Edits.{place_in, place_at}, specs.Kept.{live_one, end_one, is_end, IsChains, IsNamed, IsEntered, events_of}, proofs.Decided.not_so, proofs.Flats.{find_flat, flat_rising}, proofs.Moves.before_named, proofs.Named.{row_here, row_other}, proofs.Figures.known_figures, proofs.Ids.{ids_flat, has_flat}}
+use Rattle.event_chain.{specs.Placed.{Index, index}, specs.declared.row.TableRow.TableRow, specs.Table.{Table, TxRow, row_of}, specs.declared.answers.Room.TheVariants.{Fits, NoTransaction, NoEvent, NoReading}, specs.Room.{room_of}, specs.Flat.{EventPlace, place_of, event_at, flat, look}, specs.Edits.{place_at}, specs.Kept.{IsChains, IsNamed, IsEntered, events_of}, proofs.Decided.not_so, proofs.Flats.{find_flat, flat_rising}, proofs.Moves.before_named, proofs.Named.{row_here, row_other}, proofs.Figures.known_figures, proofs.Ids.{ids_flat, has_flat}}
 use Rattle.event_store.specs.Slots.{Held, Slots}
+use Rattle.event_chain.specs.Chains.{Chained, stored as stored_of}
 
 -- Chains of equal parts.
 pub seal : (limits : Bounds) (t : Table) (s : Slots) (st l : Index) (c : Direction → Index) (n : Index) (rows : List TxRow)
@@ -62,14 +63,6 @@ entered_named rows mid tx row entered = record {
   known = elim entered [ inl was ↦ inl was.0 | inr fresh ↦ inr fresh.0 ];
 }
 
--- A found event is live or voided as it is marked.
-pub found_live : (o : Option Stored) → found_of o ≡ Some Live → (s : Stored) × ((o ≡ Some s) × (s.voided ≡ false))
-found_live o h = grind (arith, common_steps)
-
--- The same of a voided one.
-pub found_voided : (o : Option Stored) → found_of o ≡ Some Voided → (s : Stored) × ((o ≡ Some s) × (s.voided ≡ true))
-found_voided o h = grind (arith, common_steps)
-
 module _ {limits : Bounds} {table : Table} {store : Slots} {stored live : Index} {carriers : Direction → Index} {naming : Index}
     (chains : IsChains limits table store stored live carriers naming) where
   -- All events.
@@ -99,10 +92,10 @@ module _ {limits : Bounds} {table : Table} {store : Slots} {stored live : Index}
   pub ids_count : length (transactions_of all) ≡ length table.rows
   ids_count = ap length (ids_flat table.rows stored.entries store.slots chains.keyed.rising chains.keyed.filled) ∙ length-map table.rows (λ (r : TxRow). r.0)
 
-  module _ (tx : List ℕ) (readings : ℕ) (fits : room_of limits (finite.entries events) tx readings ≡ Fits) where
+  module _ (tx : List ℕ) (readings : ℕ) {seen : Chained} (view : record { limits = limits; events = events } ≡ seen) (fits : room_of seen.limits (stored_of seen) tx readings ≡ Fits) where
     parts : (not (has_transaction tx all) && nat_le limits.transactions (length (transactions_of all)) ≡ false)
         × ((nat_le limits.events (length all) ≡ false) × (nat_lt limits.readings (readings_stored all + readings) ≡ false))
-    parts = fits_all _ _ _ (ap (λ es. room_of limits es tx readings) (sym entries_all) ∙ fits)
+    parts = fits_all _ _ _ (ap (λ es. room_of limits es tx readings) (sym entries_all) ∙ ap (λ (x : Chained). room_of x.limits (stored_of x) tx readings) view ∙ fits)
 
     -- There is room for a new transaction.
     pub enter_room : row_of tx table.rows ≡ None → length table.rows < table.capacity

@@ -1,5 +1,5 @@
 -- What a written link changes, and what it leaves.
-use Rattle.std.{proofs.lemmas.Grind.common_steps, proofs.Common.{arith, ◌≡◌, ◌≢◌, ℕ, ◌<◌, List, [], ◌∷◌, Option, Some, None, length, get_or, refl, sym, get_or-set_other, get_or-set_same, length-set}}
+use Rattle.std.{proofs.lemmas.Grind.common_steps, proofs.Common.{arith, ◌≡◌, ◌≢◌, ℕ, ◌<◌, List, [], ◌∷◌, Option, Some, None, length, get_or, get_or-set_same}}
 use Rattle.event_chain.{specs.Links.written, specs.LinkChain.{last_or, head_or, IsBeside, AreElsewhere}}
 use Rattle.slot_arena.specs.Free.{IsApart}
 

@@ -1,9 +1,9 @@
 -- The live events of a transaction are those of its segment of an index.
-use Rattle.std.{proofs.lemmas.Grind.common_steps, proofs.Common.{◌≡◌, ℕ, zero, suc, ◌/◌, ◌^◌, ◌==◌, Bool, true, false, not, cond, ◌&&◌, T, List, [], ◌∷◌, Option, Some, None, is_some, length, map, sum_by, refl, sym, ap, ◌∙◌, subst, arith, append-nil, slice_get, option_map, unwrap_or, ◌-◌}, specs.List.{filter, count_by, filter_map, cons_option}, proofs.lemmas.List.length-map, proofs.lemmas.Bool.Decides.Decides-eqb, specs.Str.bytes_eq, specs.Ordering.{is_eq, eq_by_cmp, nat_cmp}, specs.FinMap.find, specs.FinMap.Entries.below_all, proofs.lemmas.Slice.Eq.bytes_eq-Decides, proofs.lemmas.List.Sums.sum_by-cons}
+use Rattle.std.{proofs.lemmas.Grind.common_steps, proofs.Common.{◌≡◌, ℕ, zero, suc, ◌/◌, ◌^◌, ◌==◌, Bool, true, false, not, cond, ◌&&◌, T, List, [], ◌∷◌, Option, Some, None, is_some, length, map, sum_by, refl, sym, ap, ◌∙◌, subst, arith, append-nil, slice_get, option_map, unwrap_or, ◌-◌}, specs.List.{filter, count_by, filter_map}, proofs.lemmas.List.length-map, specs.Str.bytes_eq, specs.Ordering.{is_eq, eq_by_cmp, nat_cmp}, specs.FinMap.find, specs.FinMap.Entries.below_all, proofs.lemmas.Slice.Eq.bytes_eq-Decides}
 use Rattle.key_index.{specs.Entries.last_of, specs.Key.rank}
 use Rattle.ledger_model.{specs.Evse.{first_or_zero, evse_of}, specs.Key.{KeyName, key_cmp}, specs.Content.{Entry, Stored, live_of}, specs.Entries.IsRising, proofs.Callers.{first, second, find_below}, proofs.Rising.both, specs.Complete.kinds_of, specs.Gaps.numbers_of}
 use Rattle.event_store.specs.Slots.{Held}
-use Rattle.event_chain.{specs.declared.row.TableRow.TableRow, specs.Table.{TxRow, AreRising, row_of}, specs.Flat.{EventPlace, place_of, stored_at, entry_of, segment, flat, event_at, number_at, look_in, look}, specs.Kept.{AreRanks, HasPlace, IsBare, IsSub, chosen, is_live, is_naming, is_end, live_one, end_one}, specs.Edits.{first_under, last_under, kind_in, evse_at}, specs.EventLines.{events_of, line_at, line_of}, specs.Walk.{number_in, numbers_at}, proofs.Decided.{key_test, id_test, rank_test, denied, not_so}, proofs.Flats.{find_entries, number_is, find_flat, flat_rising, same_flat, entries_rising, nat_less, less_nat}}
+use Rattle.event_chain.{specs.declared.row.TableRow.TableRow, specs.Table.{TxRow, AreRising, row_of}, specs.Flat.{EventPlace, place_of, entry_of, segment, flat, event_at, number_at, look_in, look}, specs.Kept.{AreRanks, HasPlace, IsBare, IsSub, chosen, is_live, is_naming, is_end, live_one, end_one}, specs.Edits.{first_under, last_under, kind_in, evse_at}, specs.EventLines.{events_of, line_at, line_of}, specs.Walk.{number_in, numbers_at}, proofs.Decided.{key_test, id_test, rank_test, denied, not_so}, proofs.Flats.{find_entries, number_is, find_flat, flat_rising, same_flat, entries_rising, nat_less, less_nat}}
 
 -- An event, where it passes a test.
 abbrev pub passing : (Stored → Bool) → Option Stored → Option Stored

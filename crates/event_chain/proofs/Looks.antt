@@ -1,5 +1,5 @@
 -- What is found of each key after one place, one slot and one transaction changed.
-use Rattle.std.{proofs.lemmas.Grind.common_steps, proofs.Common.{◌≡◌, ℕ, ◌<◌, ◌^◌, true, false, List, Option, Some, None, refl, sym, ap, ◌∙◌, arith}, proofs.lemmas.Bool.Decides.Decides-ltb, specs.Ordering.eq_by_cmp}
+use Rattle.std.{proofs.lemmas.Grind.common_steps, proofs.Common.{◌≡◌, ℕ, ◌<◌, ◌^◌, true, false, List, Option, Some, refl, sym, ap, ◌∙◌, arith}, specs.Ordering.eq_by_cmp}
 use Rattle.key_index.specs.Key.{rank}
 use Rattle.ledger_model.specs.Key.{KeyName}
 use Rattle.event_store.specs.Slots.{Held}

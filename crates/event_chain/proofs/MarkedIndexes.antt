@@ -2,7 +2,7 @@
 use Rattle.std.{proofs.lemmas.Grind.common_steps, proofs.Common.{◌≡◌, ℕ, ◌≤◌, nat_lt, ◌==◌, Bool, true, false, cond, List, [], ◌∷◌, ◌++◌, Option, Some, None, is_some, map, option_map, drop, refl, sym, ap, ◌∙◌, subst, arith}, proofs.lemmas.Bool.Decides.Decides-eqb, proofs.lemmas.List.map-append, proofs.lemmas.List.Elements.filter-append, specs.Ordering.nat_cmp, specs.FinMap.put}
 use Rattle.ledger_model.{proofs.Directions.each_way, specs.ByDirection.in_direction, specs.declared.by_direction.ByDirection.ByDirection, specs.declared.reading.Direction.TheVariants.{Import, Export}}
 use Rattle.key_index.specs.Index as keyed
-use Rattle.key_index.{specs.declared.filed.Mark.Mark, specs.declared.filed.Mark.TheVariants.{Live, Imports, Exports, Names}, specs.declared.filed.Marks.Marks, specs.declared.filed.Filed.Filed, specs.Entries.{Entry, below, from, filed_at, first_of, last_of, AreAbove, AreRising}, proofs.Orders.{cut_none, cut_whole, last_cons}, specs.Marks.{has_mark, marked, mark_at}}
+use Rattle.key_index.{specs.declared.filed.Mark.Mark, specs.declared.filed.Mark.TheVariants.{Live, Imports, Exports, Names}, specs.declared.filed.Marks.Marks, specs.declared.filed.Filed.Filed, specs.Entries.{Entry, below, from, filed_at, first_of, last_of, AreAbove, AreRising}, proofs.Orders.{cut_none, cut_whole, last_cons}, specs.Marks.{has_mark, mark_at}}
 use Rattle.event_chain.{specs.Flat.{EventPlace, place_of}, specs.Edits.{put_if, out, IsLiveLess, IsLiveMore, IsLiveSame, IsNotLive}, specs.Placed.{carriers_of, index, marked_places, marked_index, passes, place_in, placed}, proofs.Decided.not_so, proofs.Places.{found_at, put_is, out_is, not_less}}
 
 -- No entries have no places.

@@ -4,7 +4,7 @@ use Rattle.slot_arena.specs.Arena.{value_at}
 use Rattle.key_index.specs.Key.{rank}
 use Rattle.ledger_model.{specs.Key.KeyName, specs.Content.Stored}
 use Rattle.event_store.specs.Slots.{Held}
-use Rattle.event_chain.{specs.declared.row.TableRow.TableRow, specs.Table.{TxRow, AreRising, AreApart, IsFresh, id_cmp, row_of}, specs.Flat.{EventPlace, place_of, stored_in, stored_at, event_at, number_at, look_in}, specs.Kept.{AreRanks, IsHome, HasPlace, IsKeyed, IsNamed, IsBare, IsLeft}, specs.Edits.out, proofs.Decided.{id_test, rank_test, denied, not_so}, proofs.Looks.IsMove}
+use Rattle.event_chain.{specs.declared.row.TableRow.TableRow, specs.Table.{TxRow, AreRising, AreApart, IsFresh, id_cmp, row_of}, specs.Flat.{EventPlace, place_of, stored_in, stored_at, event_at, number_at, look_in}, specs.Kept.{AreRanks, IsHome, HasPlace, IsKeyed, IsNamed, IsLeft}, specs.Edits.out, proofs.Decided.{id_test, rank_test, denied, not_so}, proofs.Looks.IsMove}
 
 -- What is found under a rank after one was put in.
 pub put_found : (r r0 s0 : ℕ) (es : List EventPlace) → place_of r (put nat_cmp r0 s0 es) ≡ cond (eq_by_cmp nat_cmp r r0) (Some s0) (place_of r es)

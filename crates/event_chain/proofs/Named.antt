@@ -1,5 +1,5 @@
 -- Rows of transactions, after one was put in, written or taken out.
-use Rattle.std.{proofs.lemmas.Grind.common_steps, proofs.Common.{arith, ◌≡◌, ℕ, Bool, true, false, not, cond, List, Some, None, refl, sym, ap, ◌∙◌, subst, inl, inr}, specs.Ordering.{is_eq, eq_by_cmp}, specs.Cmp.{eq_by_cmp_equiv, alike_right}, specs.Cmp.Lexicographic.nat_list_cmp_total, specs.FinMap.Entries.{find-put, find-where_key}}
+use Rattle.std.{proofs.lemmas.Grind.common_steps, proofs.Common.{arith, ◌≡◌, ℕ, Bool, not, cond, List, Some, None, refl, sym, ap, ◌∙◌, subst, inl, inr}, specs.Ordering.{is_eq, eq_by_cmp}, specs.Cmp.{eq_by_cmp_equiv, alike_right}, specs.Cmp.Lexicographic.nat_list_cmp_total, specs.FinMap.Entries.{find-put, find-where_key}}
 use Rattle.event_chain.{specs.declared.row.TableRow.TableRow, specs.Table.{TxRow, id_cmp, row_of, with_row, without_row}, specs.Flat.EventPlace, specs.Kept.{IsBare, IsNamed, IsEntered, IsLeft}, proofs.Decided.{id_test, not_so}}
 
 turned : {A : Type 0} (b : Bool) (x y : A) → cond (not b) x y ≡ cond b y x

@@ -1,5 +1,5 @@
 -- The readings on either side of a key's place, by the places of the live events that have readings.
-use Rattle.std.{proofs.lemmas.Grind.common_steps, proofs.Common.{◌≡◌, ℕ, suc, ◌-◌, ◌<◌, ◌/◌, ◌%◌, ◌^◌, ◌==◌, nat_lt, Bool, true, false, not, cond, ◌&&◌, List, [], ◌∷◌, ◌++◌, Option, Some, None, is_some, length, map, slice_get, refl, sym, ap, ◌∙◌, arith, append-nil, length-append}, specs.List.{filter, flat_map}, specs.Str.bytes_eq}
+use Rattle.std.{proofs.lemmas.Grind.common_steps, proofs.Common.{◌≡◌, ℕ, ◌<◌, ◌/◌, ◌%◌, ◌^◌, ◌==◌, nat_lt, Bool, true, false, not, cond, ◌&&◌, List, [], ◌∷◌, ◌++◌, Option, Some, None, is_some, length, map, slice_get, refl, sym, ap, ◌∙◌, arith, append-nil, length-append}, specs.List.{filter, flat_map}, specs.Str.bytes_eq}
 use Rattle.slot_arena.specs.Arena.{IsHeld}
 use Rattle.key_index.{specs.Entries.last_of, specs.Key.{rank, slot_back}, proofs.Orders.last_cons}
 use Rattle.ledger_model.{specs.Key.KeyName, specs.declared.reading.Direction.Direction, specs.Event.{MeterReading, toward}, specs.Content.{Entry, Stored}, specs.Deltas.{first_reading, last_reading, own_readings, before_key, behind_key}, proofs.Callers.{own_before_key, own_behind_key}}

@@ -1,9 +1,9 @@
 -- The slots of the live events, and what they hold.
-use Rattle.std.{proofs.lemmas.Grind.common_steps, proofs.Common.{arith, ◌≡◌, ℕ, true, false, not, List, Option, Some, None, refl, sym, ap, ◌∙◌}, proofs.lemmas.Bool.Decides.Decides-eqb}
+use Rattle.std.{proofs.lemmas.Grind.common_steps, proofs.Common.{arith, ◌≡◌, ℕ, true, List, Option, Some, None, refl, sym, ap, ◌∙◌}, proofs.lemmas.Bool.Decides.Decides-eqb}
 use Rattle.slot_arena.specs.Arena.{value_at}
 use Rattle.ledger_model.specs.Content.{Stored}
 use Rattle.event_store.specs.Slots.{Held}
-use Rattle.event_chain.{specs.Table.TxRow, specs.Flat.{EventPlace, place_of, stored_in}, specs.Kept.{IsSub, IsKeyed, is_live}, specs.Walk.{is_under, are_under}, proofs.Lives.chosen_place, proofs.Members.{all_found, chosen_test}, proofs.Walks.all_under}
+use Rattle.event_chain.{specs.Table.TxRow, specs.Flat.{EventPlace, place_of}, specs.Kept.{IsSub, IsKeyed, is_live}, specs.Walk.{is_under, are_under}, proofs.Lives.chosen_place, proofs.Members.{all_found, chosen_test}, proofs.Walks.all_under}
 
 -- A free slot is not held.
 not_free : (o : Option Held) (h : Held) → o ≡ Some h → o ≡ None → ⊥

@@ -1,6 +1,5 @@
-use Rattle.std.{proofs.lemmas.Grind.common_steps, proofs.Common.{rules, arith, sym, subst, ◌∙◌}}
-use Rattle.event_chain.{specs.Kept.{HasPlace, IsBare}, specs.Placed.Index, proofs.Places.ranks_of, proofs.Lives.{seg_some, seg_bare}}
-use Rattle.key_index.specs.Entries.{AreRising}
+use Rattle.std.{proofs.lemmas.Grind.common_steps, proofs.Common.{arith, sym, subst, ◌∙◌}}
+use Rattle.event_chain.{specs.Kept.{IsBare}, specs.Placed.Index, proofs.Places.ranks_of, proofs.Lives.{seg_some, seg_bare}}
 use Rattle.event_chain.proofs.look_ups.has_place.Goals as goal
 
 pub returns-clause-some : goal.returns-clause-some

@@ -1,5 +1,5 @@
-use Rattle.std.{proofs.lemmas.Grind.common_steps, proofs.Common.{rules, ◌≤◌, [], None, replicate, ap, ◌∙◌, arith}}
-use Rattle.event_chain.{specs.Placed.{Index, carriers_of}, specs.Flat.flat, proofs.Facts.{seal, opened_chains, opened_events}}
+use Rattle.std.{proofs.lemmas.Grind.common_steps, proofs.Common.{◌≤◌, [], None, replicate, ap, ◌∙◌, arith}}
+use Rattle.event_chain.{specs.Placed.{Index, carriers_of}, proofs.Facts.{seal, opened_chains, opened_events}}
 use Rattle.event_chain.proofs.chains.Chains.open.Goals as goal
 
 pub invariant_of-result : goal.invariant_of-result

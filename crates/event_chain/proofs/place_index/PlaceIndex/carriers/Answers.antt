@@ -1,8 +1,7 @@
-use Rattle.std.{proofs.lemmas.Grind.common_steps, proofs.Common.{rules, arith, ℕ, ◌≡◌, Some, refl, ap, ◌∙◌}}
+use Rattle.std.{proofs.lemmas.Grind.common_steps, proofs.Common.{arith, ℕ, ◌≡◌, Some, refl}}
 use Rattle.key_index.specs.Index as keyed
-use Rattle.key_index.specs.declared.filed.Mark.{Mark}
 use Rattle.ledger_model.{specs.declared.reading.Direction.Direction, specs.declared.reading.Direction.TheVariants.{Import, Export}}
-use Rattle.event_chain.specs.Placed.{Placed, carriers_of, marked_index, mark_of, placed}
+use Rattle.event_chain.specs.Placed.{carriers_of, marked_index, mark_of, placed}
 use Rattle.event_chain.proofs.place_index.PlaceIndex.carriers.Goals as goal
 
 -- The index of a direction's mark.

@@ -1,6 +1,6 @@
-use Rattle.std.{proofs.lemmas.Grind.common_steps, proofs.Common.{rules, arith, Some, is_some, refl, sym, ap, ◌∙◌, subst}}
+use Rattle.std.{proofs.lemmas.Grind.common_steps, proofs.Common.{arith, Some, is_some, refl, sym, ap, ◌∙◌, subst}}
 use Rattle.key_index.specs.declared.filed.Mark.TheVariants.{Live}
-use Rattle.event_chain.{specs.Flat.place_of, specs.Edits.{out, IsLiveSame, IsNotLive}, specs.Placed.{index, marked_index, placed, Placed}, proofs.MarkedIndexes.{filed_some, stored_less, lives_stay}, proofs.Lists.listed_same}
+use Rattle.event_chain.{specs.Flat.place_of, specs.Edits.{IsLiveSame, IsNotLive}, specs.Placed.{marked_index, placed, Placed}, proofs.MarkedIndexes.{filed_some, stored_less, lives_stay}, proofs.Lists.listed_same}
 use Rattle.event_chain.proofs.place_index.PlaceIndex.remove.Goals as goal
 
 pub remove-requires : goal.remove-requires

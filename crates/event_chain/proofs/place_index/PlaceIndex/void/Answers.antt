@@ -1,4 +1,4 @@
-use Rattle.std.{proofs.lemmas.Grind.common_steps, proofs.Common.{rules, arith, false, Some, is_some, refl, sym, ap, ◌∙◌, subst}}
+use Rattle.std.{proofs.lemmas.Grind.common_steps, proofs.Common.{arith, false, Some, refl, sym, ap, ◌∙◌, subst}}
 use Rattle.event_chain.{specs.Links.linked_out, specs.Flat.place_of, specs.Edits.{out, IsLiveLess}, specs.Placed.{index, marked_index, placed, Placed}, proofs.MarkedIndexes.{marked_rising, filed_there, stored_stays, lives_less}, proofs.Lists.{sides_present, slot_present, prev_present, next_present, listed_out, listed_same}}
 use Rattle.key_index.{specs.declared.filed.Mark.TheVariants.Live, specs.declared.filed.Marks.Marks}
 use Rattle.event_chain.proofs.place_index.PlaceIndex.void.Goals as goal

@@ -1,5 +1,5 @@
-use Rattle.std.{proofs.lemmas.Grind.common_steps, proofs.Common.{rules, arith, ◌<◌, length, slice_get, sym, ap, ◌∙◌, subst}}
-use Rattle.event_chain.{specs.Placed.Index, specs.Flat.segment, specs.Walk.numbers_at, proofs.Walks.{numbers_rising, start_some, start_stands, start_none}}
+use Rattle.std.{proofs.lemmas.Grind.common_steps, proofs.Common.{arith, sym, ap, ◌∙◌, subst}}
+use Rattle.event_chain.{specs.Walk.numbers_at, proofs.Walks.{numbers_rising, start_some, start_stands, start_none}}
 use Rattle.ledger_model.specs.BoardLaws.{AreRising}
 use Rattle.event_chain.proofs.tx_walk.TxWalkNumberWalk.start.Goals as goal
 
