@@ -18,10 +18,6 @@ there_within (x ∷ xs) (suc i) h there = omega (arith, there_within xs i h ther
 same_held : (o : Option Held) (a b : Held) → o ≡ Some a → o ≡ Some b → a ≡ b
 same_held o a b x y = cc
 
--- A key has one event.
-same_stored : (o : Option Stored) (a b : Stored) → o ≡ Some a → o ≡ Some b → a ≡ b
-same_stored o a b x y = cc
-
 -- What is found live is live.
 known_live : (s : Stored) → found_of (Some s) ≡ Some Live → s.voided ≡ false
 known_live s h = grind (arith, common_steps)
