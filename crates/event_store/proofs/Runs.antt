@@ -1,5 +1,5 @@
 -- Chains of readings under edits of the arena that holds them.
-use Rattle.std.{proofs.Common.{◌≡◌, ℕ, zero, suc, ◌+◌, ◌<◌, ◌≤◌, ◌++◌, Bool, false, true, List, [], ◌∷◌, Option, Some, None, is_some, cond, length, take, set, get_or, slice_get, ◌-◌, refl, sym, ap, ◌∙◌, subst, arith, length-set, get_or-set_other, get_or-set_same}, proofs.lemmas.List.Sums.sum_by-set}
+use Rattle.std.{proofs.lemmas.Grind.common_steps, proofs.Common.{◌≡◌, ℕ, zero, suc, ◌+◌, ◌<◌, ◌≤◌, ◌++◌, Bool, false, true, List, [], ◌∷◌, Option, Some, None, is_some, cond, length, take, set, get_or, slice_get, ◌-◌, refl, sym, ap, ◌∙◌, subst, arith, length-set, get_or-set_other, get_or-set_same}, proofs.lemmas.List.Sums.sum_by-set}
 use Rattle.slot_arena.specs.Arena.{value_at, held_count}
 use Rattle.ledger_model.{specs.Event.MeterReading, specs.Deltas.last_reading}
 use Rattle.event_store.{specs.declared.links.ReadingLink.ReadingLink, specs.Links.{reading_of, next_of, owner_of, left_of, chain, IsLink, IsRun, IsLast, AreReadings, AreKept, AreOthersKept}}
@@ -74,9 +74,7 @@ module _ {X : Type 0} where
 
 -- A link put into a free slot leaves all others.
 pub put_kept : (links : LinkRow) (id : ℕ) (link : ReadingLink) → value_at links id ≡ None → AreKept links (set links id (Some link))
-put_kept links id link free i there =
-    get_or-set_other links id i (Some link) None
-    (λ same. let e : None ≡ value_at links i = sym free ∙ ap (value_at links) (sym same) in let f : false ≡ true = ap is_some e ∙ there in cc)
+put_kept links id link free i there = grind (arith, common_steps)
 
 -- Kept twice is kept.
 pub kept_on : (old mid new : LinkRow) → AreKept old mid → AreKept mid new → AreKept old new
