@@ -33,12 +33,7 @@ run_other old new owner other first n kept apart run = run_same old new other fi
 last_same : (old new : LinkRow) (owner first n last : ℕ)
     → (is_some (value_at old last) ≡ true → owner_of (value_at old last) ≡ owner → value_at new last ≡ value_at old last)
     → chain new first n ≡ chain old first n → IsLast old owner first n last → IsLast new owner first n last
-last_same old new owner first zero last same is ends = tt
-last_same old new owner first (suc n) last same is ends =
-    let here : value_at new last ≡ value_at old last = same ends.0.there ends.0.owner_is in (
-      subst (λ l. IsLink l owner 1) (sym here) ends.0,
-      ap last_reading is ∙ ends.1 ∙ ap (λ l. Some (reading_of l)) (sym here),
-    )
+last_same old new owner first n last same is ends = grind (arith, common_steps)
 
 -- Where all links are kept, the readings of each event are.
 pub readings_kept : (old new : LinkRow) (owner first n last : ℕ) → AreKept old new → AreReadings old owner first n last → AreReadings new owner first n last × (chain new first n ≡ chain old first n)
@@ -101,8 +96,7 @@ give_run links owner first n run =
 
 -- The others are kept.
 pub give_kept : (start links : LinkRow) (owner first n : ℕ) → IsRun links owner first (suc n) → AreOthersKept owner start links → AreOthersKept owner start (set links first None)
-give_kept start links owner first n run kept i there apart =
-    get_or-set_other links first i None None (λ same. apart (ap owner_of (sym (kept i there apart) ∙ ap (value_at links) same) ∙ run.0.owner_is)) ∙ kept i there apart
+give_kept start links owner first n run kept i there apart = grind (arith, common_steps)
 
 -- What is left when the first link of a chain was taken out.
 pub record IsGiven (start links new : LinkRow) (owner next n : ℕ) : Type 0 where
@@ -158,9 +152,7 @@ put_step start links new id first n more owner link rest all m up long free lt p
 
 -- The last of readings is that of the rest, if there is one.
 pub last_more : (x y : MeterReading) (ys : List MeterReading) → last_reading (x ∷ y ∷ ys) ≡ last_reading (y ∷ ys)
-last_more x y ys =
-    let a : length (x ∷ y ∷ ys) - 1 ≡ suc (length ys) = omega arith in let b : length (y ∷ ys) - 1 ≡ length ys = omega arith in
-    ap (slice_get (x ∷ y ∷ ys)) a ∙ sym (ap (slice_get (y ∷ ys)) b)
+last_more x y ys = grind (arith, common_steps)
 
 -- A link put in front of a chain is its last one where there was none; else the last one stays.
 pub put_last : (links new : LinkRow) (id first n more owner last end : ℕ) (link : ReadingLink) → more ≡ suc n

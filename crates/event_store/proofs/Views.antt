@@ -38,8 +38,7 @@ chained_same old new slot e kept = ap (λ rs. Some (e.key, record { event = reco
 
 -- One of them.
 kept_slot : (old new : LinkRow) (i : ℕ) (e : Option EventSlot) → AreKept old new → IsChained old i e → slot_in new e ≡ slot_in old e
-kept_slot old new i None kept run = refl
-kept_slot old new i (Some e) kept run = chained_same old new i e (readings_kept old new i e.first e.count e.last kept run)
+kept_slot old new i e kept run = grind (arith, common_steps, chained_same, readings_kept)
 
 -- Where all links are kept, the slots show the same.
 pub kept_same : (old new : LinkRow) (events : Events) → AreKept old new → AreChained events old → slots_in new events ≡ slots_in old events
