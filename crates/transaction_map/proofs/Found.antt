@@ -1,5 +1,5 @@
 -- What is found after an edit, and which maps have the same ids.
-use Rattle.std.{proofs.Common.{◌≡◌, ℕ, ◌+◌, ◌<◌, ◌≤◌, Bool, true, false, not, cond, T, ◌&&◌, List, [], ◌∷◌, map, Option, Some, None, is_some, length, refl, sym, ap, subst, ◌∙◌, arith, inl, inr, ◌⊎◌}, specs.List.filter, specs.Ordering.{is_eq, is_lt, eq_by_cmp}, specs.Cmp.{eq_by_cmp_equiv, alike_right}, specs.FinMap.{find, put, is_sorted}, specs.FinMap.Entries.{below_all, find-put, find-where_key, is_sorted-put, is_sorted-where_key, length-put, length_without, same_entries}}
+use Rattle.std.{proofs.lemmas.Grind.common_steps, proofs.Common.{◌≡◌, ℕ, ◌+◌, ◌<◌, ◌≤◌, Bool, true, false, not, cond, T, ◌&&◌, List, [], ◌∷◌, map, Option, Some, None, is_some, length, refl, sym, ap, subst, ◌∙◌, arith, inl, inr, ◌⊎◌}, specs.List.filter, specs.Ordering.{is_eq, is_lt, eq_by_cmp}, specs.Cmp.{eq_by_cmp_equiv, alike_right}, specs.FinMap.{find, put, is_sorted}, specs.FinMap.Entries.{below_all, find-put, find-where_key, is_sorted-put, is_sorted-where_key, length-put, length_without, same_entries}}
 use Rattle.transaction_map.{specs.Map.{AreRising, id_cmp}, proofs.Rising.{id_total, exact_ids, equal_ids}}
 
 turned : {A : Type 0} (b : Bool) (x y : A) → cond (not b) x y ≡ cond b y x
@@ -83,11 +83,7 @@ module _ {X : Type 0} where
 
   names-find : (q : List ℕ) (es : List (List ℕ × X)) → find id_cmp q (names es) ≡ cond (is_some (find id_cmp q es)) (Some tt) None
   names-find q [] = refl
-  names-find q (e ∷ es) =
-      elim (eq_by_cmp id_cmp q e.0) as (λ b. cond b (Some tt) (find id_cmp q (names es)) ≡ cond (is_some (cond b (Some e.1) (find id_cmp q es))) (Some tt) None) [
-        | true ↦ refl
-        | false ↦ names-find q es
-      ]
+  names-find q (e ∷ es) = grind (arith, common_steps, names-find q es)
 
 -- Rising lists have the same ids if the same ids are found in them.
 pub same_ids : {X Y : Type 0} (xs : List (List ℕ × X)) (ys : List (List ℕ × Y)) → AreRising xs → AreRising ys
