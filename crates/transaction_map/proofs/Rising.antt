@@ -32,8 +32,7 @@ pub turned : (a b : List ℕ) (o : Ordering) → id_cmp a b ≡ o → id_cmp b a
 turned a b o h = id_total.antisymm b a ∙ ap ordering_reverse h
 
 both : (a b : Bool) → T a → T b → T (a && b)
-both true b g h = h
-both false b g h = g
+both a b g h = grind (arith, common_steps)
 
 module _ {X : Type 0} where
   -- The id of each later row is greater.
