@@ -18,11 +18,7 @@ returns-in-Ok-clause-items g c =
     written _ _ _ c.index_mut.result.now _ c.args.value at c.index_mut.ensures.value c.set.ensures
 
 pub returns-in-Err-clause-items : goal.returns-in-Err-clause-items
-returns-in-Err-clause-items g c =
-    let gap = rw c.deref.ensures.value at c.in-Err.ensures.gap in
-    let es = c.args.rows.now.items in
-    let room = c.requires.room (find_gap _ _ _ c.requires.rising gap) in
-    let row = c.new.ensures ∙ ap (λ id. (id, c.args.value)) c.copied.ensures in grind (arith, common_steps, put_gap)
+returns-in-Err-clause-items g c = grind (arith, common_steps, find_gap, put_gap)
 
 pub returns-in-Err-clause-capacity : goal.returns-in-Err-clause-capacity
 returns-in-Err-clause-capacity g c =
