@@ -166,9 +166,7 @@ put_last links new id first n more owner last end link up free lt put is left ne
 
       told : (m : ℕ) → more ≡ suc m → IsRun links owner first m → IsLast links owner first m last → IsLast whole owner id (suc m) end
       told zero one r e =
-          let here : value_at whole id ≡ Some link = get_or-set_same links id (Some link) None lt in let at : end ≡ id = only one in
-          subst (λ k. IsLink (value_at whole k) owner 1 × (last_reading (chain whole id 1) ≡ Some (reading_of (value_at whole k)))) (sym at)
-          (subst (λ l. IsLink l owner 1) (sym here) (record { there = refl; owner_is = is; left_is = left ∙ one }), refl)
+          let here : value_at whole id ≡ Some link = get_or-set_same links id (Some link) None lt in let at : end ≡ id = only one in grind (arith, common_steps)
       told (suc m) two r e =
           let at : end ≡ last = others (omega (arith, two)) in
           let step = put_run links id first (suc m) owner link free lt is (left ∙ two) next r in
