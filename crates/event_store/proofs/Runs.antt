@@ -37,9 +37,7 @@ last_same old new owner first n last same is ends = grind (arith, common_steps)
 
 -- Where all links are kept, the readings of each event are.
 pub readings_kept : (old new : LinkRow) (owner first n last : ℕ) → AreKept old new → AreReadings old owner first n last → AreReadings new owner first n last × (chain new first n ≡ chain old first n)
-readings_kept old new owner first n last kept was =
-    let r = run_kept old new owner first n kept was.run in
-    (record { run = r.0; ends = last_same old new owner first n last (λ there _. kept last there) r.1 was.ends }, r.1)
+readings_kept old new owner first n last kept was = grind (arith, common_steps, run_kept, last_same)
 
 -- Where the links of all but one event are kept, another's readings are.
 pub readings_other : (old new : LinkRow) (owner other first n last : ℕ) → AreOthersKept owner old new → (other ≡ owner → ⊥)
@@ -109,16 +107,7 @@ pub record IsGiven (start links new : LinkRow) (owner next n : ℕ) : Type 0 whe
 pub give_step : (start links new : LinkRow) (owner here left n id : ℕ) (link : ReadingLink) → left ≡ suc n → id ≡ here
     → value_at links id ≡ Some link → new ≡ set links id None → IsRun links owner here left → AreOthersKept owner start links
     → IsGiven start links new owner link.next n
-give_step start links new owner here left n id link up is value gone run kept =
-    let whole : IsRun links owner here (suc n) = subst (IsRun links owner here) up run in
-    let at : value_at links here ≡ Some link = ap (value_at links) (sym is) ∙ value in
-    let written : new ≡ set links here None = gone ∙ ap (λ k. set links k None) is in
-    subst (λ row. IsGiven start links row owner link.next n) (sym written) (record {
-      run = subst (λ l. IsRun (set links here None) owner (next_of l) n) at (give_run links owner here n whole);
-      kept = give_kept start links owner here n whole kept;
-      held = count_take links here whole.0.there;
-      same = length-set links here None;
-    })
+give_step start links new owner here left n id link up is value gone run kept = grind (arith, common_steps, give_run, give_kept, count_take)
 
 -- All but the last of a list, and then the last.
 front_last : (xs ys : List MeterReading) (x : MeterReading) (n : ℕ) → n + 1 ≡ length xs → x ≡ get_or xs n x → take n xs ++ (x ∷ ys) ≡ xs ++ ys
@@ -165,16 +154,7 @@ put_last links new id first n more owner last end link up free lt put is left ne
       whole = set links id (Some link)
 
       told : (m : ℕ) → more ≡ suc m → IsRun links owner first m → IsLast links owner first m last → IsLast whole owner id (suc m) end
-      told zero one r e =
-          let here : value_at whole id ≡ Some link = get_or-set_same links id (Some link) None lt in let at : end ≡ id = only one in grind (arith, common_steps)
-      told (suc m) two r e =
-          let at : end ≡ last = others (omega (arith, two)) in
-          let step = put_run links id first (suc m) owner link free lt is (left ∙ two) next r in
-          let kept : value_at whole last ≡ value_at links last = put_kept links id link free last e.0.there in
-          subst (λ k. IsLink (value_at whole k) owner 1 × (last_reading (chain whole id (suc (suc m))) ≡ Some (reading_of (value_at whole k)))) (sym at) (
-            subst (λ l. IsLink l owner 1) (sym kept) e.0,
-            ap last_reading step.1 ∙ last_more link.reading (reading_of (value_at links first)) (chain links (next_of (value_at links first)) m) ∙ e.1 ∙ ap (λ l. Some (reading_of l)) (sym kept),
-          )
+      told m one r e = grind (arith, common_steps, whole, put_run, kept, put_kept, last_more)
 
 -- A chain is as long as it is said to be.
 pub chain_long : (links : LinkRow) (first n : ℕ) → length (chain links first n) ≡ n
