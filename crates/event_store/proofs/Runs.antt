@@ -154,7 +154,16 @@ put_last links new id first n more owner last end link up free lt put is left ne
       whole = set links id (Some link)
 
       told : (m : ℕ) → more ≡ suc m → IsRun links owner first m → IsLast links owner first m last → IsLast whole owner id (suc m) end
-      told m one r e = grind (arith, common_steps, whole, put_run, kept, put_kept, last_more)
+      told zero one r e =
+          let here : value_at whole id ≡ Some link = get_or-set_same links id (Some link) None lt in let at : end ≡ id = only one in grind (arith, common_steps)
+      told (suc m) two r e =
+          let at : end ≡ last = others (omega (arith, two)) in
+          let step = put_run links id first (suc m) owner link free lt is (left ∙ two) next r in
+          let kept : value_at whole last ≡ value_at links last = put_kept links id link free last e.0.there in
+          subst (λ k. IsLink (value_at whole k) owner 1 × (last_reading (chain whole id (suc (suc m))) ≡ Some (reading_of (value_at whole k)))) (sym at) (
+            subst (λ l. IsLink l owner 1) (sym kept) e.0,
+            ap last_reading step.1 ∙ last_more link.reading (reading_of (value_at links first)) (chain links (next_of (value_at links first)) m) ∙ e.1 ∙ ap (λ l. Some (reading_of l)) (sym kept),
+          )
 
 -- A chain is as long as it is said to be.
 pub chain_long : (links : LinkRow) (first n : ℕ) → length (chain links first n) ≡ n
