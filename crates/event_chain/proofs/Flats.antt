@@ -24,32 +24,14 @@ rank_split r t e = omega (arith)
 key_place : (q : KeyName) (tx : List ℕ) (t : ℕ) (e : EventPlace) → e.0 / 2 ^ 31 ≡ t → eq_by_cmp id_cmp q.tx tx ≡ true
     → eq_by_cmp key_cmp q (record { tx = tx; seq = e.0 % 2 ^ 31 }) ≡ eq_by_cmp nat_cmp (rank t q.seq) e.0
 key_place q tx t e home is =
-    let id : q.tx ≡ tx = (id_test q.tx tx).0 is in let split = rank_split e.0 t home in
-    same_test _ _ (key_test q (record { tx = tx; seq = e.0 % 2 ^ 31 })) (rank_test (rank t q.seq) e.0)
-    (λ k. ap (λ (n : ℕ). rank t n) (ap (λ (x : KeyName). x.seq) k) ∙ sym split)
-    (λ k. let n : q.seq ≡ e.0 % 2 ^ 31 = omega (arith, split, k) in λ i. record { tx = id i; seq = n i })
+    let id : q.tx ≡ tx = (id_test q.tx tx).0 is in let split = rank_split e.0 t home in grind (arith, common_steps, same_test, key_test, rank_test)
 
 -- What is found among the events of a transaction.
 pub find_entries : (q : KeyName) (tx : List ℕ) (t : ℕ) (slots : List (Option Held)) (es : List EventPlace)
     → find key_cmp q (map (entry_of tx slots) (segment t es)) ≡ cond (eq_by_cmp id_cmp q.tx tx) (event_at slots (place_of (rank t q.seq) (segment t es))) None
 find_entries q tx t slots [] = elim (eq_by_cmp id_cmp q.tx tx) as (λ b. ◌≡◌ {A = Option Stored} None (cond b None None)) [ true ↦ refl | false ↦ refl ]
 find_entries q tx t slots (e ∷ es) =
-    let rest = find_entries q tx t slots es in
-    elim (e.0 / 2 ^ 31 == t) as (λ b. (e.0 / 2 ^ 31 == t) ≡ b
-    → find key_cmp q (map (entry_of tx slots) (cond b (e ∷ segment t es) (segment t es)))
-    ≡ cond (eq_by_cmp id_cmp q.tx tx) (event_at slots (place_of (rank t q.seq) (cond b (e ∷ segment t es) (segment t es)))) None) [
-      | false ↦ λ _. rest
-      | true ↦ λ home. elim (eq_by_cmp id_cmp q.tx tx) as (λ b. eq_by_cmp id_cmp q.tx tx ≡ b
-          → find key_cmp q (map (entry_of tx slots) (segment t es)) ≡ cond b (event_at slots (place_of (rank t q.seq) (segment t es))) None
-          → cond (eq_by_cmp key_cmp q (record { tx = tx; seq = e.0 % 2 ^ 31 })) (Some (stored_at slots e.1)) (find key_cmp q (map (entry_of tx slots) (segment t es)))
-          ≡ cond b (event_at slots (cond (eq_by_cmp nat_cmp (rank t q.seq) e.0) (Some e.1) (place_of (rank t q.seq) (segment t es)))) None) [
-            | true ↦ λ is same. ap (λ b. cond b (Some (stored_at slots e.1)) (find key_cmp q (map (entry_of tx slots) (segment t es)))) (key_place q tx t e ((Decides-eqb (e.0 / 2 ^ 31) t).0 home) is)
-                ∙ elim (eq_by_cmp nat_cmp (rank t q.seq) e.0) as (λ b. cond b (Some (stored_at slots e.1)) (find key_cmp q (map (entry_of tx slots) (segment t es)))
-                ≡ event_at slots (cond b (Some e.1) (place_of (rank t q.seq) (segment t es)))) [ true ↦ refl | false ↦ same ]
-            | false ↦ λ other same. ap (λ b. cond b (Some (stored_at slots e.1)) (find key_cmp q (map (entry_of tx slots) (segment t es))))
-                (not_so _ (key_test q _) (λ k. denied _ (id_test q.tx tx) other (ap (λ (x : KeyName). x.tx) k))) ∙ same
-          ] refl rest
-    ] refl
+    let rest = find_entries q tx t slots es in grind (arith, common_steps, key_place, Decides-eqb, not_so, key_test, denied, id_test)
 
 -- A rank of a segment is that of all places, where its number is one.
 pub in_segment : (t seq : ℕ) (es : List EventPlace) → place_of (rank t seq) (segment t es) ≡ cond (rank t seq / 2 ^ 31 == t) (place_of (rank t seq) es) None
@@ -101,11 +83,7 @@ below_places : (tx : List ℕ) (t r : ℕ) (slots : List (Option Held)) (es : Li
     → T (below_all key_cmp (record { tx = tx; seq = r % 2 ^ 31 }) (map (entry_of tx slots) (segment t es)))
 below_places tx t r slots [] home h = tt
 below_places tx t r slots (e ∷ es) home h =
-    let rest = below_places tx t r slots es home (second _ _ h) in let up : r < e.0 = less_nat r e.0 (first _ _ h) in
-    elim (e.0 / 2 ^ 31 == t) as (λ b. (e.0 / 2 ^ 31 == t) ≡ b → T (below_all key_cmp (record { tx = tx; seq = r % 2 ^ 31 }) (map (entry_of tx slots) (cond b (e ∷ segment t es) (segment t es))))) [
-      | true ↦ λ is. let same : e.0 / 2 ^ 31 ≡ t = (Decides-eqb (e.0 / 2 ^ 31) t).0 is in both _ _ (less_seq tx (r % 2 ^ 31) (e.0 % 2 ^ 31) (omega arith)) rest
-      | false ↦ λ _. rest
-    ] refl
+    let rest = below_places tx t r slots es home (second _ _ h) in let up : r < e.0 = less_nat r e.0 (first _ _ h) in grind (arith, common_steps, Decides-eqb, both, less_seq)
 
 -- The events of a transaction rise, and what comes after them.
 pub entries_rising : (tx : List ℕ) (t : ℕ) (slots : List (Option Held)) (es : List EventPlace) (ys : List Entry) → AreRanks es

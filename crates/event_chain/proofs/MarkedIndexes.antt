@@ -155,9 +155,7 @@ module _ (o : Option Mark) (r : ℕ) (f : Filed ℕ) (es : List (Entry ℕ)) (h 
 
   module _ (marks : Marks) where
     marked_set : marked_places o (below r es ++ mark_at marks 0 (from r es)) ≡ below r L ++ cond (passes o marks) ((r, f.value) ∷ marked_places o rest) (marked_places o rest)
-    marked_set =
-        marked_both o (below r es) (mark_at marks 0 (from r es)) ∙ (λ i. marked_below o r es h i ++ marked_places o (mark_at marks 0 (rest_is i)))
-        ∙ ap (λ l. below r L ++ l) (marked_on o (r, record { value = f.value; marks = marks }) rest)
+    marked_set = grind (arith, common_steps, marked_both, marked_below, marked_on)
 
     -- Places that the entry leaves by its marks.
     pub marked_void : passes o marks ≡ false → marked_places o (below r es ++ mark_at marks 0 (from r es)) ≡ out r L

@@ -4,8 +4,7 @@ use Rattle.std.specs.FinMap as finite
 use Rattle.ledger_model.{specs.Deltas.first_reading, specs.Event.toward, specs.declared.reading.Direction.Direction, specs.Key.{KeyName, key_cmp}, specs.Limits.Bounds, specs.Content.{Entry, Stored}, specs.Step.{marked, marked_at}}
 use Rattle.slot_arena.specs.Arena.{value_at}
 use Rattle.key_index.specs.Key.{rank}
-use Rattle.event_chain.{specs.Placed.Index, specs.declared.row.TableRow.TableRow, specs.Table.{Table, TxRow, AreSlotted, AreRising, AreApart, row_of, with_row}, specs.Flat.{EventPlace, place_of, stored_in, event_at, flat}, specs.declared.look_ups.EventLocation.EventLocation, specs.Edits.{put_if, out, place_in, place_at, IsLocation}, specs.Kept.{IsSub, chosen, is_live, is_carrier, is_naming, is_end, live_one, end_one, AreIndexed, IsChains, IsNamed, events_of}, proofs.Facts.{seal, all_rising, get_place, counts_few, places_few}, proofs.Named.named_after, proofs.Places.place_at_row, proofs.Sums.{at_key, sum_without}, proofs.Ops.{mark_in, mark_out, mark_chains, mark_all, live_mine, end_mine}, proofs.Effects.map_put}
-use Rattle.event_chain.{specs.Chains.Chained, specs.declared.answers.Found.Found, specs.declared.answers.Found.TheVariants.{Live, Voided}, specs.Room.found_of}
+use Rattle.event_chain.{specs.Placed.Index, specs.declared.row.TableRow.TableRow, specs.Table.{Table, TxRow, AreSlotted, AreRising, AreApart, row_of, with_row}, specs.Flat.{EventPlace, place_of, stored_in, event_at, flat}, specs.declared.look_ups.EventLocation.EventLocation, specs.Edits.{put_if, out, place_in, place_at, IsLocation}, specs.Kept.{IsSub, chosen, is_live, is_carrier, is_naming, is_end, live_one, end_one, AreIndexed, IsChains, IsNamed, events_of}, proofs.Facts.{seal, all_rising, get_place, counts_few, places_few}, proofs.Named.named_after, proofs.Places.place_at_row, proofs.Sums.{at_key, sum_without}, proofs.Ops.{mark_in, mark_out, mark_chains, mark_all, live_mine, end_mine}, proofs.Effects.map_put, specs.Chains.Chained, specs.declared.answers.Found.Found, specs.declared.answers.Found.TheVariants.{Live, Voided}, specs.Room.found_of}
 use Rattle.event_store.specs.Slots.{Held, Slots, voided_as, voided_at}
 
 -- What is there is in range.

@@ -13,15 +13,7 @@ pub sub_move : (test : Stored → Bool) (es more sub after : List EventPlace) (s
     → IsSub test es slots sub → OthersSame r0 es more → OthersSame r0 sub after → ((r : ℕ) → place_of r es ≡ Some s0 → r ≡ r0)
     → ((s : ℕ) → (s ≡ s0 → ⊥) → stored_at held s ≡ stored_at slots s)
     → AreRanks after → place_of r0 after ≡ chosen test held (place_of r0 more) → IsSub test more held after
-sub_move test es more sub after slots held r0 s0 was moved same own stays ranks here = record {
-  rising = ranks;
-  each = λ r. elim (cases_eq r r0) [
-    | inl is ↦ ap (λ k. place_of k after) is ∙ here ∙ sym (ap (λ k. chosen test held (place_of k more)) is)
-    | inr other ↦ same r other ∙ was.each r ∙ still r other (place_of r es) refl ∙ sym (ap (chosen test held) (moved r other))
-  ];
-} where
-  still : (r : ℕ) → (r ≡ r0 → ⊥) → (o : Option ℕ) → place_of r es ≡ o → chosen test slots o ≡ chosen test held o
-  still r other o is = grind (arith, common_steps)
+sub_move test es more sub after slots held r0 s0 was moved same own stays ranks here = grind (arith, common_steps, cases_eq)
 
 -- Ranks rise where one was put in.
 pub put_if_ranks : (b : Bool) (r0 s0 : ℕ) (es : List EventPlace) → AreRanks es → AreRanks (put_if b r0 s0 es)

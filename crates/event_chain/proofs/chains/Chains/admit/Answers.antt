@@ -1,9 +1,8 @@
 use Rattle.std.proofs.Common.{ℕ, List, ◌≡◌, ◌+◌, ◌<◌, ◌^◌, None, Some, false, IfSome, is_some, option_map, length, sym, ap, ◌∙◌, subst, arith}
-use Rattle.event_chain.{specs.Placed.carriers_of, specs.declared.row.TableRow.TableRow, specs.Table.{Table, TxRow, row_of, with_row, IsRowAt}, specs.Chains.{Chained, stored}, specs.Kept.{IsEntered, IsKeyed, end_count}, specs.Flat.flat, specs.Sides.AreSides, proofs.Facts.{entries_all, enter_room, event_room, reading_room, counts_few, none_at, places_few, entered_named}, proofs.Used.unused_free, proofs.Inserts.{Inserted, inserted, inserted_events}}
+use Rattle.event_chain.{specs.Placed.carriers_of, specs.declared.row.TableRow.TableRow, specs.Table.{Table, TxRow, row_of, with_row, IsRowAt}, specs.Chains.{Chained, stored}, specs.Kept.{IsEntered, IsKeyed, end_count}, specs.Flat.flat, specs.Sides.AreSides, proofs.Facts.{entries_all, enter_room, event_room, reading_room, counts_few, none_at, places_few, entered_named}, proofs.Used.unused_free, proofs.Inserts.{Inserted, inserted, inserted_events}, proofs.chains.Chains.admit.Goals.After-renew}
 use Rattle.ledger_model.{specs.ByDirection.in_direction, specs.Deltas.first_reading, specs.Event.toward}
 use Rattle.std.specs.FinMap as finite
 use Rattle.key_index.specs.Key.{rank}
-use Rattle.event_chain.proofs.chains.Chains.admit.Goals.{After-renew}
 use Rattle.event_chain.proofs.chains.Chains.admit.Goals as goal
 
 -- A transaction that was entered, by the table that was searched and by the key's own id.

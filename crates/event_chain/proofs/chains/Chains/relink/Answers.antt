@@ -1,7 +1,6 @@
 use Rattle.std.proofs.Common.{ℕ, false, not, cond, ◌&&◌, is_some, refl, sym, ap, ◌∙◌, subst, arith}
 use Rattle.ledger_model.{specs.ByDirection.in_direction, specs.Deltas.first_reading, specs.Event.toward, specs.Content.Stored, specs.Step.marked}
-use Rattle.event_chain.{specs.declared.row.TableRow.TableRow, specs.Table.with_row, specs.Chains.Chained, specs.Placed.{Index, carriers_of}, specs.Kept.{IsChains, events_of, end_count, is_end, is_live, is_carrier, is_naming}, proofs.Used.unused_voided, proofs.Marks.{Marked, location_was_voided, is_placed, location_event, location_here, location_within, location_is, location_absent, location_few, in_indexes, marked_chains, marked_events}}
-use Rattle.event_chain.proofs.chains.Chains.relink.Goals.{After-set}
+use Rattle.event_chain.{specs.declared.row.TableRow.TableRow, specs.Table.with_row, specs.Chains.Chained, specs.Placed.{Index, carriers_of}, specs.Kept.{IsChains, events_of, end_count, is_end, is_live, is_carrier, is_naming}, proofs.Used.unused_voided, proofs.Marks.{Marked, location_was_voided, is_placed, location_event, location_here, location_within, location_is, location_absent, location_few, in_indexes, marked_chains, marked_events}, proofs.chains.Chains.relink.Goals.After-set}
 use Rattle.event_chain.proofs.chains.Chains.relink.Goals as goal
 
 pub locate-at-requires : goal.locate-at-requires

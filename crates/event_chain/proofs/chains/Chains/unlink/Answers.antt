@@ -1,7 +1,6 @@
 use Rattle.std.proofs.Common.{ℕ, true, not, cond, Some, None, ◌&&◌, is_some, refl, sym, ap, ◌∙◌, subst, arith}
 use Rattle.ledger_model.{specs.Content.Stored, specs.Step.marked}
-use Rattle.event_chain.{specs.declared.row.TableRow.TableRow, specs.Table.with_row, specs.Chains.Chained, specs.Placed.{Index, carriers_of}, specs.Kept.{IsChains, events_of, end_count, is_end, is_live}, proofs.Marks.{Marked, location_was_live, is_placed, location_event, location_here, location_is, location_sub, location_live, location_ends, out_indexes, marked_chains, marked_events}}
-use Rattle.event_chain.proofs.chains.Chains.unlink.Goals.{After-set}
+use Rattle.event_chain.{specs.declared.row.TableRow.TableRow, specs.Table.with_row, specs.Chains.Chained, specs.Placed.{Index, carriers_of}, specs.Kept.{IsChains, events_of, end_count, is_end, is_live}, proofs.Marks.{Marked, location_was_live, is_placed, location_event, location_here, location_is, location_sub, location_live, location_ends, out_indexes, marked_chains, marked_events}, proofs.chains.Chains.unlink.Goals.After-set}
 use Rattle.event_chain.proofs.chains.Chains.unlink.Goals as goal
 
 pub locate-at-requires : goal.locate-at-requires
