@@ -1,5 +1,5 @@
 -- What chains know before an operation.
-use Rattle.std.{proofs.lemmas.Grind.common_steps, proofs.Common.{◌≡◌, ℕ, zero, suc, ◌+◌, ◌<◌, ◌≤◌, ◌^◌, nat_lt, nat_le, Bool, true, false, not, cond, ◌&&◌, List, [], ◌∷◌, Option, Some, None, is_some, length, sum_by, replicate, refl, sym, ap, ◌∙◌, subst, arith, inl, inr, le-leb, leb-true}, proofs.lemmas.List.Sums.{count_by-le-length, sum_by-cons}, specs.FinMap.FinMap, proofs.lemmas.Bool.cases_lt, proofs.lemmas.List.{length-map, length-replicate}, proofs.lemmas.Bool.Decides.Decides-ltb}
+use Rattle.std.{proofs.lemmas.Grind.common_steps, proofs.Common.{◌≡◌, ℕ, zero, suc, ◌+◌, ◌<◌, ◌≤◌, ◌^◌, nat_lt, nat_le, Bool, true, false, not, cond, ◌&&◌, List, [], ◌∷◌, Option, None, is_some, length, sum_by, replicate, refl, sym, ap, ◌∙◌, arith, inl, inr, le-leb, leb-true}, proofs.lemmas.List.Sums.{count_by-le-length, sum_by-cons}, specs.FinMap.FinMap, proofs.lemmas.Bool.cases_lt, proofs.lemmas.List.{length-map, length-replicate}, proofs.lemmas.Bool.Decides.Decides-ltb}
 use Rattle.std.specs.FinMap as finite
 use Rattle.ledger_model.{specs.declared.reading.Direction.Direction, specs.Key.{KeyName, key_cmp}, specs.Limits.Bounds, specs.Content.{Entry, Stored, has_transaction, transactions_of}, specs.Step.readings_stored, specs.Entries.IsRising}
 use Rattle.slot_arena.specs.Arena.{held_count}
@@ -19,19 +19,7 @@ pub seal : (limits : Bounds) (t : Table) (s : Slots) (st l : Index) (c : Directi
     (record { slots = slots; readings = readings; capacity = room }) (index es events) (index le events) (λ d. index (ce d) events)
     (index ne events)
     → IsChains limits t s st l c n
-seal limits t s st l c n rows transactions slots readings room es le ce ne events tr tc ss sr sc ste le_is ce_is ne_is stc lc cc_is nc h =
-    subst (λ (x : Table). IsChains limits x s st l c n) (sym (λ i. record { rows = tr i; capacity = tc i }))
-    (subst (λ (x : Slots). IsChains limits (record { rows = rows; capacity = transactions }) x st l c n) (sym (λ i. record { slots = ss i; readings = sr i; capacity = sc i }))
-    (subst (λ (x : Index). IsChains limits (record { rows = rows; capacity = transactions }) (record { slots = slots; readings = readings; capacity = room }) x l c n)
-    (sym (λ i. record { entries = ste i; capacity = stc i }))
-    (subst (λ (x : Index). IsChains limits (record { rows = rows; capacity = transactions }) (record { slots = slots; readings = readings; capacity = room }) (index es events) x c n)
-    (sym (λ i. record { entries = le_is i; capacity = lc i }))
-    (subst (λ (x : Direction → Index). IsChains limits (record { rows = rows; capacity = transactions })
-    (record { slots = slots; readings = readings; capacity = room }) (index es events) (index le events) x n)
-    (sym (λ i d. record { entries = ce_is d i; capacity = cc_is d i }))
-    (subst (λ (x : Index). IsChains limits (record { rows = rows; capacity = transactions })
-    (record { slots = slots; readings = readings; capacity = room }) (index es events) (index le events) (λ d. index (ce d) events) x)
-    (sym (λ i. record { entries = ne_is i; capacity = nc i })) h)))))
+seal limits t s st l c n rows transactions slots readings room es le ce ne events tr tc ss sr sc ste le_is ce_is ne_is stc lc cc_is nc h = grind (arith, common_steps)
 
 -- No limit is reached.
 fits_all : (a b c : Bool) → cond a NoTransaction (cond b NoEvent (cond c NoReading Fits)) ≡ Fits → (a ≡ false) × ((b ≡ false) × (c ≡ false))
@@ -144,26 +132,7 @@ pub opened_chains : (limits : Bounds) → limits.events ≤ 65536
     → IsChains limits (record { rows = []; capacity = limits.transactions })
     (record { slots = replicate limits.events None; readings = 0; capacity = limits.readings }) (index [] limits.events)
     (index [] limits.events) (λ _. index [] limits.events) (index [] limits.events)
-opened_chains limits few = record {
-  keyed = record { rising = tt; apart = λ tx other a b at there same. cc; ranks = tt; homes = λ r s is. absurd (no_place r s is); filled = λ tx row is. absurd (no_row tx row is) };
-  indexed = record { lives = record { rising = tt; each = λ r. refl }; carry = λ d. record { rising = tt; each = λ r. refl }; names = record { rising = tt; each = λ r. refl } };
-  figured = λ tx row is. absurd (no_row tx row is);
-  counted = record {
-    all_are = refl;
-    held_are = none_held limits.events;
-    readings_are = refl;
-    transactions_are = refl;
-    slots_are = length-replicate limits.events None;
-    room_is = refl;
-    events_few = few;
-  };
-  roomy = record { for_stored = refl; for_live = refl; for_carriers = λ d. refl; for_naming = refl };
-} where
-  no_place : (r s : ℕ) → place_of r [] ≡ Some s → ⊥
-  no_place r s is = cc
-
-  no_row : (tx : List ℕ) (row : TableRow) → row_of tx [] ≡ Some row → ⊥
-  no_row tx row is = cc
+opened_chains limits few = grind (arith, common_steps, none_held, length-replicate)
 
 -- No event is stored.
 pub opened_events : (es : List Entry) → es ≡ [] → finite.from_sorted {R = key_cmp} es ≡ finite.empty

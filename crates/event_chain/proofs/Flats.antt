@@ -3,7 +3,7 @@ use Rattle.std.{proofs.lemmas.Grind.common_steps, proofs.Common.{◌≡◌, ℕ,
 use Rattle.ledger_model.{proofs.Callers.{first, second, less, key_total, exact_keys}, proofs.Rising.both, specs.Entries.IsRising, specs.Key.{KeyName, key_cmp}, specs.Content.{Entry, Stored}}
 use Rattle.key_index.specs.Key.{rank}
 use Rattle.event_store.specs.Slots.{Held}
-use Rattle.event_chain.{specs.Table.{TxRow, AreRising, id_cmp, row_of}, specs.Flat.{EventPlace, place_of, stored_at, entry_of, segment, entries_of, flat, event_at, number_at, look}, specs.Kept.AreRanks, proofs.Decided.{key_test, id_test, rank_test, not_so, denied, same_test}}
+use Rattle.event_chain.{specs.Table.{TxRow, AreRising, id_cmp, row_of}, specs.Flat.{EventPlace, place_of, entry_of, segment, entries_of, flat, event_at, number_at, look}, specs.Kept.AreRanks, proofs.Decided.{key_test, id_test, rank_test, not_so, denied, same_test}}
 
 -- The first of two that is there.
 abbrev pub either : {X : Type 0} → Option X → Option X → Option X
@@ -23,8 +23,7 @@ rank_split r t e = omega (arith)
 -- A key of a transaction's place, by its rank.
 key_place : (q : KeyName) (tx : List ℕ) (t : ℕ) (e : EventPlace) → e.0 / 2 ^ 31 ≡ t → eq_by_cmp id_cmp q.tx tx ≡ true
     → eq_by_cmp key_cmp q (record { tx = tx; seq = e.0 % 2 ^ 31 }) ≡ eq_by_cmp nat_cmp (rank t q.seq) e.0
-key_place q tx t e home is =
-    let id : q.tx ≡ tx = (id_test q.tx tx).0 is in let split = rank_split e.0 t home in grind (arith, common_steps, same_test, key_test, rank_test)
+key_place q tx t e home is = grind (arith, common_steps, id_test, rank_split, same_test, key_test, rank_test)
 
 -- What is found among the events of a transaction.
 pub find_entries : (q : KeyName) (tx : List ℕ) (t : ℕ) (slots : List (Option Held)) (es : List EventPlace)

@@ -199,11 +199,4 @@ module _ (live : Index) (l : Links) (listed : AreListed live l) (rising : AreRis
 
 -- No links, no lists.
 pub listed_none : (n : ℕ) → AreListed (index [] n) (links (replicate n None) (replicate n None))
-listed_none n = record {
-  prevs = length-replicate n None;
-  nexts = length-replicate n None;
-  own = λ q r s a b. absurd (none q s a);
-  lists = λ t. record { chain = tt; apart = tt; slots = tt };
-} where
-  none : (q s : ℕ) → place_of q [] ≡ Some s → ⊥
-  none q s is = cc
+listed_none n = grind (arith, common_steps, length-replicate)

@@ -1,6 +1,6 @@
 -- The places of an index that have a mark, or all: how its edits change them.
 use Rattle.std.{proofs.lemmas.Grind.common_steps, proofs.Common.{◌≡◌, ℕ, ◌≤◌, nat_lt, ◌==◌, Bool, true, false, cond, List, [], ◌∷◌, ◌++◌, Option, Some, None, is_some, map, option_map, drop, refl, sym, ap, ◌∙◌, subst, arith}, proofs.lemmas.Bool.Decides.Decides-eqb, proofs.lemmas.List.map-append, proofs.lemmas.List.Elements.filter-append, specs.Ordering.nat_cmp, specs.FinMap.put}
-use Rattle.ledger_model.{proofs.Directions.each_way, specs.ByDirection.in_direction, specs.declared.by_direction.ByDirection.ByDirection, specs.declared.reading.Direction.TheVariants.{Import, Export}}
+use Rattle.ledger_model.{proofs.Directions.each_way, specs.declared.by_direction.ByDirection.ByDirection, specs.declared.reading.Direction.TheVariants.{Import, Export}}
 use Rattle.key_index.specs.Index as keyed
 use Rattle.key_index.{specs.declared.filed.Mark.Mark, specs.declared.filed.Mark.TheVariants.{Live, Imports, Exports, Names}, specs.declared.filed.Marks.Marks, specs.declared.filed.Filed.Filed, specs.Entries.{Entry, below, from, filed_at, first_of, last_of, AreAbove, AreRising}, proofs.Orders.{cut_none, cut_whole, last_cons}, specs.Marks.{has_mark, mark_at}}
 use Rattle.event_chain.{specs.Flat.{EventPlace, place_of}, specs.Edits.{put_if, out, IsLiveLess, IsLiveMore, IsLiveSame, IsNotLive}, specs.Placed.{carriers_of, index, marked_places, marked_index, passes, place_in, placed}, proofs.Decided.not_so, proofs.Places.{found_at, put_is, out_is, not_less}}
@@ -181,12 +181,7 @@ module _ (old new : keyed.Index ℕ) (key : ℕ) (up : AreRising old.entries) (r
   more : (slot : ℕ) (carries : ByDirection Bool) (names_evse : Bool)
       → ((m : Mark) → marked_index (Some m) new ≡ index (put_if (has_mark m (live_marks carries names_evse)) key slot (marked_places (Some m) old.entries)) old.capacity)
       → IsLiveMore key slot carries names_evse (placed old) (placed new)
-  more slot carries names_evse each = record {
-    live = each Live;
-    carriers = each_way (λ d. carriers_of (placed new) d ≡ index (put_if (in_direction d carries) key slot (carriers_of (placed old) d).entries) (carriers_of (placed old) d).capacity)
-        (each Imports) (each Exports);
-    naming = each Names;
-  }
+  more slot carries names_evse each = grind (arith, common_steps, each_way)
 
   -- A live event is put in.
   module _ (slot : ℕ) (carries : ByDirection Bool) (names_evse : Bool) (none : place_of key (marked_places None old.entries) ≡ None)

@@ -1,5 +1,5 @@
 -- The indexes of live events, under a move.
-use Rattle.std.{proofs.lemmas.Grind.common_steps, proofs.Common.{arith, ◌≡◌, ℕ, Bool, true, false, not, cond, List, Option, Some, None, refl, sym, ap, ◌∙◌, inl, inr}, proofs.lemmas.Bool.cases_eq, specs.Ordering.{eq_by_cmp, nat_cmp}, specs.Cmp.nat_cmp_total, specs.FinMap.Entries.{is_sorted-put, is_sorted-where_key}}
+use Rattle.std.{proofs.lemmas.Grind.common_steps, proofs.Common.{arith, ◌≡◌, ℕ, Bool, true, false, not, cond, List, Option, Some, None}, proofs.lemmas.Bool.cases_eq, specs.Ordering.{eq_by_cmp, nat_cmp}, specs.Cmp.nat_cmp_total, specs.FinMap.Entries.{is_sorted-put, is_sorted-where_key}}
 use Rattle.ledger_model.specs.Content.{Stored}
 use Rattle.event_store.specs.Slots.{Held}
 use Rattle.event_chain.{specs.Flat.{EventPlace, place_of, stored_at}, specs.Kept.{AreRanks, IsSub, chosen}, specs.Edits.{put_if, out_if}, proofs.Moves.{put_here, put_other, out_other}}
