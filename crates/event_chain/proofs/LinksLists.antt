@@ -80,7 +80,8 @@ linked_without_slot l front s back list = linked_without_run l front (s ∷ []) 
 -- A run put into a list leaves the runs of other slots.
 pub run_beside_in : (l : Links) (front mid back zs : List ℕ) (first last : ℕ) → head_or None mid ≡ Some first → last_or None mid ≡ Some last → AreElsewhere (front ++ (mid ++ back)) zs
     → IsRun l zs → IsRun (linked_in l (last_or None front) first last (head_or None back)) zs
-run_beside_in l front mid back zs first last is_first is_last elsewhere run = grind (arith, common_steps, parts_elsewhere, length-linked_in, chain_beside_in, last_beside, first_absent, last_absent, head_beside, slots_kept)
+run_beside_in l front mid back zs first last is_first is_last elsewhere run =
+    grind (arith, common_steps, parts_elsewhere, length-linked_in, chain_beside_in, last_beside, first_absent, last_absent, head_beside, slots_kept)
 
 -- A run put into a list leaves the lists of other slots.
 pub linked_beside_in : (l : Links) (front mid back zs : List ℕ) (first last : ℕ) → head_or None mid ≡ Some first → last_or None mid ≡ Some last → AreElsewhere (front ++ (mid ++ back)) zs

@@ -69,7 +69,8 @@ insert-requires c =
     let m = c.self.inside in let k = c.self.invariant in let row = c.enter-known.result.0 in let key = c.args.key.now in
     let number : key.seq < 2 ^ 31 = omega (arith, c.seq.ensures.value, c.seq.ensures.range) in
     record {
-      absent = none_at k c.enter-known.new.table.rows key row c.new-at.result (ap (λ (x : Chained). finite.get x.events key) c.self.view_is ∙ c.requires.absent) (known c.seek-found.ensures.same c.tx-tx.ensures c.enter-known.ensures.entered) number
+      absent = none_at k c.enter-known.new.table.rows key row c.new-at.result
+          (ap (λ (x : Chained). finite.get x.events key) c.self.view_is ∙ c.requires.absent) (known c.seek-found.ensures.same c.tx-tx.ensures c.enter-known.ensures.entered) number
           (c.new-at.ensures ∙ ap (rank row.slot) c.seq.ensures.value);
       room = omega (arith, event_room k key.tx (length c.args.event.now.readings) c.self.view_is c.requires.room, k.roomy.for_stored);
       slot_for = record {
@@ -86,7 +87,8 @@ row_with-after-requires c =
 
 pub renew-requires-clause-slot : goal.renew-requires-clause-slot
 renew-requires-clause-slot c =
-    let mid = c.enter-known.new.table.rows in let there = (entered_named c.self.inside.table.rows mid c.args.key.now.tx c.enter-known.result.0 (known c.seek-found.ensures.same c.tx-tx.ensures c.enter-known.ensures.entered)).there in
+    let mid = c.enter-known.new.table.rows in let there = (entered_named c.self.inside.table.rows mid c.args.key.now.tx c.enter-known.result.0
+    (known c.seek-found.ensures.same c.tx-tx.ensures c.enter-known.ensures.entered)).there in
     ap (λ t. option_map (λ (r : TableRow). r.slot) (row_of t mid)) c.tx-tx.ensures ∙ ap (option_map (λ (r : TableRow). r.slot)) there
     ∙ ap Some (sym (ap (λ (r : TableRow). r.slot) c.row_with-after.ensures))
 

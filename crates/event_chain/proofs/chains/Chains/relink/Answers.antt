@@ -68,7 +68,8 @@ done c =
 
 pub invariant_of-self : goal.invariant_of-self
 invariant_of-self c =
-    subst (λ (x : Index). IsChains c.self.inside.limits c.set.new.self c.set_voided.new.self x c.restore.new.self.live (carriers_of c.restore.new.self) c.restore.new.self.naming) (sym c.restore.ensures.stored)
+    subst (λ (x : Index). IsChains c.self.inside.limits c.set.new.self c.set_voided.new.self x c.restore.new.self.live (carriers_of c.restore.new.self) c.restore.new.self.naming)
+    (sym c.restore.ensures.stored)
     (marked_chains c.self.invariant c.args.key.now c.locate-at.ensures (done (goal.at.invariant_of-self c).After-set))
 
 pub returns-clause-events : goal.returns-clause-events
