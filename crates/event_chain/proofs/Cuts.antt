@@ -1,64 +1,27 @@
 -- The places of a transaction, cut at a rank.
-use Rattle.std.{proofs.Common.{◌≡◌, ℕ, ◌+◌, ◌<◌, ◌≤◌, ◌/◌, ◌%◌, ◌^◌, nat_lt, ◌==◌, Bool, true, false, cond, List, [], ◌∷◌, Some, None, map, slice_get, refl, sym, ap, ◌∙◌, arith}, proofs.lemmas.Bool.Decides.{Decides-ltb, Decides-eqb}, specs.List.filter}
+use Rattle.std.{proofs.lemmas.Grind.common_steps, proofs.Common.{◌≡◌, ℕ, ◌+◌, ◌<◌, ◌≤◌, ◌/◌, ◌%◌, ◌^◌, nat_lt, Bool, true, false, cond, List, [], ◌∷◌, Some, None, map, slice_get, refl, sym, ap, ◌∙◌, arith}, proofs.lemmas.Bool.Decides.{Decides-ltb, Decides-eqb}, specs.List.filter}
 use Rattle.key_index.{specs.Entries.{below, from, first_of, last_of, AreAbove, AreRising, AreBelow}, specs.Key.rank}
 use Rattle.event_chain.{specs.Flat.{EventPlace, segment}, specs.Edits.{at_home, places_before, places_behind}, proofs.Decided.{denied, not_so, same_test}, proofs.Places.{not_less, seg_above, last_under_seg, below_under, below_rising}}
 
 -- Of greater ranks none is in front.
 none_under : (t r n : ℕ) (es : List EventPlace) → AreAbove n es → r ≤ n → filter (λ e. nat_lt e.0 r) (segment t es) ≡ []
 none_under t r n [] h le = refl
-none_under t r n (e ∷ es) h le =
-    let up = h.0 in let rest = none_under t r n es h.1 le in
-    elim (e.0 / 2 ^ 31 == t) as (λ b. filter (λ x. nat_lt x.0 r) (cond b (e ∷ segment t es) (segment t es)) ≡ []) [
-      | false ↦ rest
-      | true ↦ ap (λ b. cond b (e ∷ filter (λ (x : EventPlace). nat_lt x.0 r) (segment t es)) (filter (λ x. nat_lt x.0 r) (segment t es)))
-          (not_so _ (Decides-ltb e.0 r) (λ lt. absurd (omega arith))) ∙ rest
-    ]
+none_under t r n (e ∷ es) h le = grind (arith, common_steps, none_under t r n es h.1 le)
 
 -- All greater ranks are behind.
 all_over : (t r n : ℕ) (es : List EventPlace) → AreAbove n es → r ≤ n → filter (λ e. nat_lt r e.0) (segment t es) ≡ segment t es
 all_over t r n [] h le = refl
-all_over t r n (e ∷ es) h le =
-    let up = h.0 in let rest = all_over t r n es h.1 le in
-    elim (e.0 / 2 ^ 31 == t) as (λ b. filter (λ x. nat_lt r x.0) (cond b (e ∷ segment t es) (segment t es)) ≡ cond b (e ∷ segment t es) (segment t es)) [
-      | false ↦ rest
-      | true ↦ ap (λ b. cond b (e ∷ filter (λ (x : EventPlace). nat_lt r x.0) (segment t es)) (filter (λ x. nat_lt r x.0) (segment t es))) ((Decides-ltb r e.0).1 (omega arith))
-          ∙ ap (λ (xs : List EventPlace). e ∷ xs) rest
-    ]
+all_over t r n (e ∷ es) h le = grind (arith, common_steps, all_over t r n es h.1 le)
 
 -- Those of a transaction in front of a rank.
 pub seg_below : (t r : ℕ) (es : List EventPlace) → AreRising es → filter (λ e. nat_lt e.0 r) (segment t es) ≡ segment t (below r es)
 seg_below t r [] h = refl
-seg_below t r (e ∷ es) h =
-    let rest = seg_below t r es h.1 in let kept = filter (λ (x : EventPlace). nat_lt x.0 r) (segment t es) in
-    elim (nat_lt e.0 r) as (λ b. nat_lt e.0 r ≡ b → filter (λ x. nat_lt x.0 r) (cond (e.0 / 2 ^ 31 == t) (e ∷ segment t es) (segment t es)) ≡ segment t (cond b (e ∷ below r es) [])) [
-      | true ↦ λ y. elim (e.0 / 2 ^ 31 == t) as (λ b. filter (λ x. nat_lt x.0 r) (cond b (e ∷ segment t es) (segment t es)) ≡ cond b (e ∷ segment t (below r es)) (segment t (below r es))) [
-        | true ↦ ap (λ b. cond b (e ∷ kept) kept) y ∙ ap (λ (xs : List EventPlace). e ∷ xs) rest
-        | false ↦ rest
-      ]
-      | false ↦ λ never. let none = none_under t r e.0 es h.0 (not_less e.0 r never) in
-          elim (e.0 / 2 ^ 31 == t) as (λ b. filter (λ x. nat_lt x.0 r) (cond b (e ∷ segment t es) (segment t es)) ≡ []) [
-            | true ↦ ap (λ b. cond b (e ∷ kept) kept) never ∙ none
-            | false ↦ none
-          ]
-    ] refl
+seg_below t r (e ∷ es) h = grind (arith, common_steps, none_under, not_less, seg_below t r es h.1)
 
 -- Those behind it.
 pub seg_from : (t r n : ℕ) (es : List EventPlace) → n ≡ r + 1 → AreRising es → filter (λ e. nat_lt r e.0) (segment t es) ≡ segment t (from n es)
 seg_from t r n [] up h = refl
-seg_from t r n (e ∷ es) up h =
-    let rest = seg_from t r n es up h.1 in let kept = filter (λ (x : EventPlace). nat_lt r x.0) (segment t es) in
-    elim (nat_lt e.0 n) as (λ b. nat_lt e.0 n ≡ b → filter (λ x. nat_lt r x.0) (cond (e.0 / 2 ^ 31 == t) (e ∷ segment t es) (segment t es)) ≡ segment t (cond b (from n es) (e ∷ es))) [
-      | true ↦ λ y. let lt : e.0 < n = (Decides-ltb e.0 n).0 y in
-          elim (e.0 / 2 ^ 31 == t) as (λ b. filter (λ x. nat_lt r x.0) (cond b (e ∷ segment t es) (segment t es)) ≡ segment t (from n es)) [
-            | true ↦ ap (λ b. cond b (e ∷ kept) kept) (not_so _ (Decides-ltb r e.0) (λ more. absurd (omega arith))) ∙ rest
-            | false ↦ rest
-          ]
-      | false ↦ λ never. let ge : n ≤ e.0 = not_less e.0 n never in let all = all_over t r e.0 es h.0 (omega arith) in
-          elim (e.0 / 2 ^ 31 == t) as (λ b. filter (λ x. nat_lt r x.0) (cond b (e ∷ segment t es) (segment t es)) ≡ cond b (e ∷ segment t es) (segment t es)) [
-            | true ↦ ap (λ b. cond b (e ∷ kept) kept) ((Decides-ltb r e.0).1 (omega arith)) ∙ ap (λ (xs : List EventPlace). e ∷ xs) all
-            | false ↦ all
-          ]
-    ] refl
+seg_from t r n (e ∷ es) up h = grind (arith, common_steps, Decides-ltb, not_so, not_less, all_over, seg_from t r n es up h.1)
 
 -- Ranks under a number are under a greater one.
 under_more : (m n : ℕ) (es : List EventPlace) → m ≤ n → AreBelow m es → AreBelow n es
@@ -67,28 +30,16 @@ under_more m n (e ∷ es) le h = let lt = h.0 in (omega arith, under_more m n es
 
 -- The last place in front of a rank, where it is of the rank's transaction.
 pub before_seg : (t r : ℕ) (es : List EventPlace) → AreRising es → t ≡ r / 2 ^ 31 → at_home t (last_of (below r es)) ≡ last_of (places_before r es)
-before_seg t r es h home =
-    last_under_seg t (below r es) (below_rising r es h) (under_more r (rank (t + 1) 0) (below r es) (omega (arith, home)) (below_under r es))
-    ∙ ap last_of (sym (seg_below t r es h)) ∙ ap (λ k. last_of (filter (λ (e : EventPlace). nat_lt e.0 r) (segment k es))) home
+before_seg t r es h home = grind (arith, common_steps, last_under_seg, below_rising, under_more, below_under, seg_below)
 
 -- The first of a segment from a rank of its transaction on.
 first_on : (t n : ℕ) (es : List EventPlace) → AreRising es → rank t 0 ≤ n → at_home t (first_of (from n es)) ≡ slice_get (segment t (from n es)) 0
 first_on t n [] h le = refl
-first_on t n (e ∷ es) h le =
-    elim (nat_lt e.0 n) as (λ b. nat_lt e.0 n ≡ b → at_home t (first_of (cond b (from n es) (e ∷ es))) ≡ slice_get (segment t (cond b (from n es) (e ∷ es))) 0) [
-      | true ↦ λ _. first_on t n es h.1 le
-      | false ↦ λ never. let ge : n ≤ e.0 = not_less e.0 n never in
-          elim (e.0 / 2 ^ 31 == t) as (λ b. (e.0 / 2 ^ 31 == t) ≡ b → cond b (Some e) None ≡ slice_get (cond b (e ∷ segment t es) (segment t es)) 0) [
-            | true ↦ λ _. refl
-            | false ↦ λ other. let no_more : e.0 / 2 ^ 31 ≡ t → ⊥ = denied _ (Decides-eqb (e.0 / 2 ^ 31) t) other in
-                let up : t < e.0 / 2 ^ 31 = omega (arith, no_more) in sym (ap (λ xs. slice_get xs 0) (seg_above t e.0 es h.0 up))
-          ] refl
-    ] refl
+first_on t n (e ∷ es) h le = grind (arith, common_steps, not_less, denied, Decides-eqb, seg_above, first_on t n es h.1 le)
 
 -- The first place behind a rank, where it is of the rank's transaction.
 pub behind_seg : (t r n : ℕ) (es : List EventPlace) → AreRising es → t ≡ r / 2 ^ 31 → n ≡ r + 1 → at_home t (first_of (from n es)) ≡ slice_get (places_behind r es) 0
-behind_seg t r n es h home up =
-    first_on t n es h (omega (arith, home, up)) ∙ ap (λ xs. slice_get xs 0) (sym (seg_from t r n es up h)) ∙ ap (λ k. slice_get (filter (λ (e : EventPlace). nat_lt r e.0) (segment k es)) 0) home
+behind_seg t r n es h home up = grind (arith, common_steps, first_on, seg_from)
 
 -- Where the first place from a rank on has another rank, it is the first one behind the rank.
 pub from_past : (r n : ℕ) (es : List EventPlace) → n ≡ r + 1 → ((e : EventPlace) → first_of (from r es) ≡ Some e → e.0 ≡ r → ⊥) → from r es ≡ from n es
@@ -104,12 +55,7 @@ from_past r n (e ∷ es) up apart =
 -- None of a transaction is behind its last rank.
 none_over : (t r : ℕ) (es : List EventPlace) → r + 1 ≡ rank (t + 1) 0 → filter (λ e. nat_lt r e.0) (segment t es) ≡ []
 none_over t r [] is = refl
-none_over t r (e ∷ es) is =
-    let rest = none_over t r es is in let kept = filter (λ (x : EventPlace). nat_lt r x.0) (segment t es) in
-    elim (e.0 / 2 ^ 31 == t) as (λ b. (e.0 / 2 ^ 31 == t) ≡ b → filter (λ x. nat_lt r x.0) (cond b (e ∷ segment t es) (segment t es)) ≡ []) [
-      | false ↦ λ _. rest
-      | true ↦ λ y. let home : e.0 / 2 ^ 31 ≡ t = (Decides-eqb (e.0 / 2 ^ 31) t).0 y in ap (λ b. cond b (e ∷ kept) kept) (not_so _ (Decides-ltb r e.0) (λ lt. absurd (omega arith))) ∙ rest
-    ] refl
+none_over t r (e ∷ es) is = grind (arith, common_steps, none_over t r es is)
 
 -- No place is behind the greatest number.
 pub behind_last : (t number r : ℕ) (es : List EventPlace) → t ≡ r / 2 ^ 31 → number ≡ r % 2 ^ 31 → number ≡ 2147483647 → slice_get (places_behind r es) 0 ≡ None
@@ -120,14 +66,7 @@ pub map_cut : {X : Type 0} (h : EventPlace → X) (f : X → Bool) (g : ℕ → 
     → ((e : EventPlace) → e.0 / 2 ^ 31 ≡ t → f (h e) ≡ g e.0)
     → filter f (map h (segment t es)) ≡ map h (filter (λ e. g e.0) (segment t es))
 map_cut h f g t [] same = refl
-map_cut {X = X} h f g t (e ∷ es) same =
-    let rest = map_cut h f g t es same in let left = filter f (map h (segment t es)) in
-    elim (e.0 / 2 ^ 31 == t) as (λ b. (e.0 / 2 ^ 31 == t) ≡ b → filter f (map h (cond b (e ∷ segment t es) (segment t es))) ≡ map h (filter (λ x. g x.0) (cond b (e ∷ segment t es) (segment t es)))) [
-      | false ↦ λ _. rest
-      | true ↦ λ y. ap (λ b. cond b (h e ∷ left) left) (same e ((Decides-eqb (e.0 / 2 ^ 31) t).0 y))
-          ∙ elim (g e.0) as (λ b. cond b (h e ∷ left) left
-          ≡ map h (cond b (e ∷ filter (λ (x : EventPlace). g x.0) (segment t es)) (filter (λ x. g x.0) (segment t es)))) [ true ↦ ap (λ (xs : List X). h e ∷ xs) rest | false ↦ rest ]
-    ] refl
+map_cut {X = X} h f g t (e ∷ es) same = grind (arith, common_steps, map_cut h f g t es same)
 
 -- A smaller number is that of a smaller rank.
 pub less_rank : (t seq r : ℕ) → r / 2 ^ 31 ≡ t → nat_lt (r % 2 ^ 31) seq ≡ nat_lt r (rank t seq)

@@ -1,14 +1,11 @@
 -- Tests of keys and ranks, and what they decide.
-use Rattle.std.{proofs.Common.{◌≡◌, ℕ, Bool, true, false, List, refl, sym, ap, ◌∙◌}, specs.Bool.Decides, specs.Ordering.{is_eq, eq_by_cmp, nat_cmp}, specs.Cmp.{IsTotalOrder, eq_by_cmp_equiv, nat_cmp_total}, specs.Cmp.Lexicographic.nat_list_cmp_total, specs.FinMap.{IsAntisymmetric, nat_cmp-IsAntisymmetric, slice_cmp-IsAntisymmetric}, specs.declared.cmp.Ordering.Ordering, specs.declared.cmp.Ordering.TheVariants.{Less, Equal, Greater}}
+use Rattle.std.{proofs.lemmas.Grind.common_steps, proofs.Common.{arith, ◌≡◌, ℕ, Bool, true, false, List, sym, ◌∙◌}, specs.Bool.Decides, specs.Ordering.{eq_by_cmp, nat_cmp}, specs.Cmp.{IsTotalOrder, nat_cmp_total}, specs.Cmp.Lexicographic.nat_list_cmp_total, specs.FinMap.{IsAntisymmetric, nat_cmp-IsAntisymmetric, slice_cmp-IsAntisymmetric}, specs.declared.cmp.Ordering.Ordering}
 use Rattle.ledger_model.{specs.Key.{KeyName, key_cmp}, proofs.Callers.{key_total, exact_keys}}
 use Rattle.event_chain.specs.Table.{id_cmp}
 
 -- A test by an order decides equality if its ties are equal.
 tied : {K : Type 0} (R : K → K → Ordering) (o : IsTotalOrder R) (same : IsAntisymmetric R) (x y : K) → Decides (eq_by_cmp R x y) (x ≡ y)
-tied R o same x y = (
-  λ e. elim (R x y) as (λ (r : Ordering). R x y ≡ r → is_eq r ≡ true → x ≡ y) [ Less ↦ λ _ f. cc | Equal ↦ λ p _. same x y p | Greater ↦ λ _ f. cc ] refl e,
-  λ e. ap (λ z. eq_by_cmp R z y) e ∙ (eq_by_cmp_equiv o).refl y,
-)
+tied R o same x y = grind (arith, common_steps)
 
 -- The test of keys.
 pub key_test : (x y : KeyName) → Decides (eq_by_cmp key_cmp x y) (x ≡ y)
@@ -24,8 +21,7 @@ rank_test x y = tied nat_cmp nat_cmp_total nat_cmp-IsAntisymmetric x y
 
 -- A test of what does not hold is false.
 pub not_so : {P : Type 0} (b : Bool) → Decides b P → (P → ⊥) → b ≡ false
-not_so true d never = absurd (never (d.0 refl))
-not_so false d never = refl
+not_so b d never = grind (arith, common_steps)
 
 -- What a false test denies.
 pub denied : {P : Type 0} (b : Bool) → Decides b P → b ≡ false → P → ⊥
@@ -33,6 +29,4 @@ denied b d e p = let f : false ≡ true = sym e ∙ d.1 p in cc
 
 -- Tests of what holds together are one.
 pub same_test : {P Q : Type 0} (a b : Bool) → Decides a P → Decides b Q → (P → Q) → (Q → P) → a ≡ b
-same_test true b da db pq qp = sym (db.1 (pq (da.0 refl)))
-same_test false true da db pq qp = da.1 (qp (db.0 refl))
-same_test false false da db pq qp = refl
+same_test a b da db pq qp = grind (arith, common_steps)

@@ -1,14 +1,12 @@
 -- All events after a move: one put in, written or taken out.
-use Rattle.std.{proofs.Common.{◌≡◌, ℕ, ◌^◌, Bool, true, false, not, cond, List, Option, Some, None, refl, sym, ap, ◌∙◌}, specs.Ordering.{is_eq, eq_by_cmp}, specs.Cmp.{eq_by_cmp_equiv, alike_right}, specs.FinMap.{find, put}, specs.FinMap.Entries.{find-put, find-where_key, is_sorted-put, is_sorted-where_key}, proofs.lemmas.Bool.Decides.Decides-ltb}
+use Rattle.std.{proofs.lemmas.Grind.common_steps, proofs.Common.{arith, ◌≡◌, ℕ, Bool, true, false, not, cond, List, Option, Some, None, refl, sym, ap, ◌∙◌}, specs.Ordering.{is_eq, eq_by_cmp}, specs.Cmp.{eq_by_cmp_equiv, alike_right}, specs.FinMap.{find, put}, specs.FinMap.Entries.{find-put, find-where_key, is_sorted-put, is_sorted-where_key}, proofs.lemmas.Bool.Decides.Decides-ltb}
 use Rattle.std.specs.FinMap as finite
-use Rattle.key_index.specs.Key.{rank}
 use Rattle.ledger_model.{specs.Key.{KeyName, key_cmp}, specs.Content.{Entry, Stored}, specs.Entries.{IsRising, entries_without}, proofs.Callers.{key_total, exact_keys}}
 use Rattle.event_store.specs.Slots.{Held}
 use Rattle.event_chain.{specs.Table.{TxRow, AreRising}, specs.Flat.{EventPlace, place_of, flat, event_at, look}, specs.Kept.AreRanks, proofs.Decided.{key_test, denied}, proofs.Flats.{find_flat, flat_rising, same_flat}, proofs.Looks.{IsMove, look_other, look_here}}
 
 turned : {A : Type 0} (b : Bool) (x y : A) → cond (not b) x y ≡ cond b y x
-turned true x y = refl
-turned false x y = refl
+turned b x y = grind (arith, common_steps)
 
 -- What is found after an entry was taken out.
 pub find_without : (q key : KeyName) (es : List Entry) → find key_cmp q (entries_without key es) ≡ cond (eq_by_cmp key_cmp q key) None (find key_cmp q es)
@@ -20,10 +18,7 @@ module _ (rows new : List TxRow) (es more : List EventPlace) (slots held : List 
     (rising : AreRising rows) (ranks : AreRanks es) (rising_new : AreRising new) (ranks_more : AreRanks more) where
   -- What was under the key.
   pub found_before : find key_cmp key (flat rows es slots) ≡ event_at slots (place_of r0 es)
-  found_before =
-      find_flat key rows es slots rising ∙ move.before key.seq
-      ∙ ap (λ b. event_at slots (cond b (place_of (rank slot key.seq) es) None)) ((Decides-ltb key.seq (2 ^ 31)).1 move.number)
-      ∙ ap (λ r. event_at slots (place_of r es)) (sym move.rank_is)
+  found_before = grind (arith, common_steps, find_flat, Decides-ltb)
 
   -- An event was put in or written.
   pub flat_put : (v : Stored) → event_at held (place_of r0 more) ≡ Some v → flat new more held ≡ put key_cmp key v (flat rows es slots)

@@ -1,11 +1,12 @@
 -- What chains know before an operation.
-use Rattle.std.{proofs.Common.{◌≡◌, ℕ, zero, suc, ◌+◌, ◌<◌, ◌≤◌, ◌^◌, nat_lt, nat_le, Bool, true, false, not, cond, ◌&&◌, List, [], ◌∷◌, Option, Some, None, is_some, length, sum_by, replicate, refl, sym, ap, ◌∙◌, subst, arith, inl, inr, le-leb, leb-true}, specs.Str.bytes_eq, proofs.lemmas.List.Sums.{count_by-le-length, sum_by-cons}, specs.FinMap.FinMap, proofs.lemmas.Bool.cases_lt, proofs.lemmas.List.{length-map, length-replicate}, proofs.lemmas.Bool.Decides.Decides-ltb}
+use Rattle.std.{proofs.lemmas.Grind.common_steps, proofs.Common.{◌≡◌, ℕ, zero, suc, ◌+◌, ◌<◌, ◌≤◌, ◌^◌, nat_lt, nat_le, Bool, true, false, not, cond, ◌&&◌, List, [], ◌∷◌, Option, None, is_some, length, sum_by, replicate, refl, sym, ap, ◌∙◌, arith, inl, inr, le-leb, leb-true}, proofs.lemmas.List.Sums.{count_by-le-length, sum_by-cons}, specs.FinMap.FinMap, proofs.lemmas.Bool.cases_lt, proofs.lemmas.List.{length-map, length-replicate}, proofs.lemmas.Bool.Decides.Decides-ltb}
 use Rattle.std.specs.FinMap as finite
 use Rattle.ledger_model.{specs.declared.reading.Direction.Direction, specs.Key.{KeyName, key_cmp}, specs.Limits.Bounds, specs.Content.{Entry, Stored, has_transaction, transactions_of}, specs.Step.readings_stored, specs.Entries.IsRising}
 use Rattle.slot_arena.specs.Arena.{held_count}
 use Rattle.key_index.specs.Key.{rank}
-use Rattle.event_chain.{specs.Placed.{Index, index}, specs.declared.row.TableRow.TableRow, specs.Table.{Table, TxRow, row_of}, specs.declared.answers.Room.TheVariants.{Fits, NoTransaction, NoEvent, NoReading}, specs.declared.answers.Found.TheVariants.{Live, Voided}, specs.Room.{room_of, found_of}, specs.Flat.{EventPlace, place_of, event_at, flat, look_in, look}, specs.Edits.{place_in, place_at}, specs.Kept.{live_one, end_one, is_end, IsChains, IsNamed, IsEntered, events_of}, proofs.Decided.not_so, proofs.Flats.{find_flat, flat_rising}, proofs.Moves.before_named, proofs.Named.{row_here, row_other}, proofs.Figures.known_figures, proofs.Ids.{ids_flat, has_flat}}
+use Rattle.event_chain.{specs.Placed.{Index, index}, specs.declared.row.TableRow.TableRow, specs.Table.{Table, TxRow, row_of}, specs.declared.answers.Room.TheVariants.{Fits, NoTransaction, NoEvent, NoReading}, specs.Room.{room_of}, specs.Flat.{EventPlace, place_of, event_at, flat, look}, specs.Edits.{place_at}, specs.Kept.{IsChains, IsNamed, IsEntered, events_of}, proofs.Decided.not_so, proofs.Flats.{find_flat, flat_rising}, proofs.Moves.before_named, proofs.Named.{row_here, row_other}, proofs.Figures.known_figures, proofs.Ids.{ids_flat, has_flat}}
 use Rattle.event_store.specs.Slots.{Held, Slots}
+use Rattle.event_chain.specs.Chains.{Chained, stored as stored_of}
 
 -- Chains of equal parts.
 pub seal : (limits : Bounds) (t : Table) (s : Slots) (st l : Index) (c : Direction → Index) (n : Index) (rows : List TxRow)
@@ -18,26 +19,11 @@ pub seal : (limits : Bounds) (t : Table) (s : Slots) (st l : Index) (c : Directi
     (record { slots = slots; readings = readings; capacity = room }) (index es events) (index le events) (λ d. index (ce d) events)
     (index ne events)
     → IsChains limits t s st l c n
-seal limits t s st l c n rows transactions slots readings room es le ce ne events tr tc ss sr sc ste le_is ce_is ne_is stc lc cc_is nc h =
-    subst (λ (x : Table). IsChains limits x s st l c n) (sym (λ i. record { rows = tr i; capacity = tc i }))
-    (subst (λ (x : Slots). IsChains limits (record { rows = rows; capacity = transactions }) x st l c n) (sym (λ i. record { slots = ss i; readings = sr i; capacity = sc i }))
-    (subst (λ (x : Index). IsChains limits (record { rows = rows; capacity = transactions }) (record { slots = slots; readings = readings; capacity = room }) x l c n)
-    (sym (λ i. record { entries = ste i; capacity = stc i }))
-    (subst (λ (x : Index). IsChains limits (record { rows = rows; capacity = transactions }) (record { slots = slots; readings = readings; capacity = room }) (index es events) x c n)
-    (sym (λ i. record { entries = le_is i; capacity = lc i }))
-    (subst (λ (x : Direction → Index). IsChains limits (record { rows = rows; capacity = transactions })
-    (record { slots = slots; readings = readings; capacity = room }) (index es events) (index le events) x n)
-    (sym (λ i d. record { entries = ce_is d i; capacity = cc_is d i }))
-    (subst (λ (x : Index). IsChains limits (record { rows = rows; capacity = transactions })
-    (record { slots = slots; readings = readings; capacity = room }) (index es events) (index le events) (λ d. index (ce d) events) x)
-    (sym (λ i. record { entries = ne_is i; capacity = nc i })) h)))))
+seal limits t s st l c n rows transactions slots readings room es le ce ne events tr tc ss sr sc ste le_is ce_is ne_is stc lc cc_is nc h = grind (arith, common_steps)
 
 -- No limit is reached.
 fits_all : (a b c : Bool) → cond a NoTransaction (cond b NoEvent (cond c NoReading Fits)) ≡ Fits → (a ≡ false) × ((b ≡ false) × (c ≡ false))
-fits_all true b c h = cc
-fits_all false true c h = cc
-fits_all false false true h = cc
-fits_all false false false h = (refl, (refl, refl))
+fits_all a b c h = grind (arith, common_steps)
 
 -- What is not at most another is more.
 more_than : (a b : ℕ) → nat_le a b ≡ false → b < a
@@ -54,8 +40,7 @@ sum_few f (e ∷ es) each = omega (arith, sum_by-cons f e es, each e, sum_few f 
 
 -- A test counts at most one.
 one_at_most : (b : Bool) → cond b 1 0 ≤ 1
-one_at_most true = omega arith
-one_at_most false = omega arith
+one_at_most b = grind (arith, common_steps)
 
 -- An entered transaction is named.
 pub entered_named : (rows mid : List TxRow) (tx : List ℕ) (row : TableRow) → IsEntered rows mid tx row → IsNamed rows mid tx row row
@@ -65,20 +50,6 @@ entered_named rows mid tx row entered = record {
   others = λ q other. elim entered [ inl was ↦ ap (row_of q) was.1 | inr fresh ↦ ap (row_of q) fresh.1 ∙ row_other q tx row rows other ];
   known = elim entered [ inl was ↦ inl was.0 | inr fresh ↦ inr fresh.0 ];
 }
-
--- A found event is live or voided as it is marked.
-pub found_live : (o : Option Stored) → found_of o ≡ Some Live → (s : Stored) × ((o ≡ Some s) × (s.voided ≡ false))
-found_live None h = cc
-found_live (Some s) h =
-    elim s.voided as (λ v. s.voided ≡ v → Some (cond v Voided Live) ≡ Some Live
-    → (t : Stored) × ((Some s ≡ Some t) × (t.voided ≡ false))) [ true ↦ λ _ f. cc | false ↦ λ e _. (s, (refl, e)) ] refl h
-
--- The same of a voided one.
-pub found_voided : (o : Option Stored) → found_of o ≡ Some Voided → (s : Stored) × ((o ≡ Some s) × (s.voided ≡ true))
-found_voided None h = cc
-found_voided (Some s) h =
-    elim s.voided as (λ v. s.voided ≡ v → Some (cond v Voided Live) ≡ Some Voided
-    → (t : Stored) × ((Some s ≡ Some t) × (t.voided ≡ true))) [ false ↦ λ _ f. cc | true ↦ λ e _. (s, (refl, e)) ] refl h
 
 module _ {limits : Bounds} {table : Table} {store : Slots} {stored live : Index} {carriers : Direction → Index} {naming : Index}
     (chains : IsChains limits table store stored live carriers naming) where
@@ -103,26 +74,20 @@ module _ {limits : Bounds} {table : Table} {store : Slots} {stored live : Index}
 
   -- The event of a key is that of its place.
   pub get_place : (q : KeyName) → finite.get events q ≡ event_at store.slots (place_at table.rows stored.entries q)
-  get_place q = get_look q ∙ placed (row_of q.tx table.rows) where
-    placed : (o : Option TableRow) → look_in stored.entries store.slots q.seq o ≡ event_at store.slots (place_in stored.entries q.seq o)
-    placed None = refl
-    placed (Some row) = refl
+  get_place q = grind (arith, common_steps, get_look)
 
   -- As many transactions as the table has rows.
   pub ids_count : length (transactions_of all) ≡ length table.rows
   ids_count = ap length (ids_flat table.rows stored.entries store.slots chains.keyed.rising chains.keyed.filled) ∙ length-map table.rows (λ (r : TxRow). r.0)
 
-  module _ (tx : List ℕ) (readings : ℕ) (fits : room_of limits (finite.entries events) tx readings ≡ Fits) where
+  module _ (tx : List ℕ) (readings : ℕ) {seen : Chained} (view : record { limits = limits; events = events } ≡ seen) (fits : room_of seen.limits (stored_of seen) tx readings ≡ Fits) where
     parts : (not (has_transaction tx all) && nat_le limits.transactions (length (transactions_of all)) ≡ false)
         × ((nat_le limits.events (length all) ≡ false) × (nat_lt limits.readings (readings_stored all + readings) ≡ false))
-    parts = fits_all _ _ _ (ap (λ es. room_of limits es tx readings) (sym entries_all) ∙ fits)
+    parts = fits_all _ _ _ (ap (λ es. room_of limits es tx readings) (sym entries_all) ∙ ap (λ (x : Chained). room_of x.limits (stored_of x) tx readings) view ∙ fits)
 
     -- There is room for a new transaction.
     pub enter_room : row_of tx table.rows ≡ None → length table.rows < table.capacity
-    enter_room absent =
-        let new : has_transaction tx all ≡ false = has_flat tx table.rows stored.entries store.slots chains.keyed.rising chains.keyed.filled ∙ ap is_some absent in
-        let more = more_than limits.transactions (length (transactions_of all)) (sym (ap (λ b. not b && nat_le limits.transactions (length (transactions_of all))) new) ∙ parts.0) in
-        omega (arith, more, ids_count, chains.counted.transactions_are)
+    enter_room absent = grind (arith, common_steps, has_flat, more_than, parts, ids_count)
 
     -- For an event.
     pub event_room : length stored.entries < limits.events
@@ -140,16 +105,11 @@ module _ {limits : Bounds} {table : Table} {store : Slots} {stored live : Index}
       no_event (place_of r0 stored.entries) (ap (λ r. event_at store.slots (place_of r stored.entries)) is
       ∙ sym (ap (λ b. event_at store.slots (cond b (place_of (rank row.slot key.seq) stored.entries) None)) ((Decides-ltb key.seq (2 ^ 31)).1 number)) ∙ sym before ∙ sym (get_look key) ∙ absent) where
         no_event : (o : Option ℕ) → event_at store.slots o ≡ None → o ≡ None
-        no_event None h = refl
-        no_event (Some s) h = cc
+        no_event o h = grind (arith, common_steps)
 
   -- The counts of a transaction that was entered are small.
   pub counts_few : (mid : List TxRow) (tx : List ℕ) (row : TableRow) → IsEntered table.rows mid tx row → (row.live ≤ length stored.entries) × (row.ends ≤ length stored.entries)
-  counts_few mid tx row entered =
-      let was = known_figures table.rows mid stored.entries store.slots tx row row (entered_named table.rows mid tx row entered) chains.figured in (
-        omega (arith, was.live, chains.counted.all_are, sum_few (live_one tx) all (λ e. one_at_most (bytes_eq tx e.0.tx && not e.1.voided))),
-        omega (arith, was.ends, chains.counted.all_are, sum_few (end_one tx) all (λ e. one_at_most (bytes_eq tx e.0.tx && not e.1.voided && is_end e.1.event.kind))),
-      )
+  counts_few mid tx row entered = grind (arith, common_steps, known_figures, entered_named, sum_few, one_at_most)
 
   -- There are no more places than events may be.
   pub places_few : length stored.entries ≤ limits.events
@@ -160,12 +120,7 @@ module _ {limits : Bounds} {table : Table} {store : Slots} {stored live : Index}
       → (not (is_some (row_of tx table.rows)) && nat_le limits.transactions (length table.rows)) ≡ a
       → nat_le limits.events (length stored.entries) ≡ b → nat_lt limits.readings (readings_stored all + n) ≡ c
       → room_of limits (finite.entries events) tx n ≡ cond a NoTransaction (cond b NoEvent (cond c NoReading Fits))
-  room_answer tx n a b c a_is b_is c_is =
-      ap (λ es. room_of limits es tx n) entries_all
-      ∙ (λ i. cond (not (has_flat tx table.rows stored.entries store.slots chains.keyed.rising chains.keyed.filled i) && nat_le limits.transactions (ids_count i))
-      NoTransaction
-      (cond (nat_le limits.events (chains.counted.all_are i)) NoEvent (cond (nat_lt limits.readings (readings_stored all + n)) NoReading Fits)))
-      ∙ (λ i. cond (a_is i) NoTransaction (cond (b_is i) NoEvent (cond (c_is i) NoReading Fits)))
+  room_answer tx n a b c a_is b_is c_is = grind (arith, common_steps, entries_all, has_flat, ids_count)
 
 -- No place, no slot.
 none_held : (n : ℕ) → held_count (replicate {A = Option Held} n None) ≡ 0
@@ -177,26 +132,7 @@ pub opened_chains : (limits : Bounds) → limits.events ≤ 65536
     → IsChains limits (record { rows = []; capacity = limits.transactions })
     (record { slots = replicate limits.events None; readings = 0; capacity = limits.readings }) (index [] limits.events)
     (index [] limits.events) (λ _. index [] limits.events) (index [] limits.events)
-opened_chains limits few = record {
-  keyed = record { rising = tt; apart = λ tx other a b at there same. cc; ranks = tt; homes = λ r s is. absurd (no_place r s is); filled = λ tx row is. absurd (no_row tx row is) };
-  indexed = record { lives = record { rising = tt; each = λ r. refl }; carry = λ d. record { rising = tt; each = λ r. refl }; names = record { rising = tt; each = λ r. refl } };
-  figured = λ tx row is. absurd (no_row tx row is);
-  counted = record {
-    all_are = refl;
-    held_are = none_held limits.events;
-    readings_are = refl;
-    transactions_are = refl;
-    slots_are = length-replicate limits.events None;
-    room_is = refl;
-    events_few = few;
-  };
-  roomy = record { for_stored = refl; for_live = refl; for_carriers = λ d. refl; for_naming = refl };
-} where
-  no_place : (r s : ℕ) → place_of r [] ≡ Some s → ⊥
-  no_place r s is = cc
-
-  no_row : (tx : List ℕ) (row : TableRow) → row_of tx [] ≡ Some row → ⊥
-  no_row tx row is = cc
+opened_chains limits few = grind (arith, common_steps, none_held, length-replicate)
 
 -- No event is stored.
 pub opened_events : (es : List Entry) → es ≡ [] → finite.from_sorted {R = key_cmp} es ≡ finite.empty

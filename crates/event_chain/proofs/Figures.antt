@@ -1,5 +1,5 @@
 -- What is counted of each transaction, under the edits of its events.
-use Rattle.std.{proofs.Common.{◌≡◌, ℕ, ◌+◌, true, false, not, cond, ◌&&◌, List, [], ◌∷◌, Option, Some, None, map, sum_by, refl, sym, ap, ◌∙◌, subst, arith, inl, inr}, specs.Str.bytes_eq, proofs.lemmas.Slice.Eq.bytes_eq-Decides, specs.Ordering.eq_by_cmp, specs.FinMap.{find, put}, proofs.lemmas.List.Sums.{sum_by-cons, sum_by-append}}
+use Rattle.std.{proofs.lemmas.Grind.common_steps, proofs.Common.{◌≡◌, ℕ, ◌+◌, true, false, not, cond, ◌&&◌, List, [], ◌∷◌, Option, Some, None, map, sum_by, refl, sym, ap, ◌∙◌, subst, arith}, specs.Str.bytes_eq, proofs.lemmas.Slice.Eq.bytes_eq-Decides, specs.Ordering.eq_by_cmp, specs.FinMap.{find, put}, proofs.lemmas.List.Sums.{sum_by-cons, sum_by-append}}
 use Rattle.ledger_model.{specs.Key.{KeyName, key_cmp}, specs.Content.{Entry, Stored}, specs.Entries.{IsRising, entries_without}}
 use Rattle.event_store.specs.Slots.{Held}
 use Rattle.event_chain.{specs.declared.row.TableRow.TableRow, specs.Table.{TxRow, id_cmp, row_of}, specs.Flat.{EventPlace, entry_of, segment, entries_of, flat}, specs.Kept.{live_one, end_one, is_end, IsFigured, AreFigured, IsNamed}, proofs.Decided.{id_test, not_so, denied}, proofs.Sums.{at_key, sum_put, sum_without}}
@@ -36,13 +36,7 @@ end_zero tx e apart = ap (λ b. cond {A = ℕ} (b && not e.1.voided && is_end e.
 -- What is counted of a transaction before the edit, where it may be new.
 pub known_figures : (rows new : List TxRow) (es : List EventPlace) (slots : List (Option Held)) (tx : List ℕ) (row after : TableRow)
     → IsNamed rows new tx row after → AreFigured rows (flat rows es slots) → IsFigured rows (flat rows es slots) tx row
-known_figures rows new es slots tx row after named figured = elim named.known [
-  | inl was ↦ figured tx row was
-  | inr fresh ↦ record {
-    live = fresh.none_live ∙ sym (none_flat (live_one tx) tx (live_zero tx) rows es slots fresh.absent);
-    ends = fresh.no_ends ∙ sym (none_flat (end_one tx) tx (end_zero tx) rows es slots fresh.absent);
-  }
-]
+known_figures rows new es slots tx row after named figured = grind (arith, common_steps, none_flat, live_zero, end_zero)
 
 -- A voided event does not count as live.
 pub void_live : (tx : List ℕ) (key : KeyName) (s : Stored) → s.voided ≡ true → live_one tx (key, s) ≡ 0
@@ -50,8 +44,7 @@ void_live tx key s voided = ap (λ v. cond {A = ℕ} (bytes_eq tx key.tx && not 
 
 -- Nor as an end.
 pub void_end : (tx : List ℕ) (key : KeyName) (s : Stored) → s.voided ≡ true → end_one tx (key, s) ≡ 0
-void_end tx key s voided = ap (λ v. cond {A = ℕ} (bytes_eq tx key.tx && not v && is_end s.event.kind) 1 0) voided
-    ∙ elim (bytes_eq tx key.tx) as (λ b. cond {A = ℕ} (b && false && is_end s.event.kind) 1 0 ≡ 0) [ true ↦ refl | false ↦ refl ]
+void_end tx key s voided = grind (arith, common_steps)
 
 -- A transaction has one row.
 one_row : (o : Option TableRow) (a b : TableRow) → o ≡ Some a → o ≡ Some b → a ≡ b
@@ -59,8 +52,7 @@ one_row o a b x y = cc
 
 -- What counts nothing of a key counts nothing there.
 key_zero : (f : Entry → ℕ) (key : KeyName) (o : Option Stored) → ((s : Stored) → f (key, s) ≡ 0) → at_key f key o ≡ 0
-key_zero f key None zero_all = refl
-key_zero f key (Some s) zero_all = zero_all s
+key_zero f key o zero_all = grind (arith, common_steps)
 
 -- The counts after an event was put in or written.
 pub figured_put : (rows new : List TxRow) (es : List EventPlace) (slots : List (Option Held)) (key : KeyName) (v : Stored) (row after : TableRow)
@@ -91,7 +83,4 @@ figured_put rows new es slots key v row after rising figured named live ends q o
 pub figured_out : (rows new : List TxRow) (all : List Entry) (key : KeyName) (st : Stored) → IsRising all → AreFigured rows all
     → find key_cmp key all ≡ Some st → st.voided ≡ true
     → ((q : List ℕ) (row : TableRow) → row_of q new ≡ Some row → row_of q rows ≡ Some row) → AreFigured new (entries_without key all)
-figured_out rows new all key st rising figured found voided back q of is =
-    let was = figured q of (back q of is) in
-    let l0 = ap (at_key (live_one q) key) found ∙ void_live q key st voided in let e0 = ap (at_key (end_one q) key) found ∙ void_end q key st voided in
-    record { live = omega (arith, was.live, l0, sum_without (live_one q) key all rising); ends = omega (arith, was.ends, e0, sum_without (end_one q) key all rising) }
+figured_out rows new all key st rising figured found voided back q of is = grind (arith, common_steps, at_key, void_live, void_end, sum_without)

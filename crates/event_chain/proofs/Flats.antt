@@ -1,9 +1,9 @@
 -- All stored events rise by key, and are found by transaction and rank.
-use Rattle.std.{proofs.Common.{◌≡◌, ℕ, ◌<◌, ◌/◌, ◌%◌, ◌^◌, ◌==◌, nat_lt, true, false, cond, T, List, [], ◌∷◌, ◌++◌, Option, Some, None, map, refl, sym, ap, ◌∙◌, subst, arith}, proofs.lemmas.Bool.Decides.{Decides-eqb, Decides-ltb}, specs.Ordering.{is_eq, is_lt, eq_by_cmp, nat_cmp, ordering_then}, specs.declared.cmp.Ordering.Ordering, specs.declared.cmp.Ordering.TheVariants.{Less, Equal, Greater}, specs.FinMap.{find, nat_cmp-IsAntisymmetric}, specs.FinMap.Entries.{below_all, find-where_key, same_entries}, specs.Cmp.tied_itself, specs.Cmp.Lexicographic.nat_list_cmp_total}
+use Rattle.std.{proofs.lemmas.Grind.common_steps, proofs.Common.{◌≡◌, ℕ, ◌<◌, ◌/◌, ◌%◌, ◌^◌, ◌==◌, nat_lt, true, false, cond, T, List, [], ◌∷◌, ◌++◌, Option, Some, None, map, refl, sym, ap, ◌∙◌, subst, arith}, proofs.lemmas.Bool.Decides.{Decides-eqb, Decides-ltb}, specs.Ordering.{is_eq, is_lt, eq_by_cmp, nat_cmp, ordering_then}, specs.declared.cmp.Ordering.Ordering, specs.declared.cmp.Ordering.TheVariants.{Less, Equal, Greater}, specs.FinMap.{find, nat_cmp-IsAntisymmetric}, specs.FinMap.Entries.{below_all, find-where_key, same_entries}, specs.Cmp.tied_itself, specs.Cmp.Lexicographic.nat_list_cmp_total}
 use Rattle.ledger_model.{proofs.Callers.{first, second, less, key_total, exact_keys}, proofs.Rising.both, specs.Entries.IsRising, specs.Key.{KeyName, key_cmp}, specs.Content.{Entry, Stored}}
 use Rattle.key_index.specs.Key.{rank}
 use Rattle.event_store.specs.Slots.{Held}
-use Rattle.event_chain.{specs.Table.{TxRow, AreRising, id_cmp, row_of}, specs.Flat.{EventPlace, place_of, stored_at, entry_of, segment, entries_of, flat, event_at, number_at, look_in, look}, specs.Kept.AreRanks, proofs.Decided.{key_test, id_test, rank_test, not_so, denied, same_test}}
+use Rattle.event_chain.{specs.Table.{TxRow, AreRising, id_cmp, row_of}, specs.Flat.{EventPlace, place_of, entry_of, segment, entries_of, flat, event_at, number_at, look}, specs.Kept.AreRanks, proofs.Decided.{key_test, id_test, rank_test, not_so, denied, same_test}}
 
 -- The first of two that is there.
 abbrev pub either : {X : Type 0} → Option X → Option X → Option X
@@ -23,33 +23,14 @@ rank_split r t e = omega (arith)
 -- A key of a transaction's place, by its rank.
 key_place : (q : KeyName) (tx : List ℕ) (t : ℕ) (e : EventPlace) → e.0 / 2 ^ 31 ≡ t → eq_by_cmp id_cmp q.tx tx ≡ true
     → eq_by_cmp key_cmp q (record { tx = tx; seq = e.0 % 2 ^ 31 }) ≡ eq_by_cmp nat_cmp (rank t q.seq) e.0
-key_place q tx t e home is =
-    let id : q.tx ≡ tx = (id_test q.tx tx).0 is in let split = rank_split e.0 t home in
-    same_test _ _ (key_test q (record { tx = tx; seq = e.0 % 2 ^ 31 })) (rank_test (rank t q.seq) e.0)
-    (λ k. ap (λ (n : ℕ). rank t n) (ap (λ (x : KeyName). x.seq) k) ∙ sym split)
-    (λ k. let n : q.seq ≡ e.0 % 2 ^ 31 = omega (arith, split, k) in λ i. record { tx = id i; seq = n i })
+key_place q tx t e home is = grind (arith, common_steps, id_test, rank_split, same_test, key_test, rank_test)
 
 -- What is found among the events of a transaction.
 pub find_entries : (q : KeyName) (tx : List ℕ) (t : ℕ) (slots : List (Option Held)) (es : List EventPlace)
     → find key_cmp q (map (entry_of tx slots) (segment t es)) ≡ cond (eq_by_cmp id_cmp q.tx tx) (event_at slots (place_of (rank t q.seq) (segment t es))) None
 find_entries q tx t slots [] = elim (eq_by_cmp id_cmp q.tx tx) as (λ b. ◌≡◌ {A = Option Stored} None (cond b None None)) [ true ↦ refl | false ↦ refl ]
 find_entries q tx t slots (e ∷ es) =
-    let rest = find_entries q tx t slots es in
-    elim (e.0 / 2 ^ 31 == t) as (λ b. (e.0 / 2 ^ 31 == t) ≡ b
-    → find key_cmp q (map (entry_of tx slots) (cond b (e ∷ segment t es) (segment t es)))
-    ≡ cond (eq_by_cmp id_cmp q.tx tx) (event_at slots (place_of (rank t q.seq) (cond b (e ∷ segment t es) (segment t es)))) None) [
-      | false ↦ λ _. rest
-      | true ↦ λ home. elim (eq_by_cmp id_cmp q.tx tx) as (λ b. eq_by_cmp id_cmp q.tx tx ≡ b
-          → find key_cmp q (map (entry_of tx slots) (segment t es)) ≡ cond b (event_at slots (place_of (rank t q.seq) (segment t es))) None
-          → cond (eq_by_cmp key_cmp q (record { tx = tx; seq = e.0 % 2 ^ 31 })) (Some (stored_at slots e.1)) (find key_cmp q (map (entry_of tx slots) (segment t es)))
-          ≡ cond b (event_at slots (cond (eq_by_cmp nat_cmp (rank t q.seq) e.0) (Some e.1) (place_of (rank t q.seq) (segment t es)))) None) [
-            | true ↦ λ is same. ap (λ b. cond b (Some (stored_at slots e.1)) (find key_cmp q (map (entry_of tx slots) (segment t es)))) (key_place q tx t e ((Decides-eqb (e.0 / 2 ^ 31) t).0 home) is)
-                ∙ elim (eq_by_cmp nat_cmp (rank t q.seq) e.0) as (λ b. cond b (Some (stored_at slots e.1)) (find key_cmp q (map (entry_of tx slots) (segment t es)))
-                ≡ event_at slots (cond b (Some e.1) (place_of (rank t q.seq) (segment t es)))) [ true ↦ refl | false ↦ same ]
-            | false ↦ λ other same. ap (λ b. cond b (Some (stored_at slots e.1)) (find key_cmp q (map (entry_of tx slots) (segment t es))))
-                (not_so _ (key_test q _) (λ k. denied _ (id_test q.tx tx) other (ap (λ (x : KeyName). x.tx) k))) ∙ same
-          ] refl rest
-    ] refl
+    let rest = find_entries q tx t slots es in grind (arith, common_steps, key_place, Decides-eqb, not_so, key_test, denied, id_test)
 
 -- A rank of a segment is that of all places, where its number is one.
 pub in_segment : (t seq : ℕ) (es : List EventPlace) → place_of (rank t seq) (segment t es) ≡ cond (rank t seq / 2 ^ 31 == t) (place_of (rank t seq) es) None
@@ -72,17 +53,7 @@ missing tx (r ∷ rows) h = ap (λ o. cond (is_eq o) (Some r.1) (row_of tx rows)
 pub find_flat : (q : KeyName) (rows : List TxRow) (es : List EventPlace) (slots : List (Option Held)) → AreRising rows → find key_cmp q (flat rows es slots) ≡ look rows es slots q
 find_flat q [] es slots rising = refl
 find_flat q (r ∷ rows) es slots rising =
-    let rest = find_flat q rows es slots (second _ _ rising) in
-    find_both key_cmp q (entries_of es slots r) (flat rows es slots)
-    ∙ ap (λ o. either o (find key_cmp q (flat rows es slots)))
-    (find_entries q r.0 r.1.slot slots es ∙ ap (λ o. cond (eq_by_cmp id_cmp q.tx r.0) (event_at slots o) None) (number_is r.1.slot q.seq es))
-    ∙ elim (eq_by_cmp id_cmp q.tx r.0) as (λ b. eq_by_cmp id_cmp q.tx r.0 ≡ b
-    → either (cond b (event_at slots (number_at r.1.slot q.seq es)) None) (find key_cmp q (flat rows es slots)) ≡ look_in es slots q.seq (cond b (Some r.1) (row_of q.tx rows))) [
-      | false ↦ λ _. rest
-      | true ↦ λ is. let none : find key_cmp q (flat rows es slots) ≡ None =
-          rest ∙ ap (look_in es slots q.seq) (missing q.tx rows (subst (λ tx. T (below_all id_cmp tx rows)) (sym ((id_test q.tx r.0).0 is)) (first _ _ rising))) in
-          elim (event_at slots (number_at r.1.slot q.seq es)) as (λ o. either o (find key_cmp q (flat rows es slots)) ≡ o) [ None ↦ none | Some s ↦ refl ]
-    ] refl
+    let rest = find_flat q rows es slots (second _ _ rising) in grind (arith, common_steps, find_both, find_entries, number_is, missing, id_test, first)
 
 -- A smaller number comes first.
 pub nat_less : (a b : ℕ) → a < b → nat_cmp a b ≡ Less
@@ -90,11 +61,7 @@ nat_less a b lt = ap (λ c. cond c Less (cond (a == b) Equal Greater)) ((Decides
 
 -- What comes first is smaller.
 pub less_nat : (a b : ℕ) → T (is_lt (nat_cmp a b)) → a < b
-less_nat a b h =
-    elim (nat_lt a b) as (λ c. nat_lt a b ≡ c → T (is_lt (cond c Less (cond (a == b) Equal Greater))) → a < b) [
-      | true ↦ λ e _. (Decides-ltb a b).0 e
-      | false ↦ λ _ f. elim (a == b) as (λ c. T (is_lt (cond c Equal Greater)) → a < b) [ true ↦ λ g. absurd g | false ↦ λ g. absurd g ] f
-    ] refl h
+less_nat a b h = grind (arith, common_steps)
 
 -- Of one transaction, the smaller number comes first.
 less_seq : (tx : List ℕ) (a b : ℕ) → a < b → T (is_lt (key_cmp (record { tx = tx; seq = a }) (record { tx = tx; seq = b })))
@@ -115,11 +82,7 @@ below_places : (tx : List ℕ) (t r : ℕ) (slots : List (Option Held)) (es : Li
     → T (below_all key_cmp (record { tx = tx; seq = r % 2 ^ 31 }) (map (entry_of tx slots) (segment t es)))
 below_places tx t r slots [] home h = tt
 below_places tx t r slots (e ∷ es) home h =
-    let rest = below_places tx t r slots es home (second _ _ h) in let up : r < e.0 = less_nat r e.0 (first _ _ h) in
-    elim (e.0 / 2 ^ 31 == t) as (λ b. (e.0 / 2 ^ 31 == t) ≡ b → T (below_all key_cmp (record { tx = tx; seq = r % 2 ^ 31 }) (map (entry_of tx slots) (cond b (e ∷ segment t es) (segment t es))))) [
-      | true ↦ λ is. let same : e.0 / 2 ^ 31 ≡ t = (Decides-eqb (e.0 / 2 ^ 31) t).0 is in both _ _ (less_seq tx (r % 2 ^ 31) (e.0 % 2 ^ 31) (omega arith)) rest
-      | false ↦ λ _. rest
-    ] refl
+    let rest = below_places tx t r slots es home (second _ _ h) in let up : r < e.0 = less_nat r e.0 (first _ _ h) in grind (arith, common_steps, Decides-eqb, both, less_seq)
 
 -- The events of a transaction rise, and what comes after them.
 pub entries_rising : (tx : List ℕ) (t : ℕ) (slots : List (Option Held)) (es : List EventPlace) (ys : List Entry) → AreRanks es
@@ -127,12 +90,7 @@ pub entries_rising : (tx : List ℕ) (t : ℕ) (slots : List (Option Held)) (es 
     → IsRising (map (entry_of tx slots) (segment t es) ++ ys)
 entries_rising tx t slots [] ys ranks rising below = rising
 entries_rising tx t slots (e ∷ es) ys ranks rising below =
-    let rest = entries_rising tx t slots es ys (second _ _ ranks) rising below in
-    elim (e.0 / 2 ^ 31 == t) as (λ b. (e.0 / 2 ^ 31 == t) ≡ b → IsRising (map (entry_of tx slots) (cond b (e ∷ segment t es) (segment t es)) ++ ys)) [
-      | true ↦ λ is. both _ _ (below_both _ (map (entry_of tx slots) (segment t es)) ys
-          (below_places tx t e.0 slots es ((Decides-eqb (e.0 / 2 ^ 31) t).0 is) (first _ _ ranks)) (below (e.0 % 2 ^ 31))) rest
-      | false ↦ λ _. rest
-    ] refl
+    let rest = entries_rising tx t slots es ys (second _ _ ranks) rising below in grind (arith, common_steps, both, below_both, below_places, Decides-eqb, first)
 
 -- A key is in front of the events of a transaction of greater id.
 below_entries : (tx other : List ℕ) (n : ℕ) (slots : List (Option Held)) (ps : List EventPlace) → id_cmp tx other ≡ Less

@@ -1,5 +1,5 @@
 -- The transactions of all events are those of the table.
-use Rattle.std.{proofs.Common.{◌≡◌, ℕ, ◌/◌, ◌^◌, ◌==◌, true, false, not, cond, T, List, [], ◌∷◌, ◌++◌, Option, Some, None, is_some, map, refl, sym, ap, ◌∙◌}, specs.List.{filter, list_any}, specs.Str.bytes_eq, proofs.lemmas.List.map-append, specs.Ordering.{is_eq, nat_cmp}, specs.FinMap.Entries.{below_all, is_some-find, find-where_key}, specs.FinMap.nat_cmp-IsAntisymmetric, proofs.lemmas.Slice.Eq.bytes_eq-Decides, proofs.lemmas.Map.Text.is_eq-slice_cmp, proofs.lemmas.Bool.Decides.Decides-eqb}
+use Rattle.std.{proofs.lemmas.Grind.common_steps, proofs.Common.{arith, ◌≡◌, ℕ, ◌/◌, ◌^◌, ◌==◌, false, not, cond, T, List, [], ◌∷◌, ◌++◌, Option, Some, None, is_some, map, refl, sym, ap, ◌∙◌}, specs.List.{filter, list_any}, specs.Str.bytes_eq, proofs.lemmas.List.map-append, specs.Ordering.{is_eq, nat_cmp}, specs.FinMap.Entries.{below_all, is_some-find, find-where_key}, specs.FinMap.nat_cmp-IsAntisymmetric, proofs.lemmas.Slice.Eq.bytes_eq-Decides, proofs.lemmas.Map.Text.is_eq-slice_cmp, proofs.lemmas.Bool.Decides.Decides-eqb}
 use Rattle.ledger_model.{specs.Content.{Entry, distinct, transactions_of, has_transaction}, proofs.TransactionLemmas.transactions-any, proofs.Callers.{first, second, less}}
 use Rattle.event_store.specs.Slots.{Held}
 use Rattle.event_chain.{specs.declared.row.TableRow.TableRow, specs.Table.{TxRow, AreRising, id_cmp, row_of}, specs.Flat.{EventPlace, place_of, entry_of, segment, entries_of, flat}, specs.Kept.HasPlace, proofs.Decided.{id_test, not_so}, proofs.Flats.missing}
@@ -19,19 +19,13 @@ others x ys = filter (λ y. not (bytes_eq x y)) ys
 -- To leave one out twice is to leave it out.
 others_twice : (x : List ℕ) (ys : List (List ℕ)) → others x (others x ys) ≡ others x ys
 others_twice x [] = refl
-others_twice x (y ∷ ys) = elim (bytes_eq x y) as (λ b. bytes_eq x y ≡ b → others x (cond (not b) (y ∷ others x ys) (others x ys)) ≡ cond (not b) (y ∷ others x ys) (others x ys)) [
-  | true ↦ λ _. others_twice x ys
-  | false ↦ λ e. ap (λ b. cond (not b) (y ∷ others x (others x ys)) (others x (others x ys))) e ∙ ap (λ (zs : List (List ℕ)). y ∷ zs) (others_twice x ys)
-] refl
+others_twice x (y ∷ ys) = grind (arith, common_steps, others_twice x ys)
 
 -- The ids of one transaction's events, and what follows.
 run_distinct : (x : List ℕ) (slots : List (Option Held)) (p : EventPlace) (ps : List EventPlace) (ys : List (List ℕ))
     → distinct (ids (map (entry_of x slots) (p ∷ ps)) ++ ys) ≡ x ∷ others x (distinct ys)
 run_distinct x slots p [] ys = refl
-run_distinct x slots p (q ∷ ps) ys =
-    ap (λ (zs : List (List ℕ)). x ∷ others x zs) (run_distinct x slots q ps ys)
-    ∙ ap (λ b. x ∷ cond (not b) (x ∷ others x (others x (distinct ys))) (others x (others x (distinct ys)))) ((bytes_eq-Decides x x).1 refl)
-    ∙ ap (λ (zs : List (List ℕ)). x ∷ zs) (others_twice x (distinct ys))
+run_distinct x slots p (q ∷ ps) ys = grind (arith, common_steps, bytes_eq-Decides, others_twice, run_distinct x slots q ps ys)
 
 -- Greater ids are others.
 others_below : (x : List ℕ) (rows : List TxRow) → T (below_all id_cmp x rows) → others x (names rows) ≡ names rows

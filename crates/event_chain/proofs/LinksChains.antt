@@ -1,17 +1,15 @@
 -- Chains put together, cut, and left as they are.
-use Rattle.std.proofs.Common.{◌≡◌, ℕ, ◌<◌, List, [], ◌∷◌, ◌++◌, Option, Some, None, length, refl, sym, ◌∙◌, subst}
+use Rattle.std.{proofs.lemmas.Grind.common_steps, proofs.Common.{arith, ◌≡◌, ℕ, ◌<◌, List, [], ◌∷◌, ◌++◌, Option, Some, None, length, refl, sym, ◌∙◌, subst}}
 use Rattle.event_chain.{specs.Links.{Links, links, linked_in, linked_out, written}, specs.LinkChain.{head_or, last_or, IsChain, IsBeside, AreSlots}, proofs.LinksWritten.length-written, proofs.LinksEnds.{chain_prev_beside, chain_next_beside, chain_prev_first, chain_next_last}}
 use Rattle.slot_arena.specs.Free.{IsApart, AreApart}
 
 -- The first slot of two lists.
 pub head_append : (after : Option ℕ) (xs ys : List ℕ) → head_or after (xs ++ ys) ≡ head_or (head_or after ys) xs
-head_append after [] ys = refl
-head_append after (x ∷ xs) ys = refl
+head_append after xs ys = grind (arith, common_steps)
 
 -- The first slot of a list that has one, whatever comes after the list.
 pub head_some : (after : Option ℕ) (xs : List ℕ) (first : ℕ) → head_or None xs ≡ Some first → head_or after xs ≡ Some first
-head_some after [] first e = absurd (cc)
-head_some after (x ∷ xs) first e = e
+head_some after xs first e = grind (arith, common_steps)
 
 -- The last slot of a list that has one, whatever comes before the list.
 pub last_some : (before : Option ℕ) (xs : List ℕ) (last : ℕ) → last_or None xs ≡ Some last → last_or before xs ≡ Some last
@@ -49,10 +47,7 @@ slots_parts l (x ∷ xs) ys slots = let rest = slots_parts l xs ys slots.1 in ((
 -- A run put in writes as many links as there are.
 pub length-linked_in : (l : Links) (before : Option ℕ) (first last : ℕ) (after : Option ℕ)
     → (length (linked_in l before first last after).prevs ≡ length l.prevs) × (length (linked_in l before first last after).nexts ≡ length l.nexts)
-length-linked_in l before first last after = (
-  length-written (written l.prevs (Some first) before) after (Some last) ∙ length-written l.prevs (Some first) before,
-  length-written (written l.nexts (Some last) after) before (Some first) ∙ length-written l.nexts (Some last) after,
-)
+length-linked_in l before first last after = grind (arith, common_steps, length-written)
 
 -- A run left out, too.
 pub length-linked_out : (l : Links) (before after : Option ℕ) → (length (linked_out l before after).prevs ≡ length l.prevs) × (length (linked_out l before after).nexts ≡ length l.nexts)
@@ -73,8 +68,7 @@ chain_beside_in l before first last after b zs a hb hf hl ha chain =
 
 -- A run left out elsewhere leaves a chain.
 pub chain_beside_out : (l : Links) (before after b : Option ℕ) (zs : List ℕ) (a : Option ℕ) → IsBeside before zs → IsBeside after zs → IsChain l b zs a → IsChain (linked_out l before after) b zs a
-chain_beside_out l before after b zs a hb ha chain =
-    chain_next_beside (written l.prevs after before) l.nexts before after b zs a hb (chain_prev_beside l.prevs l.nexts after before b zs a ha chain)
+chain_beside_out l before after b zs a hb ha chain = grind (arith, common_steps, chain_next_beside, chain_prev_beside)
 
 -- What is in front of a run, once that is put in.
 pub chain_front_in : (l : Links) (front : List ℕ) (first last : ℕ) (next after : Option ℕ) → AreApart front → AreSlots l front → IsApart first front → IsApart last front → IsBeside after front

@@ -1,5 +1,5 @@
 -- Chains whose ends are written, and those beside.
-use Rattle.std.proofs.Common.{ℕ, List, [], ◌∷◌, Option, Some, None, ◌∙◌}
+use Rattle.std.{proofs.lemmas.Grind.common_steps, proofs.Common.{arith, ℕ, List, [], ◌∷◌, Option, Some, None, ◌∙◌}}
 use Rattle.event_chain.{specs.Links.{links, written}, specs.LinkChain.{head_or, last_or, IsChain, IsBeside, AreSlots}, proofs.LinksWritten.{written_other, written_same, last_other, beside_parts}}
 use Rattle.slot_arena.specs.Free.{AreApart}
 
@@ -21,9 +21,7 @@ chain_next_beside p n to link before (s ∷ ss) after beside chain = let parts =
 pub chain_prev_first : (p n : List (Option ℕ)) (link before : Option ℕ) (ss : List ℕ) (after : Option ℕ) → AreApart ss
     → AreSlots (links p n) ss → IsChain (links p n) before ss after
     → IsChain (links (written p (head_or None ss) link) n) link ss after
-chain_prev_first p n link before [] after apart slots chain = tt
-chain_prev_first p n link before (s ∷ ss) after apart slots chain =
-    (written_same p s link slots.0.prev, chain.1, chain_prev_beside p n (Some s) link (Some s) ss after apart.0 chain.2)
+chain_prev_first p n link before ss after apart slots chain = grind (arith, common_steps, written_same, chain_prev_beside)
 
 -- The link of a chain's last slot is written: what comes after the chain is another.
 pub chain_next_last : (p n : List (Option ℕ)) (link before : Option ℕ) (ss : List ℕ) (after : Option ℕ) → AreApart ss

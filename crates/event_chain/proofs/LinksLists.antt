@@ -1,5 +1,5 @@
 -- Whole lists: a run put in, left out, and lists beside.
-use Rattle.std.proofs.Common.{◌≡◌, ℕ, List, [], ◌∷◌, ◌++◌, Some, None, refl, sym, ◌∙◌, subst}
+use Rattle.std.{proofs.lemmas.Grind.common_steps, proofs.Common.{arith, ◌≡◌, ℕ, List, [], ◌∷◌, ◌++◌, Some, None, refl, sym, ◌∙◌, subst}}
 use Rattle.event_chain.{specs.Links.{Links, links, linked_in, linked_out, written, IsSlot}, specs.LinkChain.{head_or, last_or, IsChain, IsBeside, AreElsewhere, IsLinked, IsRun}, proofs.LinksApart.{elsewhere_back, elsewhere_parts, elsewhere_both, parts_elsewhere, apart_parts, apart_both}, proofs.LinksWritten.{last_beside, head_beside}, proofs.LinksEnds.{chain_prev_beside, chain_next_beside, chain_prev_first, chain_next_last}, proofs.LinksChains.{head_append, head_some, last_some, chain_both, chain_parts, slots_kept, slots_both, slots_parts, length-linked_in, length-linked_out, chain_beside_in, chain_beside_out, chain_front_in, chain_run_in, chain_back_in}}
 use Rattle.slot_arena.specs.Free.{IsApart}
 
@@ -81,17 +81,7 @@ linked_without_slot l front s back list = linked_without_run l front (s ∷ []) 
 pub run_beside_in : (l : Links) (front mid back zs : List ℕ) (first last : ℕ) → head_or None mid ≡ Some first → last_or None mid ≡ Some last → AreElsewhere (front ++ (mid ++ back)) zs
     → IsRun l zs → IsRun (linked_in l (last_or None front) first last (head_or None back)) zs
 run_beside_in l front mid back zs first last is_first is_last elsewhere run =
-    let before = last_or None front in let after = head_or None back in
-    let cut = parts_elsewhere front (mid ++ back) zs elsewhere in let rest = parts_elsewhere mid back zs cut.1 in
-    let lens = length-linked_in l before first last after in
-    record {
-      before = run.before;
-      after = run.after;
-      chain = chain_beside_in l before first last after run.before zs run.after (last_beside None front zs tt cut.0)
-          (first_absent mid zs first is_first rest.0) (last_absent mid zs last is_last rest.0) (head_beside back zs rest.1) run.chain;
-      apart = run.apart;
-      slots = slots_kept l (linked_in l before first last after) zs lens.0 lens.1 run.slots;
-    }
+    grind (arith, common_steps, parts_elsewhere, length-linked_in, chain_beside_in, last_beside, first_absent, last_absent, head_beside, slots_kept)
 
 -- A run put into a list leaves the lists of other slots.
 pub linked_beside_in : (l : Links) (front mid back zs : List ℕ) (first last : ℕ) → head_or None mid ≡ Some first → last_or None mid ≡ Some last → AreElsewhere (front ++ (mid ++ back)) zs

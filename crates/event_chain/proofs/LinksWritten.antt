@@ -1,5 +1,5 @@
 -- What a written link changes, and what it leaves.
-use Rattle.std.proofs.Common.{◌≡◌, ◌≢◌, ℕ, ◌<◌, List, [], ◌∷◌, Option, Some, None, length, get_or, refl, sym, get_or-set_other, get_or-set_same, length-set}
+use Rattle.std.{proofs.lemmas.Grind.common_steps, proofs.Common.{arith, ◌≡◌, ◌≢◌, ℕ, ◌<◌, List, [], ◌∷◌, Option, Some, None, length, get_or, get_or-set_same}}
 use Rattle.event_chain.{specs.Links.written, specs.LinkChain.{last_or, head_or, IsBeside, AreElsewhere}}
 use Rattle.slot_arena.specs.Free.{IsApart}
 
@@ -10,8 +10,7 @@ IsOther s (Some t) = s ≢ t
 
 -- A link written elsewhere leaves that of a slot.
 pub written_other : (row : List (Option ℕ)) (to : Option ℕ) (link : Option ℕ) (s : ℕ) → IsOther s to → get_or (written row to link) s None ≡ get_or row s None
-written_other row None link s other = refl
-written_other row (Some t) link s other = get_or-set_other row t s link None other
+written_other row to link s other = grind (arith, common_steps)
 
 -- A link written at a slot is read there.
 pub written_same : (row : List (Option ℕ)) (s : ℕ) (link : Option ℕ) → s < length row → get_or (written row (Some s) link) s None ≡ link
@@ -19,8 +18,7 @@ written_same row s link lt = get_or-set_same row s link None lt
 
 -- There are as many links as before.
 pub length-written : (row : List (Option ℕ)) (to : Option ℕ) (link : Option ℕ) → length (written row to link) ≡ length row
-length-written row None link = refl
-length-written row (Some t) link = length-set row t link
+length-written row to link = grind (arith, common_steps)
 
 -- A slot is another one than the last of a list that it is absent from.
 pub last_other : (s : ℕ) (before : Option ℕ) (ts : List ℕ) → IsOther s before → IsApart s ts → IsOther s (last_or before ts)
@@ -34,10 +32,8 @@ last_beside before (s ∷ ss) ts beside elsewhere = last_beside (Some s) ss ts e
 
 -- The first slot of a list that is elsewhere is absent.
 pub head_beside : (ss ts : List ℕ) → AreElsewhere ss ts → IsBeside (head_or None ss) ts
-head_beside [] ts elsewhere = tt
-head_beside (s ∷ ss) ts elsewhere = elsewhere.0
+head_beside ss ts elsewhere = grind (arith, common_steps)
 
 -- What is absent from a list is another slot than each of it.
 pub beside_parts : (to : Option ℕ) (t : ℕ) (ts : List ℕ) → IsBeside to (t ∷ ts) → IsOther t to × IsBeside to ts
-beside_parts None t ts beside = (tt, tt)
-beside_parts (Some s) t ts beside = ((λ e. beside.0 (sym e)), beside.1)
+beside_parts to t ts beside = grind (arith, common_steps)

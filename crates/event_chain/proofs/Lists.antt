@@ -1,5 +1,5 @@
 -- The linked lists of the live events, under an edit.
-use Rattle.std.{proofs.Common.{◌≡◌, ◌≢◌, ℕ, ◌<◌, ◌/◌, ◌^◌, ◌==◌, Bool, true, false, cond, List, [], ◌∷◌, ◌++◌, Option, Some, None, map, slice_get, option_map, replicate, refl, sym, ap, ◌∙◌, subst, inl, inr}, proofs.lemmas.Bool.cases_eq, proofs.lemmas.Bool.Decides.Decides-eqb, proofs.lemmas.List.{map-append, length-replicate}, specs.List.filter, specs.Ordering.nat_cmp, specs.Cmp.nat_cmp_total, specs.FinMap.put, specs.FinMap.Entries.is_sorted-put}
+use Rattle.std.{proofs.lemmas.Grind.common_steps, proofs.Common.{arith, ◌≡◌, ◌≢◌, ℕ, ◌<◌, ◌/◌, ◌^◌, ◌==◌, Bool, true, List, [], ◌∷◌, ◌++◌, Option, Some, None, map, slice_get, option_map, replicate, refl, sym, ap, ◌∙◌, subst, inl, inr}, proofs.lemmas.Bool.cases_eq, proofs.lemmas.Bool.Decides.Decides-eqb, proofs.lemmas.List.{map-append, length-replicate}, specs.List.filter, specs.Ordering.nat_cmp, specs.Cmp.nat_cmp_total, specs.FinMap.put, specs.FinMap.Entries.is_sorted-put}
 use Rattle.key_index.{specs.Entries.{last_of, AreRising}, proofs.Orders.last_cons}
 use Rattle.event_chain.{specs.Placed.{Index, index}, specs.Links.{Links, links, linked_in, linked_out, prev_of, next_of, IsSlot}, specs.LinkChain.{head_or, last_or, IsChain, AreElsewhere, AreSlots, IsLinked}, proofs.LinksChains.{chain_parts, slots_parts, length-linked_in, length-linked_out}, proofs.LinksLists.{linked_with_slot, linked_without_slot, linked_beside_in, linked_beside_out}, specs.Flat.{EventPlace, place_of}, specs.Kept.AreRanks, specs.Edits.{out, places_before, places_behind}, specs.Lists.{slot_in, slots_of, slot_before, slot_after, AreOwn, AreListed}, proofs.Members.{AllPlaces, all_found}, proofs.Moves.{put_here, put_other, out_here, out_other}, proofs.Places.ranks_of, proofs.Subs.out_if_ranks, proofs.Splits.{seg_absent, seg_put, seg_put_other, seg_present, seg_out, seg_out_other}}
 use Rattle.slot_arena.specs.Free.{IsApart}
@@ -17,8 +17,7 @@ last_slot (p ∷ q ∷ ps) = last_slot (q ∷ ps) ∙ ap (option_map slot_in) (s
 
 -- The first of slots is one.
 first_is_slot : (l : Links) (ss : List ℕ) → AreSlots l ss → (x : ℕ) → head_or None ss ≡ Some x → IsSlot l x
-first_is_slot l [] h x is = cc
-first_is_slot l (s ∷ ss) h x is = let same : s ≡ x = cc in subst (IsSlot l) same h.0
+first_is_slot l ss h x is = grind (arith, common_steps)
 
 -- So is the last.
 last_is_slot : (l : Links) (ss : List ℕ) → AreSlots l ss → (x : ℕ) → last_or None ss ≡ Some x → IsSlot l x
@@ -35,24 +34,16 @@ after_last l before (x ∷ y ∷ ys) after s chain last = after_last l (Some x) 
 -- A slot is absent where no place that passes a test has it.
 absent_left : (s : ℕ) (f : EventPlace → Bool) (ps : List EventPlace) → AllPlaces (λ p. f p ≡ true → s ≢ p.1) ps → IsApart s (map slot_in (filter f ps))
 absent_left s f [] h = tt
-absent_left s f (p ∷ ps) h = elim (f p) as (λ b. f p ≡ b → IsApart s (map slot_in (cond b (p ∷ filter f ps) (filter f ps)))) [
-  | true ↦ λ y. (h.0 y, absent_left s f ps h.1)
-  | false ↦ λ _. absent_left s f ps h.1
-] refl
+absent_left s f (p ∷ ps) h = grind (arith, common_steps, absent_left s f ps h.1)
 
 -- Slots are elsewhere where those of the places that pass a test are absent.
 elsewhere_left : (f : EventPlace → Bool) (zs : List ℕ) (ps : List EventPlace) → AllPlaces (λ p. f p ≡ true → IsApart p.1 zs) ps → AreElsewhere (map slot_in (filter f ps)) zs
 elsewhere_left f zs [] h = tt
-elsewhere_left f zs (p ∷ ps) h = elim (f p) as (λ b. f p ≡ b → AreElsewhere (map slot_in (cond b (p ∷ filter f ps) (filter f ps))) zs) [
-  | true ↦ λ y. (h.0 y, elsewhere_left f zs ps h.1)
-  | false ↦ λ _. elsewhere_left f zs ps h.1
-] refl
+elsewhere_left f zs (p ∷ ps) h = grind (arith, common_steps, elsewhere_left f zs ps h.1)
 
 -- A slot that has no place of a transaction is absent from its list.
 pub absent_of : (s t : ℕ) (es : List EventPlace) → AreRanks es → ((r : ℕ) → place_of r es ≡ Some s → r / 2 ^ 31 ≡ t → ⊥) → IsApart s (slots_of t es)
-absent_of s t es ranks never =
-    absent_left s (λ e. e.0 / 2 ^ 31 == t) es
-    (all_found (λ p. (p.0 / 2 ^ 31 == t) ≡ true → s ≢ p.1) es ranks (λ p at y e. never p.0 (at ∙ ap Some (sym e)) ((Decides-eqb (p.0 / 2 ^ 31) t).0 y)))
+absent_of s t es ranks never = grind (arith, common_steps, absent_left, all_found, Decides-eqb)
 
 -- The lists of two transactions share no slot.
 pub lists_elsewhere : (t q : ℕ) (es : List EventPlace) → AreRanks es → AreOwn es → (t ≡ q → ⊥) → AreElsewhere (slots_of t es) (slots_of q es)
@@ -61,16 +52,7 @@ lists_elsewhere t q es ranks own other = elsewhere_left (λ e. e.0 / 2 ^ 31 == t
 
 -- No slot gets two ranks where one is put in that had none.
 pub own_put : (r0 s0 : ℕ) (es : List EventPlace) → AreOwn es → ((r : ℕ) → place_of r es ≡ Some s0 → ⊥) → AreOwn (put nat_cmp r0 s0 es)
-own_put r0 s0 es own unused q r s a b = elim (cases_eq q r0) [
-  | inl q_is ↦ elim (cases_eq r r0) [
-    | inl r_is ↦ q_is ∙ sym r_is
-    | inr r_other ↦ let e : Some s ≡ Some s0 = sym a ∙ ap (λ k. place_of k (put nat_cmp r0 s0 es)) q_is ∙ put_here r0 s0 es in absurd (unused r (sym (put_other r r0 s0 es r_other) ∙ b ∙ e))
-  ]
-  | inr q_other ↦ elim (cases_eq r r0) [
-    | inl r_is ↦ let e : Some s ≡ Some s0 = sym b ∙ ap (λ k. place_of k (put nat_cmp r0 s0 es)) r_is ∙ put_here r0 s0 es in absurd (unused q (sym (put_other q r0 s0 es q_other) ∙ a ∙ e))
-    | inr r_other ↦ own q r s (sym (put_other q r0 s0 es q_other) ∙ a) (sym (put_other r r0 s0 es r_other) ∙ b)
-  ]
-]
+own_put r0 s0 es own unused q r s a b = grind (arith, common_steps, cases_eq, put_here, put_other)
 
 -- What is there is not gone.
 not_gone : (o : Option ℕ) (s : ℕ) → o ≡ Some s → o ≡ None → ⊥
@@ -78,10 +60,7 @@ not_gone o s a b = cc
 
 -- Nor where one is taken out.
 pub own_out : (r0 : ℕ) (es : List EventPlace) → AreOwn es → AreOwn (out r0 es)
-own_out r0 es own q r s a b =
-    let still : (k : ℕ) → place_of k (out r0 es) ≡ Some s
-    → place_of k es ≡ Some s = λ k at. sym (out_other k r0 es (λ e. not_gone (place_of k (out r0 es)) s at (ap (λ x. place_of x (out r0 es)) e ∙ out_here r0 es))) ∙ at in
-    own q r s (still q a) (still r b)
+own_out r0 es own q r s a b = grind (arith, common_steps, out_other, not_gone, out_here)
 
 -- What is in front of a place put in, and what behind it.
 abbrev pub front_of : ℕ → List EventPlace → List ℕ
@@ -220,11 +199,4 @@ module _ (live : Index) (l : Links) (listed : AreListed live l) (rising : AreRis
 
 -- No links, no lists.
 pub listed_none : (n : ℕ) → AreListed (index [] n) (links (replicate n None) (replicate n None))
-listed_none n = record {
-  prevs = length-replicate n None;
-  nexts = length-replicate n None;
-  own = λ q r s a b. absurd (none q s a);
-  lists = λ t. record { chain = tt; apart = tt; slots = tt };
-} where
-  none : (q s : ℕ) → place_of q [] ≡ Some s → ⊥
-  none q s is = cc
+listed_none n = grind (arith, common_steps, length-replicate)

@@ -1,9 +1,9 @@
 -- The live events of a transaction are those of its segment of an index.
-use Rattle.std.{proofs.Common.{◌≡◌, ℕ, zero, suc, ◌/◌, ◌^◌, ◌==◌, nat_lt, Bool, true, false, not, cond, ◌&&◌, T, List, [], ◌∷◌, Option, Some, None, is_some, length, map, sum_by, refl, sym, ap, ◌∙◌, subst, arith, append-nil, slice_get, option_map, unwrap_or, ◌-◌}, specs.List.{filter, count_by, filter_map, cons_option}, proofs.lemmas.List.length-map, proofs.lemmas.Bool.Decides.Decides-eqb, specs.Str.bytes_eq, specs.Ordering.{is_eq, eq_by_cmp, nat_cmp}, specs.FinMap.find, specs.FinMap.Entries.below_all, proofs.lemmas.Slice.Eq.bytes_eq-Decides, proofs.lemmas.List.Sums.sum_by-cons}
+use Rattle.std.{proofs.lemmas.Grind.common_steps, proofs.Common.{◌≡◌, ℕ, zero, suc, ◌/◌, ◌^◌, ◌==◌, Bool, true, false, not, cond, ◌&&◌, T, List, [], ◌∷◌, Option, Some, None, is_some, length, map, sum_by, refl, sym, ap, ◌∙◌, subst, arith, append-nil, slice_get, option_map, unwrap_or, ◌-◌}, specs.List.{filter, count_by, filter_map}, proofs.lemmas.List.length-map, specs.Str.bytes_eq, specs.Ordering.{is_eq, eq_by_cmp, nat_cmp}, specs.FinMap.find, specs.FinMap.Entries.below_all, proofs.lemmas.Slice.Eq.bytes_eq-Decides}
 use Rattle.key_index.{specs.Entries.last_of, specs.Key.rank}
-use Rattle.ledger_model.{specs.Evse.{first_or_zero, evse_of}, specs.Key.{KeyName, key_cmp}, specs.Content.{Entry, Stored, live, live_of}, specs.Entries.IsRising, proofs.Callers.{first, second, find_below}, proofs.Rising.both, specs.declared.kind.Kind.Kind, specs.Complete.kinds_of, specs.Gaps.numbers_of}
+use Rattle.ledger_model.{specs.Evse.{first_or_zero, evse_of}, specs.Key.{KeyName, key_cmp}, specs.Content.{Entry, Stored, live_of}, specs.Entries.IsRising, proofs.Callers.{first, second, find_below}, proofs.Rising.both, specs.Complete.kinds_of, specs.Gaps.numbers_of}
 use Rattle.event_store.specs.Slots.{Held}
-use Rattle.event_chain.{specs.declared.row.TableRow.TableRow, specs.Table.{TxRow, AreRising, row_of}, specs.Flat.{EventPlace, place_of, stored_at, entry_of, segment, flat, event_at, number_at, look_in, look}, specs.Kept.{AreRanks, HasPlace, IsBare, IsSub, chosen, is_live, is_naming, is_end, live_one, end_one}, specs.Edits.{first_under, last_under, kind_in, evse_at}, specs.EventLines.{events_of, line_at, line_of}, specs.Walk.{number_in, numbers_at}, proofs.Decided.{key_test, id_test, rank_test, denied, not_so}, proofs.Flats.{find_entries, number_is, find_flat, flat_rising, same_flat, entries_rising, nat_less, less_nat}}
+use Rattle.event_chain.{specs.declared.row.TableRow.TableRow, specs.Table.{TxRow, AreRising, row_of}, specs.Flat.{EventPlace, place_of, entry_of, segment, flat, event_at, number_at, look_in, look}, specs.Kept.{AreRanks, HasPlace, IsBare, IsSub, chosen, is_live, is_naming, is_end, live_one, end_one}, specs.Edits.{first_under, last_under, kind_in, evse_at}, specs.EventLines.{events_of, line_at, line_of}, specs.Walk.{number_in, numbers_at}, proofs.Decided.{key_test, id_test, rank_test, denied, not_so}, proofs.Flats.{find_entries, number_is, find_flat, flat_rising, same_flat, entries_rising, nat_less, less_nat}}
 
 -- An event, where it passes a test.
 abbrev pub passing : (Stored → Bool) → Option Stored → Option Stored
@@ -53,40 +53,17 @@ find_passing test tx q (e ∷ es) h =
           ]
     ] refl
 
--- Three tests.
-and_assoc : (a b c : Bool) → cond {A = ℕ} (a && b && c) 1 0 ≡ cond ((a && b) && c) 1 0
-and_assoc true b c = refl
-and_assoc false b c = refl
-
--- What is and false is false.
-and_false : (b : Bool) → (b && false) ≡ false
-and_false true = refl
-and_false false = refl
-
 -- Tests of two filters.
 pub live_of_is : (tx : List ℕ) (es : List Entry) → live_of tx es ≡ passing_of is_live tx es
 live_of_is tx [] = refl
-live_of_is tx (e ∷ es) =
-    let rest = live_of_is tx es in
-    elim e.1.voided as (λ v. filter (λ x. bytes_eq tx x.0.tx) (cond (not v) (e ∷ live es) (live es)) ≡ cond (bytes_eq tx e.0.tx && not v) (e ∷ passing_of is_live tx es) (passing_of is_live tx es)) [
-      | true ↦ rest ∙ sym (ap (λ b. cond b (e ∷ passing_of is_live tx es) (passing_of is_live tx es)) (and_false (bytes_eq tx e.0.tx)))
-      | false ↦ elim (bytes_eq tx e.0.tx) as (λ b. cond b (e ∷ live_of tx es) (live_of tx es)
-          ≡ cond (b && true) (e ∷ passing_of is_live tx es) (passing_of is_live tx es)) [ true ↦ ap (λ (xs : List Entry). e ∷ xs) rest | false ↦ rest ]
-    ]
+live_of_is tx (e ∷ es) = grind (arith, common_steps, live_of_is tx es)
 
 module _ (rows : List TxRow) (es : List EventPlace) (slots : List (Option Held)) (rising : AreRising rows) (ranks : AreRanks es)
     (test : Stored → Bool) (sub : List EventPlace) (is_sub : IsSub test es slots sub) (tx : List ℕ) (row : TableRow)
     (row_is : row_of tx rows ≡ Some row) where
   -- The event of a number in the sub-index.
   sub_number : (seq : ℕ) → event_at slots (number_at row.slot seq sub) ≡ passing test (event_at slots (number_at row.slot seq es))
-  sub_number seq =
-      elim (nat_lt seq (2 ^ 31)) as (λ b. event_at slots (cond b (place_of (rank row.slot seq) sub) None) ≡ passing test (event_at slots (cond b (place_of (rank row.slot seq) es) None))) [
-        | false ↦ refl
-        | true ↦ ap (event_at slots) (is_sub.each (rank row.slot seq)) ∙ told (place_of (rank row.slot seq) es)
-      ] where
-        told : (o : Option ℕ) → event_at slots (chosen test slots o) ≡ passing test (event_at slots o)
-        told None = refl
-        told (Some s) = elim (test (stored_at slots s)) as (λ b. event_at slots (cond b (Some s) None) ≡ cond b (Some (stored_at slots s)) None) [ true ↦ refl | false ↦ refl ]
+  sub_number seq = grind (arith, common_steps)
 
   -- Those of the transaction that pass are those of its segment.
   pub segment_passing : passing_of test tx (flat rows es slots) ≡ map (entry_of tx slots) (segment row.slot sub)
@@ -111,43 +88,21 @@ module _ (rows : List TxRow) (es : List EventPlace) (slots : List (Option Held))
     (test : Stored → Bool) (tx : List ℕ) (absent : row_of tx rows ≡ None) where
   -- None of an absent transaction pass.
   pub none_passing : passing_of test tx (flat rows es slots) ≡ []
-  none_passing =
-      let all = flat rows es slots in
-      same_flat (passing_of test tx all) [] (filter_rising (λ e. bytes_eq tx e.0.tx && test e.1) all (flat_rising rows es slots rising ranks)) tt (λ q.
-      find_passing test tx q all (flat_rising rows es slots rising ranks) ∙ ap (λ o. cond (bytes_eq tx q.tx) (passing test o) None) (find_flat q rows es slots rising)
-      ∙ elim (bytes_eq tx q.tx) as (λ b. bytes_eq tx q.tx ≡ b → cond b (passing test (look rows es slots q)) None ≡ None) [
-        | false ↦ λ _. refl
-        | true ↦ λ same. ap (λ t. passing test (look_in es slots q.seq (row_of t rows))) (sym ((bytes_eq-Decides tx q.tx).0 same)) ∙ ap (λ o. passing test (look_in es slots q.seq o)) absent
-      ] refl)
+  none_passing = grind (arith, common_steps, same_flat, filter_rising, flat_rising, find_passing, find_flat, bytes_eq-Decides)
 
 -- How many live events a transaction has.
 pub live_length : (tx : List ℕ) (es : List Entry) → length (live_of tx es) ≡ sum_by (live_one tx) es
 live_length tx es = ap length (live_of_is tx es) ∙ counted es where
   counted : (xs : List Entry) → length (passing_of is_live tx xs) ≡ sum_by (live_one tx) xs
   counted [] = refl
-  counted (e ∷ xs) = let rest = counted xs in
-      elim (bytes_eq tx e.0.tx && not e.1.voided) as (λ b. live_one tx e ≡ cond b 1 0 → length (cond b (e ∷ passing_of is_live tx xs) (passing_of is_live tx xs)) ≡ sum_by (live_one tx) (e ∷ xs)) [
-        | true ↦ λ one. omega (arith, sum_by-cons (live_one tx) e xs, one, rest)
-        | false ↦ λ one. omega (arith, sum_by-cons (live_one tx) e xs, one, rest)
-      ] refl
+  counted (e ∷ xs) = grind (arith, common_steps, counted xs)
 
 -- How many of them are Started or Ended.
 pub ends_length : (tx : List ℕ) (es : List Entry) → count_by is_end (kinds_of tx es) ≡ sum_by (end_one tx) es
 ends_length tx es = ap (λ (xs : List Entry). count_by is_end (map (λ e. e.1.event.kind) xs)) (live_of_is tx es) ∙ counted es where
   counted : (xs : List Entry) → count_by is_end (map (λ (e : Entry). e.1.event.kind) (passing_of is_live tx xs)) ≡ sum_by (end_one tx) xs
   counted [] = refl
-  counted (e ∷ xs) = let rest = counted xs in
-      elim (bytes_eq tx e.0.tx && not e.1.voided) as (λ b. end_one tx e ≡ cond (b && is_end e.1.event.kind) 1 0
-      → count_by is_end (map (λ (x : Entry). x.1.event.kind) (cond b (e ∷ passing_of is_live tx xs) (passing_of is_live tx xs))) ≡ sum_by (end_one tx) (e ∷ xs)) [
-        | true ↦ λ one. omega (
-          arith,
-          sum_by-cons (end_one tx) e xs,
-          one,
-          rest,
-          sum_by-cons (λ (k : Kind). cond {A = ℕ} (is_end k) 1 0) e.1.event.kind (map (λ (x : Entry). x.1.event.kind) (passing_of is_live tx xs)),
-        )
-        | false ↦ λ one. omega (arith, sum_by-cons (end_one tx) e xs, one, rest)
-      ] (and_assoc (bytes_eq tx e.0.tx) (not e.1.voided) (is_end e.1.event.kind))
+  counted (e ∷ xs) = grind (arith, common_steps, counted xs)
 
 -- The first of what a list is turned into.
 pub first_map : {X Y : Type 0} (f : X → Y) (xs : List X) → slice_get (map f xs) 0 ≡ option_map f (slice_get xs 0)
@@ -192,18 +147,12 @@ all_sub : (es : List EventPlace) (slots : List (Option Held)) → AreRanks es �
 unfolding any
 all_sub es slots ranks = record { rising = ranks; each = λ r. told (place_of r es) } where
   told : (o : Option ℕ) → o ≡ chosen any slots o
-  told None = refl
-  told (Some s) = refl
+  told o = grind (arith, common_steps)
 
 passing_any : (tx : List ℕ) (es : List Entry) → filter (λ e. bytes_eq tx e.0.tx) es ≡ passing_of any tx es
 unfolding any
 passing_any tx [] = refl
-passing_any tx (e ∷ es) =
-    elim (bytes_eq tx e.0.tx) as (λ b. cond b (e ∷ filter (λ (x : Entry). bytes_eq tx x.0.tx) es) (filter (λ x. bytes_eq tx x.0.tx) es)
-    ≡ cond (b && true) (e ∷ passing_of any tx es) (passing_of any tx es)) [
-      | true ↦ ap (λ (xs : List Entry). e ∷ xs) (passing_any tx es)
-      | false ↦ passing_any tx es
-    ]
+passing_any tx (e ∷ es) = grind (arith, common_steps, passing_any tx es)
 
 pub events_under : (rows : List TxRow) (es : List EventPlace) (slots : List (Option Held)) → AreRising rows → AreRanks es
     → (tx : List ℕ) (row : TableRow) → row_of tx rows ≡ Some row
@@ -273,11 +222,7 @@ evse_first (Some e) = unwrap_or e.1.event.evse 0
 named : (e : Entry) (mine voided : Bool) (evse : Option ℕ) → e.1.event.evse ≡ evse → (lives names : List Entry)
     → first_or_zero (filter_map (λ x. x.1.event.evse) lives) ≡ evse_first (slice_get names 0)
     → first_or_zero (filter_map (λ x. x.1.event.evse) (cond (mine && not voided) (e ∷ lives) lives)) ≡ evse_first (slice_get (cond (mine && (not voided && is_some evse)) (e ∷ names) names) 0)
-named e false voided evse is lives names rest = rest
-named e true true evse is lives names rest = rest
-named e true false None is lives names rest = ap (λ (o : Option ℕ). first_or_zero (cons_option o (filter_map (λ (x : Entry). x.1.event.evse) lives))) is ∙ rest
-named e true false (Some n) is lives names rest = ap (λ (o : Option ℕ). first_or_zero (cons_option o (filter_map (λ (x : Entry). x.1.event.evse) lives))) is
-    ∙ sym (ap (λ (o : Option ℕ). unwrap_or o 0) is)
+named e mine voided evse is lives names rest = grind (arith, common_steps)
 
 -- The first EVSE that is named is that of the first event that names one.
 evse_naming : (tx : List ℕ) (es : List Entry) → first_or_zero (filter_map (λ e. e.1.event.evse) (passing_of is_live tx es)) ≡ evse_first (slice_get (passing_of is_naming tx es) 0)
@@ -295,8 +240,7 @@ evse_number rows es names slots rising ranks sub tx =
       placed (p ∷ ps) = refl
 
       told : (o : Option TableRow) → row_of tx rows ≡ o → evse_first (slice_get (passing_of is_naming tx (flat rows es slots)) 0) ≡ evse_at slots (first_under names o)
-      told None is = ap (λ (xs : List Entry). evse_first (slice_get xs 0)) (none_passing rows es slots rising ranks is_naming tx is)
-      told (Some row) is = ap (λ (xs : List Entry). evse_first (slice_get xs 0)) (segment_passing rows es slots rising ranks is_naming names sub tx row is) ∙ placed (segment row.slot names)
+      told o is = grind (arith, common_steps, none_passing, segment_passing, placed)
 
 -- A rank below all is not found.
 pub below_none : (r : ℕ) (es : List EventPlace) → T (below_all nat_cmp r es) → place_of r es ≡ None
@@ -320,11 +264,7 @@ seg_found t (e ∷ es) p h is =
 -- The first of a segment is of its transaction.
 seg_home : (t : ℕ) (es : List EventPlace) (p : EventPlace) → slice_get (segment t es) 0 ≡ Some p → p.0 / 2 ^ 31 ≡ t
 seg_home t [] p is = cc
-seg_home t (e ∷ es) p is =
-    elim (e.0 / 2 ^ 31 == t) as (λ b. (e.0 / 2 ^ 31 == t) ≡ b → slice_get (cond b (e ∷ segment t es) (segment t es)) 0 ≡ Some p → p.0 / 2 ^ 31 ≡ t) [
-      | true ↦ λ y some. let same : e ≡ p = cc in ap (λ (k : EventPlace). k.0 / 2 ^ 31) (sym same) ∙ (Decides-eqb (e.0 / 2 ^ 31) t).0 y
-      | false ↦ λ _ some. seg_home t es p some
-    ] refl is
+seg_home t (e ∷ es) p is = grind (arith, common_steps, seg_home t es p)
 
 -- Where a segment has a first place, its transaction has one.
 pub seg_some : (t : ℕ) (es : List EventPlace) (o : Option EventPlace) → AreRanks es → o ≡ slice_get (segment t es) 0 → is_some o ≡ true → HasPlace es t
@@ -337,16 +277,8 @@ seg_bare t es (Some p) is some r s found home = cc
 seg_bare t es None is some r s found home = bare es (sym is) found where
   bare : (ps : List EventPlace) → slice_get (segment t ps) 0 ≡ None → place_of r ps ≡ Some s → ⊥
   bare [] none there = cc
-  bare (p ∷ ps) none there =
-      elim (p.0 / 2 ^ 31 == t) as (λ b. (p.0 / 2 ^ 31 == t) ≡ b → slice_get (cond b (p ∷ segment t ps) (segment t ps)) 0 ≡ None → ⊥) [
-        | true ↦ λ _ gone. cc
-        | false ↦ λ other gone. elim (eq_by_cmp nat_cmp r p.0) as (λ b. eq_by_cmp nat_cmp r p.0 ≡ b → cond b (Some p.1) (place_of r ps) ≡ Some s → ⊥) [
-          | true ↦ λ y _. denied _ (Decides-eqb (p.0 / 2 ^ 31) t) other (ap (λ k. k / 2 ^ 31) (sym ((rank_test r p.0).0 y)) ∙ home)
-          | false ↦ λ _ rest. bare ps gone rest
-        ] refl there
-      ] refl none
+  bare (p ∷ ps) none there = grind (arith, common_steps, bare ps)
 
 -- What was chosen was that place.
 pub chosen_place : (test : Stored → Bool) (slots : List (Option Held)) (o : Option ℕ) (s : ℕ) → chosen test slots o ≡ Some s → o ≡ Some s
-chosen_place test slots None s h = cc
-chosen_place test slots (Some n) s h = elim (test (stored_at slots n)) as (λ b. cond b (Some n) None ≡ Some s → Some n ≡ Some s) [ true ↦ λ e. e | false ↦ λ e. cc ] h
+chosen_place test slots o s h = grind (arith, common_steps)

@@ -1,5 +1,5 @@
 -- What is found of each key after one place, one slot and one transaction changed.
-use Rattle.std.{proofs.Common.{◌≡◌, ℕ, ◌<◌, ◌^◌, nat_lt, true, false, cond, List, Option, Some, None, refl, sym, ap, ◌∙◌, arith}, proofs.lemmas.Bool.Decides.Decides-ltb, specs.Ordering.eq_by_cmp}
+use Rattle.std.{proofs.lemmas.Grind.common_steps, proofs.Common.{◌≡◌, ℕ, ◌<◌, ◌^◌, true, false, List, Option, Some, refl, sym, ap, ◌∙◌, arith}, specs.Ordering.eq_by_cmp}
 use Rattle.key_index.specs.Key.{rank}
 use Rattle.ledger_model.specs.Key.{KeyName}
 use Rattle.event_store.specs.Slots.{Held}
@@ -18,20 +18,9 @@ pub record IsMove (rows new : List TxRow) (es more : List EventPlace) (slots hel
   pub after : (seq : ℕ) → look_in more held seq (row_of key.tx new) ≡ event_at held (number_at slot seq more)
 
 module _ (rows new : List TxRow) (es more : List EventPlace) (slots held : List (Option Held)) (key : KeyName) (slot r0 s0 : ℕ) (move : IsMove rows new es more slots held key slot r0 s0) where
-  -- The event of another place is the same.
-  same_event : (r : ℕ) → (r ≡ r0 → ⊥) → event_at held (place_of r more) ≡ event_at slots (place_of r es)
-  same_event r other = ap (event_at held) (move.ranks r other) ∙ kept (place_of r es) refl where
-    kept : (o : Option ℕ) → place_of r es ≡ o → event_at held o ≡ event_at slots o
-    kept None _ = refl
-    kept (Some s) is = ap Some (move.stays s (λ e. other (move.own r (is ∙ ap Some e))))
-
   -- The event of a number whose place is another is the same.
   same_number : (t seq : ℕ) → (seq < 2 ^ 31 → rank t seq ≡ r0 → ⊥) → event_at held (number_at t seq more) ≡ event_at slots (number_at t seq es)
-  same_number t seq other =
-      elim (nat_lt seq (2 ^ 31)) as (λ b. nat_lt seq (2 ^ 31) ≡ b → event_at held (cond b (place_of (rank t seq) more) None) ≡ event_at slots (cond b (place_of (rank t seq) es) None)) [
-        | true ↦ λ e. same_event (rank t seq) (other ((Decides-ltb seq (2 ^ 31)).0 e))
-        | false ↦ λ _. refl
-      ] refl
+  same_number t seq other = grind (arith, common_steps)
 
   -- The event of another key of the transaction is the same.
   same_here : (seq : ℕ) → (seq ≡ key.seq → ⊥) → look_in more held seq (row_of key.tx new) ≡ look_in es slots seq (row_of key.tx rows)
@@ -39,10 +28,7 @@ module _ (rows new : List TxRow) (es more : List EventPlace) (slots held : List 
 
   -- The event of another transaction is the same.
   same_there : (q : List ℕ) (seq : ℕ) → (q ≡ key.tx → ⊥) → look_in more held seq (row_of q new) ≡ look_in es slots seq (row_of q rows)
-  same_there q seq other = ap (look_in more held seq) (move.others q other) ∙ kept (row_of q rows) refl where
-    kept : (o : Option TableRow) → row_of q rows ≡ o → look_in more held seq o ≡ look_in es slots seq o
-    kept None _ = refl
-    kept (Some row) is = same_number row.slot seq (λ lt e. let r = move.rank_is in let n = move.number in other (move.apart q row is (omega arith)))
+  same_there q seq other = grind (arith, common_steps, same_number)
 
   -- The event of another key is the same.
   pub look_other : (q : KeyName) → (q ≡ key → ⊥) → look new more held q ≡ look rows es slots q
@@ -55,6 +41,4 @@ module _ (rows new : List TxRow) (es more : List EventPlace) (slots held : List 
 
   -- The event of the key is that of its place.
   pub look_here : look new more held key ≡ event_at held (place_of r0 more)
-  look_here = move.after key.seq
-      ∙ ap (λ b. event_at held (cond b (place_of (rank slot key.seq) more) None)) ((Decides-ltb key.seq (2 ^ 31)).1 move.number)
-      ∙ ap (λ r. event_at held (place_of r more)) (sym move.rank_is)
+  look_here = grind (arith, common_steps)

@@ -1,75 +1,40 @@
 -- The places of an index that have a mark, or all: how its edits change them.
-use Rattle.std.{proofs.Common.{◌≡◌, ℕ, ◌≤◌, nat_lt, ◌==◌, Bool, true, false, not, cond, List, [], ◌∷◌, ◌++◌, Option, Some, None, is_some, map, option_map, drop, refl, sym, ap, ◌∙◌, subst, arith}, proofs.lemmas.Bool.Decides.Decides-eqb, proofs.lemmas.List.map-append, proofs.lemmas.List.Elements.filter-append, specs.Ordering.{is_eq, nat_cmp}, specs.FinMap.put}
-use Rattle.ledger_model.{proofs.Directions.each_way, specs.ByDirection.in_direction, specs.declared.by_direction.ByDirection.ByDirection, specs.declared.reading.Direction.Direction, specs.declared.reading.Direction.TheVariants.{Import, Export}}
+use Rattle.std.{proofs.lemmas.Grind.common_steps, proofs.Common.{◌≡◌, ℕ, ◌≤◌, nat_lt, ◌==◌, Bool, true, false, cond, List, [], ◌∷◌, ◌++◌, Option, Some, None, is_some, map, option_map, drop, refl, sym, ap, ◌∙◌, subst, arith}, proofs.lemmas.Bool.Decides.Decides-eqb, proofs.lemmas.List.map-append, proofs.lemmas.List.Elements.filter-append, specs.Ordering.nat_cmp, specs.FinMap.put}
+use Rattle.ledger_model.{proofs.Directions.each_way, specs.declared.by_direction.ByDirection.ByDirection, specs.declared.reading.Direction.TheVariants.{Import, Export}}
 use Rattle.key_index.specs.Index as keyed
-use Rattle.key_index.{specs.declared.filed.Mark.Mark, specs.declared.filed.Mark.TheVariants.{Live, Imports, Exports, Names}, specs.declared.filed.Marks.Marks, specs.declared.filed.Filed.Filed, specs.Entries.{Entry, below, from, filed_at, first_of, last_of, AreAbove, AreRising}, proofs.Orders.{cut_none, cut_whole, last_cons}, specs.Marks.{has_mark, marked, mark_at}}
+use Rattle.key_index.{specs.declared.filed.Mark.Mark, specs.declared.filed.Mark.TheVariants.{Live, Imports, Exports, Names}, specs.declared.filed.Marks.Marks, specs.declared.filed.Filed.Filed, specs.Entries.{Entry, below, from, filed_at, first_of, last_of, AreAbove, AreRising}, proofs.Orders.{cut_none, cut_whole, last_cons}, specs.Marks.{has_mark, mark_at}}
 use Rattle.event_chain.{specs.Flat.{EventPlace, place_of}, specs.Edits.{put_if, out, IsLiveLess, IsLiveMore, IsLiveSame, IsNotLive}, specs.Placed.{carriers_of, index, marked_places, marked_index, passes, place_in, placed}, proofs.Decided.not_so, proofs.Places.{found_at, put_is, out_is, not_less}}
 
 -- No entries have no places.
 marked_nil : (o : Option Mark) → marked_places o [] ≡ []
-marked_nil None = refl
-marked_nil (Some m) = refl
+marked_nil o = grind (arith, common_steps)
 
 -- The places of entries with one in front.
 marked_on : (o : Option Mark) (e : Entry ℕ) (es : List (Entry ℕ)) → marked_places o (e ∷ es) ≡ cond (passes o e.1.marks) (place_in e ∷ marked_places o es) (marked_places o es)
-marked_on None e es = refl
-marked_on (Some m) e es =
-    elim (has_mark m e.1.marks) as (λ b. map place_in (cond b (e ∷ marked m es) (marked m es))
-    ≡ cond b (place_in e ∷ map place_in (marked m es)) (map place_in (marked m es))) [ true ↦ refl | false ↦ refl ]
+marked_on o e es = grind (arith, common_steps)
 
 -- The places of two lists.
 marked_both : (o : Option Mark) (xs ys : List (Entry ℕ)) → marked_places o (xs ++ ys) ≡ marked_places o xs ++ marked_places o ys
-marked_both None xs ys = map-append place_in xs ys
-marked_both (Some m) xs ys = ap (map place_in) (filter-append (λ e. has_mark m e.1.marks) xs ys) ∙ map-append place_in (marked m xs) (marked m ys)
+marked_both o xs ys = grind (arith, common_steps, map-append, filter-append)
 
 -- Entries above a number have places above it.
 marked_above : (o : Option Mark) (n : ℕ) (es : List (Entry ℕ)) → AreAbove n es → AreAbove n (marked_places o es)
 marked_above o n [] h = subst (AreAbove n) (sym (marked_nil o)) tt
-marked_above o n (e ∷ es) h =
-    subst (AreAbove n) (sym (marked_on o e es))
-    (elim (passes o e.1.marks) as (λ b. AreAbove n (cond b (place_in e ∷ marked_places o es) (marked_places o es))) [
-      | true ↦
-          (h.0, marked_above o n es h.1)
-      | false ↦ marked_above o n es h.1
-    ])
+marked_above o n (e ∷ es) h = grind (arith, common_steps, marked_above o n es h.1)
 
 -- The places with a mark rise.
 pub marked_rising : (o : Option Mark) (es : List (Entry ℕ)) → AreRising es → AreRising (marked_places o es)
 marked_rising o [] h = subst AreRising (sym (marked_nil o)) tt
-marked_rising o (e ∷ es) h =
-    subst AreRising (sym (marked_on o e es))
-    (elim (passes o e.1.marks) as (λ b. AreRising (cond b (place_in e ∷ marked_places o es) (marked_places o es))) [
-      | true ↦
-          (marked_above o e.0 es h.0, marked_rising o es h.1)
-      | false ↦ marked_rising o es h.1
-    ])
+marked_rising o (e ∷ es) h = grind (arith, common_steps, marked_on, marked_above, marked_rising o es h.1)
 
 -- None has the rank.
 slot_none : (r n : ℕ) (xs : List EventPlace) → AreAbove n xs → r ≤ n → filed_at r xs ≡ None
-slot_none r n [] h le = refl
-slot_none r n (x ∷ xs) h le = let up = h.0 in ap (λ b. cond b (Some x.1) None) (not_so _ (Decides-eqb x.0 r) (λ is. absurd (omega arith)))
+slot_none r n xs h le = grind (arith, common_steps, not_so, Decides-eqb)
 
 -- Places cut at a rank: what is in front.
 pub marked_below : (o : Option Mark) (r : ℕ) (es : List (Entry ℕ)) → AreRising es → marked_places o (below r es) ≡ below r (marked_places o es)
 marked_below o r [] h = marked_nil o ∙ sym (ap (below r) (marked_nil o))
-marked_below o r (e ∷ es) h =
-    let P = place_in e in let L = marked_places o es in let rest = marked_below o r es h.1 in
-    elim (nat_lt e.0 r) as (λ b. nat_lt e.0 r ≡ b → marked_places o (cond b (e ∷ below r es) []) ≡ below r (marked_places o (e ∷ es))) [
-      | true ↦ λ y.
-          marked_on o e (below r es)
-          ∙ elim (passes o e.1.marks) as (λ p. cond p (place_in e ∷ marked_places o (below r es)) (marked_places o (below r es))
-          ≡ below r (cond p (place_in e ∷ marked_places o es) (marked_places o es))) [
-            | true ↦ ap (λ (l : List EventPlace). place_in e ∷ l) rest ∙ sym (ap (λ b. cond b (place_in e ∷ below r (marked_places o es)) []) y)
-            | false ↦ rest
-          ]
-          ∙ sym (ap (below r) (marked_on o e es))
-      | false ↦ λ never.
-          marked_nil o
-          ∙ sym (ap (below r) (marked_on o e es) ∙ elim (passes o e.1.marks) as (λ p. below r (cond p (place_in e ∷ marked_places o es) (marked_places o es)) ≡ []) [
-            | true ↦ ap (λ b. cond b (place_in e ∷ below r (marked_places o es)) []) never
-            | false ↦ (cut_none r e.0 (marked_places o es) (marked_above o e.0 es h.0) (not_less e.0 r never)).0
-          ])
-    ] refl
+marked_below o r (e ∷ es) h = grind (arith, common_steps, marked_on, marked_nil, cut_none, marked_above, not_less, marked_below o r es h.1)
 
 -- And what is left.
 pub marked_from : (o : Option Mark) (r : ℕ) (es : List (Entry ℕ)) → AreRising es → marked_places o (from r es) ≡ from r (marked_places o es)
@@ -105,20 +70,11 @@ last_place_in (x ∷ y ∷ xs) = last_cons (place_in x) (place_in y) (map place_
 -- Where no entry has the rank, no place with a mark has.
 pub marked_absent : (o : Option Mark) (r : ℕ) (es : List (Entry ℕ)) → place_of r (marked_places None es) ≡ None → place_of r (marked_places o es) ≡ None
 marked_absent o r [] none = ap (place_of r) (marked_nil o)
-marked_absent o r (e ∷ es) none =
-    elim (is_eq (nat_cmp r e.0)) as (λ b. is_eq (nat_cmp r e.0) ≡ b → cond b (Some e.1.value) (place_of r (map place_in es)) ≡ None → place_of r (marked_places o (e ∷ es)) ≡ None) [
-      | true ↦ λ _ f. cc
-      | false ↦ λ y left.
-          ap (place_of r) (marked_on o e es) ∙ elim (passes o e.1.marks) as (λ p. place_of r (cond p (place_in e ∷ marked_places o es) (marked_places o es)) ≡ None) [
-            | true ↦ ap (λ b. cond b (Some e.1.value) (place_of r (marked_places o es))) y ∙ marked_absent o r es left
-            | false ↦ marked_absent o r es left
-          ]
-    ] refl none
+marked_absent o r (e ∷ es) none = grind (arith, common_steps, marked_absent o r es)
 
 -- The slot under a rank.
 slot_filed : (r : ℕ) (l : List (Entry ℕ)) → filed_at r (map place_in l) ≡ option_map (λ (f : Filed ℕ). f.value) (filed_at r l)
-slot_filed r [] = refl
-slot_filed r (e ∷ l) = elim (e.0 == r) as (λ b. cond b (Some e.1.value) None ≡ option_map (λ (f : Filed ℕ). f.value) (cond b (Some e.1) None)) [ true ↦ refl | false ↦ refl ]
+slot_filed r l = grind (arith, common_steps)
 
 -- What is under a rank, by its place.
 filed_place : (r : ℕ) (es : List (Entry ℕ)) → AreRising es → option_map (λ (f : Filed ℕ). f.value) (filed_at r (from r es)) ≡ place_of r (marked_places None es)
@@ -128,33 +84,25 @@ filed_place r es h = sym (slot_filed r (from r es)) ∙ ap (filed_at r) (marked_
 pub filed_absent : (r : ℕ) (es : List (Entry ℕ)) → AreRising es → place_of r (marked_places None es) ≡ None → filed_at r (from r es) ≡ None
 filed_absent r es h none = no_filed (filed_at r (from r es)) (filed_place r es h ∙ none) where
   no_filed : (o : Option (Filed ℕ)) → option_map (λ (f : Filed ℕ). f.value) o ≡ None → o ≡ None
-  no_filed None is = refl
-  no_filed (Some f) is = cc
+  no_filed o is = grind (arith, common_steps)
 
 -- What is filed under a rank that has a place.
 pub filed_there : (r s : ℕ) (es : List (Entry ℕ)) → AreRising es → place_of r (marked_places None es) ≡ Some s → (f : Filed ℕ) × ((filed_at r (from r es) ≡ Some f) × (f.value ≡ s))
 filed_there r s es h at = a_filed (filed_at r (from r es)) (filed_place r es h ∙ at) where
   a_filed : (o : Option (Filed ℕ)) → option_map (λ (f : Filed ℕ). f.value) o ≡ Some s → (f : Filed ℕ) × ((o ≡ Some f) × (f.value ≡ s))
-  a_filed None is = cc
-  a_filed (Some f) is = (f, (refl, cc))
+  a_filed o is = grind (arith, common_steps)
 
 -- Something is filed under a rank that has a place.
 pub filed_some : (r : ℕ) (es : List (Entry ℕ)) → AreRising es → is_some (place_of r (marked_places None es)) ≡ true → (f : Filed ℕ) × (filed_at r (from r es) ≡ Some f)
 filed_some r es h some = a_filed (filed_at r (from r es)) (ap is_some (filed_place r es h) ∙ some) where
   a_filed : (o : Option (Filed ℕ)) → is_some (option_map (λ (f : Filed ℕ). f.value) o) ≡ true → (f : Filed ℕ) × (o ≡ Some f)
-  a_filed None is = cc
-  a_filed (Some f) is = (f, refl)
+  a_filed o is = grind (arith, common_steps)
 
 -- Places with that of an entry put in.
 pub marked_put : (o : Option Mark) (r : ℕ) (f : Filed ℕ) (es : List (Entry ℕ)) → AreRising es
     → place_of r (marked_places None es) ≡ None
     → marked_places o (below r es ++ (r, f) ∷ from r es) ≡ put_if (passes o f.marks) r f.value (marked_places o es)
-marked_put o r f es h none =
-    let absent : filed_at r (from r (marked_places o es)) ≡ None = found_at r (marked_places o es) (marked_rising o es h) ∙ marked_absent o r es none in
-    marked_both o (below r es) ((r, f) ∷ from r es) ∙ (λ i. marked_below o r es h i ++ marked_on o (r, f) (from r es) i)
-    ∙ ap (λ l. below r (marked_places o es) ++ cond (passes o f.marks) ((r, f.value) ∷ l) l) (marked_from o r es h)
-    ∙ elim (passes o f.marks) as (λ b. below r (marked_places o es) ++ cond b ((r, f.value) ∷ from r (marked_places o es)) (from r (marked_places o es))
-    ≡ put_if b r f.value (marked_places o es)) [ true ↦ put_is r f.value (marked_places o es) absent | false ↦ cut_whole r (marked_places o es) ]
+marked_put o r f es h none = grind (arith, common_steps, found_at, marked_rising, marked_absent, marked_both, marked_below, marked_on, marked_from, put_is, cut_whole)
 
 -- An entry that is found is the first of what is left.
 from_parts : (r : ℕ) (f : Filed ℕ) (l : List (Entry ℕ)) → filed_at r l ≡ Some f → (rest : List (Entry ℕ)) × (l ≡ (r, f) ∷ rest)
@@ -173,11 +121,7 @@ from_rising r (e ∷ es) h = elim (nat_lt e.0 r) as (λ b. AreRising (cond b (fr
 -- Nothing is left out where the rank is absent.
 pub out_absent : (r : ℕ) (xs : List EventPlace) → place_of r xs ≡ None → out r xs ≡ xs
 out_absent r [] none = refl
-out_absent r (x ∷ xs) none =
-    elim (is_eq (nat_cmp r x.0)) as (λ b. cond b (Some x.1) (place_of r xs) ≡ None → cond (not b) (x ∷ out r xs) (out r xs) ≡ x ∷ xs) [
-      | true ↦ λ f. cc
-      | false ↦ λ left. ap (λ (l : List EventPlace). x ∷ l) (out_absent r xs left)
-    ] none
+out_absent r (x ∷ xs) none = grind (arith, common_steps, out_absent r xs)
 
 module _ (o : Option Mark) (r : ℕ) (f : Filed ℕ) (es : List (Entry ℕ)) (h : AreRising es) (there : filed_at r (from r es) ≡ Some f) where
   abbrev L : List EventPlace
@@ -211,9 +155,7 @@ module _ (o : Option Mark) (r : ℕ) (f : Filed ℕ) (es : List (Entry ℕ)) (h 
 
   module _ (marks : Marks) where
     marked_set : marked_places o (below r es ++ mark_at marks 0 (from r es)) ≡ below r L ++ cond (passes o marks) ((r, f.value) ∷ marked_places o rest) (marked_places o rest)
-    marked_set =
-        marked_both o (below r es) (mark_at marks 0 (from r es)) ∙ (λ i. marked_below o r es h i ++ marked_places o (mark_at marks 0 (rest_is i)))
-        ∙ ap (λ l. below r L ++ l) (marked_on o (r, record { value = f.value; marks = marks }) rest)
+    marked_set = grind (arith, common_steps, marked_both, marked_below, marked_on)
 
     -- Places that the entry leaves by its marks.
     pub marked_void : passes o marks ≡ false → marked_places o (below r es ++ mark_at marks 0 (from r es)) ≡ out r L
@@ -221,21 +163,11 @@ module _ (o : Option Mark) (r : ℕ) (f : Filed ℕ) (es : List (Entry ℕ)) (h 
 
     -- Places among which it stays.
     pub marked_stays : passes o f.marks ≡ true → passes o marks ≡ true → marked_places o (below r es ++ mark_at marks 0 (from r es)) ≡ L
-    marked_stays was is = marked_set
-        ∙ ap (λ b. below r L ++ cond b ((r, f.value) ∷ marked_places o rest) (marked_places o rest)) (is ∙ sym was)
-        ∙ ap (λ l. below r L ++ l) (sym left_is) ∙ cut_whole r L
+    marked_stays was is = grind (arith, common_steps, marked_set, left_is, cut_whole)
 
     -- Places that it enters where it was none of them.
     pub marked_enter : place_of r L ≡ None → marked_places o (below r es ++ mark_at marks 0 (from r es)) ≡ put_if (passes o marks) r f.value L
-    marked_enter none =
-        let absent : filed_at r (from r L) ≡ None = found_at r L (marked_rising o es h) ∙ none in
-        marked_set ∙ ap (λ l. below r L ++ cond (passes o marks) ((r, f.value) ∷ l) l) (sym (behind absent))
-        ∙ elim (passes o marks) as (λ b. below r L ++ cond b ((r, f.value) ∷ from r L) (from r L) ≡ put_if b r f.value L) [ true ↦ put_is r f.value L absent | false ↦ cut_whole r L ] where
-          behind : filed_at r (from r L) ≡ None → from r L ≡ marked_places o rest
-          behind absent = elim (passes o f.marks) as (λ b. from r L ≡ cond b ((r, f.value) ∷ marked_places o rest) (marked_places o rest) → from r L ≡ marked_places o rest) [
-            | true ↦ λ e. let found : Some f.value ≡ None = sym (ap (λ b. cond b (Some f.value) None) ((Decides-eqb r r).1 refl)) ∙ sym (ap (filed_at r) e) ∙ absent in cc
-            | false ↦ λ e. e
-          ] left_is
+    marked_enter none = grind (arith, common_steps, found_at, marked_rising, marked_set, put_is, cut_whole, Decides-eqb, left_is)
 
 -- The marks of a live event.
 abbrev pub live_marks : ByDirection Bool → Bool → Marks
@@ -249,12 +181,7 @@ module _ (old new : keyed.Index ℕ) (key : ℕ) (up : AreRising old.entries) (r
   more : (slot : ℕ) (carries : ByDirection Bool) (names_evse : Bool)
       → ((m : Mark) → marked_index (Some m) new ≡ index (put_if (has_mark m (live_marks carries names_evse)) key slot (marked_places (Some m) old.entries)) old.capacity)
       → IsLiveMore key slot carries names_evse (placed old) (placed new)
-  more slot carries names_evse each = record {
-    live = each Live;
-    carriers = each_way (λ d. carriers_of (placed new) d ≡ index (put_if (in_direction d carries) key slot (carriers_of (placed old) d).entries) (carriers_of (placed old) d).capacity)
-        (each Imports) (each Exports);
-    naming = each Names;
-  }
+  more slot carries names_evse each = grind (arith, common_steps, each_way)
 
   -- A live event is put in.
   module _ (slot : ℕ) (carries : ByDirection Bool) (names_evse : Bool) (none : place_of key (marked_places None old.entries) ≡ None)
@@ -286,10 +213,7 @@ module _ (old new : keyed.Index ℕ) (key : ℕ) (up : AreRising old.entries) (r
           naming = each Names;
         } where
           unmarked : (m : Mark) → has_mark m (record { live = false; imports = false; exports = false; names = false }) ≡ false
-          unmarked Live = refl
-          unmarked Imports = refl
-          unmarked Exports = refl
-          unmarked Names = refl
+          unmarked m = grind (arith, common_steps)
 
     pub lives_again : (carries : ByDirection Bool) (names_evse : Bool) → marks ≡ live_marks carries names_evse
         → IsNotLive key (placed old) → IsLiveMore key slot carries names_evse (placed old) (placed new)

@@ -1,10 +1,10 @@
 -- What a mark or a removal may rely on, and what a mark leaves.
-use Rattle.std.{proofs.Common.{◌≡◌, ℕ, zero, suc, ◌+◌, ◌<◌, ◌≤◌, ◌^◌, nat_lt, Bool, true, false, not, cond, ◌&&◌, List, [], ◌∷◌, Option, Some, None, is_some, length, set, refl, sym, ap, ◌∙◌, subst, arith, inl}, specs.FinMap.find}
+use Rattle.std.{proofs.lemmas.Grind.common_steps, proofs.Common.{◌≡◌, ℕ, zero, suc, ◌+◌, ◌<◌, ◌≤◌, ◌^◌, nat_lt, Bool, true, false, not, cond, ◌&&◌, List, [], ◌∷◌, Option, Some, None, is_some, length, set, refl, sym, ap, ◌∙◌, subst, arith, inl}, specs.FinMap.find}
 use Rattle.std.specs.FinMap as finite
 use Rattle.ledger_model.{specs.Deltas.first_reading, specs.Event.toward, specs.declared.reading.Direction.Direction, specs.Key.{KeyName, key_cmp}, specs.Limits.Bounds, specs.Content.{Entry, Stored}, specs.Step.{marked, marked_at}}
 use Rattle.slot_arena.specs.Arena.{value_at}
 use Rattle.key_index.specs.Key.{rank}
-use Rattle.event_chain.{specs.Placed.Index, specs.declared.row.TableRow.TableRow, specs.Table.{Table, TxRow, AreRising, AreApart, row_of, with_row}, specs.Flat.{EventPlace, place_of, stored_in, event_at, flat}, specs.declared.look_ups.EventLocation.EventLocation, specs.Edits.{put_if, out, place_in, place_at, IsLocation}, specs.Kept.{IsSub, chosen, is_live, is_carrier, is_naming, is_end, live_one, end_one, AreIndexed, IsChains, IsNamed, events_of}, proofs.Facts.{seal, all_rising, get_place, counts_few, places_few}, proofs.Named.named_after, proofs.Places.place_at_row, proofs.Sums.{at_key, sum_without}, proofs.Ops.{mark_in, mark_out, mark_chains, mark_all, live_mine, end_mine}, proofs.Effects.map_put}
+use Rattle.event_chain.{specs.Placed.Index, specs.declared.row.TableRow.TableRow, specs.Table.{Table, TxRow, AreSlotted, AreRising, AreApart, row_of, with_row}, specs.Flat.{EventPlace, place_of, stored_in, event_at, flat}, specs.declared.look_ups.EventLocation.EventLocation, specs.Edits.{put_if, out, place_in, place_at, IsLocation}, specs.Kept.{IsSub, chosen, is_live, is_carrier, is_naming, is_end, live_one, end_one, AreIndexed, IsChains, IsNamed, events_of}, proofs.Facts.{seal, all_rising, get_place, counts_few, places_few}, proofs.Named.named_after, proofs.Places.place_at_row, proofs.Sums.{at_key, sum_without}, proofs.Ops.{mark_in, mark_out, mark_chains, mark_all, live_mine, end_mine}, proofs.Effects.map_put, specs.Chains.Chained, specs.declared.answers.Found.Found, specs.declared.answers.Found.TheVariants.{Live, Voided}, specs.Room.found_of}
 use Rattle.event_store.specs.Slots.{Held, Slots, voided_as, voided_at}
 
 -- What is there is in range.
@@ -17,20 +17,25 @@ there_within (x ∷ xs) (suc i) h there = omega (arith, there_within xs i h ther
 same_held : (o : Option Held) (a b : Held) → o ≡ Some a → o ≡ Some b → a ≡ b
 same_held o a b x y = cc
 
--- A key has one event.
-same_stored : (o : Option Stored) (a b : Stored) → o ≡ Some a → o ≡ Some b → a ≡ b
-same_stored o a b x y = cc
+-- What is found live is live.
+known_live : (s : Stored) → found_of (Some s) ≡ Some Live → s.voided ≡ false
+known_live s h = grind (arith, common_steps)
+
+-- What is found voided is voided.
+known_voided : (s : Stored) → found_of (Some s) ≡ Some Voided → s.voided ≡ true
+known_voided s h = grind (arith, common_steps)
 
 -- What is found has a place.
-some_place : (slots : List (Option Held)) (o : Option ℕ) (s : Stored) → event_at slots o ≡ Some s → is_some o ≡ true
-some_place slots None s h = cc
-some_place slots (Some n) s h = refl
+some_place : (slots : List (Option Held)) (o : Option ℕ) (f : Found) → found_of (event_at slots o) ≡ Some f → is_some o ≡ true
+some_place slots o f h = grind (arith, common_steps)
 
 module _ {limits : Bounds} {table : Table} {store : Slots} {stored live : Index} {carriers : Direction → Index} {naming : Index}
     (chains : IsChains limits table store stored live carriers naming) (key : KeyName) where
   -- A key that is found has a place.
-  pub is_placed : (s : Stored) → finite.get (events_of table store stored) key ≡ Some s → is_some (place_at table.rows stored.entries key) ≡ true
-  is_placed s is = some_place store.slots (place_at table.rows stored.entries key) s (sym (get_place chains key) ∙ is)
+  pub is_placed : {seen : Chained} {f : Found} → record { limits = limits; events = events_of table store stored } ≡ seen
+      → found_of (finite.get seen.events key) ≡ Some f → is_some (place_at table.rows stored.entries key) ≡ true
+  is_placed {f = f} view found = some_place store.slots (place_at table.rows stored.entries key) f
+      (ap found_of (sym (get_place chains key)) ∙ ap (λ (x : Chained). found_of (finite.get x.events key)) view ∙ found)
 
   module _ {location : EventLocation} (at : IsLocation table.rows stored.entries key location) where
     -- The event of the place.
@@ -51,9 +56,15 @@ module _ {limits : Bounds} {table : Table} {store : Slots} {stored live : Index}
         get_place chains key ∙ ap (event_at store.slots) (place_at_row table.rows stored.entries key location.row at.row at.number ∙ ap (λ r. place_of r stored.entries) (sym at.key_is) ∙ at.slot)
         ∙ ap (λ o. Some (stored_in o)) location_here
 
-    -- It is marked as that is.
-    pub location_voided : (s : Stored) → finite.get (events_of table store stored) key ≡ Some s → location_event.voided ≡ s.voided
-    location_voided s is = ap (λ (x : Stored). x.voided) (same_stored (finite.get (events_of table store stored) key) location_event s location_get is)
+    -- It is live if it is found so.
+    pub location_was_live : {seen : Chained} → record { limits = limits; events = events_of table store stored } ≡ seen
+        → found_of (finite.get seen.events key) ≡ Some Live → location_event.voided ≡ false
+    location_was_live view found = known_live location_event (ap found_of (sym location_get) ∙ ap (λ (x : Chained). found_of (finite.get x.events key)) view ∙ found)
+
+    -- It is voided if it is found so.
+    pub location_was_voided : {seen : Chained} → record { limits = limits; events = events_of table store stored } ≡ seen
+        → found_of (finite.get seen.events key) ≡ Some Voided → location_event.voided ≡ true
+    location_was_voided view found = known_voided location_event (ap found_of (sym location_get) ∙ ap (λ (x : Chained). found_of (finite.get x.events key)) view ∙ found)
 
     -- The place in a sub-index.
     pub location_sub : (test : Stored → Bool) (sub : List EventPlace) → IsSub test stored.entries store.slots sub → place_of location.key sub ≡ cond (test location_event) (Some location.slot) None
@@ -150,8 +161,7 @@ module _ {limits : Bounds} {table : Table} {store : Slots} {stored live : Index}
     pub record Marked (t : Table) (s : Slots) (l : Index) (c : Direction → Index) (n : Index) (after : TableRow) (voided : Bool) : Type 0 where
       pub rows : t.rows ≡ with_row key.tx after table.rows
       pub transactions : t.capacity ≡ table.capacity
-      pub rising : AreRising t.rows
-      pub apart : AreApart t.rows
+      pub slotted : AreSlotted t
       pub slots : s.slots ≡ voided_at store.slots location.slot voided
       pub readings : s.readings ≡ store.readings
       pub room : s.capacity ≡ store.capacity
@@ -163,7 +173,7 @@ module _ {limits : Bounds} {table : Table} {store : Slots} {stored live : Index}
       pub lives : after.live + cond (not location_event.voided) 1 0 ≡ location.row.live + cond (not voided) 1 0
       pub ends : after.ends + cond (not location_event.voided && is_end location_event.event.kind) 1 0 ≡ location.row.ends + cond (not voided && is_end location_event.event.kind) 1 0
 
-    module _ (t : Table) (s : Slots) (l : Index) (c : Direction → Index) (n : Index) (after : TableRow) (voided : Bool) (did : Marked t s l c n after voided) where
+    module _ {t : Table} {s : Slots} {l : Index} {c : Direction → Index} {n : Index} {after : TableRow} {voided : Bool} (did : Marked t s l c n after voided) where
       abbrev st : Stored
       st = record { event = location_event.event; voided = voided }
 
@@ -182,9 +192,9 @@ module _ {limits : Bounds} {table : Table} {store : Slots} {stored live : Index}
           (λ d. did.carriers_cap d ∙ r.for_carriers d) (did.naming_cap ∙ r.for_naming)
           (mark_chains limits table.rows t.rows stored.entries live.entries (λ d. (carriers d).entries) naming.entries store.slots key
           location.row after location.key location.slot table.capacity store.readings store.capacity chains.keyed chains.indexed
-          chains.figured chains.counted named at.number at.key_is did.rising did.apart
+          chains.figured chains.counted named at.number at.key_is did.slotted.rising did.slotted.apart
           location_event st location_here location_within at.slot l.entries (λ d. (c d).entries) n.entries did.indexes refl did.lives
-          did.ends (record { for_stored = refl; for_live = refl; for_carriers = λ d. refl; for_naming = refl }))
+          did.ends)
 
       -- The event was marked.
       pub marked_events : events_of t s stored ≡ marked (events_of table store stored) key voided
@@ -193,7 +203,7 @@ module _ {limits : Bounds} {table : Table} {store : Slots} {stored live : Index}
           ∙ map_put all (flat t.rows stored.entries (set store.slots location.slot (Some (location.key, st)))) key st (all_rising chains)
           (mark_all limits table.rows t.rows stored.entries live.entries (λ d. (carriers d).entries) naming.entries store.slots key
           location.row after location.key location.slot table.capacity store.readings store.capacity chains.keyed chains.indexed
-          chains.figured chains.counted named at.number at.key_is did.rising did.apart
+          chains.figured chains.counted named at.number at.key_is did.slotted.rising did.slotted.apart
           location_event st location_here location_within at.slot)
           ∙ sym (ap (marked_at (events_of table store stored) key voided) location_get)
 

@@ -1,5 +1,5 @@
 -- What holds of each place of an index.
-use Rattle.std.{proofs.Common.{◌≡◌, ℕ, ◌/◌, ◌^◌, ◌==◌, Bool, true, false, cond, List, [], ◌∷◌, Option, Some, None, is_some, slice_get, refl, sym, ap, ◌∙◌, subst}, specs.List.filter}
+use Rattle.std.{proofs.lemmas.Grind.common_steps, proofs.Common.{arith, ◌≡◌, ℕ, ◌/◌, ◌^◌, ◌==◌, Bool, true, false, cond, List, [], ◌∷◌, Option, Some, None, is_some, slice_get, refl, sym, ap, ◌∙◌, subst}, specs.List.filter}
 use Rattle.slot_arena.specs.Arena.{IsHeld}
 use Rattle.key_index.{specs.Entries.last_of, proofs.Orders.last_cons}
 use Rattle.ledger_model.{specs.Content.Stored, proofs.Callers.{first, second}}
@@ -33,11 +33,7 @@ all_left P f (p ∷ ps) h = elim (f p) as (λ b. AllPlaces P (cond b (p ∷ filt
 
 -- What was chosen passes the test.
 pub chosen_test : (test : Stored → Bool) (slots : List (Option Held)) (o : Option ℕ) (s : ℕ) → chosen test slots o ≡ Some s → test (stored_at slots s) ≡ true
-chosen_test test slots None s h = cc
-chosen_test test slots (Some n) s h = elim (test (stored_at slots n)) as (λ b. test (stored_at slots n) ≡ b → cond b (Some n) None ≡ Some s → test (stored_at slots s) ≡ true) [
-  | true ↦ λ is some. let same : n ≡ s = cc in ap (λ k. test (stored_at slots k)) (sym same) ∙ is
-  | false ↦ λ _ none. cc
-] refl h
+chosen_test test slots o s h = grind (arith, common_steps)
 
 -- The event of each place passes the index's test.
 pub all_chosen : (test : Stored → Bool) (es sub : List EventPlace) (slots : List (Option Held)) → IsSub test es slots sub → AllPlaces (λ p. test (stored_at slots p.1) ≡ true) sub

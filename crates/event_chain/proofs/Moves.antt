@@ -1,10 +1,10 @@
 -- An event put in, marked or taken out, as a move of one place, one slot and one transaction.
-use Rattle.std.{proofs.Common.{◌≡◌, ℕ, ◌<◌, ◌/◌, ◌^◌, nat_lt, Bool, true, false, not, cond, List, Option, Some, None, length, set, refl, sym, ap, ◌∙◌, subst, arith, inl, inr, get_or-set_other, get_or-set_same}, proofs.lemmas.Bool.cases_eq, proofs.lemmas.Bool.Decides.Decides-ltb, specs.Ordering.{is_eq, eq_by_cmp, nat_cmp}, specs.Cmp.{nat_cmp_total, eq_by_cmp_equiv, alike_right}, specs.FinMap.put, specs.FinMap.Entries.{find-put, find-where_key}}
+use Rattle.std.{proofs.lemmas.Grind.common_steps, proofs.Common.{◌≡◌, ℕ, ◌<◌, ◌/◌, ◌^◌, nat_lt, Bool, true, false, not, cond, List, Option, Some, None, length, set, refl, sym, ap, ◌∙◌, subst, arith, inl, inr, get_or-set_other, get_or-set_same}, proofs.lemmas.Bool.cases_eq, proofs.lemmas.Bool.Decides.Decides-ltb, specs.Ordering.{is_eq, eq_by_cmp, nat_cmp}, specs.Cmp.{nat_cmp_total, eq_by_cmp_equiv, alike_right}, specs.FinMap.put, specs.FinMap.Entries.{find-put, find-where_key}}
 use Rattle.slot_arena.specs.Arena.{value_at}
 use Rattle.key_index.specs.Key.{rank}
 use Rattle.ledger_model.{specs.Key.KeyName, specs.Content.Stored}
 use Rattle.event_store.specs.Slots.{Held}
-use Rattle.event_chain.{specs.declared.row.TableRow.TableRow, specs.Table.{TxRow, AreRising, AreApart, IsFresh, id_cmp, row_of}, specs.Flat.{EventPlace, place_of, stored_in, stored_at, event_at, number_at, look_in}, specs.Kept.{AreRanks, IsHome, HasPlace, IsKeyed, IsNamed, IsBare, IsLeft}, specs.Edits.out, proofs.Decided.{id_test, rank_test, denied, not_so}, proofs.Looks.IsMove}
+use Rattle.event_chain.{specs.declared.row.TableRow.TableRow, specs.Table.{TxRow, AreRising, AreApart, IsFresh, id_cmp, row_of}, specs.Flat.{EventPlace, place_of, stored_in, stored_at, event_at, number_at, look_in}, specs.Kept.{AreRanks, IsHome, HasPlace, IsKeyed, IsNamed, IsLeft}, specs.Edits.out, proofs.Decided.{id_test, rank_test, denied, not_so}, proofs.Looks.IsMove}
 
 -- What is found under a rank after one was put in.
 pub put_found : (r r0 s0 : ℕ) (es : List EventPlace) → place_of r (put nat_cmp r0 s0 es) ≡ cond (eq_by_cmp nat_cmp r r0) (Some s0) (place_of r es)
@@ -19,8 +19,7 @@ pub put_other : (r r0 s0 : ℕ) (es : List EventPlace) → (r ≡ r0 → ⊥) �
 put_other r r0 s0 es other = put_found r r0 s0 es ∙ ap (λ b. cond b (Some s0) (place_of r es)) (not_so _ (rank_test r r0) other)
 
 turned : {A : Type 0} (b : Bool) (x y : A) → cond (not b) x y ≡ cond b y x
-turned true x y = refl
-turned false x y = refl
+turned b x y = grind (arith, common_steps)
 
 -- What is found under a rank after one was taken out.
 pub out_found : (r r0 : ℕ) (es : List EventPlace) → place_of r (out r0 es) ≡ cond (eq_by_cmp nat_cmp r r0) None (place_of r es)
@@ -60,17 +59,6 @@ no_slot o a b x y = cc
 no_row : (o : Option TableRow) (a : TableRow) → o ≡ Some a → o ≡ None → ⊥
 no_row o a x y = cc
 
--- No number of a slot without places has one.
-bare_number : (es : List EventPlace) (t seq : ℕ) → IsBare es t → number_at t seq es ≡ None
-bare_number es t seq bare =
-    elim (nat_lt seq (2 ^ 31)) as (λ b. nat_lt seq (2 ^ 31) ≡ b → cond b (place_of (rank t seq) es) None ≡ None) [
-      | false ↦ λ _. refl
-      | true ↦ λ e. elim (place_of (rank t seq) es) as (λ o. place_of (rank t seq) es ≡ o → o ≡ None) [
-        | None ↦ λ _. refl
-        | Some s ↦ λ is. let lt : seq < 2 ^ 31 = (Decides-ltb seq (2 ^ 31)).0 e in absurd (bare (rank t seq) s is (omega arith))
-      ] refl
-    ] refl
-
 module _ (rows : List TxRow) (es : List EventPlace) (slots : List (Option Held)) (keyed : IsKeyed rows es slots) where
   -- The slot of a place holds only the event of its rank.
   pub own_rank : (r r0 s0 : ℕ) (st : Stored) → value_at slots s0 ≡ Some (r0, st) → place_of r es ≡ Some s0 → r ≡ r0
@@ -95,17 +83,11 @@ module _ (rows : List TxRow) (es : List EventPlace) (slots : List (Option Held))
   module _ (new : List TxRow) (tx : List ℕ) (row after : TableRow) (named : IsNamed rows new tx row after) where
     -- The slot belongs only to the transaction.
     pub apart_named : (q : List ℕ) (other : TableRow) → row_of q rows ≡ Some other → other.slot ≡ row.slot → q ≡ tx
-    apart_named q other is same = elim named.known [
-      | inl was ↦ keyed.apart q tx other row is was same
-      | inr fresh ↦ absurd (fresh.fresh q other is same)
-    ]
+    apart_named q other is same = grind (arith, common_steps)
 
     -- What was found of the transaction is what its slot's numbers say.
     pub before_named : (seq : ℕ) → look_in es slots seq (row_of tx rows) ≡ event_at slots (number_at row.slot seq es)
-    before_named seq = elim named.known [
-      | inl was ↦ ap (look_in es slots seq) was
-      | inr fresh ↦ ap (look_in es slots seq) fresh.absent ∙ sym (ap (event_at slots) (no_number row.slot seq fresh.fresh))
-    ]
+    before_named seq = grind (arith, common_steps, no_number)
 
     -- So is what is found after.
     pub after_named : (more : List EventPlace) (held : List (Option Held)) (seq : ℕ) → look_in more held seq (row_of tx new) ≡ event_at held (number_at row.slot seq more)
@@ -236,10 +218,7 @@ module _ (rows : List TxRow) (es : List EventPlace) (slots : List (Option Held))
   -- A transaction that went is found no more.
   pub after_left : (new : List TxRow) (left : List EventPlace) (held : List (Option Held)) (tx : List ℕ) (row : TableRow)
       → IsLeft rows new left tx row → (seq : ℕ) → look_in left held seq (row_of tx new) ≡ event_at held (number_at row.slot seq left)
-  after_left new left held tx row is seq = elim is.end [
-    | inl kept ↦ ap (look_in left held seq) kept.0
-    | inr gone ↦ ap (look_in left held seq) gone.0 ∙ sym (ap (event_at held) (bare_number left row.slot seq gone.1))
-  ]
+  after_left new left held tx row is seq = grind (arith, common_steps)
 
   -- An event taken out is such a move.
   pub out_move : (new : List TxRow) (key : KeyName) (row : TableRow) (r0 s0 : ℕ) (st : Stored)

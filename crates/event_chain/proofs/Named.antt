@@ -1,10 +1,9 @@
 -- Rows of transactions, after one was put in, written or taken out.
-use Rattle.std.{proofs.Common.{◌≡◌, ℕ, Bool, true, false, not, cond, List, Some, None, refl, sym, ap, ◌∙◌, subst, inl, inr}, specs.Ordering.{is_eq, eq_by_cmp}, specs.Cmp.{eq_by_cmp_equiv, alike_right}, specs.Cmp.Lexicographic.nat_list_cmp_total, specs.FinMap.Entries.{find-put, find-where_key}}
+use Rattle.std.{proofs.lemmas.Grind.common_steps, proofs.Common.{arith, ◌≡◌, ℕ, Bool, not, cond, List, Some, None, refl, sym, ap, ◌∙◌}, specs.Ordering.{is_eq, eq_by_cmp}, specs.Cmp.{eq_by_cmp_equiv, alike_right}, specs.Cmp.Lexicographic.nat_list_cmp_total, specs.FinMap.Entries.{find-put, find-where_key}}
 use Rattle.event_chain.{specs.declared.row.TableRow.TableRow, specs.Table.{TxRow, id_cmp, row_of, with_row, without_row}, specs.Flat.EventPlace, specs.Kept.{IsBare, IsNamed, IsEntered, IsLeft}, proofs.Decided.{id_test, not_so}}
 
 turned : {A : Type 0} (b : Bool) (x y : A) → cond (not b) x y ≡ cond b y x
-turned true x y = refl
-turned false x y = refl
+turned b x y = grind (arith, common_steps)
 
 -- The row of the transaction that was put in.
 pub row_here : (tx : List ℕ) (r : TableRow) (rows : List TxRow) → row_of tx (with_row tx r rows) ≡ Some r
@@ -23,20 +22,8 @@ row_out q tx rows =
 -- A transaction that was taken out, as no place of it is left.
 pub left_out : (rows new : List TxRow) (left : List EventPlace) (tx : List ℕ) (row : TableRow) → new ≡ without_row tx rows
     → row_of tx rows ≡ Some row → IsBare left row.slot → IsLeft rows new left tx row
-left_out rows new left tx row is was bare = subst (λ rs. IsLeft rows rs left tx row) (sym is) (record {
-  was = was;
-  others = λ q other. row_out q tx rows ∙ ap (λ b. cond b None (row_of q rows)) (not_so _ (id_test q tx) other);
-  end = inr (row_out tx tx rows ∙ ap (λ b. cond b None (row_of tx rows)) ((id_test tx tx).1 refl), bare);
-})
+left_out rows new left tx row is was bare = grind (arith, common_steps, row_out, not_so, id_test)
 
 -- A transaction that was entered, and its row written.
 pub named_after : (rows mid new : List TxRow) (tx : List ℕ) (row after : TableRow) → IsEntered rows mid tx row → new ≡ with_row tx after mid → after.slot ≡ row.slot → IsNamed rows new tx row after
-named_after rows mid new tx row after entered is same = subst (λ rs. IsNamed rows rs tx row after) (sym is) (record {
-  there = row_here tx after mid;
-  same = same;
-  others = λ q other. row_other q tx after mid other ∙ elim entered [
-    | inl was ↦ ap (row_of q) was.1
-    | inr fresh ↦ ap (row_of q) fresh.1 ∙ row_other q tx row rows other
-  ];
-  known = elim entered [ inl was ↦ inl was.0 | inr fresh ↦ inr fresh.0 ];
-})
+named_after rows mid new tx row after entered is same = grind (arith, common_steps, row_here, row_other)

@@ -1,5 +1,5 @@
 -- The readings on either side of a key's place, by the places of the live events that have readings.
-use Rattle.std.{proofs.Common.{◌≡◌, ℕ, suc, ◌-◌, ◌<◌, ◌/◌, ◌%◌, ◌^◌, ◌==◌, nat_lt, Bool, true, false, not, cond, ◌&&◌, List, [], ◌∷◌, ◌++◌, Option, Some, None, is_some, length, map, slice_get, refl, sym, ap, ◌∙◌, arith, append-nil, length-append}, specs.List.{filter, flat_map}, specs.Str.bytes_eq}
+use Rattle.std.{proofs.lemmas.Grind.common_steps, proofs.Common.{◌≡◌, ℕ, ◌<◌, ◌/◌, ◌%◌, ◌^◌, ◌==◌, nat_lt, Bool, true, false, not, cond, ◌&&◌, List, [], ◌∷◌, ◌++◌, Option, Some, None, is_some, length, map, slice_get, refl, sym, ap, ◌∙◌, arith, append-nil, length-append}, specs.List.{filter, flat_map}, specs.Str.bytes_eq}
 use Rattle.slot_arena.specs.Arena.{IsHeld}
 use Rattle.key_index.{specs.Entries.last_of, specs.Key.{rank, slot_back}, proofs.Orders.last_cons}
 use Rattle.ledger_model.{specs.Key.KeyName, specs.declared.reading.Direction.Direction, specs.Event.{MeterReading, toward}, specs.Content.{Entry, Stored}, specs.Deltas.{first_reading, last_reading, own_readings, before_key, behind_key}, proofs.Callers.{own_before_key, own_behind_key}}
@@ -17,15 +17,11 @@ module _ (d : Direction) where
 
   -- Readings with a first one are not none.
   some_there : (rs : List MeterReading) → is_some (first_reading rs) ≡ true → 0 < length rs
-  some_there [] is = cc
-  some_there (r ∷ rs) is = omega arith
+  some_there rs is = grind (arith, common_steps)
 
   -- An event that carries has a reading.
   carries_some : (s : Stored) → is_carrier d s ≡ true → 0 < length (toward d s.event.readings)
-  carries_some s is = some_there (toward d s.event.readings) (both (not s.voided) (is_some (first_reading (toward d s.event.readings))) is) where
-    both : (a b : Bool) → (a && b) ≡ true → b ≡ true
-    both true b h = h
-    both false b h = cc
+  carries_some s is = grind (arith, common_steps, some_there)
 
   -- The events of all places have readings.
   all_carry : (slots : List (Option Held)) (ps : List EventPlace) → AllPlaces (λ p. (is_carrier d) (stored_at slots p.1) ≡ true) ps → AllPlaces (HasReading slots) ps
@@ -39,10 +35,7 @@ module _ (d : Direction) where
 
   -- The last reading is that of the rest, where it has one.
   last_rest : (x : MeterReading) (xs : List MeterReading) → 0 < length xs → last_reading (x ∷ xs) ≡ last_reading xs
-  last_rest x [] some = absurd (omega arith)
-  last_rest x (y ∷ ys) some =
-      let a : length (x ∷ y ∷ ys) - 1 ≡ suc (length ys) = omega arith in let b : length (y ∷ ys) - 1 ≡ length ys = omega arith in
-      ap (slice_get (x ∷ y ∷ ys)) a ∙ sym (ap (slice_get (y ∷ ys)) b)
+  last_rest x xs some = grind (arith, common_steps)
 
   -- The last reading of two lists is that of the second, where it has one.
   last_back : (xs ys : List MeterReading) → 0 < length ys → last_reading (xs ++ ys) ≡ last_reading ys
@@ -72,12 +65,8 @@ module _ (d : Direction) where
       ≡ flat_map readings_of (filter f (cond (mine && (not voided && is_some (first_reading rs))) (e ∷ carries) carries))
   one_carrying f e false voided rs is lives carries rest = rest
   one_carrying f e true true rs is lives carries rest = rest
-  one_carrying f e true false [] is lives carries rest =
-      elim (f e) as (λ b. flat_map readings_of (cond b (e ∷ filter f lives) (filter f lives))
-      ≡ flat_map readings_of (filter f carries)) [ true ↦ ap (λ (xs : List MeterReading). xs ++ flat_map readings_of (filter f lives)) is ∙ rest | false ↦ rest ]
-  one_carrying f e true false (r ∷ rs) is lives carries rest =
-      elim (f e) as (λ b. flat_map readings_of (cond b (e ∷ filter f lives) (filter f lives))
-      ≡ flat_map readings_of (cond b (e ∷ filter f carries) (filter f carries))) [ true ↦ ap (λ (xs : List MeterReading). readings_of e ++ xs) rest | false ↦ rest ]
+  one_carrying f e true false [] is lives carries rest = grind (arith, common_steps)
+  one_carrying f e true false (r ∷ rs) is lives carries rest = grind (arith, common_steps)
 
   -- The readings of live events are those of the events that have any.
   carrying : (f : Entry → Bool) (tx : List ℕ) (es : List Entry) → flat_map readings_of (filter f (passing_of is_live tx es)) ≡ flat_map readings_of (filter f (passing_of (is_carrier d) tx es))

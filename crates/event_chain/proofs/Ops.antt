@@ -1,19 +1,10 @@
 -- What chains keep after each operation.
 use Rattle.std.{proofs.Common.{◌≡◌, ℕ, ◌+◌, ◌<◌, ◌/◌, ◌^◌, Bool, true, false, not, cond, ◌&&◌, List, Option, Some, None, is_some, length, set, sum_by, refl, sym, ap, ◌∙◌, subst, arith, inl, inr, length-set, get_or-set_same}, specs.Ordering.{eq_by_cmp, nat_cmp}, specs.Cmp.nat_cmp_total, specs.FinMap.{find, put}, specs.FinMap.Entries.{is_sorted-put, length-put, length_without}, proofs.lemmas.Slice.Eq.bytes_eq-Decides, proofs.lemmas.List.Sums.sum_by-set}
 use Rattle.ledger_model.{specs.Deltas.first_reading, specs.declared.reading.Direction.Direction, specs.Event.{EventContent, toward}, specs.Key.{KeyName, key_cmp}, specs.Limits.Bounds, specs.Content.{Entry, Stored}, specs.Entries.{IsRising, entries_without}, proofs.Callers.key_total}
-use Rattle.event_chain.{proofs.Decided.{id_test, denied}, specs.Placed.{Index, index}, specs.declared.row.TableRow.TableRow, specs.Table.{Table, TxRow, AreRising, AreApart, id_cmp, row_of}, specs.Flat.{EventPlace, place_of, stored_in, stored_at, event_at, flat}, specs.Edits.{put_if, out}, specs.Kept.{AreRanks, IsSub, is_live, is_carrier, is_naming, is_end, live_one, end_one, IsKeyed, AreIndexed, AreFigured, IsCounted, AreRoomy, IsChains, IsNamed, IsLeft, chosen}, proofs.Flats.flat_rising, proofs.Looks.IsMove, proofs.Moves.{put_move, mark_move, out_move, put_keyed, mark_keyed, out_keyed, put_here, out_here}, proofs.Subs.{sub_move, put_if_ranks, put_if_others, put_if_here, out_if_ranks, out_if_others}, proofs.Figures.{figured_put, figured_out}, proofs.Sums.{at_key, sum_put, sum_without}, proofs.Effects.{found_before, flat_put, flat_out}}
+use Rattle.event_chain.{proofs.Decided.{id_test, denied}, specs.Placed.{index}, specs.declared.row.TableRow.TableRow, specs.Table.{TxRow, AreRising, AreApart, id_cmp, row_of}, specs.Flat.{EventPlace, place_of, stored_in, stored_at, event_at, flat}, specs.Edits.{put_if, out}, specs.Kept.{AreRanks, IsSub, is_live, is_carrier, is_naming, is_end, live_one, end_one, IsKeyed, AreIndexed, AreFigured, IsCounted, IsChains, IsNamed, IsLeft, chosen}, proofs.Flats.flat_rising, proofs.Looks.IsMove, proofs.Moves.{put_move, mark_move, out_move, put_keyed, mark_keyed, out_keyed, put_here, out_here}, proofs.Subs.{sub_move, put_if_ranks, put_if_others, put_if_here, out_if_ranks, out_if_others}, proofs.Figures.{figured_put, figured_out}, proofs.Sums.{at_key, sum_put, sum_without}, proofs.Effects.{found_before, flat_put, flat_out}}
 use Rattle.slot_arena.specs.Arena.{value_at, held_count}
 use Rattle.key_index.specs.Key.{rank}
-use Rattle.event_store.specs.Slots.{Held, Slots}
-
--- All that chains are made of.
-pub record Made : Type 0 where
-  pub table : Table
-  pub store : Slots
-  pub stored : Index
-  pub live : Index
-  pub carriers : Direction → Index
-  pub naming : Index
+use Rattle.event_store.specs.Slots.{Held}
 
 -- An event counts as live for its transaction.
 pub live_mine : (key : KeyName) (s : Stored) → live_one key.tx (key, s) ≡ cond (not s.voided) 1 0
@@ -87,8 +78,9 @@ module _ (limits : Bounds) (rows new : List TxRow) (es live : List EventPlace) (
     put_event : event_at held (place_of r0 more) ≡ Some st
     put_event = ap (event_at held) (put_here r0 s0 es) ∙ ap Some put_stored
 
-    put_flat : flat new more held ≡ put key_cmp key st all
-    put_flat = flat_put rows new es more slots held key row.slot r0 s0 put_moved keyed.rising keyed.ranks rising put_ranks st put_event
+    -- All events, with the new one.
+    pub put_all : flat new more held ≡ put key_cmp key st all
+    put_all = flat_put rows new es more slots held key row.slot r0 s0 put_moved keyed.rising keyed.ranks rising put_ranks st put_event
 
     put_absent : find key_cmp key all ≡ None
     put_absent = found_before rows new es more slots held key row.slot r0 s0 put_moved keyed.rising keyed.ranks rising put_ranks ∙ ap (event_at slots) none
@@ -102,24 +94,23 @@ module _ (limits : Bounds) (rows new : List TxRow) (es live : List EventPlace) (
     -- Chains with an event put in.
     pub put_chains : (carries : Direction → Bool) (names_evse : Bool) → ((d : Direction) → carries d ≡ is_carrier d st)
         → names_evse ≡ is_naming st → after.live ≡ row.live + 1 → after.ends ≡ row.ends + cond (is_end event.kind) 1 0
-        → AreRoomy limits.events limits.events limits.events (λ _. limits.events) limits.events
         → IsChains limits (record { rows = new; capacity = transactions })
         (record { slots = held; readings = readings + length event.readings; capacity = room }) (index more limits.events)
         (index (put_if true r0 s0 live) limits.events) (λ d. index (put_if (carries d) r0 s0 (carriers d)) limits.events)
         (index (put_if names_evse r0 s0 naming) limits.events)
-    put_chains carries names_evse carries_is names_is live_is ends_is roomy = record {
+    put_chains carries names_evse carries_is names_is live_is ends_is = record {
       keyed = put_keyed rows es slots keyed new key.tx row after r0 s0 st named home free within rising apart put_ranks;
       indexed = record {
         lives = put_sub is_live live true refl indexed.lives;
         carry = λ d. put_sub (is_carrier d) (carriers d) (carries d) (carries_is d) (indexed.carry d);
         names = put_sub is_naming naming names_evse names_is indexed.names;
       };
-      figured = subst (AreFigured new) (sym put_flat) (figured_put rows new es slots key st row after all_rising figured named
+      figured = subst (AreFigured new) (sym put_all) (figured_put rows new es slots key st row after all_rising figured named
           (omega (arith, ap (at_key (live_one key.tx) key) put_absent, live_mine key st, live_is)) (omega (arith, ap (at_key (end_one key.tx) key) put_absent, end_mine key st, ends_is)));
       counted = record {
         all_are = omega (
           arith,
-          ap length put_flat,
+          ap length put_all,
           length-put key_cmp key_total key st all all_rising,
           ap (λ (o : Option Stored). cond (is_some o) (length all) (length all + 1)) put_absent,
           length-put nat_cmp nat_cmp_total r0 s0 es keyed.ranks,
@@ -133,18 +124,14 @@ module _ (limits : Bounds) (rows new : List TxRow) (es live : List EventPlace) (
           ap (λ (o : Option ℕ). cond (is_some o) (length es) (length es + 1)) none,
           counted.held_are,
         );
-        readings_are = omega (arith, counted.readings_are, sum_put size key st all all_rising, ap (at_key size key) put_absent, ap (sum_by size) put_flat);
+        readings_are = omega (arith, counted.readings_are, sum_put size key st all all_rising, ap (at_key size key) put_absent, ap (sum_by size) put_all);
         transactions_are = counted.transactions_are;
         slots_are = length-set slots s0 (Some (r0, st)) ∙ counted.slots_are;
         room_is = counted.room_is;
         events_few = counted.events_few;
       };
-      roomy = roomy;
+      roomy = record { for_stored = refl; for_live = refl; for_carriers = λ d. refl; for_naming = refl };
     }
-
-    -- All events, with the new one.
-    pub put_all : flat new more held ≡ put key_cmp key st all
-    put_all = put_flat
 
   module _ (old st : Stored) (here : value_at slots s0 ≡ Some (r0, old)) (within : s0 < length slots) (at : place_of r0 es ≡ Some s0) where
     abbrev marked_slots : List (Option Held)
@@ -190,11 +177,10 @@ module _ (limits : Bounds) (rows new : List TxRow) (es live : List EventPlace) (
     pub mark_chains : (l : List EventPlace) (c : Direction → List EventPlace) (n : List EventPlace) → AreIndexed es marked_slots l c n
         → st.event ≡ old.event → after.live + cond (not old.voided) 1 0 ≡ row.live + cond (not st.voided) 1 0
         → after.ends + cond (not old.voided && is_end old.event.kind) 1 0 ≡ row.ends + cond (not st.voided && is_end st.event.kind) 1 0
-        → AreRoomy limits.events limits.events limits.events (λ _. limits.events) limits.events
         → IsChains limits (record { rows = new; capacity = transactions })
         (record { slots = marked_slots; readings = readings; capacity = room }) (index es limits.events) (index l limits.events)
         (λ d. index (c d) limits.events) (index n limits.events)
-    mark_chains l c n indexes same live_is ends_is roomy = record {
+    mark_chains l c n indexes same live_is ends_is = record {
       keyed = mark_keyed rows es slots keyed new key.tx row after r0 s0 old st named home at here within rising apart;
       indexed = indexes;
       figured = subst (AreFigured new) (sym mark_all) (figured_put rows new es slots key st row after all_rising figured named
@@ -223,7 +209,7 @@ module _ (limits : Bounds) (rows new : List TxRow) (es live : List EventPlace) (
         room_is = counted.room_is;
         events_few = counted.events_few;
       };
-      roomy = roomy;
+      roomy = record { for_stored = refl; for_live = refl; for_carriers = λ d. refl; for_naming = refl };
     }
 
 module _ (limits : Bounds) (rows new : List TxRow) (es live : List EventPlace) (carriers : Direction → List EventPlace)
@@ -275,10 +261,10 @@ module _ (limits : Bounds) (rows new : List TxRow) (es live : List EventPlace) (
   ] refl
 
   -- Chains with a voided event taken out.
-  pub out_chains : left + length st.event.readings ≡ readings → AreRoomy limits.events limits.events limits.events (λ _. limits.events) limits.events
+  pub out_chains : left + length st.event.readings ≡ readings
       → IsChains limits (record { rows = new; capacity = transactions }) (record { slots = bare; readings = left; capacity = room })
       (index (out r0 es) limits.events) (index live limits.events) (λ d. index (carriers d) limits.events) (index naming limits.events)
-  out_chains fewer roomy =
+  out_chains fewer =
       let n = length_without nat_cmp nat_cmp_total r0 es keyed.ranks in let one = ap (λ (o : Option ℕ). cond {A = ℕ} (is_some o) 1 0) at in
       record {
         keyed = out_keyed rows es slots keyed new key.tx row r0 s0 st gone out_home here rising apart out_ranks;
@@ -305,5 +291,5 @@ module _ (limits : Bounds) (rows new : List TxRow) (es live : List EventPlace) (
           room_is = counted.room_is;
           events_few = counted.events_few;
         };
-        roomy = roomy;
+        roomy = record { for_stored = refl; for_live = refl; for_carriers = λ d. refl; for_naming = refl };
       }

@@ -1,5 +1,5 @@
 -- An index with a place put in or taken out.
-use Rattle.std.{proofs.Common.{◌≡◌, ℕ, ◌+◌, ◌<◌, ◌≤◌, ◌/◌, ◌^◌, nat_lt, ◌==◌, true, false, not, cond, T, List, [], ◌∷◌, ◌++◌, Some, None, is_some, drop, slice_get, refl, sym, ap, ◌∙◌, subst, arith, inl, inr}, proofs.lemmas.Bool.{cases_lt, cases_eq}, proofs.lemmas.Bool.Decides.{Decides-ltb, Decides-eqb}, specs.List.filter, specs.Ordering.{is_eq, is_lt, eq_by_cmp, nat_cmp}, specs.declared.cmp.Ordering.TheVariants.{Less, Equal, Greater}, specs.FinMap.put, specs.FinMap.Entries.{by_order, below_all}}
+use Rattle.std.{proofs.lemmas.Grind.common_steps, proofs.Common.{◌≡◌, ℕ, ◌+◌, ◌<◌, ◌≤◌, ◌/◌, ◌^◌, nat_lt, ◌==◌, true, false, not, cond, T, List, [], ◌∷◌, ◌++◌, Some, None, is_some, drop, slice_get, refl, sym, ap, ◌∙◌, subst, arith, inl, inr}, proofs.lemmas.Bool.{cases_lt, cases_eq}, proofs.lemmas.Bool.Decides.{Decides-ltb, Decides-eqb}, specs.List.filter, specs.Ordering.{is_eq, is_lt, eq_by_cmp, nat_cmp}, specs.declared.cmp.Ordering.TheVariants.Greater, specs.FinMap.put, specs.FinMap.Entries.{by_order, below_all}}
 use Rattle.key_index.{specs.Entries.{below, from, filed_at, first_of, last_of, AreAbove, AreRising, AreBelow}, specs.Key.rank, proofs.Orders.{above_less, last_cons}}
 use Rattle.ledger_model.{proofs.Rising.both, specs.Key.KeyName}
 use Rattle.event_chain.{specs.Flat.{EventPlace, place_of, segment}, specs.declared.row.TableRow.TableRow, specs.Table.{TxRow, row_of}, specs.Kept.AreRanks, specs.Edits.{place_in, place_at, at_home}, proofs.Decided.{rank_test, not_so, denied}, proofs.Flats.nat_less}
@@ -16,8 +16,7 @@ ranks_of (e ∷ es) h = both _ _ (above_below e.0 es h.0) (ranks_of es h.1)
 
 -- A greater number comes after.
 nat_greater : (a b : ℕ) → b < a → nat_cmp a b ≡ Greater
-nat_greater a b lt = ap (λ c. cond c Less (cond (a == b) Equal Greater)) (not_so _ (Decides-ltb a b) (λ h. absurd (omega arith)))
-    ∙ ap (λ c. cond c Equal Greater) (not_so _ (Decides-eqb a b) (λ h. absurd (omega arith)))
+nat_greater a b lt = grind (arith, common_steps)
 
 -- A rank below all of a list is not found in it.
 none_below : (r : ℕ) (es : List EventPlace) → AreAbove r es → place_of r es ≡ None
@@ -27,16 +26,7 @@ none_below r (e ∷ es) h = ap (λ o. cond (is_eq o) (Some e.1) (place_of r es))
 -- What an index finds under a key.
 pub found_at : (key : ℕ) (es : List EventPlace) → AreRising es → filed_at key (from key es) ≡ place_of key es
 found_at key [] h = refl
-found_at key (e ∷ es) h =
-    elim (cases_lt e.0 key) [
-      | inl lt ↦ ap (λ b. filed_at key (cond b (from key es) (e ∷ es))) ((Decides-ltb e.0 key).1 lt) ∙ found_at key es h.1
-          ∙ sym (ap (λ o. cond (is_eq o) (Some e.1) (place_of key es)) (nat_greater key e.0 lt))
-      | inr le ↦ ap (λ b. filed_at key (cond b (from key es) (e ∷ es))) (not_so _ (Decides-ltb e.0 key) (λ lt. absurd (omega arith))) ∙ elim (cases_eq e.0 key) [
-        | inl is ↦ ap (λ b. cond b (Some e.1) None) ((Decides-eqb e.0 key).1 is) ∙ sym (ap (λ b. cond b (Some e.1) (place_of key es)) ((rank_test key e.0).1 (sym is)))
-        | inr other ↦ ap (λ b. cond b (Some e.1) None) (not_so _ (Decides-eqb e.0 key) other)
-            ∙ sym (none_below key (e ∷ es) (let up : key < e.0 = omega (arith, other) in (up, above_less key e.0 es (omega arith) h.0)))
-      ]
-    ]
+found_at key (e ∷ es) h = grind (arith, common_steps, cases_lt, Decides-ltb, nat_greater, not_so, cases_eq, Decides-eqb, rank_test, none_below, above_less, found_at key es h.1)
 
 -- An index with a new key.
 pub put_is : (key slot : ℕ) (es : List EventPlace) → filed_at key (from key es) ≡ None → below key es ++ (key, slot) ∷ from key es ≡ put nat_cmp key slot es
@@ -61,9 +51,7 @@ put_is key slot (e ∷ es) absent =
 -- Greater ranks stay where one is left out.
 without_above : (key : ℕ) (es : List EventPlace) → AreAbove key es → filter (λ e. not (eq_by_cmp nat_cmp key e.0)) es ≡ es
 without_above key [] h = refl
-without_above key (e ∷ es) h =
-    ap (λ o. cond (not (is_eq o)) (e ∷ filter (λ x. not (eq_by_cmp nat_cmp key x.0)) es) (filter (λ x. not (eq_by_cmp nat_cmp key x.0)) es)) (nat_less key e.0 h.0)
-    ∙ ap (λ (rest : List EventPlace). e ∷ rest) (without_above key es h.1)
+without_above key (e ∷ es) h = grind (arith, common_steps, without_above key es h.1)
 
 -- An index without a key that was there.
 pub out_is : (key : ℕ) (es : List EventPlace) → AreRising es → is_some (filed_at key (from key es)) ≡ true → below key es ++ drop 1 (from key es) ≡ filter (λ e. not (eq_by_cmp nat_cmp key e.0)) es
@@ -104,32 +92,13 @@ seg_above t n (e ∷ es) h lt = let up = h.0 in
 -- The first of a segment is the first place from its slot's ranks on, where that is its.
 pub first_seg : (t : ℕ) (es : List EventPlace) → AreRising es → at_home t (first_of (from (rank t 0) es)) ≡ slice_get (segment t es) 0
 first_seg t [] h = refl
-first_seg t (e ∷ es) h =
-    elim (nat_lt e.0 (rank t 0)) as (λ b. nat_lt e.0 (rank t 0) ≡ b
-    → at_home t (first_of (cond b (from (rank t 0) es) (e ∷ es))) ≡ slice_get (cond (e.0 / 2 ^ 31 == t) (e ∷ segment t es) (segment t es)) 0) [
-      | true ↦ λ y. let lt : e.0 < rank t 0 = (Decides-ltb e.0 (rank t 0)).0 y in
-          first_seg t es h.1 ∙ sym (ap (λ b. slice_get (cond b (e ∷ segment t es) (segment t es)) 0) (not_so _ (Decides-eqb (e.0 / 2 ^ 31) t) (λ is. absurd (omega arith))))
-      | false ↦ λ never. let ge : rank t 0 ≤ e.0 = not_less e.0 (rank t 0) never in
-          elim (e.0 / 2 ^ 31 == t) as (λ b. (e.0 / 2 ^ 31 == t) ≡ b → cond b (Some e) None ≡ slice_get (cond b (e ∷ segment t es) (segment t es)) 0) [
-            | true ↦ λ _. refl
-            | false ↦ λ other. let no_more : e.0 / 2 ^ 31 ≡ t → ⊥ = denied _ (Decides-eqb (e.0 / 2 ^ 31) t) other in
-                let up : t < e.0 / 2 ^ 31 = omega (arith, no_more) in sym (ap (λ xs. slice_get xs 0) (seg_above t e.0 es h.0 up))
-          ] refl
-    ] refl
+first_seg t (e ∷ es) h = grind (arith, common_steps, Decides-ltb, not_so, Decides-eqb, not_less, denied, seg_above, first_seg t es h.1)
 
 -- The last of a segment, among ranks below its end.
 pub last_under_seg : (t : ℕ) (es : List EventPlace) → AreRising es → AreBelow (rank (t + 1) 0) es → at_home t (last_of es) ≡ last_of (segment t es)
 last_under_seg t [] h u = refl
 last_under_seg t (e ∷ []) h u = elim (e.0 / 2 ^ 31 == t) as (λ b. cond b (Some e) None ≡ last_of (cond b (e ∷ []) [])) [ true ↦ refl | false ↦ refl ]
-last_under_seg t (e ∷ f ∷ es) h u =
-    let rest = last_under_seg t (f ∷ es) h.1 u.1 in
-    ap (at_home t) (last_cons e f es) ∙ rest
-    ∙ elim (e.0 / 2 ^ 31 == t) as (λ b. (e.0 / 2 ^ 31 == t) ≡ b → last_of (segment t (f ∷ es)) ≡ last_of (cond b (e ∷ segment t (f ∷ es)) (segment t (f ∷ es)))) [
-      | false ↦ λ _. refl
-      | true ↦ λ y. let home = (Decides-eqb (e.0 / 2 ^ 31) t).0 y in let up = h.0.0 in let under = u.1.0 in let same : f.0 / 2 ^ 31 ≡ t = omega arith in
-          let seg : segment t (f ∷ es) ≡ f ∷ segment t es = ap (λ b. cond b (f ∷ segment t es) (segment t es)) ((Decides-eqb (f.0 / 2 ^ 31) t).1 same) in
-          ap last_of seg ∙ sym (last_cons e f (segment t es)) ∙ sym (ap (λ (xs : List EventPlace). last_of (e ∷ xs)) seg)
-    ] refl
+last_under_seg t (e ∷ f ∷ es) h u = grind (arith, common_steps, last_cons, Decides-eqb, last_under_seg t (f ∷ es) h.1 u.1)
 
 -- What is below a rank is under it.
 pub below_under : (n : ℕ) (es : List EventPlace) → AreBelow n (below n es)
@@ -149,13 +118,7 @@ below_rising n (e ∷ es) h = elim (nat_lt e.0 n) as (λ b. AreRising (cond b (e
 -- No place from the end of a slot's ranks on is of its transaction.
 below_seg : (t : ℕ) (es : List EventPlace) → AreRising es → segment t (below (rank (t + 1) 0) es) ≡ segment t es
 below_seg t [] h = refl
-below_seg t (e ∷ es) h =
-    elim (nat_lt e.0 (rank (t + 1) 0)) as (λ b. nat_lt e.0 (rank (t + 1) 0) ≡ b → segment t (cond b (e ∷ below (rank (t + 1) 0) es) []) ≡ segment t (e ∷ es)) [
-      | true ↦ λ _. elim (e.0 / 2 ^ 31 == t) as (λ b. cond b (e ∷ segment t (below (rank (t + 1) 0) es)) (segment t (below (rank (t + 1) 0) es))
-          ≡ cond b (e ∷ segment t es) (segment t es)) [ true ↦ ap (λ (xs : List EventPlace). e ∷ xs) (below_seg t es h.1) | false ↦ below_seg t es h.1 ]
-      | false ↦ λ never. let ge : rank (t + 1) 0 ≤ e.0 = not_less e.0 (rank (t + 1) 0) never in let up : t < e.0 / 2 ^ 31 = omega arith in
-          sym (ap (λ b. cond b (e ∷ segment t es) (segment t es)) (not_so _ (Decides-eqb (e.0 / 2 ^ 31) t) (λ is. absurd (omega arith))) ∙ seg_above t e.0 es h.0 up)
-    ] refl
+below_seg t (e ∷ es) h = grind (arith, common_steps, not_less, not_so, Decides-eqb, seg_above, below_seg t es h.1)
 
 -- The last of a segment is the last place before the end of its slot's ranks, where that is its.
 pub last_seg : (t : ℕ) (es : List EventPlace) → AreRising es → at_home t (last_of (below (rank (t + 1) 0) es)) ≡ last_of (segment t es)

@@ -1,5 +1,5 @@
 -- The places of a transaction in front of a rank and behind it, before and after an edit.
-use Rattle.std.{proofs.Common.{◌≡◌, ℕ, ◌+◌, ◌/◌, ◌^◌, ◌==◌, cond, List, [], ◌∷◌, ◌++◌, Some, None, is_some, drop, refl, sym, ap, ◌∙◌, subst, arith, inl, inr}, proofs.lemmas.Bool.{cases_lt, cases_eq}, proofs.lemmas.Bool.Decides.Decides-eqb, proofs.lemmas.List.Elements.filter-append, specs.Ordering.nat_cmp, specs.FinMap.put}
+use Rattle.std.{proofs.lemmas.Grind.common_steps, proofs.Common.{◌≡◌, ℕ, ◌+◌, ◌/◌, ◌^◌, ◌==◌, cond, List, [], ◌∷◌, ◌++◌, Some, None, is_some, drop, refl, sym, ap, ◌∙◌, subst, arith, inl, inr}, proofs.lemmas.Bool.{cases_lt, cases_eq}, proofs.lemmas.Bool.Decides.Decides-eqb, proofs.lemmas.List.Elements.filter-append, specs.Ordering.nat_cmp, specs.FinMap.put}
 use Rattle.key_index.{specs.Entries.{below, from, filed_at, AreAbove, AreRising}, proofs.Orders.{cut_whole, from_end, from_on}}
 use Rattle.event_chain.{specs.Flat.{EventPlace, place_of, segment}, specs.Edits.{out, places_before, places_behind}, proofs.Decided.not_so, proofs.Places.{found_at, put_is, out_is}, proofs.Cuts.{seg_below, seg_from}}
 
@@ -92,9 +92,7 @@ module _ (r : ℕ) (es : List EventPlace) (h : AreRising es) where
 
     -- Where the rank is there, its place is between those on either side.
     pub seg_present : segment home es ≡ places_before r es ++ (r, s) ∷ places_behind r es
-    seg_present =
-        ap (segment home) cut_present ∙ seg_both home (below r es) ((r, s) ∷ from (r + 1) es) ∙ ap (λ xs. segment home (below r es) ++ xs) (seg_own home r s (from (r + 1) es) refl)
-        ∙ (λ i. front_is i ++ (r, s) ∷ back_is i)
+    seg_present = grind (arith, common_steps, cut_present, seg_both, seg_own, front_is, back_is)
 
     -- Taken out, it leaves those.
     pub seg_out : segment home (out r es) ≡ places_before r es ++ places_behind r es
@@ -102,9 +100,7 @@ module _ (r : ℕ) (es : List EventPlace) (h : AreRising es) where
 
     -- Other transactions keep theirs.
     pub seg_out_other : (t : ℕ) → (home ≡ t → ⊥) → segment t (out r es) ≡ segment t es
-    seg_out_other t other =
-        ap (segment t) gone ∙ seg_both t (below r es) (from (r + 1) es)
-        ∙ sym (ap (segment t) cut_present ∙ seg_both t (below r es) ((r, s) ∷ from (r + 1) es) ∙ ap (λ xs. segment t (below r es) ++ xs) (seg_other t r s (from (r + 1) es) other))
+    seg_out_other t other = grind (arith, common_steps, gone, seg_both, cut_present, seg_other)
 
     -- Behind it are all of its transaction that come later.
     pub behind_present : segment home (from (r + 1) es) ≡ places_behind r es

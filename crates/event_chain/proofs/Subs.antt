@@ -1,5 +1,5 @@
 -- The indexes of live events, under a move.
-use Rattle.std.{proofs.Common.{◌≡◌, ℕ, Bool, true, false, not, cond, List, Option, Some, None, refl, sym, ap, ◌∙◌, inl, inr}, proofs.lemmas.Bool.cases_eq, specs.Ordering.{eq_by_cmp, nat_cmp}, specs.Cmp.nat_cmp_total, specs.FinMap.Entries.{is_sorted-put, is_sorted-where_key}}
+use Rattle.std.{proofs.lemmas.Grind.common_steps, proofs.Common.{arith, ◌≡◌, ℕ, Bool, true, false, not, cond, List, Option, Some, None}, proofs.lemmas.Bool.cases_eq, specs.Ordering.{eq_by_cmp, nat_cmp}, specs.Cmp.nat_cmp_total, specs.FinMap.Entries.{is_sorted-put, is_sorted-where_key}}
 use Rattle.ledger_model.specs.Content.{Stored}
 use Rattle.event_store.specs.Slots.{Held}
 use Rattle.event_chain.{specs.Flat.{EventPlace, place_of, stored_at}, specs.Kept.{AreRanks, IsSub, chosen}, specs.Edits.{put_if, out_if}, proofs.Moves.{put_here, put_other, out_other}}
@@ -13,16 +13,7 @@ pub sub_move : (test : Stored → Bool) (es more sub after : List EventPlace) (s
     → IsSub test es slots sub → OthersSame r0 es more → OthersSame r0 sub after → ((r : ℕ) → place_of r es ≡ Some s0 → r ≡ r0)
     → ((s : ℕ) → (s ≡ s0 → ⊥) → stored_at held s ≡ stored_at slots s)
     → AreRanks after → place_of r0 after ≡ chosen test held (place_of r0 more) → IsSub test more held after
-sub_move test es more sub after slots held r0 s0 was moved same own stays ranks here = record {
-  rising = ranks;
-  each = λ r. elim (cases_eq r r0) [
-    | inl is ↦ ap (λ k. place_of k after) is ∙ here ∙ sym (ap (λ k. chosen test held (place_of k more)) is)
-    | inr other ↦ same r other ∙ was.each r ∙ still r other (place_of r es) refl ∙ sym (ap (chosen test held) (moved r other))
-  ];
-} where
-  still : (r : ℕ) → (r ≡ r0 → ⊥) → (o : Option ℕ) → place_of r es ≡ o → chosen test slots o ≡ chosen test held o
-  still r other None is = refl
-  still r other (Some s) is = ap (λ st. cond (test st) (Some s) None) (sym (stays s (λ e. other (own r (is ∙ ap Some e)))))
+sub_move test es more sub after slots held r0 s0 was moved same own stays ranks here = grind (arith, common_steps, cases_eq)
 
 -- Ranks rise where one was put in.
 pub put_if_ranks : (b : Bool) (r0 s0 : ℕ) (es : List EventPlace) → AreRanks es → AreRanks (put_if b r0 s0 es)
@@ -36,15 +27,12 @@ out_if_ranks false r0 es h = h
 
 -- Others stay where one was put in.
 pub put_if_others : (b : Bool) (r0 s0 : ℕ) (es : List EventPlace) → OthersSame r0 es (put_if b r0 s0 es)
-put_if_others true r0 s0 es r other = put_other r r0 s0 es other
-put_if_others false r0 s0 es r other = refl
+put_if_others b r0 s0 es r other = grind (arith, common_steps, put_other)
 
 -- Others stay where one was taken out.
 pub out_if_others : (b : Bool) (r0 : ℕ) (es : List EventPlace) → OthersSame r0 es (out_if b r0 es)
-out_if_others true r0 es r other = out_other r r0 es other
-out_if_others false r0 es r other = refl
+out_if_others b r0 es r other = grind (arith, common_steps, out_other)
 
 -- What was put in is found.
 pub put_if_here : (b : Bool) (r0 s0 : ℕ) (es : List EventPlace) → place_of r0 es ≡ None → place_of r0 (put_if b r0 s0 es) ≡ cond b (Some s0) None
-put_if_here true r0 s0 es none = put_here r0 s0 es
-put_if_here false r0 s0 es none = none
+put_if_here b r0 s0 es none = grind (arith, common_steps, put_here)

@@ -1,5 +1,5 @@
 -- What a table keeps, under its edits.
-use Rattle.std.{proofs.Common.{◌≡◌, ℕ, ◌+◌, ◌<◌, ◌≤◌, true, false, cond, List, [], ◌∷◌, ◌++◌, Option, Some, None, is_some, length, refl, sym, ap, ◌∙◌, subst, arith, inl, inr, length-append, option_map}, specs.Ordering.eq_by_cmp}
+use Rattle.std.{proofs.lemmas.Grind.common_steps, proofs.Common.{◌≡◌, ℕ, ◌+◌, ◌<◌, ◌≤◌, true, false, cond, List, [], ◌∷◌, ◌++◌, Option, Some, None, is_some, length, refl, sym, ap, ◌∙◌, subst, arith, inl, inr, length-append, option_map}, specs.Ordering.eq_by_cmp}
 use Rattle.transaction_map.{proofs.Rising.same_id, proofs.Found.{put_cases, out_cases, rising_put, rising_out, length_put, length_out}}
 use Rattle.event_chain.{specs.declared.row.TableRow.TableRow, specs.Table.{Table, TxRow, AreSlotted, IsFresh, id_cmp, row_of, with_row, without_row}, specs.TableKept.{AreSpare, IsTable}}
 use Rattle.slot_arena.specs.Free.{IsApart}
@@ -57,33 +57,7 @@ none_fresh capacity tx row rows (s ∷ ss) there h = (h.0 tx row there, none_fre
 pub IsTable-add : (rows : List TxRow) (spare ss : List ℕ) (capacity slot : ℕ) (tx : List ℕ) (r : TableRow)
     → spare ≡ ss ++ slot ∷ [] → IsTable rows spare capacity → row_of tx rows ≡ None → r.slot ≡ slot
     → IsTable (with_row tx r rows) ss capacity
-IsTable-add rows spare ss capacity slot tx r is table absent same =
-    let last = last_spare capacity slot rows ss (subst (AreSpare capacity rows) is table.spare_are) in
-    let fresh : (q : List ℕ) (x : TableRow) → row_of q rows ≡ Some x → x.slot ≡ r.slot → ⊥ = λ q x there e. last.fresh q x there (e ∙ same) in
-    record {
-      rising = rising_put tx r rows table.rising;
-      apart = λ q o x y at ay e. elim (put_cases q tx r x rows at) [
-        | inl a ↦ elim (put_cases o tx r y rows ay) [
-          | inl b ↦ a.0 ∙ sym b.0
-          | inr b ↦ absurd (fresh o y b (sym e ∙ ap (λ (z : TableRow). z.slot) a.1))
-        ]
-        | inr a ↦ elim (put_cases o tx r y rows ay) [
-          | inl b ↦ absurd (fresh q x a (e ∙ ap (λ (z : TableRow). z.slot) b.1))
-          | inr b ↦ table.apart q o x y a b e
-        ]
-      ];
-      below = λ q x at. elim (put_cases q tx r x rows at) [
-        | inl a ↦ let e : x.slot ≡ slot = ap (λ (z : TableRow). z.slot) a.1 ∙ same in let lt = last.below in omega arith
-        | inr a ↦ table.below q x a
-      ];
-      spare_are = spare_on capacity rows (with_row tx r rows) slot ss last.none (λ s other was q x at e. elim (put_cases q tx r x rows at) [
-        | inl a ↦ other (sym same ∙ sym (ap (λ (z : TableRow). z.slot) a.1) ∙ e)
-        | inr a ↦ was q x a e
-      ]) last.rest;
-      total = let n = length_put tx r rows table.rising
-          ∙ ap (λ (o : Option TableRow). cond (is_some o) (length rows) (length rows + 1)) absent in omega (arith, n, table.total, ap length is, length-append ss (slot ∷ []));
-      few = table.few;
-    }
+IsTable-add rows spare ss capacity slot tx r is table absent same = grind (arith, common_steps, last_spare, rising_put, put_cases, spare_on, length_put)
 
 -- What is kept of a transaction changed, except for its slot.
 pub IsTable-set : (rows : List TxRow) (ss : List ℕ) (capacity : ℕ) (tx : List ℕ) (old r : TableRow) → IsTable rows ss capacity
@@ -143,15 +117,11 @@ from_more n (s ∷ ss) h = let le = h.0 in (omega arith, from_more n ss h.1)
 
 -- The next slot of an empty table, below those that it has.
 pub open_spare : (capacity n : ℕ) (ss new : List ℕ) → new ≡ ss ++ n ∷ [] → n < capacity → AreFrom (n + 1) ss → AreSpare capacity [] ss → AreFrom n new × AreSpare capacity [] new
-open_spare capacity n ss new is lt above h = (
-  subst (AreFrom n) (sym is) (from_more n ss above),
-  subst (AreSpare capacity []) (sym is) (more_spare capacity n [] ss (record { fresh = λ tx row there _. cc; below = lt; none = none_from n ss above; rest = h })),
-)
+open_spare capacity n ss new is lt above h = grind (arith, common_steps, from_more, more_spare, none_from)
 
 -- The row whose slot is known.
 pub slot_there : (o : Option TableRow) (n : ℕ) → option_map (λ (r : TableRow). r.slot) o ≡ Some n → (row : TableRow) × ((o ≡ Some row) × (n ≡ row.slot))
-slot_there None n h = cc
-slot_there (Some row) n h = (row, (refl, cc))
+slot_there o n h = grind (arith, common_steps)
 
 -- Such rows rise, each with a slot of its own.
 pub slotted : (t : Table) (ss : List ℕ) → IsTable t.rows ss t.capacity → AreSlotted t

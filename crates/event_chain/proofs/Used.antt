@@ -1,9 +1,9 @@
 -- The slots of the live events, and what they hold.
-use Rattle.std.{proofs.Common.{◌≡◌, ℕ, true, false, not, List, Option, Some, None, refl, sym, ap, ◌∙◌}, proofs.lemmas.Bool.Decides.Decides-eqb}
+use Rattle.std.{proofs.lemmas.Grind.common_steps, proofs.Common.{arith, ◌≡◌, ℕ, true, List, Option, Some, None, refl, sym, ap, ◌∙◌}, proofs.lemmas.Bool.Decides.Decides-eqb}
 use Rattle.slot_arena.specs.Arena.{value_at}
 use Rattle.ledger_model.specs.Content.{Stored}
 use Rattle.event_store.specs.Slots.{Held}
-use Rattle.event_chain.{specs.Table.TxRow, specs.Flat.{EventPlace, place_of, stored_in}, specs.Kept.{IsSub, IsKeyed, is_live}, specs.Walk.{is_under, are_under}, proofs.Lives.chosen_place, proofs.Members.{all_found, chosen_test}, proofs.Walks.all_under}
+use Rattle.event_chain.{specs.Table.TxRow, specs.Flat.{EventPlace, place_of}, specs.Kept.{IsSub, IsKeyed, is_live}, specs.Walk.{is_under, are_under}, proofs.Lives.chosen_place, proofs.Members.{all_found, chosen_test}, proofs.Walks.all_under}
 
 -- A free slot is not held.
 not_free : (o : Option Held) (h : Held) → o ≡ Some h → o ≡ None → ⊥
@@ -26,6 +26,4 @@ module _ (rows : List TxRow) (es live : List EventPlace) (slots : List (Option H
 -- No live place has the slot of a voided event.
 pub unused_voided : (es live : List EventPlace) (slots : List (Option Held)) → IsSub is_live es slots live
     → (s r0 : ℕ) (event : Stored) → value_at slots s ≡ Some (r0, event) → event.voided ≡ true → (r : ℕ) → place_of r live ≡ Some s → ⊥
-unused_voided es live slots lives s r0 event here voided r at =
-    let counts = chosen_test is_live slots (place_of r es) s (sym (lives.each r) ∙ at) in
-    let never : true ≡ false = sym counts ∙ ap (λ o. is_live (stored_in o)) here ∙ ap not voided in cc
+unused_voided es live slots lives s r0 event here voided r at = grind (arith, common_steps, chosen_test)

@@ -1,5 +1,5 @@
 -- The steps of a walk over linked places.
-use Rattle.std.{proofs.Common.{◌≡◌, ℕ, ◌+◌, ◌<◌, ◌/◌, ◌%◌, ◌^◌, ◌==◌, ◌&&◌, nat_lt, Bool, true, false, cond, List, [], ◌∷◌, ◌++◌, Option, Some, None, length, map, drop, slice_get, option_map, inl, inr, refl, sym, ap, ◌∙◌, subst, arith}, specs.Prelude.slice_index, specs.List.filter, proofs.lemmas.Bool.{cases_eq, and_parts}, proofs.lemmas.Bool.Decides.{Decides-ltb, Decides-eqb}}
+use Rattle.std.{proofs.lemmas.Grind.common_steps, proofs.Common.{◌≡◌, ℕ, ◌+◌, ◌<◌, ◌/◌, ◌%◌, ◌^◌, ◌==◌, ◌&&◌, nat_lt, Bool, true, false, cond, List, [], ◌∷◌, ◌++◌, Option, Some, None, length, map, drop, slice_get, option_map, inl, inr, refl, sym, ap, ◌∙◌, subst, arith}, specs.Prelude.slice_index, specs.List.filter, proofs.lemmas.Bool.{cases_eq, and_parts}, proofs.lemmas.Bool.Decides.{Decides-ltb, Decides-eqb}}
 use Rattle.slot_arena.specs.Arena.{value_at}
 use Rattle.key_index.specs.Entries.{AreAbove, below, AreBelow}
 use Rattle.key_index.specs.Entries as entries
@@ -14,28 +14,17 @@ AllAbove n (m ∷ ms) = (n < m) × AllAbove n ms
 
 -- They rise with a smaller one in front.
 rising_more : (n : ℕ) (ns : List ℕ) → AllAbove n ns → AreRising ns → AreRising (n ∷ ns)
-rising_more n [] h rising = tt
-rising_more n (m ∷ ms) h rising = (h.0, rising)
+rising_more n ns h rising = grind (arith, common_steps)
 
 -- Numbers of greater ranks of one transaction are greater.
 numbers_above : (t r : ℕ) (es : List EventPlace) → AreAbove r es → r / 2 ^ 31 ≡ t → AllAbove (r % 2 ^ 31) (map number_in (segment t es))
 numbers_above t r [] h home = tt
-numbers_above t r (e ∷ es) h home =
-    let up = h.0 in let rest = numbers_above t r es h.1 home in
-    elim (e.0 / 2 ^ 31 == t) as (λ b. (e.0 / 2 ^ 31 == t) ≡ b → AllAbove (r % 2 ^ 31) (map number_in (cond b (e ∷ segment t es) (segment t es)))) [
-      | true ↦ λ y. let same : e.0 / 2 ^ 31 ≡ t = (Decides-eqb (e.0 / 2 ^ 31) t).0 y in let more : r % 2 ^ 31 < e.0 % 2 ^ 31 = omega arith in (more, rest)
-      | false ↦ λ _. rest
-    ] refl
+numbers_above t r (e ∷ es) h home = grind (arith, common_steps, numbers_above t r es h.1 home)
 
 -- The numbers of a transaction rise.
 pub numbers_rising : (t : ℕ) (es : List EventPlace) → entries.AreRising es → AreRising (map number_in (segment t es))
 numbers_rising t [] h = tt
-numbers_rising t (e ∷ es) h =
-    let rest = numbers_rising t es h.1 in
-    elim (e.0 / 2 ^ 31 == t) as (λ b. (e.0 / 2 ^ 31 == t) ≡ b → AreRising (map number_in (cond b (e ∷ segment t es) (segment t es)))) [
-      | true ↦ λ y. rising_more (number_in e) (map number_in (segment t es)) (numbers_above t e.0 es h.0 ((Decides-eqb (e.0 / 2 ^ 31) t).0 y)) rest
-      | false ↦ λ _. rest
-    ] refl
+numbers_rising t (e ∷ es) h = grind (arith, common_steps, rising_more, numbers_above, Decides-eqb, numbers_rising t es h.1)
 
 -- What is left of greater ranks is greater.
 left_above : (n : ℕ) (f : EventPlace → Bool) (es : List EventPlace) → AreAbove n es → AreAbove n (filter f es)
@@ -50,24 +39,16 @@ left_rising f (e ∷ es) h = elim (f e) as (λ b. entries.AreRising (cond b (e �
 -- All greater ranks are greater.
 above_all : (n : ℕ) (es : List EventPlace) → AreAbove n es → filter (λ e. nat_lt n e.0) es ≡ es
 above_all n [] h = refl
-above_all n (e ∷ es) h = ap (λ b. cond b (e ∷ filter (λ (x : EventPlace). nat_lt n x.0) es) (filter (λ x. nat_lt n x.0) es)) ((Decides-ltb n e.0).1 h.0)
-    ∙ ap (λ (xs : List EventPlace). e ∷ xs) (above_all n es h.1)
+above_all n (e ∷ es) h = grind (arith, common_steps, above_all n es h.1)
 
 -- Those greater than the first are the others.
 behind_first : (e : EventPlace) (es : List EventPlace) → entries.AreRising (e ∷ es) → filter (λ x. nat_lt e.0 x.0) (e ∷ es) ≡ es
-behind_first e es h =
-    ap (λ b. cond b (e ∷ filter (λ (x : EventPlace). nat_lt e.0 x.0) es) (filter (λ x. nat_lt e.0 x.0) es)) (not_so _ (Decides-ltb e.0 e.0) (λ lt. absurd (omega arith)))
-    ∙ above_all e.0 es h.0
+behind_first e es h = grind (arith, common_steps, not_so, Decides-ltb, above_all)
 
 -- Those greater than a greater rank are among the greater.
 greater_twice : (n m : ℕ) (es : List EventPlace) → n < m → filter (λ e. nat_lt m e.0) (filter (λ e. nat_lt n e.0) es) ≡ filter (λ e. nat_lt m e.0) es
 greater_twice n m [] lt = refl
-greater_twice n m (e ∷ es) lt =
-    let rest = greater_twice n m es lt in let more = filter (λ (x : EventPlace). nat_lt m x.0) es in
-    elim (nat_lt n e.0) as (λ b. nat_lt n e.0 ≡ b → filter (λ x. nat_lt m x.0) (cond b (e ∷ filter (λ x. nat_lt n x.0) es) (filter (λ x. nat_lt n x.0) es)) ≡ cond (nat_lt m e.0) (e ∷ more) more) [
-      | true ↦ λ _. ap (λ (xs : List EventPlace). cond (nat_lt m e.0) (e ∷ xs) xs) rest
-      | false ↦ λ never. rest ∙ sym (ap (λ b. cond b (e ∷ more) more) (not_so _ (Decides-ltb m e.0) (λ up. let f : false ≡ true = sym never ∙ (Decides-ltb n e.0).1 (omega arith) in cc)))
-    ] refl
+greater_twice n m (e ∷ es) lt = grind (arith, common_steps, greater_twice n m es lt)
 
 -- What holds of all holds of those in front of a rank.
 all_below : (P : EventPlace → Type 0) (n : ℕ) (es : List EventPlace) → AllPlaces P es → AllPlaces P (below n es)
@@ -77,9 +58,7 @@ all_below P n (e ∷ es) h = elim (nat_lt e.0 n) as (λ b. AllPlaces P (cond b (
 -- The test holds too of what it leaves.
 all_tested : (P : EventPlace → Type 0) (f : EventPlace → Bool) (es : List EventPlace) → AllPlaces P es → AllPlaces (λ p. (f p ≡ true) × P p) (filter f es)
 all_tested P f [] h = tt
-all_tested P f (e ∷ es) h =
-    elim (f e) as (λ b. f e ≡ b
-    → AllPlaces (λ p. (f p ≡ true) × P p) (cond b (e ∷ filter f es) (filter f es))) [ true ↦ λ y. ((y, h.0), all_tested P f es h.1) | false ↦ λ _. all_tested P f es h.1 ] refl
+all_tested P f (e ∷ es) h = grind (arith, common_steps, all_tested P f es h.1)
 
 -- No place in front of a slot's has the slot.
 none_front : (s r : ℕ) (es : List EventPlace) → AllPlaces (λ p. p.1 ≡ s → p.0 ≡ r) es → AreBelow r es → AllPlaces (λ p. p.1 ≡ s → ⊥) es
@@ -139,8 +118,7 @@ all_under slots (e ∷ es) h = ap (λ b. b && are_under slots es) h.0 ∙ all_un
 
 -- What is known if a test holds.
 told : (b : Bool) (ns : List ℕ) → 0 < length (cond b ns []) → (b ≡ true) × (0 < length ns)
-told true ns some = (refl, some)
-told false ns some = absurd (omega arith)
+told b ns some = grind (arith, common_steps)
 
 -- A slot holds one event.
 held_same : (o : Option Held) (a b : Held) → o ≡ Some a → o ≡ Some b → a ≡ b
@@ -243,24 +221,18 @@ module _ (es : List EventPlace) (slots : List (Option Held)) (rising : entries.A
 
   -- A walk starts at the first place of its transaction.
   pub start_some : (t : ℕ) (e : EventPlace) → are_under slots es ≡ true → slice_get (segment t es) 0 ≡ Some e → numbers_from es slots e.1 ≡ map number_in (segment t es)
-  start_some t e all first_is =
-      let split = first_of_some (segment t es) e first_is in let next = first_next es rising t e split.0 split.1 in
-      from_first e split.0 all next.found next.rest ∙ ap (map number_in) (sym split.1)
+  start_some t e all first_is = grind (arith, common_steps, first_of_some, first_next, from_first)
 
   module _ (s : ℕ) (at : IsAt s) where
     abbrev behind : List EventPlace
     behind = places_behind at.rank es
-
-    abbrev home_of : ℕ
-    home_of = at.rank / 2 ^ 31
 
     rest_is : drop 1 (numbers_from es slots s) ≡ map number_in behind
     rest_is = ap (drop 1) at.numbers
 
     -- The number of the slot's event is the first.
     pub number_read : (h : Held) → value_at slots s ≡ Some h → h.0 % 2 ^ 31 ≡ slice_index (numbers_from es slots s) 0
-    number_read h here = let same : (at.rank, at.stored)
-        ≡ h = held_same (value_at slots s) (at.rank, at.stored) h at.held_is here in ap (λ (x : Held). x.0 % 2 ^ 31) (sym same) ∙ sym (ap (λ ns. slice_index ns 0) at.numbers)
+    number_read h here = grind (arith, common_steps, held_same)
 
     next_from : (e : EventPlace) (ps : List EventPlace) → behind ≡ e ∷ ps → numbers_from es slots e.1 ≡ map number_in behind
     next_from e ps is = let next = behind_next es rising at.rank e ps is in from_first e ps at.all next.found next.rest ∙ ap (map number_in) (sym is)
@@ -274,10 +246,7 @@ module _ (es : List EventPlace) (slots : List (Option Held)) (rising : entries.A
 
     -- There are numbers from it on.
     pub next_stands : (k : ℕ) → Some k ≡ option_map slot_in (slice_get behind 0) → 0 < length (numbers_from es slots k)
-    next_stands k is = step behind refl is where
-      step : (xs : List EventPlace) → behind ≡ xs → Some k ≡ option_map slot_in (slice_get xs 0) → 0 < length (numbers_from es slots k)
-      step [] _ none = cc
-      step (e ∷ ps) xs_is some = let all = ap length (next_some k is ∙ rest_is ∙ ap (map number_in) xs_is) in omega (arith, all)
+    next_stands k is = grind (arith, common_steps, next_some, rest_is)
 
     -- Where there is none behind, the walk is over.
     pub next_none : None ≡ option_map slot_in (slice_get behind 0) → [] ≡ drop 1 (numbers_from es slots s)
@@ -293,5 +262,4 @@ start_none (p ∷ ps) none = cc
 
 -- Where it has one there are numbers.
 pub start_stands : (ps : List EventPlace) (e : EventPlace) → slice_get ps 0 ≡ Some e → 0 < length (map number_in ps)
-start_stands [] e none = cc
-start_stands (p ∷ ps) e some = omega arith
+start_stands ps e none = grind (arith, common_steps)

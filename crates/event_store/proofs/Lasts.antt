@@ -1,5 +1,5 @@
 -- The last reading of a direction.
-use Rattle.std.proofs.Common.{◌≡◌, true, false, cond, List, [], ◌∷◌, Option, Some, None, refl, sym, ap, ◌∙◌}
+use Rattle.std.{proofs.lemmas.Grind.common_steps, proofs.Common.{arith, ◌≡◌, true, false, cond, List, [], ◌∷◌, Option, Some, None, refl, sym, ap, ◌∙◌}}
 use Rattle.ledger_model.{specs.declared.reading.Direction.Direction, specs.declared.reading.Direction.TheVariants.{Import, Export}, specs.Deltas.last_reading, specs.Event.{MeterReading, same_direction, toward}}
 use Rattle.event_store.proofs.Runs.{last_more}
 
@@ -18,17 +18,10 @@ last_or_is [] = refl
 last_or_is (r ∷ rs) = last_from r rs
 
 same_self : (d : Direction) → same_direction d d ≡ true
-same_self Import = refl
-same_self Export = refl
+same_self d = grind (arith, common_steps)
 
 other_one : (d : Direction) (x r : MeterReading) → same_direction d x.direction ≡ false → same_direction d r.direction ≡ true → Some x ≡ Some r → ⊥
-other_one d x r apart same e =
-    let is : x ≡ r = cc in
-    let no : true ≡ false = sym same ∙ sym (ap (λ (y : MeterReading). same_direction d y.direction) is) ∙ apart in
-    absurd (true_not no)
-  where
-    true_not : true ≡ false → ⊥
-    true_not h = cc
+other_one d x r apart same e = grind (arith, common_steps)
 
 toward_or : (d : Direction) (o p : Option MeterReading) (rs : List MeterReading) (r : MeterReading) → (o ≡ Some r → p ≡ Some r)
     → last_or o rs ≡ Some r → same_direction d r.direction ≡ true → last_or p (toward d rs) ≡ Some r

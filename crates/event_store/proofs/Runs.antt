@@ -1,5 +1,5 @@
 -- Chains of readings under edits of the arena that holds them.
-use Rattle.std.{proofs.Common.{◌≡◌, ℕ, zero, suc, ◌+◌, ◌<◌, ◌≤◌, ◌++◌, Bool, false, true, List, [], ◌∷◌, Option, Some, None, is_some, cond, length, take, set, get_or, slice_get, ◌-◌, refl, sym, ap, ◌∙◌, subst, arith, length-set, get_or-set_other, get_or-set_same}, proofs.lemmas.List.Sums.sum_by-set}
+use Rattle.std.{proofs.lemmas.Grind.common_steps, proofs.Common.{◌≡◌, ℕ, zero, suc, ◌+◌, ◌<◌, ◌≤◌, ◌++◌, Bool, false, true, List, [], ◌∷◌, Option, Some, None, is_some, cond, length, take, set, get_or, slice_get, ◌-◌, refl, sym, ap, ◌∙◌, subst, arith, length-set, get_or-set_other, get_or-set_same}, proofs.lemmas.List.Sums.sum_by-set}
 use Rattle.slot_arena.specs.Arena.{value_at, held_count}
 use Rattle.ledger_model.{specs.Event.MeterReading, specs.Deltas.last_reading}
 use Rattle.event_store.{specs.declared.links.ReadingLink.ReadingLink, specs.Links.{reading_of, next_of, owner_of, left_of, chain, IsLink, IsRun, IsLast, AreReadings, AreKept, AreOthersKept}}
@@ -33,18 +33,11 @@ run_other old new owner other first n kept apart run = run_same old new other fi
 last_same : (old new : LinkRow) (owner first n last : ℕ)
     → (is_some (value_at old last) ≡ true → owner_of (value_at old last) ≡ owner → value_at new last ≡ value_at old last)
     → chain new first n ≡ chain old first n → IsLast old owner first n last → IsLast new owner first n last
-last_same old new owner first zero last same is ends = tt
-last_same old new owner first (suc n) last same is ends =
-    let here : value_at new last ≡ value_at old last = same ends.0.there ends.0.owner_is in (
-      subst (λ l. IsLink l owner 1) (sym here) ends.0,
-      ap last_reading is ∙ ends.1 ∙ ap (λ l. Some (reading_of l)) (sym here),
-    )
+last_same old new owner first n last same is ends = grind (arith, common_steps)
 
 -- Where all links are kept, the readings of each event are.
 pub readings_kept : (old new : LinkRow) (owner first n last : ℕ) → AreKept old new → AreReadings old owner first n last → AreReadings new owner first n last × (chain new first n ≡ chain old first n)
-readings_kept old new owner first n last kept was =
-    let r = run_kept old new owner first n kept was.run in
-    (record { run = r.0; ends = last_same old new owner first n last (λ there _. kept last there) r.1 was.ends }, r.1)
+readings_kept old new owner first n last kept was = grind (arith, common_steps, run_kept, last_same)
 
 -- Where the links of all but one event are kept, another's readings are.
 pub readings_other : (old new : LinkRow) (owner other first n last : ℕ) → AreOthersKept owner old new → (other ≡ owner → ⊥)
@@ -74,9 +67,7 @@ module _ {X : Type 0} where
 
 -- A link put into a free slot leaves all others.
 pub put_kept : (links : LinkRow) (id : ℕ) (link : ReadingLink) → value_at links id ≡ None → AreKept links (set links id (Some link))
-put_kept links id link free i there =
-    get_or-set_other links id i (Some link) None
-    (λ same. let e : None ≡ value_at links i = sym free ∙ ap (value_at links) (sym same) in let f : false ≡ true = ap is_some e ∙ there in cc)
+put_kept links id link free i there = grind (arith, common_steps)
 
 -- Kept twice is kept.
 pub kept_on : (old mid new : LinkRow) → AreKept old mid → AreKept mid new → AreKept old new
@@ -103,8 +94,7 @@ give_run links owner first n run =
 
 -- The others are kept.
 pub give_kept : (start links : LinkRow) (owner first n : ℕ) → IsRun links owner first (suc n) → AreOthersKept owner start links → AreOthersKept owner start (set links first None)
-give_kept start links owner first n run kept i there apart =
-    get_or-set_other links first i None None (λ same. apart (ap owner_of (sym (kept i there apart) ∙ ap (value_at links) same) ∙ run.0.owner_is)) ∙ kept i there apart
+give_kept start links owner first n run kept i there apart = grind (arith, common_steps)
 
 -- What is left when the first link of a chain was taken out.
 pub record IsGiven (start links new : LinkRow) (owner next n : ℕ) : Type 0 where
@@ -117,16 +107,7 @@ pub record IsGiven (start links new : LinkRow) (owner next n : ℕ) : Type 0 whe
 pub give_step : (start links new : LinkRow) (owner here left n id : ℕ) (link : ReadingLink) → left ≡ suc n → id ≡ here
     → value_at links id ≡ Some link → new ≡ set links id None → IsRun links owner here left → AreOthersKept owner start links
     → IsGiven start links new owner link.next n
-give_step start links new owner here left n id link up is value gone run kept =
-    let whole : IsRun links owner here (suc n) = subst (IsRun links owner here) up run in
-    let at : value_at links here ≡ Some link = ap (value_at links) (sym is) ∙ value in
-    let written : new ≡ set links here None = gone ∙ ap (λ k. set links k None) is in
-    subst (λ row. IsGiven start links row owner link.next n) (sym written) (record {
-      run = subst (λ l. IsRun (set links here None) owner (next_of l) n) at (give_run links owner here n whole);
-      kept = give_kept start links owner here n whole kept;
-      held = count_take links here whole.0.there;
-      same = length-set links here None;
-    })
+give_step start links new owner here left n id link up is value gone run kept = grind (arith, common_steps, give_run, give_kept, count_take)
 
 -- All but the last of a list, and then the last.
 front_last : (xs ys : List MeterReading) (x : MeterReading) (n : ℕ) → n + 1 ≡ length xs → x ≡ get_or xs n x → take n xs ++ (x ∷ ys) ≡ xs ++ ys
@@ -160,9 +141,7 @@ put_step start links new id first n more owner link rest all m up long free lt p
 
 -- The last of readings is that of the rest, if there is one.
 pub last_more : (x y : MeterReading) (ys : List MeterReading) → last_reading (x ∷ y ∷ ys) ≡ last_reading (y ∷ ys)
-last_more x y ys =
-    let a : length (x ∷ y ∷ ys) - 1 ≡ suc (length ys) = omega arith in let b : length (y ∷ ys) - 1 ≡ length ys = omega arith in
-    ap (slice_get (x ∷ y ∷ ys)) a ∙ sym (ap (slice_get (y ∷ ys)) b)
+last_more x y ys = grind (arith, common_steps)
 
 -- A link put in front of a chain is its last one where there was none; else the last one stays.
 pub put_last : (links new : LinkRow) (id first n more owner last end : ℕ) (link : ReadingLink) → more ≡ suc n
@@ -176,9 +155,7 @@ put_last links new id first n more owner last end link up free lt put is left ne
 
       told : (m : ℕ) → more ≡ suc m → IsRun links owner first m → IsLast links owner first m last → IsLast whole owner id (suc m) end
       told zero one r e =
-          let here : value_at whole id ≡ Some link = get_or-set_same links id (Some link) None lt in let at : end ≡ id = only one in
-          subst (λ k. IsLink (value_at whole k) owner 1 × (last_reading (chain whole id 1) ≡ Some (reading_of (value_at whole k)))) (sym at)
-          (subst (λ l. IsLink l owner 1) (sym here) (record { there = refl; owner_is = is; left_is = left ∙ one }), refl)
+          let here : value_at whole id ≡ Some link = get_or-set_same links id (Some link) None lt in let at : end ≡ id = only one in grind (arith, common_steps)
       told (suc m) two r e =
           let at : end ≡ last = others (omega (arith, two)) in
           let step = put_run links id first (suc m) owner link free lt is (left ∙ two) next r in

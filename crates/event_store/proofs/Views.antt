@@ -1,5 +1,5 @@
 -- What the slots of a store show, under edits of its arenas.
-use Rattle.std.{proofs.Common.{◌≡◌, ℕ, zero, suc, ◌<◌, Bool, false, List, [], ◌∷◌, Option, Some, None, length, set, replicate, refl, sym, ap, ◌∙◌, subst, set-set, get_or-set_other, get_or-set_same, inl, inr}, proofs.lemmas.Bool.cases_eq}
+use Rattle.std.{proofs.lemmas.Grind.common_steps, proofs.Common.{arith, ◌≡◌, ℕ, zero, suc, ◌<◌, Bool, false, List, [], ◌∷◌, Option, Some, None, length, set, replicate, refl, sym, ap, ◌∙◌, subst, set-set, get_or-set_other, get_or-set_same, inl, inr}, proofs.lemmas.Bool.cases_eq}
 use Rattle.slot_arena.specs.Arena.{value_at}
 use Rattle.event_store.{specs.declared.event_slot.EventSlot.EventSlot, specs.Links.{chain, AreReadings, AreKept, AreOthersKept}, specs.Slots.{Held, voided_as, voided_at, readings_at, readings_in}, specs.Store.{slot_in, slots_in, new_slot, run_set, IsChained, AreChained}, proofs.Runs.{LinkRow, readings_kept, readings_other, chain_long}}
 use Rattle.ledger_model.specs.Event.{EventContent}
@@ -38,8 +38,7 @@ chained_same old new slot e kept = ap (λ rs. Some (e.key, record { event = reco
 
 -- One of them.
 kept_slot : (old new : LinkRow) (i : ℕ) (e : Option EventSlot) → AreKept old new → IsChained old i e → slot_in new e ≡ slot_in old e
-kept_slot old new i None kept run = refl
-kept_slot old new i (Some e) kept run = chained_same old new i e (readings_kept old new i e.first e.count e.last kept run)
+kept_slot old new i e kept run = grind (arith, common_steps, chained_same, readings_kept)
 
 -- Where all links are kept, the slots show the same.
 pub kept_same : (old new : LinkRow) (events : Events) → AreKept old new → AreChained events old → slots_in new events ≡ slots_in old events
@@ -96,9 +95,7 @@ taken_out events gone links new slot id owner is own written chained kept =
 -- The readings of a slot.
 pub slot_readings : (links : LinkRow) (events : Events) (slots : List (Option Held)) (slot id : ℕ) (e : EventSlot) → id ≡ slot
     → value_at events id ≡ Some e → slots_in links events ≡ slots → readings_at slots slot ≡ e.count
-slot_readings links events slots slot id e is value view =
-    ap (λ ss. readings_at ss slot) (sym view) ∙ ap (λ k. readings_at (slots_in links events) k) (sym is)
-    ∙ ap readings_in (slot_at links events id ∙ ap (slot_in links) value) ∙ chain_long links e.first e.count
+slot_readings links events slots slot id e is value view = grind (arith, common_steps, slot_at, chain_long)
 
 -- What a store keeps when an event was put into it.
 pub record IsIn (events more : Events) (links new : LinkRow) (slot key : ℕ) (event : EventContent) : Type 0 where

@@ -1,10 +1,9 @@
 -- What is found after an edit, and which maps have the same ids.
-use Rattle.std.{proofs.Common.{◌≡◌, ℕ, ◌+◌, ◌<◌, ◌≤◌, Bool, true, false, not, cond, T, ◌&&◌, List, [], ◌∷◌, map, Option, Some, None, is_some, length, refl, sym, ap, subst, ◌∙◌, arith, inl, inr, ◌⊎◌}, specs.List.filter, specs.Ordering.{is_eq, is_lt, eq_by_cmp}, specs.Cmp.{eq_by_cmp_equiv, alike_right}, specs.FinMap.{find, put, is_sorted}, specs.FinMap.Entries.{below_all, find-put, find-where_key, is_sorted-put, is_sorted-where_key, length-put, length_without, same_entries}}
+use Rattle.std.{proofs.lemmas.Grind.common_steps, proofs.Common.{◌≡◌, ℕ, ◌+◌, ◌<◌, ◌≤◌, Bool, true, false, not, cond, T, ◌&&◌, List, [], ◌∷◌, map, Option, Some, None, is_some, length, refl, sym, ap, subst, ◌∙◌, arith, inl, inr, ◌⊎◌}, specs.List.filter, specs.Ordering.{is_eq, is_lt, eq_by_cmp}, specs.Cmp.{eq_by_cmp_equiv, alike_right}, specs.FinMap.{find, put, is_sorted}, specs.FinMap.Entries.{below_all, find-put, find-where_key, is_sorted-put, is_sorted-where_key, length-put, length_without, same_entries}}
 use Rattle.transaction_map.{specs.Map.{AreRising, id_cmp}, proofs.Rising.{id_total, exact_ids, equal_ids}}
 
 turned : {A : Type 0} (b : Bool) (x y : A) → cond (not b) x y ≡ cond b y x
-turned true x y = refl
-turned false x y = refl
+turned b x y = grind (arith, common_steps)
 
 module _ {X : Type 0} where
   -- What is found where a value was put.
@@ -19,21 +18,13 @@ module _ {X : Type 0} where
 
   -- What is found after a put was put, or was there.
   pub put_cases : (q tx : List ℕ) (v x : X) (rows : List (List ℕ × X)) → find id_cmp q (put id_cmp tx v rows) ≡ Some x → ((q ≡ tx) × (x ≡ v)) ⊎ (find id_cmp q rows ≡ Some x)
-  put_cases q tx v x rows h =
-      elim (eq_by_cmp id_cmp q tx) as (λ b. eq_by_cmp id_cmp q tx ≡ b → cond b (Some v) (find id_cmp q rows) ≡ Some x → ((q ≡ tx) × (x ≡ v)) ⊎ (find id_cmp q rows ≡ Some x)) [
-        | true ↦ λ e s. inl (equal_ids q tx e, cc)
-        | false ↦ λ e s. inr s
-      ] refl (sym (found_put q tx v rows) ∙ h)
+  put_cases q tx v x rows h = grind (arith, common_steps, equal_ids, found_put)
 
   -- What is found after one was taken out is another.
   pub out_cases : (q tx : List ℕ) (x : X) (rows : List (List ℕ × X))
       → find id_cmp q (filter (λ r. not (eq_by_cmp id_cmp tx r.0)) rows) ≡ Some x
       → (eq_by_cmp id_cmp q tx ≡ false) × (find id_cmp q rows ≡ Some x)
-  out_cases q tx x rows h =
-      elim (eq_by_cmp id_cmp q tx) as (λ b. eq_by_cmp id_cmp q tx ≡ b → cond b None (find id_cmp q rows) ≡ Some x → (eq_by_cmp id_cmp q tx ≡ false) × (find id_cmp q rows ≡ Some x)) [
-        | true ↦ λ e s. cc
-        | false ↦ λ e s. (e, s)
-      ] refl (sym (found_out q tx rows) ∙ h)
+  out_cases q tx x rows h = grind (arith, common_steps, found_out)
 
   -- Ids rise where a value was put.
   pub rising_put : (tx : List ℕ) (v : X) (rows : List (List ℕ × X)) → AreRising rows → AreRising (put id_cmp tx v rows)
@@ -54,11 +45,7 @@ module _ {X : Type 0} where
   -- A put stays within the capacity where a new id has room.
   pub within_put : (tx : List ℕ) (v : X) (rows : List (List ℕ × X)) (capacity : ℕ) → AreRising rows → length rows ≤ capacity
       → (find id_cmp tx rows ≡ None → length rows < capacity) → length (put id_cmp tx v rows) ≤ capacity
-  within_put tx v rows capacity rising within room =
-      elim (find id_cmp tx rows) as (λ o. find id_cmp tx rows ≡ o → length (put id_cmp tx v rows) ≤ capacity) [
-        | None ↦ λ e. let n = length_put tx v rows rising ∙ ap (λ (o : Option X). cond (is_some o) (length rows) (length rows + 1)) e in let lt = room e in omega arith
-        | Some x ↦ λ e. let n = length_put tx v rows rising ∙ ap (λ (o : Option X). cond (is_some o) (length rows) (length rows + 1)) e in omega arith
-      ] refl
+  within_put tx v rows capacity rising within room = grind (arith, common_steps, length_put)
 
   -- What is taken out stays within the capacity.
   pub within_out : (tx : List ℕ) (rows : List (List ℕ × X)) (capacity : ℕ) → AreRising rows → length rows ≤ capacity → length (filter (λ r. not (eq_by_cmp id_cmp tx r.0)) rows) ≤ capacity
@@ -83,11 +70,7 @@ module _ {X : Type 0} where
 
   names-find : (q : List ℕ) (es : List (List ℕ × X)) → find id_cmp q (names es) ≡ cond (is_some (find id_cmp q es)) (Some tt) None
   names-find q [] = refl
-  names-find q (e ∷ es) =
-      elim (eq_by_cmp id_cmp q e.0) as (λ b. cond b (Some tt) (find id_cmp q (names es)) ≡ cond (is_some (cond b (Some e.1) (find id_cmp q es))) (Some tt) None) [
-        | true ↦ refl
-        | false ↦ names-find q es
-      ]
+  names-find q (e ∷ es) = grind (arith, common_steps, names-find q es)
 
 -- Rising lists have the same ids if the same ids are found in them.
 pub same_ids : {X Y : Type 0} (xs : List (List ℕ × X)) (ys : List (List ℕ × Y)) → AreRising xs → AreRising ys

@@ -1,5 +1,5 @@
 -- What is at a place that was searched for.
-use Rattle.std.{proofs.Common.{◌≡◌, ℕ, zero, suc, ◌<◌, ◌≤◌, not, T, cond, List, [], ◌∷◌, length, get_or, set, Some, None, Result, Ok, Err, IfOk, IfErr, refl, sym, ap, subst, ◌∙◌, arith}, specs.declared.cmp.Ordering.TheVariants.{Less, Equal, Greater}, specs.Ordering.{is_eq, eq_by_cmp}, specs.List.{filter, insert, remove}, specs.List.Sorted.{IsBinarySearchResult, IsSearchInRange}, specs.FinMap.{find, put}, specs.FinMap.Entries.{by_order, below_all}, proofs.lemmas.List.length-set}
+use Rattle.std.{proofs.lemmas.Grind.common_steps, proofs.Common.{◌≡◌, ℕ, zero, suc, ◌<◌, ◌≤◌, not, T, cond, List, [], ◌∷◌, length, get_or, set, Some, None, Result, Ok, Err, IfOk, IfErr, refl, sym, ap, subst, ◌∙◌, arith}, specs.declared.cmp.Ordering.TheVariants.{Less, Equal, Greater}, specs.Ordering.{is_eq, eq_by_cmp}, specs.List.{filter, insert, remove}, specs.List.Sorted.{IsBinarySearchResult, IsSearchInRange}, specs.FinMap.{find, put}, specs.FinMap.Entries.{by_order, below_all}, proofs.lemmas.List.length-set}
 use Rattle.ledger_model.proofs.Callers.{first, second, less}
 use Rattle.transaction_map.{specs.Map.{AreRising, id_cmp}, specs.Places.{IsAt, IsGap}, proofs.Rising.{exact_ids, find_below, turned, below_at, below_less}, proofs.Keys.searchable}
 
@@ -115,6 +115,4 @@ module _ {X : Type 0} where
 
   -- The value of an id, written at its place.
   pub written : (key : List ℕ) (es : List (List ℕ × X)) (i : ℕ) (x w : List ℕ × X) (v : X) → IsAt key es i → x ≡ get_or es i x → w ≡ (x.0, v) → set es i w ≡ put id_cmp key v es
-  written key es i x w v at is write =
-      let same : x.0 ≡ key = ap (λ (e : List ℕ × X). e.0) is ∙ key_at key es i x at in
-      ap (set es i) (write ∙ ap (λ (k : List ℕ). (k, v)) same) ∙ sym (put_at key v es i at)
+  written key es i x w v at is write = grind (arith, common_steps, key_at, put_at)

@@ -1,5 +1,5 @@
 -- Rows by rising id.
-use Rattle.std.{proofs.Common.{◌≡◌, ℕ, zero, suc, ◌<◌, Bool, true, false, cond, T, ◌&&◌, List, [], ◌∷◌, length, get_or, Some, None, refl, sym, ap, subst, ◌∙◌, arith}, specs.declared.cmp.Ordering.Ordering, specs.declared.cmp.Ordering.TheVariants.{Less, Equal, Greater}, specs.Ordering.{is_lt, is_eq, ordering_reverse, eq_by_cmp}, specs.FinMap.Entries.{below_all, find}, specs.FinMap.{IsAntisymmetric, nat_cmp-IsAntisymmetric, slice_cmp-IsAntisymmetric}, specs.Cmp.{IsTotalOrder, eq_by_cmp_equiv}, specs.Cmp.Lexicographic.nat_list_cmp_total}
+use Rattle.std.{proofs.lemmas.Grind.common_steps, proofs.Common.{◌≡◌, ℕ, zero, suc, ◌<◌, Bool, true, false, cond, T, ◌&&◌, List, [], ◌∷◌, length, get_or, Some, None, refl, sym, ap, subst, ◌∙◌, arith}, specs.declared.cmp.Ordering.Ordering, specs.declared.cmp.Ordering.TheVariants.{Less, Equal, Greater}, specs.Ordering.{is_lt, is_eq, ordering_reverse, eq_by_cmp}, specs.FinMap.Entries.{below_all, find}, specs.FinMap.{IsAntisymmetric, nat_cmp-IsAntisymmetric, slice_cmp-IsAntisymmetric}, specs.Cmp.{IsTotalOrder, eq_by_cmp_equiv}, specs.Cmp.Lexicographic.nat_list_cmp_total}
 use Rattle.ledger_model.proofs.Callers.{first, second, less}
 use Rattle.transaction_map.specs.Map.{id_cmp}
 
@@ -13,11 +13,7 @@ exact_ids = slice_cmp-IsAntisymmetric nat_cmp-IsAntisymmetric
 
 -- Ids that a test finds equal are.
 pub equal_ids : (q tx : List ℕ) → eq_by_cmp id_cmp q tx ≡ true → q ≡ tx
-equal_ids q tx e = elim (id_cmp q tx) as (λ (o : Ordering). id_cmp q tx ≡ o → is_eq o ≡ true → q ≡ tx) [
-  | Less ↦ λ _ f. cc
-  | Equal ↦ λ p _. exact_ids q tx p
-  | Greater ↦ λ _ f. cc
-] refl e
+equal_ids q tx e = grind (arith, common_steps, exact_ids)
 
 -- An id ties with itself.
 pub same_id : (tx : List ℕ) → eq_by_cmp id_cmp tx tx ≡ true
@@ -36,8 +32,7 @@ pub turned : (a b : List ℕ) (o : Ordering) → id_cmp a b ≡ o → id_cmp b a
 turned a b o h = id_total.antisymm b a ∙ ap ordering_reverse h
 
 both : (a b : Bool) → T a → T b → T (a && b)
-both true b g h = h
-both false b g h = g
+both a b g h = grind (arith, common_steps)
 
 module _ {X : Type 0} where
   -- The id of each later row is greater.

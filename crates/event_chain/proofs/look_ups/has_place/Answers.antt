@@ -1,15 +1,9 @@
-use Rattle.std.proofs.Common.{sym, subst, ◌∙◌}
-use Rattle.event_chain.{specs.Kept.{HasPlace, IsBare}, specs.Placed.Index, proofs.Places.ranks_of, proofs.Lives.{seg_some, seg_bare}}
-use Rattle.key_index.specs.Entries.{AreRising}
+use Rattle.std.{proofs.lemmas.Grind.common_steps, proofs.Common.{arith, sym, subst, ◌∙◌}}
+use Rattle.event_chain.{specs.Kept.{IsBare}, specs.Placed.Index, proofs.Places.ranks_of, proofs.Lives.{seg_some, seg_bare}}
 use Rattle.event_chain.proofs.look_ups.has_place.Goals as goal
 
 pub returns-clause-some : goal.returns-clause-some
-returns-clause-some c has =
-    let es = c.stored-stored.result.entries in
-    subst (λ (x : Index). HasPlace x.entries c.args.slot) c.stored-stored.ensures.same
-    (seg_some c.args.slot es c.first_place.result
-    (ranks_of es (subst (λ (x : Index). AreRising x.entries) (sym c.stored-stored.ensures.same) c.stored-stored.ensures.rising))
-    c.first_place.ensures (sym c.is_some.ensures ∙ has))
+returns-clause-some c has = grind (arith, common_steps, seg_some, ranks_of)
 
 pub returns-clause-bare : goal.returns-clause-bare
 returns-clause-bare c has =

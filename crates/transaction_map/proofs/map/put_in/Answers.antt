@@ -1,4 +1,4 @@
-use Rattle.std.{proofs.Common.{arith, cond, sym, ap, ◌∙◌}, specs.List.insert}
+use Rattle.std.{proofs.lemmas.Grind.common_steps, proofs.Common.{arith, cond, sym, ap, ◌∙◌}, specs.List.insert}
 use Rattle.transaction_map.proofs.Places.{at_within, gap_within, find_gap, put_gap, written}
 use Rattle.transaction_map.proofs.map.put_in.Goals as goal
 
@@ -18,13 +18,7 @@ returns-in-Ok-clause-items g c =
     written _ _ _ c.index_mut.result.now _ c.args.value at c.index_mut.ensures.value c.set.ensures
 
 pub returns-in-Err-clause-items : goal.returns-in-Err-clause-items
-returns-in-Err-clause-items g c =
-    let gap = rw c.deref.ensures.value at c.in-Err.ensures.gap in
-    let es = c.args.rows.now.items in
-    let room = c.requires.room (find_gap _ _ _ c.requires.rising gap) in
-    let row = c.new.ensures ∙ ap (λ id. (id, c.args.value)) c.copied.ensures in
-    c.insert.ensures.items ∙ ap (λ b. cond b (insert es c.in-Err.at c.new.result) es) (c.insert.ensures.succeeds room)
-    ∙ ap (insert es c.in-Err.at) row ∙ sym (put_gap c.args.tx.now c.args.value es c.in-Err.at gap)
+returns-in-Err-clause-items g c = grind (arith, common_steps, find_gap, put_gap)
 
 pub returns-in-Err-clause-capacity : goal.returns-in-Err-clause-capacity
 returns-in-Err-clause-capacity g c =

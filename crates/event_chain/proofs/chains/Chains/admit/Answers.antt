@@ -1,9 +1,39 @@
-use Rattle.std.proofs.Common.{◌≡◌, ◌+◌, ◌<◌, ◌^◌, None, Some, false, IfSome, is_some, option_map, length, sym, ap, ◌∙◌, subst, arith}
-use Rattle.event_chain.{specs.Placed.carriers_of, specs.declared.row.TableRow.TableRow, specs.Table.{Table, row_of, with_row, IsRowAt}, specs.Chains.{Chained, stored}, specs.Room.room_of, specs.Kept.{IsEntered, IsKeyed, end_count}, specs.Flat.flat, specs.Sides.AreSides, proofs.Facts.{entries_all, enter_room, event_room, reading_room, counts_few, none_at, places_few, entered_named}, proofs.Used.unused_free, proofs.Inserts.{inserted, inserted_events}}
+use Rattle.std.proofs.Common.{ℕ, List, ◌≡◌, ◌+◌, ◌<◌, ◌^◌, None, Some, false, IfSome, is_some, option_map, length, sym, ap, ◌∙◌, subst, arith}
+use Rattle.event_chain.{specs.Placed.carriers_of, specs.declared.row.TableRow.TableRow, specs.Table.{Table, TxRow, row_of, with_row, IsRowAt}, specs.Chains.{Chained, stored}, specs.Kept.{IsEntered, IsKeyed, end_count}, specs.Flat.flat, specs.Sides.AreSides, proofs.Facts.{entries_all, enter_room, event_room, reading_room, counts_few, none_at, places_few, entered_named}, proofs.Used.unused_free, proofs.Inserts.{Inserted, inserted, inserted_events}, proofs.chains.Chains.admit.Goals.After-renew}
 use Rattle.ledger_model.{specs.ByDirection.in_direction, specs.Deltas.first_reading, specs.Event.toward}
 use Rattle.std.specs.FinMap as finite
 use Rattle.key_index.specs.Key.{rank}
 use Rattle.event_chain.proofs.chains.Chains.admit.Goals as goal
+
+-- A transaction that was entered, by the table that was searched and by the key's own id.
+known : {old new : Table} {mid : List TxRow} {tx own : List ℕ} {row : TableRow} → new ≡ old → tx ≡ own → IsEntered new.rows mid tx row → IsEntered old.rows mid own row
+known {old = old} {mid = mid} {tx = tx} {row = row} same is entered = subst (λ t. IsEntered old.rows mid t row) is (subst (λ (x : Table). IsEntered x.rows mid tx row) same entered)
+
+-- What was done to each part.
+done : (c : After-renew) → Inserted c.self.invariant c.args.key.now c.enter-known.new.table.rows c.enter-known.result.0 c.new-at.result c.renew.new.table c.put-slot.new.self
+    c.insert.new.self.stored c.insert.new.self.live (carriers_of c.insert.new.self) c.insert.new.self.naming c.row_with-after.result
+    c.put-slot.result c.args.event.now (λ d. in_direction d c.carried_by-carries.result) c.is_some-names_evse.result
+done c = record {
+  entered = known c.seek-found.ensures.same c.tx-tx.ensures c.enter-known.ensures.entered;
+  number = omega (arith, c.seq.ensures.value, c.seq.ensures.range);
+  rank_is = c.new-at.ensures ∙ ap (rank c.enter-known.result.0.slot) c.seq.ensures.value;
+  absent = ap (λ (x : Chained). finite.get x.events c.args.key.now) c.self.view_is ∙ c.requires.absent;
+  rows = c.renew.ensures.rows ∙ ap (λ t. with_row t c.row_with-after.result c.enter-known.new.table.rows) c.tx-tx.ensures;
+  transactions = c.renew.ensures.capacity ∙ c.enter-known.ensures.capacity ∙ ap (λ (x : Table). x.capacity) c.seek-found.ensures.same;
+  slotted = c.renew.ensures.slotted;
+  free = c.put-slot.ensures.was_free;
+  within = c.put-slot.ensures.within;
+  slots = c.put-slot.ensures.slots;
+  readings = c.put-slot.ensures.readings;
+  room = c.put-slot.ensures.capacity;
+  stored_is = c.insert.ensures.stored;
+  live_is = c.insert.ensures.lives.live;
+  carriers_is = c.insert.ensures.lives.carriers;
+  naming_is = c.insert.ensures.lives.naming;
+  carries_is = λ d. c.carried_by-carries.ensures d ∙ ap (λ rs. is_some (first_reading (toward d rs))) c.readings.ensures.value;
+  names_is = c.is_some-names_evse.ensures ∙ ap is_some c.evse.ensures.value;
+  after_is = c.row_with-after.ensures ∙ ap (λ k. record c.enter-known.result.0 { live = c.enter-known.result.0.live + 1; ends = c.enter-known.result.0.ends + end_count k }) c.kind.ensures;
+}
 
 pub around_of-requires-clause-keyed : goal.around_of-requires-clause-keyed
 around_of-requires-clause-keyed c = let m = c.self.inside in subst (λ (x : Table). IsKeyed x.rows m.places.stored.entries m.store.slots) (sym c.seek-found.ensures.same) c.self.invariant.keyed
@@ -22,33 +52,27 @@ pub enter-known-requires-clause-at : goal.enter-known-requires-clause-at
 enter-known-requires-clause-at c = subst (λ (x : Table). IfSome c.seek-found.result (λ f. IsRowAt c.tx-tx.result.now x.rows f.0)) (sym c.seek-found.ensures.same) c.seek-found.ensures.at
 
 pub enter-known-requires-clause-room : goal.enter-known-requires-clause-room
-enter-known-requires-clause-room c =
-    let fits = ap (λ (x : Chained). room_of x.limits (finite.entries x.events) c.args.key.now.tx (length c.args.event.now.readings)) c.self.view_is ∙ c.requires.room in
-    subst (λ (x : Table). row_of c.tx-tx.result.now x.rows ≡ None → length x.rows < x.capacity) (sym c.seek-found.ensures.same)
-    (λ absent. enter_room c.self.invariant c.args.key.now.tx (length c.args.event.now.readings) fits (ap (λ t. row_of t c.self.inside.table.rows) (sym c.tx-tx.ensures) ∙ absent))
+enter-known-requires-clause-room c = subst (λ (x : Table). row_of c.tx-tx.result.now x.rows ≡ None → length x.rows < x.capacity) (sym c.seek-found.ensures.same) (λ none.
+    enter_room c.self.invariant c.args.key.now.tx (length c.args.event.now.readings) c.self.view_is c.requires.room
+    (ap (λ t. row_of t c.self.inside.table.rows) (sym c.tx-tx.ensures) ∙ none))
 
 pub put-slot-requires-clause-free : goal.put-slot-requires-clause-free
 put-slot-requires-clause-free c =
-    let fits = ap (λ (x : Chained). room_of x.limits (finite.entries x.events) c.args.key.now.tx (length c.args.event.now.readings)) c.self.view_is ∙ c.requires.room in
-    let k = c.self.invariant in omega (arith, event_room k c.args.key.now.tx (length c.args.event.now.readings) fits, k.counted.held_are, k.counted.slots_are)
+    let room = event_room c.self.invariant c.args.key.now.tx (length c.args.event.now.readings) c.self.view_is c.requires.room in
+    let k = c.self.invariant in omega (arith, room, k.counted.held_are, k.counted.slots_are)
 
 pub put-slot-requires-clause-room : goal.put-slot-requires-clause-room
-put-slot-requires-clause-room c =
-    let fits = ap (λ (x : Chained). room_of x.limits (finite.entries x.events) c.args.key.now.tx (length c.args.event.now.readings)) c.self.view_is ∙ c.requires.room in
-    reading_room c.self.invariant c.args.key.now.tx (length c.args.event.now.readings) fits
+put-slot-requires-clause-room c = reading_room c.self.invariant c.args.key.now.tx (length c.args.event.now.readings) c.self.view_is c.requires.room
 
 pub insert-requires : goal.insert-requires
 insert-requires c =
-    let row = c.enter-known.result.0 in let mid = c.enter-known.new.table.rows in let key = c.args.key.now in
-    let entered = subst (λ (x : Table). IsEntered x.rows mid key.tx row) c.seek-found.ensures.same
-    (subst (λ t. IsEntered c.seek-found.new.self.rows mid t row) c.tx-tx.ensures c.enter-known.ensures.entered) in
-    let number : key.seq < 2 ^ 31 = omega (arith, c.seq.ensures.value, c.seq.ensures.range) in let is = c.new-at.ensures ∙ ap (rank row.slot) c.seq.ensures.value in
-    let absent = ap (λ (x : Chained). finite.get x.events key) c.self.view_is ∙ c.requires.absent in
-    let fits = ap (λ (x : Chained). room_of x.limits (finite.entries x.events) key.tx (length c.args.event.now.readings)) c.self.view_is ∙ c.requires.room in
-    let m = c.self.inside in let k = c.self.invariant in
+    let m = c.self.inside in let k = c.self.invariant in let row = c.enter-known.result.0 in let key = c.args.key.now in
+    let number : key.seq < 2 ^ 31 = omega (arith, c.seq.ensures.value, c.seq.ensures.range) in
     record {
-      absent = none_at k mid key row c.new-at.result absent entered number is;
-      room = omega (arith, event_room k key.tx (length c.args.event.now.readings) fits, k.roomy.for_stored);
+      absent = none_at k c.enter-known.new.table.rows key row c.new-at.result
+          (ap (λ (x : Chained). finite.get x.events key) c.self.view_is ∙ c.requires.absent) (known c.seek-found.ensures.same c.tx-tx.ensures c.enter-known.ensures.entered) number
+          (c.new-at.ensures ∙ ap (rank row.slot) c.seq.ensures.value);
+      room = omega (arith, event_room k key.tx (length c.args.event.now.readings) c.self.view_is c.requires.room, k.roomy.for_stored);
       slot_for = record {
         within = omega (arith, c.put-slot.ensures.within, k.counted.slots_are, k.roomy.for_live);
         unused = unused_free m.table.rows m.places.stored.entries m.places.live.entries m.store.slots k.keyed k.indexed.lives c.put-slot.result c.put-slot.ensures.was_free;
@@ -57,84 +81,23 @@ insert-requires c =
 
 pub row_with-after-requires : goal.row_with-after-requires
 row_with-after-requires c =
-    let row = c.enter-known.result.0 in let mid = c.enter-known.new.table.rows in let key = c.args.key.now in
-    let entered = subst (λ (x : Table). IsEntered x.rows mid key.tx row) c.seek-found.ensures.same
-    (subst (λ t. IsEntered c.seek-found.new.self.rows mid t row) c.tx-tx.ensures c.enter-known.ensures.entered) in
-    let k = c.self.invariant in
-    let few = counts_few k mid key.tx row entered in
-    let most = places_few k in (omega (arith, few.0, most, k.counted.events_few), omega (arith, few.1, most, k.counted.events_few))
+    let k = c.self.invariant in let most = places_few k in
+    let few = counts_few k c.enter-known.new.table.rows c.args.key.now.tx c.enter-known.result.0 (known c.seek-found.ensures.same c.tx-tx.ensures c.enter-known.ensures.entered) in
+    (omega (arith, few.0, most, k.counted.events_few), omega (arith, few.1, most, k.counted.events_few))
 
 pub renew-requires-clause-slot : goal.renew-requires-clause-slot
 renew-requires-clause-slot c =
-    let row = c.enter-known.result.0 in let mid = c.enter-known.new.table.rows in let key = c.args.key.now in
-    let entered = subst (λ (x : Table). IsEntered x.rows mid key.tx row) c.seek-found.ensures.same
-    (subst (λ t. IsEntered c.seek-found.new.self.rows mid t row) c.tx-tx.ensures c.enter-known.ensures.entered) in
-    ap (λ t. option_map (λ (r : TableRow). r.slot) (row_of t mid)) c.tx-tx.ensures
-    ∙ ap (option_map (λ (r : TableRow). r.slot)) (entered_named c.self.inside.table.rows mid key.tx row entered).there
+    let mid = c.enter-known.new.table.rows in let there = (entered_named c.self.inside.table.rows mid c.args.key.now.tx c.enter-known.result.0
+    (known c.seek-found.ensures.same c.tx-tx.ensures c.enter-known.ensures.entered)).there in
+    ap (λ t. option_map (λ (r : TableRow). r.slot) (row_of t mid)) c.tx-tx.ensures ∙ ap (option_map (λ (r : TableRow). r.slot)) there
     ∙ ap Some (sym (ap (λ (r : TableRow). r.slot) c.row_with-after.ensures))
 
 pub invariant_of-self : goal.invariant_of-self
-invariant_of-self c =
-    let row = c.enter-known.result.0 in let mid = c.enter-known.new.table.rows in let key = c.args.key.now in
-    let entered = subst (λ (x : Table). IsEntered x.rows mid key.tx row) c.seek-found.ensures.same
-    (subst (λ t. IsEntered c.seek-found.new.self.rows mid t row) c.tx-tx.ensures c.enter-known.ensures.entered) in
-    let number : key.seq < 2 ^ 31 = omega (arith, c.seq.ensures.value, c.seq.ensures.range) in let is = c.new-at.ensures ∙ ap (rank row.slot) c.seq.ensures.value in
-    let absent = ap (λ (x : Chained). finite.get x.events key) c.self.view_is ∙ c.requires.absent in
-    inserted c.self.invariant key mid row c.new-at.result entered number is absent c.renew.new.table c.put-slot.new.self
-    c.insert.new.self.stored c.insert.new.self.live (carriers_of c.insert.new.self) c.insert.new.self.naming c.row_with-after.result
-    c.put-slot.result c.args.event.now (λ d. in_direction d c.carried_by-carries.result) c.is_some-names_evse.result
-    (record {
-      rows = c.renew.ensures.rows ∙ ap (λ t. with_row t c.row_with-after.result c.enter-known.new.table.rows) c.tx-tx.ensures;
-      transactions = c.renew.ensures.capacity ∙ c.enter-known.ensures.capacity ∙ ap (λ (x : Table). x.capacity) c.seek-found.ensures.same;
-      rising = c.renew.ensures.slotted.rising;
-      apart = c.renew.ensures.slotted.apart;
-      free = c.put-slot.ensures.was_free;
-      within = c.put-slot.ensures.within;
-      slots = c.put-slot.ensures.slots;
-      readings = c.put-slot.ensures.readings;
-      room = c.put-slot.ensures.capacity;
-      stored_is = c.insert.ensures.stored;
-      live_is = c.insert.ensures.lives.live;
-      carriers_is = c.insert.ensures.lives.carriers;
-      naming_is = c.insert.ensures.lives.naming;
-      carries_is = λ d. c.carried_by-carries.ensures d ∙ ap (λ rs. is_some (first_reading (toward d rs))) c.readings.ensures.value;
-      names_is = c.is_some-names_evse.ensures ∙ ap is_some c.evse.ensures.value;
-      same = ap (λ (r : TableRow). r.slot) c.row_with-after.ensures;
-      one_more = ap (λ (r : TableRow). r.live) c.row_with-after.ensures;
-      ends = ap (λ (r : TableRow). r.ends) c.row_with-after.ensures ∙ ap (λ k. c.enter-known.result.0.ends + end_count k) c.kind.ensures;
-    })
+invariant_of-self c = inserted (done (goal.at.invariant_of-self c).After-renew)
 
 pub returns-clause-events : goal.returns-clause-events
-returns-clause-events c =
-    let row = c.enter-known.result.0 in let mid = c.enter-known.new.table.rows in let key = c.args.key.now in
-    let entered = subst (λ (x : Table). IsEntered x.rows mid key.tx row) c.seek-found.ensures.same
-    (subst (λ t. IsEntered c.seek-found.new.self.rows mid t row) c.tx-tx.ensures c.enter-known.ensures.entered) in
-    let number : key.seq < 2 ^ 31 = omega (arith, c.seq.ensures.value, c.seq.ensures.range) in let is = c.new-at.ensures ∙ ap (rank row.slot) c.seq.ensures.value in
-    let absent = ap (λ (x : Chained). finite.get x.events key) c.self.view_is ∙ c.requires.absent in
-    inserted_events c.self.invariant key mid row c.new-at.result entered number is absent c.renew.new.table c.put-slot.new.self
-    c.insert.new.self.stored c.insert.new.self.live (carriers_of c.insert.new.self) c.insert.new.self.naming c.row_with-after.result
-    c.put-slot.result c.args.event.now (λ d. in_direction d c.carried_by-carries.result) c.is_some-names_evse.result
-    (record {
-      rows = c.renew.ensures.rows ∙ ap (λ t. with_row t c.row_with-after.result c.enter-known.new.table.rows) c.tx-tx.ensures;
-      transactions = c.renew.ensures.capacity ∙ c.enter-known.ensures.capacity ∙ ap (λ (x : Table). x.capacity) c.seek-found.ensures.same;
-      rising = c.renew.ensures.slotted.rising;
-      apart = c.renew.ensures.slotted.apart;
-      free = c.put-slot.ensures.was_free;
-      within = c.put-slot.ensures.within;
-      slots = c.put-slot.ensures.slots;
-      readings = c.put-slot.ensures.readings;
-      room = c.put-slot.ensures.capacity;
-      stored_is = c.insert.ensures.stored;
-      live_is = c.insert.ensures.lives.live;
-      carriers_is = c.insert.ensures.lives.carriers;
-      naming_is = c.insert.ensures.lives.naming;
-      carries_is = λ d. c.carried_by-carries.ensures d ∙ ap (λ rs. is_some (first_reading (toward d rs))) c.readings.ensures.value;
-      names_is = c.is_some-names_evse.ensures ∙ ap is_some c.evse.ensures.value;
-      same = ap (λ (r : TableRow). r.slot) c.row_with-after.ensures;
-      one_more = ap (λ (r : TableRow). r.live) c.row_with-after.ensures;
-      ends = ap (λ (r : TableRow). r.ends) c.row_with-after.ensures ∙ ap (λ k. c.enter-known.result.0.ends + end_count k) c.kind.ensures;
-    })
-    ∙ ap (λ (x : Chained). finite.insert x.events key (record { event = c.args.event.now; voided = false })) c.self.view_is
+returns-clause-events c = inserted_events (done (goal.at.returns-clause-events c).After-renew)
+    ∙ ap (λ (x : Chained). finite.insert x.events c.args.key.now (record { event = c.args.event.now; voided = false })) c.self.view_is
 
 pub returns-clause-sides : goal.returns-clause-sides
 returns-clause-sides c d =

@@ -1,5 +1,5 @@
-use Rattle.std.proofs.Common.{◌≤◌, [], None, replicate, ap, ◌∙◌, arith}
-use Rattle.event_chain.{specs.Placed.{Index, carriers_of}, specs.Flat.flat, proofs.Facts.{seal, opened_chains, opened_events}}
+use Rattle.std.{proofs.lemmas.Grind.common_steps, proofs.Common.{◌≤◌, [], None, replicate, ap, ◌∙◌, arith}}
+use Rattle.event_chain.{specs.Placed.{Index, carriers_of}, proofs.Facts.{seal, opened_chains, opened_events}}
 use Rattle.event_chain.proofs.chains.Chains.open.Goals as goal
 
 pub invariant_of-result : goal.invariant_of-result
@@ -20,6 +20,4 @@ invariant_of-result c =
     (ap (λ (x : Index). x.capacity) c.in_ok-open-3.ensures.naming ∙ c.events-events.ensures.value) (opened_chains l few)
 
 pub returns-clause-empty : goal.returns-clause-empty
-returns-clause-empty c =
-    opened_events (flat c.in_ok-open.field-0.rows c.in_ok-open-3.field-0.stored.entries c.in_ok-open-2.field-0.slots)
-    (ap (λ rows. flat rows c.in_ok-open-3.field-0.stored.entries c.in_ok-open-2.field-0.slots) c.in_ok-open.ensures.rows)
+returns-clause-empty c = grind (arith, common_steps, opened_events)

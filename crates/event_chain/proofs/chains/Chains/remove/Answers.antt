@@ -1,16 +1,12 @@
 use Rattle.std.proofs.Common.{◌+◌, ◌&&◌, not, List, None, is_some, set, refl, sym, ap, ◌∙◌, subst}
 use Rattle.std.specs.FinMap as finite
-use Rattle.event_chain.{specs.Placed.carriers_of, specs.Chains.Chained, specs.Room.found_of, specs.Edits.out, specs.Flat.{EventPlace, flat}, specs.Kept.{events_of, is_live, is_carrier, is_naming, IsLeft}, proofs.Facts.{found_voided, seal, all_rising}, proofs.Effects.map_out, proofs.Ops.{out_chains, out_all}, proofs.Marks.{location_absent, is_placed, location_event, location_here, location_voided, location_within}}
+use Rattle.event_chain.{specs.Placed.carriers_of, specs.Chains.Chained, specs.Edits.out, specs.Flat.{EventPlace, flat}, specs.Kept.{is_live, is_carrier, is_naming, IsLeft}, proofs.Facts.{seal, all_rising}, proofs.Effects.map_out, proofs.Ops.{out_chains, out_all}, proofs.Marks.{location_absent, is_placed, location_event, location_here, location_was_voided, location_within}}
 use Rattle.ledger_model.{specs.Deltas.first_reading, specs.Event.toward, specs.Key.key_cmp}
 use Rattle.event_store.specs.Slots.{readings_in}
 use Rattle.event_chain.proofs.chains.Chains.remove.Goals as goal
 
 pub locate-at-requires : goal.locate-at-requires
-locate-at-requires c =
-    let m = c.self.inside in let key = c.args.key.now in
-    let was = found_voided (finite.get (events_of m.table m.store m.places.stored) key)
-    (ap (λ (x : Chained). found_of (finite.get x.events key)) c.self.view_is ∙ c.requires) in is_placed c.self.invariant key was.0
-    was.1.0
+locate-at-requires c = is_placed c.self.invariant c.args.key.now c.self.view_is c.requires
 
 pub take_out-requires : goal.take_out-requires
 take_out-requires c = ap is_some (location_here c.self.invariant c.args.key.now c.locate-at.ensures)
@@ -18,8 +14,7 @@ take_out-requires c = ap is_some (location_here c.self.invariant c.args.key.now 
 pub remove-requires-clause-not_live : goal.remove-requires-clause-not_live
 remove-requires-clause-not_live c =
     let m = c.self.inside in let k = c.self.invariant in let key = c.args.key.now in let at = c.locate-at.ensures in
-    let was = found_voided (finite.get (events_of m.table m.store m.places.stored) key) (ap (λ (x : Chained). found_of (finite.get x.events key)) c.self.view_is ∙ c.requires) in
-    let void = location_voided k key at was.0 was.1.0 ∙ was.1.1 in
+    let void = location_was_voided k key at c.self.view_is c.requires in
     record {
       live = location_absent k key at is_live m.places.live.entries k.indexed.lives (ap not void);
       carriers = λ d. location_absent k key at (is_carrier d) (carriers_of m.places d).entries (k.indexed.carry d)
@@ -30,8 +25,7 @@ remove-requires-clause-not_live c =
 pub invariant_of-self : goal.invariant_of-self
 invariant_of-self c =
     let m = c.self.inside in let k = c.self.invariant in let key = c.args.key.now in let at = c.locate-at.ensures in
-    let was = found_voided (finite.get (events_of m.table m.store m.places.stored) key) (ap (λ (x : Chained). found_of (finite.get x.events key)) c.self.view_is ∙ c.requires) in
-    let void = location_voided k key at was.0 was.1.0 ∙ was.1.1 in
+    let void = location_was_voided k key at c.self.view_is c.requires in
     let location = c.locate-at.result in let left = out location.key m.places.stored.entries in
     let gone = subst (λ t. IsLeft m.table.rows c.leave.new.table.rows left t location.row) c.tx.ensures
     (subst (λ (es : List EventPlace). IsLeft m.table.rows c.leave.new.table.rows es c.tx.result.now location.row) (λ i. (c.remove.ensures.stored i).entries) c.leave.ensures.left) in
@@ -49,14 +43,12 @@ invariant_of-self c =
     m.table.capacity m.store.readings c.take_out.new.self.readings m.store.capacity (location_event k key at) k.keyed k.indexed
     k.figured k.counted gone at.number at.key_is (c.leave.ensures.rising k.keyed.rising) (c.leave.ensures.apart k.keyed.apart)
     (location_here k key at) (location_within k key at) at.slot void
-    (ap (λ n. c.take_out.new.self.readings + n) (sym (ap readings_in (location_here k key at))) ∙ c.take_out.ensures.readings)
-    (record { for_stored = refl; for_live = refl; for_carriers = λ d. refl; for_naming = refl }))
+    (ap (λ n. c.take_out.new.self.readings + n) (sym (ap readings_in (location_here k key at))) ∙ c.take_out.ensures.readings))
 
 pub returns-clause-events : goal.returns-clause-events
 returns-clause-events c =
     let m = c.self.inside in let k = c.self.invariant in let key = c.args.key.now in let at = c.locate-at.ensures in
-    let was = found_voided (finite.get (events_of m.table m.store m.places.stored) key) (ap (λ (x : Chained). found_of (finite.get x.events key)) c.self.view_is ∙ c.requires) in
-    let void = location_voided k key at was.0 was.1.0 ∙ was.1.1 in
+    let void = location_was_voided k key at c.self.view_is c.requires in
     let location = c.locate-at.result in let left = out location.key m.places.stored.entries in
     let gone = subst (λ t. IsLeft m.table.rows c.leave.new.table.rows left t location.row) c.tx.ensures
     (subst (λ (es : List EventPlace). IsLeft m.table.rows c.leave.new.table.rows es c.tx.result.now location.row) (λ i. (c.remove.ensures.stored i).entries) c.leave.ensures.left) in

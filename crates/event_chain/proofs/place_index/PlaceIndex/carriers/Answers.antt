@@ -1,8 +1,7 @@
-use Rattle.std.proofs.Common.{ℕ, ◌≡◌, Some, refl, ap, ◌∙◌}
+use Rattle.std.{proofs.lemmas.Grind.common_steps, proofs.Common.{arith, ℕ, ◌≡◌, Some, refl}}
 use Rattle.key_index.specs.Index as keyed
-use Rattle.key_index.specs.declared.filed.Mark.{Mark}
 use Rattle.ledger_model.{specs.declared.reading.Direction.Direction, specs.declared.reading.Direction.TheVariants.{Import, Export}}
-use Rattle.event_chain.specs.Placed.{Placed, carriers_of, marked_index, mark_of, placed}
+use Rattle.event_chain.specs.Placed.{carriers_of, marked_index, mark_of, placed}
 use Rattle.event_chain.proofs.place_index.PlaceIndex.carriers.Goals as goal
 
 -- The index of a direction's mark.
@@ -11,6 +10,4 @@ marked_toward i Import = refl
 marked_toward i Export = refl
 
 pub returns : goal.returns
-returns c =
-    c.over.ensures ∙ ap (λ (m : Mark). marked_index (Some m) c.self.inside.index) c.mark_of.ensures ∙ marked_toward c.self.inside.index c.args.direction
-    ∙ ap (λ (x : Placed). carriers_of x c.args.direction) c.self.view_is
+returns c = grind (arith, common_steps, marked_toward)

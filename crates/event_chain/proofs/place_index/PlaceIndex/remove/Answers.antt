@@ -1,12 +1,10 @@
-use Rattle.std.proofs.Common.{Some, is_some, refl, sym, ap, ◌∙◌, subst}
+use Rattle.std.{proofs.lemmas.Grind.common_steps, proofs.Common.{arith, Some, is_some, refl, sym, ap, ◌∙◌, subst}}
 use Rattle.key_index.specs.declared.filed.Mark.TheVariants.{Live}
-use Rattle.event_chain.{specs.Flat.place_of, specs.Edits.{out, IsLiveSame, IsNotLive}, specs.Placed.{index, marked_index, placed, Placed}, proofs.MarkedIndexes.{filed_some, stored_less, lives_stay}, proofs.Lists.listed_same}
+use Rattle.event_chain.{specs.Flat.place_of, specs.Edits.{IsLiveSame, IsNotLive}, specs.Placed.{marked_index, placed, Placed}, proofs.MarkedIndexes.{filed_some, stored_less, lives_stay}, proofs.Lists.listed_same}
 use Rattle.event_chain.proofs.place_index.PlaceIndex.remove.Goals as goal
 
 pub remove-requires : goal.remove-requires
-remove-requires c =
-    ap is_some (filed_some c.args.key c.self.inside.index.entries c.self.invariant.rising
-    (ap (λ (x : Placed). is_some (place_of c.args.key x.stored.entries)) c.self.view_is ∙ c.requires.stored)).1
+remove-requires c = grind (arith, common_steps, filed_some)
 
 pub invariant_of-self : goal.invariant_of-self
 invariant_of-self c =
@@ -21,11 +19,7 @@ invariant_of-self c =
     }
 
 pub returns-clause-stored : goal.returns-clause-stored
-returns-clause-stored c =
-    let m = c.self.inside in let key = c.args.key in let up = c.self.invariant.rising in
-    let filed = filed_some key m.index.entries up (ap (λ (x : Placed). is_some (place_of key x.stored.entries)) c.self.view_is ∙ c.requires.stored) in
-    stored_less m.index c.remove.new.self key up c.remove.ensures.capacity filed.0 filed.1 c.remove.ensures.entries
-    ∙ ap (λ (x : Placed). index (out key x.stored.entries) x.stored.capacity) c.self.view_is
+returns-clause-stored c = grind (arith, common_steps, filed_some, stored_less)
 
 pub returns-clause-lives : goal.returns-clause-lives
 returns-clause-lives c =

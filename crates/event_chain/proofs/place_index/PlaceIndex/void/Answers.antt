@@ -1,4 +1,4 @@
-use Rattle.std.proofs.Common.{false, Some, is_some, refl, sym, ap, ◌∙◌, subst}
+use Rattle.std.{proofs.lemmas.Grind.common_steps, proofs.Common.{arith, false, Some, refl, sym, ap, ◌∙◌, subst}}
 use Rattle.event_chain.{specs.Links.linked_out, specs.Flat.place_of, specs.Edits.{out, IsLiveLess}, specs.Placed.{index, marked_index, placed, Placed}, proofs.MarkedIndexes.{marked_rising, filed_there, stored_stays, lives_less}, proofs.Lists.{sides_present, slot_present, prev_present, next_present, listed_out, listed_same}}
 use Rattle.key_index.{specs.declared.filed.Mark.TheVariants.Live, specs.declared.filed.Marks.Marks}
 use Rattle.event_chain.proofs.place_index.PlaceIndex.void.Goals as goal
@@ -30,9 +30,7 @@ link_out-requires c =
     ((λ x is. sides.0 x (sym before ∙ is)), (λ x is. sides.1 x (sym after ∙ is)))
 
 pub set_marks-requires : goal.set_marks-requires
-set_marks-requires c =
-    ap is_some (filed_there c.args.key c.args.slot c.self.inside.index.entries c.self.invariant.rising
-    (ap (λ (x : Placed). place_of c.args.key x.stored.entries) c.self.view_is ∙ c.requires.stored)).1.0
+set_marks-requires c = grind (arith, common_steps, filed_there)
 
 pub invariant_of-self : goal.invariant_of-self
 invariant_of-self c =
