@@ -27,14 +27,7 @@ size d e = length (toward d e.1.event.readings)
 -- each reading is of one direction
 pub either : (rs : List MeterReading) → length (toward Import rs) + length (toward Export rs) ≤ length rs
 either [] = omega arith
-either (r ∷ rs) =
-    let rest = either rs in
-    elim r.direction as (λ x. length (cond (same_direction Import x) (r ∷ toward Import rs) (toward Import rs))
-    + length (cond (same_direction Export x) (r ∷ toward Export rs) (toward Export rs))
-    ≤ length (r ∷ rs)) [
-      | Import ↦ omega (arith, rest)
-      | Export ↦ omega (arith, rest)
-    ]
+either (r ∷ rs) = grind (arith, either rs)
 
 sizes : (es : List Entry) → sum_by (size Import) es + sum_by (size Export) es ≤ readings_stored es
 sizes [] = omega arith

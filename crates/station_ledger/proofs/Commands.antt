@@ -14,11 +14,11 @@ pub record IsFound (o : Option Stored) (voided : Bool) : Type 0 where
 
 pub found_voided : (o : Option Stored) → found_of o ≡ Some Voided → IsFound o true
 found_voided None h = cc
-found_voided (Some s) h = record { event = s; is = refl; marked_is = elim s.voided as (λ b. Some (cond b Voided Live) ≡ Some Voided → b ≡ true) [ true ↦ λ _. refl | false ↦ λ f. cc ] h }
+found_voided (Some s) h = record { event = s; is = refl; marked_is = grind (arith, h) }
 
 pub found_live : (o : Option Stored) → found_of o ≡ Some Live → IsFound o false
 found_live None h = cc
-found_live (Some s) h = record { event = s; is = refl; marked_is = elim s.voided as (λ b. Some (cond b Voided Live) ≡ Some Live → b ≡ false) [ true ↦ λ f. cc | false ↦ λ _. refl ] h }
+found_live (Some s) h = record { event = s; is = refl; marked_is = grind (arith, h) }
 
 -- how it is found among the entries
 listed : (old : Chained) (key : KeyName) (o : Option Stored) → finite.get old.events key ≡ o → find key_cmp key (stored old) ≡ o

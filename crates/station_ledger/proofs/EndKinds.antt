@@ -1,6 +1,6 @@
 -- The kinds of a transaction's live events: when they start and end, by the first, the last and the count of Started
 -- and Ended.
-use Rattle.std.{proofs.Common.{◌≡◌, ◌==◌, ℕ, suc, ◌+◌, ◌-◌, true, false, cond, ◌&&◌, List, [], ◌∷◌, length, slice_get, refl, sym, ap, ◌∙◌, arith}, proofs.lemmas.Bool.eq-eqb, proofs.lemmas.Bool.Decides.Decides-eqb, specs.List.count_by, proofs.lemmas.List.Sums.sum_by-cons}
+use Rattle.std.{proofs.lemmas.Bool.Decides.nat_tests, proofs.Common.{◌≡◌, ◌==◌, ℕ, suc, ◌+◌, ◌-◌, true, false, cond, ◌&&◌, List, [], ◌∷◌, length, slice_get, refl, sym, ap, ◌∙◌, arith}, proofs.lemmas.Bool.eq-eqb, proofs.lemmas.Bool.Decides.Decides-eqb, specs.List.count_by, proofs.lemmas.List.Sums.sum_by-cons}
 use Rattle.ledger_model.{specs.declared.kind.Kind.Kind, specs.declared.kind.Kind.TheVariants.{Started, Updated, Ended}, specs.Complete.{goes_on_and_ends, starts_and_ends}}
 use Rattle.station_ledger.specs.Standing.{is_started, is_ended, starts_and_ends_by}
 use Rattle.event_chain.specs.Kept.{is_end}
@@ -52,11 +52,8 @@ two_ends (Started ∷ ks) h = omega (arith, counted Started ks, one_end ks h)
 
 -- with another count nothing starts and ends
 pub not_two : (ks : List Kind) → (count_by is_end ks ≡ 2 → ⊥) → starts_and_ends ks ≡ false
-not_two ks other = elim (starts_and_ends ks) as (λ b. starts_and_ends ks ≡ b → b ≡ false) [ true ↦ λ h. absurd (other (two_ends ks h)) | false ↦ λ _. refl ] refl
+not_two ks other = grind (arith, two_ends ks, other)
 
 -- events start and end by the first kind, the last, and how many are either
 pub by_ends : (ks : List Kind) → starts_and_ends_by (slice_get ks 0) (slice_get ks (length ks - 1)) (count_by is_end ks) ≡ starts_and_ends ks
-by_ends ks = elim (count_by is_end ks == 2) as (λ b. (count_by is_end ks == 2) ≡ b → (b && (is_started (slice_get ks 0) && is_ended (slice_get ks (length ks - 1)))) ≡ starts_and_ends ks) [
-  | true ↦ λ e. sym (whole ks ((Decides-eqb (count_by is_end ks) 2).0 e))
-  | false ↦ λ e. sym (not_two ks (λ two. let f : false ≡ true = sym e ∙ eq-eqb (count_by is_end ks) 2 two in cc))
-] refl
+by_ends ks = grind (arith, nat_tests, whole ks, not_two ks)

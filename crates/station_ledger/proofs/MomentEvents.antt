@@ -14,17 +14,11 @@ same_id : (u tx : List ℕ) → bytes_eq u tx ≡ true → u ≡ tx
 same_id u tx is = (bytes_eq-Decides u tx).0 is
 
 not_same : (u tx : List ℕ) → bytes_eq u tx ≡ false → u ≡ tx → ⊥
-not_same u tx apart same = let f : false ≡ true = sym apart ∙ (bytes_eq-Decides u tx).1 same in absurd (no f)
-  where
-    no : false ≡ true → ⊥
-    no f = cc
+not_same u tx apart same = grind (arith, apart, bytes_eq-Decides u tx, same)
 
 -- Ids that are different do not tie.
 pub not_tied : (u tx : List ℕ) → bytes_eq u tx ≡ false → eq_by_cmp id_cmp u tx ≡ false
-not_tied u tx e = elim (eq_by_cmp id_cmp u tx) as (λ b. eq_by_cmp id_cmp u tx ≡ b → b ≡ false) [
-  | true ↦ λ h. let f : false ≡ true = sym e ∙ (bytes_eq-Decides u tx).1 (equal_ids u tx h) in cc
-  | false ↦ λ _. refl
-] refl
+not_tied u tx e = grind (arith, e, bytes_eq-Decides u tx, equal_ids u tx)
 
 -- Nothing is under the slot of a transaction without a live event.
 pub none_timed : (slot : ℕ) (d : Direction) (tx : List ℕ) (es : List Entry) → live_of tx es ≡ [] → timed_of slot d tx es ≡ []

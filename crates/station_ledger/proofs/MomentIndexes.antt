@@ -1,5 +1,5 @@
 -- An index of readings, with some put in or taken out.
-use Rattle.std.{proofs.Common.{◌≡◌, ℕ, ◌+◌, ◌<◌, ◌≤◌, Bool, true, false, cond, not, ◌||◌, nat_lt, eqb, List, [], ◌∷◌, length, refl, sym, ap, ◌∙◌, arith}, specs.List.AllByRecursion, proofs.lemmas.Bool.{eq-eqb, ne_eqb}}
+use Rattle.std.{proofs.Common.{◌≡◌, ℕ, ◌+◌, ◌<◌, ◌≤◌, Bool, true, false, cond, not, ◌||◌, nat_lt, eqb, List, [], ◌∷◌, length, refl, sym, ap, ◌∙◌, arith}, specs.List.AllByRecursion, proofs.lemmas.Bool.Decides.nat_tests, proofs.lemmas.Bool.{eq-eqb, ne_eqb}}
 use Rattle.ledger_model.specs.InTime.{put_in_time}
 use Rattle.reading_index.{specs.Ranks.owner_of, specs.Timed.{Timed, has_rank, owned, without, AreAbove, AreRising}, proofs.Listed.filter-ranked}
 use Rattle.station_ledger.{specs.ByMoment.{ArePuttable, put_each, take_each}, specs.Runs.own_timed, proofs.MomentLists.{AreApart, behind_apart, each_put_each, foreign_apart, none_has, put_each-put, without_put}, proofs.MomentRanks.{at, has_owned, length-without, owned-put, owned-put_else, owned-without, owned-without_else, put-ranked}}
@@ -13,12 +13,8 @@ abbrev AreNew : List Timed → List Timed → Type 0
 AreNew xs ts = AllByRecursion (λ x. has_rank x.0 ts ≡ false) xs
 
 has_put : (n : ℕ) (x : Timed) (ts : List Timed) → (x.0 ≡ n → ⊥) → has_rank n (put_in_time at x ts) ≡ has_rank n ts
-has_put n x [] apart = ap (λ b. b || false) (ne_eqb x.0 n apart)
-has_put n x (t ∷ ts) apart =
-    (elim (nat_lt t.0 x.0) as (λ b. has_rank n (cond b (t ∷ put_in_time at x ts) (x ∷ t ∷ ts)) ≡ has_rank n (t ∷ ts)) [
-      | true ↦ ap (λ b. eqb t.0 n || b) (has_put n x ts apart)
-      | false ↦ ap (λ b. b || has_rank n (t ∷ ts)) (ne_eqb x.0 n apart)
-    ])
+has_put n x [] apart = grind (arith, nat_tests)
+has_put n x (t ∷ ts) apart = grind (arith, nat_tests, has_put n x ts apart)
 
 new-put : (x : Timed) (xs ts : List Timed) → AreAbove x.0 xs → AreNew xs ts → AreNew xs (put_in_time at x ts)
 new-put x [] ts behind new = tt
@@ -66,16 +62,8 @@ owned-take_each_else o u [] ts apart mine = refl
 owned-take_each_else o u (x ∷ xs) ts apart mine = owned-take_each_else o u xs (without x.0 ts) apart mine.1 ∙ owned-without_else u x.0 ts (λ same. apart (sym mine.0 ∙ same))
 
 has_here : (x : Timed) (ts : List Timed) → has_rank x.0 (put_in_time at x ts) ≡ true
-has_here x [] = ap (λ b. b || false) (eq-eqb x.0 x.0 refl)
-has_here x (t ∷ ts) =
-    (elim (nat_lt t.0 x.0) as (λ b. has_rank x.0 (cond b (t ∷ put_in_time at x ts) (x ∷ t ∷ ts)) ≡ true) [
-      | true ↦ ap (λ b. eqb t.0 x.0 || b) (has_here x ts) ∙ or_true (eqb t.0 x.0)
-      | false ↦ ap (λ b. b || has_rank x.0 (t ∷ ts)) (eq-eqb x.0 x.0 refl)
-    ])
-  where
-    or_true : (b : Bool) → (b || true) ≡ true
-    or_true true = refl
-    or_true false = refl
+has_here x [] = grind (arith, nat_tests)
+has_here x (t ∷ ts) = grind (arith, nat_tests, has_here x ts)
 
 -- Readings of an owner that are there are taken out: so many fewer.
 pub fewer-take_each : (o seq : ℕ) (xs others ts : List Timed) → AreRising xs → AreOf o xs

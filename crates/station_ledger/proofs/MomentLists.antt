@@ -1,5 +1,5 @@
 -- The readings of an event and of a transaction by rank.
-use Rattle.std.{proofs.Common.{◌≡◌, ℕ, ◌+◌, ◌*◌, ◌^◌, ◌<◌, ◌≤◌, Bool, true, false, cond, not, List, [], ◌∷◌, ◌++◌, length, map, refl, sym, ap, subst, ◌∙◌, ⊎_elim, eqb, nat_lt, bytes_eq, arith}, specs.List.{AllByRecursion, All, filter, flat_map, sum_by}, proofs.lemmas.Bool.{cases_lt, cases_eq, eq-eqb, ne_eqb, lt-ltb, le-ltb, or_from, true≢false}, proofs.lemmas.Grind.flat_map-append, proofs.lemmas.List.map-append, proofs.lemmas.List.Elements.recursion_from_All, proofs.lemmas.List.Sums.{sum_by-append, sum_by-cons}}
+use Rattle.std.{proofs.Common.{◌≡◌, ℕ, ◌+◌, ◌*◌, ◌^◌, ◌<◌, ◌≤◌, Bool, true, false, cond, not, List, [], ◌∷◌, ◌++◌, length, map, refl, sym, ap, subst, ◌∙◌, ⊎_elim, eqb, nat_lt, bytes_eq, arith}, specs.List.{AllByRecursion, All, filter, flat_map, sum_by}, proofs.lemmas.Bool.Decides.nat_tests, proofs.lemmas.Bool.{cases_lt, cases_eq, eq-eqb, ne_eqb, lt-ltb, le-ltb, or_from, true≢false}, proofs.lemmas.Grind.flat_map-append, proofs.lemmas.List.map-append, proofs.lemmas.List.Elements.recursion_from_All, proofs.lemmas.List.Sums.{sum_by-append, sum_by-cons}}
 use Rattle.ledger_model.specs.BoardLaws as laws
 use Rattle.ledger_model.{specs.declared.order.Order.TheVariants.Moment, specs.declared.reading.Direction.Direction, specs.Content.{Entry, live, live_of}, specs.Deltas.{before_key, behind_key, own_events, IsOneMore}, specs.Energy.readings_by, specs.Event.{IsMeterReading, MeterReading, same_direction, toward}, specs.Gaps.numbers_of, specs.InTime.{in_time, put_in_time}, specs.ReadingOrder.{Numbered, numbered, numbered_by}, proofs.Callers.{AreEntries, AreForeign, AreOwn, IsEntry, few_toward, in_time-map, live_else, live_with, live_without, numbered_readings, own_before_key, own_behind_key, put-behind, put-front}}
 use Rattle.reading_index.{specs.Ranks.{number_of, owner, owner_of, rank}, specs.Timed.{Timed, has_rank, placed_at, without, AreAbove, AreRising}, specs.declared.placed.PlacedReading.PlacedReading}
@@ -9,10 +9,7 @@ use Rattle.station_ledger.{specs.ByMoment.{bare, live_readings, put_each, ranked
 module _ (P : Timed → Type 0) where
   pub each_put : (x : Timed) (ts : List Timed) → P x → AllByRecursion P ts → AllByRecursion P (put_in_time at x ts)
   each_put x [] here all = (here, tt)
-  each_put x (t ∷ ts) here all = ⊎_elim
-      (λ (on : t.0 < x.0). subst (AllByRecursion P) (sym (put-behind at x t ts on)) (all.0, each_put x ts here all.1))
-      (λ (end : x.0 ≤ t.0). subst (AllByRecursion P) (sym (put-front at x t ts end)) (here, all))
-      (cases_lt t.0 x.0)
+  each_put x (t ∷ ts) here all = grind (arith, nat_tests, each_put x ts here all.1)
 
   pub each_put_each : (xs ts : List Timed) → AllByRecursion P xs → AllByRecursion P ts → AllByRecursion P (put_each xs ts)
   each_put_each [] ts mine all = all
@@ -37,7 +34,7 @@ AreDistinct (t ∷ ts) = AreApart t.0 ts × AreDistinct ts
 
 pub none_has : (n : ℕ) (ts : List Timed) → AreApart n ts → has_rank n ts ≡ false
 none_has n [] apart = refl
-none_has n (t ∷ ts) apart = or_from (eqb t.0 n) (has_rank n ts) (ne_eqb t.0 n apart.0) (none_has n ts apart.1)
+none_has n (t ∷ ts) apart = grind (arith, nat_tests, none_has n ts apart.1, apart.0)
 
 pub behind_apart : (n : ℕ) (ts : List Timed) → AreAbove n ts → AreApart n ts
 behind_apart n [] behind = tt
@@ -53,32 +50,9 @@ distinct_ranked [] apart = tt
 distinct_ranked (t ∷ ts) apart = put-ranked t (in_time at ts) (distinct_ranked ts apart.1) (none_has t.0 (in_time at ts) (each_in_time (λ u. u.0 ≡ t.0 → ⊥) ts apart.0))
 
 -- Two readings of different ranks are put in in either order.
-put_lower : (x y : Timed) (ts : List Timed) → x.0 < y.0 → put_in_time at x (put_in_time at y ts) ≡ put_in_time at y (put_in_time at x ts)
-put_lower x y [] lt = put-front at x y [] (omega (arith, lt)) ∙ sym (put-behind at y x [] lt)
-put_lower x y (t ∷ ts) lt = ⊎_elim
-    (λ (on : t.0 < x.0).
-    ap (put_in_time at x) (put-behind at y t ts (omega (arith, on, lt)))
-    ∙ put-behind at x t (put_in_time at y ts) on
-    ∙ ap (λ us. t ∷ us) (put_lower x y ts lt)
-    ∙ sym (ap (put_in_time at y) (put-behind at x t ts on) ∙ put-behind at y t (put_in_time at x ts) (omega (arith, on, lt))))
-    (λ (end : x.0 ≤ t.0).
-    first end ∙ sym (ap (put_in_time at y) (put-front at x t ts end) ∙ put-behind at y x (t ∷ ts) lt))
-    (cases_lt t.0 x.0)
-  where
-    first : x.0 ≤ t.0 → put_in_time at x (put_in_time at y (t ∷ ts)) ≡ x ∷ put_in_time at y (t ∷ ts)
-    first end = ⊎_elim
-        (λ (on : t.0 < y.0). ap (put_in_time at x) (put-behind at y t ts on) ∙ put-front at x t (put_in_time at y ts) end ∙ ap (λ us. x ∷ us) (sym (put-behind at y t ts on)))
-        (λ (over : y.0 ≤ t.0). ap (put_in_time at x) (put-front at y t ts over) ∙ put-front at x y (t ∷ ts) (omega (arith, lt)) ∙ ap (λ us. x ∷ us) (sym (put-front at y t ts over)))
-        (cases_lt t.0 y.0)
-
 put_put : (x y : Timed) (ts : List Timed) → (y.0 ≡ x.0 → ⊥) → put_in_time at x (put_in_time at y ts) ≡ put_in_time at y (put_in_time at x ts)
-put_put x y ts apart = ⊎_elim
-    (λ (lt : x.0 < y.0). put_lower x y ts lt)
-    (λ (le : y.0 ≤ x.0). sym (put_lower y x ts (strictly le apart)))
-    (cases_lt x.0 y.0)
-  where
-    strictly : {m n : ℕ} → m ≤ n → (m ≡ n → ⊥) → m < n
-    strictly {m} {n} le apart = ⊎_elim (λ (same : m ≡ n). absurd (apart same)) (λ (other : m ≡ n → ⊥). omega (arith, le, other)) (cases_eq m n)
+put_put x y [] apart = grind (arith, nat_tests)
+put_put x y (t ∷ ts) apart = grind (arith, nat_tests, put_put x y ts apart)
 
 pub put_each-put : (xs : List Timed) (x : Timed) (ts : List Timed) → AreApart x.0 xs → put_each xs (put_in_time at x ts) ≡ put_in_time at x (put_each xs ts)
 put_each-put [] x ts apart = refl
@@ -96,10 +70,7 @@ put_each-middle (x ∷ xs) rs zs apart others = put_each-put rs x (in_time at (x
 
 put_each-front : (x : Timed) (xs ts : List Timed) → AreApart x.0 xs → put_each (put_in_time at x xs) ts ≡ put_each xs (put_in_time at x ts)
 put_each-front x [] ts apart = refl
-put_each-front x (y ∷ ys) ts apart = ⊎_elim
-    (λ (on : y.0 < x.0). ap (λ us. put_each us ts) (put-behind at x y ys on) ∙ put_each-front x ys (put_in_time at y ts) apart.1 ∙ ap (put_each ys) (put_put x y ts apart.0))
-    (λ (end : x.0 ≤ y.0). ap (λ us. put_each us ts) (put-front at x y ys end))
-    (cases_lt y.0 x.0)
+put_each-front x (y ∷ ys) ts apart = grind (arith, nat_tests, put_each-front x ys (put_in_time at y ts) apart.1, put_put x y ts apart.0)
 
 -- They may be put in by rank.
 put_each-sorted : (xs ts : List Timed) → AreDistinct xs → put_each (in_time at xs) ts ≡ put_each xs ts
@@ -116,20 +87,11 @@ listed_sorted xs apart = put_each-in_time xs [] apart ∙ ap (in_time at) (appen
 -- What was put in is taken out again.
 without_none : (n : ℕ) (ts : List Timed) → AreApart n ts → without n ts ≡ ts
 without_none n [] apart = refl
-without_none n (t ∷ ts) apart = ap (λ b. cond (not b) (t ∷ without n ts) (without n ts)) (ne_eqb t.0 n apart.0) ∙ ap (λ us. t ∷ us) (without_none n ts apart.1)
+without_none n (t ∷ ts) apart = grind (arith, nat_tests, without_none n ts apart.1, apart.0)
 
 pub without_put : (x : Timed) (ts : List Timed) → AreApart x.0 ts → without x.0 (put_in_time at x ts) ≡ ts
-without_put x [] apart = ap (λ b. cond (not b) (x ∷ []) []) (eq-eqb x.0 x.0 refl)
-without_put x (t ∷ ts) apart = ⊎_elim
-    (λ (on : t.0 < x.0).
-    ap (without x.0) (put-behind at x t ts on)
-    ∙ ap (λ b. cond (not b) (t ∷ without x.0 (put_in_time at x ts)) (without x.0 (put_in_time at x ts))) (ne_eqb t.0 x.0 apart.0)
-    ∙ ap (λ us. t ∷ us) (without_put x ts apart.1))
-    (λ (end : x.0 ≤ t.0).
-    ap (without x.0) (put-front at x t ts end)
-    ∙ ap (λ b. cond (not b) (x ∷ without x.0 (t ∷ ts)) (without x.0 (t ∷ ts))) (eq-eqb x.0 x.0 refl)
-    ∙ without_none x.0 (t ∷ ts) apart)
-    (cases_lt t.0 x.0)
+without_put x [] apart = grind (arith, nat_tests)
+without_put x (t ∷ ts) apart = grind (arith, nat_tests, without_put x ts apart.1, without_none x.0 ts apart.1, apart.0)
 
 taken_back : (xs ts : List Timed) → AreDistinct xs → AllByRecursion (λ x. AreApart x.0 ts) xs → take_each xs (put_each xs ts) ≡ ts
 taken_back [] ts apart others = refl
@@ -167,14 +129,7 @@ by_rank (t ∷ ts) all = put_agrees t (in_time at ts) (each_in_time (IsAfter t) 
 
 -- Of one owner, a later place is behind.
 after : (o n p k q : ℕ) (r s : MeterReading) → n < 2 ^ 31 → p < 2 ^ 10 → k < 2 ^ 31 → q < 2 ^ 10 → n * 2 ^ 10 + p < k * 2 ^ 10 + q → IsAfter (rank o r.moment n p, r) (rank o s.moment k q, s)
-after o n p k q r s number place number_2 place_2 lt = ⊎_elim
-    (λ (early : s.moment < r.moment).
-    let under : rank o s.moment k q < rank o r.moment n p = omega (arith, early, number_2, place_2) in
-    record { apart = λ same. absurd (omega (arith, under, same)); agrees = lt-ltb (rank o s.moment k q) (rank o r.moment n p) under ∙ sym (lt-ltb s.moment r.moment early) })
-    (λ (late : r.moment ≤ s.moment).
-    let over : rank o r.moment n p < rank o s.moment k q = omega (arith, late, lt) in
-    record { apart = λ same. absurd (omega (arith, over, same)); agrees = le-ltb (rank o s.moment k q) (rank o r.moment n p) (omega (arith, over)) ∙ sym (le-ltb s.moment r.moment late) })
-    (cases_lt s.moment r.moment)
+after o n p k q r s number place number_2 place_2 lt = record { apart = λ same. absurd (omega (arith, same)); agrees = grind (arith, nat_tests) }
 
 pub from_after : (o n p k q : ℕ) (r : MeterReading) (ss : List MeterReading) → n < 2 ^ 31 → p < 2 ^ 10 → k < 2 ^ 31 → q + length ss ≤ 2 ^ 10 → n * 2 ^ 10 + p < k * 2 ^ 10 + q
     → AllByRecursion (IsAfter (rank o r.moment n p, r)) (ranked_from o k q ss)
@@ -215,12 +170,7 @@ length_put_each (x ∷ xs) ts = let rest = length_put_each xs (put_in_time at x 
 
 toward_each : (P : MeterReading → Type 0) (d : Direction) (rs : List MeterReading) → AllByRecursion P rs → AllByRecursion P (toward d rs)
 toward_each P d [] all = tt
-toward_each P d (r ∷ rs) all =
-    elim (same_direction d r.direction) as (λ b. AllByRecursion P (cond b (r ∷ toward d rs) (toward d rs))) [
-      | true ↦
-          (all.0, toward_each P d rs all.1)
-      | false ↦ toward_each P d rs all.1
-    ]
+toward_each P d (r ∷ rs) all = grind (arith, toward_each P d rs all.1)
 
 are_own : (own : Timed → Bool) (ts : List Timed) → AllByRecursion (λ t. own t ≡ true) ts → AreOwn own ts
 are_own own [] all = tt
@@ -311,25 +261,11 @@ all_foreign slot d seq (e ∷ es) range others =
 
 below_other : (seq : ℕ) (es : List Entry) → AllByRecursion (λ (e : Entry). e.0.seq ≡ seq → ⊥) (filter (λ e. nat_lt e.0.seq seq) es)
 below_other seq [] = tt
-below_other seq (e ∷ es) = ⊎_elim
-    (λ (lt : e.0.seq < seq). subst
-    (λ b. AllByRecursion (λ (f : Entry). f.0.seq ≡ seq → ⊥) (cond b (e ∷ filter (λ f. nat_lt f.0.seq seq) es) (filter (λ f. nat_lt f.0.seq seq) es)))
-    (sym (lt-ltb e.0.seq seq lt)) ((λ same. absurd (omega (arith, lt, same))), below_other seq es))
-    (λ (ge : seq ≤ e.0.seq). subst
-    (λ b. AllByRecursion (λ (f : Entry). f.0.seq ≡ seq → ⊥) (cond b (e ∷ filter (λ f. nat_lt f.0.seq seq) es) (filter (λ f. nat_lt f.0.seq seq) es)))
-    (sym (le-ltb e.0.seq seq ge)) (below_other seq es))
-    (cases_lt e.0.seq seq)
+below_other seq (e ∷ es) = grind (arith, nat_tests, below_other seq es)
 
 above_other : (seq : ℕ) (es : List Entry) → AllByRecursion (λ (e : Entry). e.0.seq ≡ seq → ⊥) (filter (λ e. nat_lt seq e.0.seq) es)
 above_other seq [] = tt
-above_other seq (e ∷ es) = ⊎_elim
-    (λ (lt : seq < e.0.seq). subst
-    (λ b. AllByRecursion (λ (f : Entry). f.0.seq ≡ seq → ⊥) (cond b (e ∷ filter (λ f. nat_lt seq f.0.seq) es) (filter (λ f. nat_lt seq f.0.seq) es)))
-    (sym (lt-ltb seq e.0.seq lt)) ((λ same. absurd (omega (arith, lt, same))), above_other seq es))
-    (λ (ge : e.0.seq ≤ seq). subst
-    (λ b. AllByRecursion (λ (f : Entry). f.0.seq ≡ seq → ⊥) (cond b (e ∷ filter (λ f. nat_lt seq f.0.seq) es) (filter (λ f. nat_lt seq f.0.seq) es)))
-    (sym (le-ltb seq e.0.seq ge)) (above_other seq es))
-    (cases_lt seq e.0.seq)
+above_other seq (e ∷ es) = grind (arith, nat_tests, above_other seq es)
 
 -- A transaction's readings by rank, with one event more.
 module _ (slot : ℕ) (d : Direction) (es new : List Entry) (e : Entry) (one : IsOneMore es new (before_key e.0 es) e (behind_key e.0 es)) (range : AreEntries new) where

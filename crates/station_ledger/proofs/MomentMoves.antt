@@ -27,14 +27,7 @@ live_few es = part_le (λ (e : Entry). length e.1.event.readings) (λ e. not e.1
 -- each reading is of one direction
 both_ways : (rs : List MeterReading) → length (toward Import rs) + length (toward Export rs) ≡ length rs
 both_ways [] = refl
-both_ways (r ∷ rs) =
-    let rest = both_ways rs in
-    elim r.direction as (λ x. length (cond (same_direction Import x) (r ∷ toward Import rs) (toward Import rs))
-    + length (cond (same_direction Export x) (r ∷ toward Export rs) (toward Export rs))
-    ≡ length (r ∷ rs)) [
-      | Import ↦ omega (arith, rest)
-      | Export ↦ omega (arith, rest)
-    ]
+both_ways (r ∷ rs) = grind (arith, both_ways rs)
 
 -- How long a list is once so many came or went.
 abbrev pub IsLong : Way → ℕ → ℕ → ℕ → Type 0

@@ -1,5 +1,5 @@
 -- An event's readings that come or go, run by run.
-use Rattle.std.{proofs.Common.{◌≡◌, ℕ, ◌+◌, ◌*◌, ◌<◌, ◌≤◌, ◌⊎◌, inl, inr, true, false, cond, not, nat_lt, eqb, List, [], ◌∷◌, ◌++◌, Option, None, Some, length, take, drop, get_or, refl, sym, ap, subst, ◌∙◌, ⊎_elim, arith, append_assoc, length-append}, specs.List.AllByRecursion, proofs.lemmas.Bool.{cases_lt, cases_eq, lt-ltb, le-ltb}, proofs.lemmas.List.{append-nil, length-map}}
+use Rattle.std.{proofs.Common.{◌≡◌, ℕ, ◌+◌, ◌*◌, ◌<◌, ◌≤◌, ◌⊎◌, inl, inr, true, false, cond, not, nat_lt, eqb, List, [], ◌∷◌, ◌++◌, Option, None, Some, length, take, drop, get_or, refl, sym, ap, subst, ◌∙◌, ⊎_elim, arith, append_assoc, length-append}, specs.List.AllByRecursion, proofs.lemmas.Bool.Decides.nat_tests, proofs.lemmas.Bool.{cases_lt, cases_eq, lt-ltb, le-ltb}, proofs.lemmas.List.{append-nil, length-map}}
 use Rattle.energy_flow.specs.Flow.{CanPlus, Energy, no_energy, plus}
 use Rattle.ledger_model.{specs.Periods.Periods, specs.Board.Flowed, specs.Deltas.{pairs_between, first_reading, last_reading}, specs.declared.reading.Direction.Direction, specs.Energy.{Pair, energy_over}, specs.Event.MeterReading, specs.InTime.{put_in_time, runs}, specs.Ranges.{greatest_reading, most_event_readings, most_readings}, proofs.Callers.{AreForeign, AreOwn, few_between}}
 use Rattle.event_chain.specs.declared.around.Sides.{Sides}
@@ -16,9 +16,7 @@ length-put_each (x ∷ xs) ts = let rest = length-put_each xs (put_in_time at x 
 -- Below a rank stay those below it.
 under-put : (n : ℕ) (x : Timed) (ts : List Timed) → x.0 < n → AreBelow n ts → AreBelow n (put_in_time at x ts)
 under-put n x [] lt h = (lt, tt)
-under-put n x (t ∷ ts) lt h =
-    let rest = under-put n x ts lt h.1 in
-    elim (nat_lt t.0 x.0) as (λ b. AreBelow n (cond b (t ∷ put_in_time at x ts) (x ∷ t ∷ ts))) [ true ↦ (h.0, rest) | false ↦ (lt, h) ]
+under-put n x (t ∷ ts) lt h = grind (arith, under-put n x ts lt h.1)
 
 under-put_each : (n : ℕ) (xs ts : List Timed) → AreBelow n xs → AreBelow n ts → AreBelow n (put_each xs ts)
 under-put_each n [] ts h k = k
@@ -62,21 +60,12 @@ strictly m n le apart = ⊎_elim (λ (same : m ≡ n). absurd (apart same)) (λ 
 -- The others from an event's reading on are behind it.
 from_on-behind : (seq : ℕ) (x : Timed) (ts : List Timed) → own_timed seq x ≡ true → AreForeign (own_timed seq) ts → AreAbove x.0 (from_on x.0 ts)
 from_on-behind seq x [] mine h = tt
-from_on-behind seq x (t ∷ ts) mine h = ⊎_elim
-    (λ (lt : t.0 < x.0). subst (λ b. AreAbove x.0 (cond (not b) (t ∷ from_on x.0 ts) (from_on x.0 ts))) (sym (lt-ltb t.0 x.0 lt)) (from_on-behind seq x ts mine h.1))
-    (λ (ge : x.0 ≤ t.0). subst (λ b. AreAbove x.0 (cond (not b) (t ∷ from_on x.0 ts) (from_on x.0 ts))) (sym (le-ltb t.0 x.0 ge))
-    (strictly x.0 t.0 ge (apart seq x t mine h.0), from_on-behind seq x ts mine h.1))
-    (cases_lt t.0 x.0)
+from_on-behind seq x (t ∷ ts) mine h = grind (arith, nat_tests, from_on-behind seq x ts mine h.1, apart seq x t mine h.0)
 
 -- Those that are beyond another reading are behind it.
 beyond-behind : (seq : ℕ) (y : Timed) (xs : List Timed) → own_timed seq y ≡ false → AreOwn (own_timed seq) xs → AreRising xs → AreAbove y.0 (beyond (Some y) xs)
 beyond-behind seq y [] other mine up = tt
-beyond-behind seq y (x ∷ xs) other mine up = ⊎_elim
-    (λ (lt : x.0 < y.0). subst (λ b. AreAbove y.0 (cond b (beyond (Some y) xs) (x ∷ xs))) (sym (lt-ltb x.0 y.0 lt)) (beyond-behind seq y xs other mine.1 up.1))
-    (λ (ge : y.0 ≤ x.0).
-    let more : y.0 < x.0 = strictly y.0 x.0 ge (λ e. apart seq x y mine.0 other (sym e)) in
-    subst (λ b. AreAbove y.0 (cond b (beyond (Some y) xs) (x ∷ xs))) (sym (le-ltb x.0 y.0 ge)) (more, above_less y.0 x.0 xs (omega (arith, more)) up.0))
-    (cases_lt x.0 y.0)
+beyond-behind seq y (x ∷ xs) other mine up = grind (arith, nat_tests, beyond-behind seq y xs other mine.1 up.1, apart seq x y mine.0 other, above_less y.0 x.0 xs)
 
 none_beyond : (xs : List Timed) → beyond None xs ≡ []
 none_beyond [] = refl

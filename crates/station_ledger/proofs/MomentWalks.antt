@@ -1,5 +1,5 @@
 -- Readings put into the gaps of others, run by run: what their pairs do to the periods, and to sums.
-use Rattle.std.{proofs.Common.{◌≡◌, ℕ, zero, suc, ◌+◌, ◌-◌, ◌*◌, ◌<◌, ◌≤◌, Bool, true, false, cond, nat_lt, List, [], ◌∷◌, ◌++◌, Option, None, Some, length, slice_get, refl, sym, ap, subst, ◌∙◌, ⊎_elim, arith, length-append}, specs.List.sum_by, proofs.lemmas.Bool.{cases_lt, lt-ltb, le-ltb}, proofs.lemmas.List.{map-append, length-map}, proofs.lemmas.List.Elements.filter-append, proofs.lemmas.List.Sums.sum_by-append}
+use Rattle.std.{proofs.Common.{◌≡◌, ℕ, zero, suc, ◌+◌, ◌-◌, ◌*◌, ◌<◌, ◌≤◌, Bool, true, false, cond, nat_lt, List, [], ◌∷◌, ◌++◌, Option, None, Some, length, slice_get, refl, sym, ap, subst, ◌∙◌, ⊎_elim, arith, length-append}, specs.List.sum_by, proofs.lemmas.Bool.Decides.nat_tests, proofs.lemmas.Bool.{cases_lt, lt-ltb, le-ltb}, proofs.lemmas.List.{map-append, length-map}, proofs.lemmas.List.Elements.filter-append, proofs.lemmas.List.Sums.sum_by-append}
 use Rattle.energy_flow.specs.Flow.{Energy}
 use Rattle.ledger_model.{specs.ByDirection.in_direction, specs.Periods.Periods, specs.Board.Flowed, specs.Deltas.{pairs_between, first_reading, last_reading}, specs.Energy.{Pair, energy_over, followed}, specs.declared.reading.Direction.Direction, specs.Event.MeterReading, specs.InTime.{put_in_time, runs, runs_behind}, specs.Ranges.{greatest_reading, most_readings}, proofs.Callers.{AreForeign, AreOwn, followed_cut, put-behind, put-front, runs_own, runs_foreign}}
 use Rattle.quarter_table.{specs.Table.Table, specs.Pairs.{rows_of, total}, proofs.Made.made_alike}
@@ -88,10 +88,7 @@ put-over x (u ∷ us) h = put-front at x u us (let a = h.0 in omega (arith, a))
 -- One that is in front of all of a back.
 put-before : (x : Timed) (ts us : List Timed) → AreAbove x.0 us → put_in_time at x (ts ++ us) ≡ put_in_time at x ts ++ us
 put-before x [] us h = put-over x us h
-put-before x (t ∷ ts) us h = ⊎_elim
-    (λ (lt : t.0 < x.0). put-behind at x t (ts ++ us) lt ∙ ap (λ l. t ∷ l) (put-before x ts us h) ∙ sym (ap (λ l. l ++ us) (put-behind at x t ts lt)))
-    (λ (ge : x.0 ≤ t.0). put-front at x t (ts ++ us) ge ∙ sym (ap (λ l. l ++ us) (put-front at x t ts ge)))
-    (cases_lt t.0 x.0)
+put-before x (t ∷ ts) us h = grind (arith, nat_tests, put-before x ts us h)
 
 pub put_each-under : (xs ts us : List Timed) → AreOver ts xs → put_each xs (ts ++ us) ≡ ts ++ put_each xs us
 put_each-under [] ts us h = refl
@@ -122,10 +119,7 @@ ranked-apart (t ∷ ts) us h = ((above_parts t.0 ts us h.0).1, ranked-apart ts u
 -- Those in front of a rank are below it, and those from it on are not.
 pub in_front-under : (k : ℕ) (ts : List Timed) → AreBelow k (in_front k ts)
 in_front-under k [] = tt
-in_front-under k (t ∷ ts) = ⊎_elim
-    (λ (lt : t.0 < k). subst (λ b. AreBelow k (cond b (t ∷ in_front k ts) (in_front k ts))) (sym (lt-ltb t.0 k lt)) (lt, in_front-under k ts))
-    (λ (ge : k ≤ t.0). subst (λ b. AreBelow k (cond b (t ∷ in_front k ts) (in_front k ts))) (sym (le-ltb t.0 k ge)) (in_front-under k ts))
-    (cases_lt t.0 k)
+in_front-under k (t ∷ ts) = grind (arith, nat_tests, in_front-under k ts)
 
 pub in_front-append : (k : ℕ) (ts us : List Timed) → in_front k (ts ++ us) ≡ in_front k ts ++ in_front k us
 in_front-append k ts us = filter-append (λ t. nat_lt t.0 k) ts us
@@ -133,7 +127,7 @@ in_front-append k ts us = filter-append (λ t. nat_lt t.0 k) ts us
 -- The first readings that fit, and those beyond.
 pub fitting-beyond : (a : Option Timed) (xs : List Timed) → fitting a xs ++ beyond a xs ≡ xs
 fitting-beyond a [] = refl
-fitting-beyond a (x ∷ xs) = elim (fits a x) as (λ b. cond b (x ∷ fitting a xs) [] ++ cond b (beyond a xs) (x ∷ xs) ≡ x ∷ xs) [ true ↦ ap (λ l. x ∷ l) (fitting-beyond a xs) | false ↦ refl ]
+fitting-beyond a (x ∷ xs) = grind (arith, fitting-beyond a xs)
 
 -- All that fit are in front of a row that begins there.
 pub fitting-front : (us xs : List Timed) → AreRising us → AreInFront (fitting (first_of us) xs) us
@@ -143,11 +137,7 @@ fitting-front [] xs up = nothing (fitting None xs)
     nothing [] = tt
     nothing (y ∷ ys) = (tt, nothing ys)
 fitting-front (u ∷ us) [] up = tt
-fitting-front (u ∷ us) (x ∷ xs) up = ⊎_elim
-    (λ (lt : x.0 < u.0). subst (λ b. AreInFront (cond b (x ∷ fitting (Some u) xs) []) (u ∷ us)) (sym (lt-ltb x.0 u.0 lt))
-    ((lt, above_less x.0 u.0 us (omega (arith, lt)) up.0), fitting-front (u ∷ us) xs up))
-    (λ (ge : u.0 ≤ x.0). subst (λ b. AreInFront (cond b (x ∷ fitting (Some u) xs) []) (u ∷ us)) (sym (le-ltb x.0 u.0 ge)) tt)
-    (cases_lt x.0 u.0)
+fitting-front (u ∷ us) (x ∷ xs) up = grind (arith, nat_tests, fitting-front (u ∷ us) xs up, above_less x.0 u.0 us)
 
 -- A run in the gap between a front and a back: the front's last reading and the back's first do not pass a test that
 -- the run does.

@@ -10,9 +10,7 @@ numbered (e ∷ es) h = (record { sequence = h.0.key.number; evse = h.0.event.ev
 
 AreNumbered-filter : (p : Entry → Bool) (es : List Entry) → AreNumbered es → AreNumbered (filter p es)
 AreNumbered-filter p [] h = tt
-AreNumbered-filter p (e ∷ es) h =
-    let rest = AreNumbered-filter p es h.1 in
-    elim (p e) as (λ b. AreNumbered (cond b (e ∷ filter p es) (filter p es))) [ true ↦ (h.0, rest) | false ↦ rest ]
+AreNumbered-filter p (e ∷ es) h = grind (arith, AreNumbered-filter p es h.1, h.0)
 
 pub live_numbered : (tx : List ℕ) (es : List Entry) → AreNumbered es → AreNumbered (live_of tx es)
 live_numbered tx es h = AreNumbered-filter (λ e. bytes_eq tx e.0.tx) (live es) (AreNumbered-filter (λ e. not e.1.voided) es h)

@@ -6,12 +6,7 @@ use Rattle.station_ledger.{specs.Sums.AreAllowed, proofs.Timely.pairs_in_time}
 -- what is under a key has few readings
 few_readings_at : (key : KeyName) (s : Stored) (es : List Entry) → AreEntries es → find key_cmp key es ≡ Some s → length s.event.readings ≤ most_event_readings
 few_readings_at key s [] h is = cc
-few_readings_at key s (e ∷ es) h is =
-    elim (key_cmp key e.0) as (λ (o : Ordering). cond (is_eq o) (Some e.1) (find key_cmp key es) ≡ Some s → length s.event.readings ≤ most_event_readings) [
-      | Less ↦ λ some. few_readings_at key s es h.1 some
-      | Equal ↦ λ some. let same : e.1 ≡ s = cc in subst (λ (t : Stored). length t.event.readings ≤ most_event_readings) same h.0.event.event.0
-      | Greater ↦ λ some. few_readings_at key s es h.1 some
-    ] is
+few_readings_at key s (e ∷ es) h is = grind (arith, few_readings_at key s es h.1, h.0.event.event.0, is)
 
 module _ (order : Order) (limits : Bounds) (transactions : limits.transactions ≤ most_transactions) (events : limits.events ≤ most_events) (readings : limits.readings ≤ most_readings) where
   -- reached events are allowed

@@ -12,10 +12,7 @@ found_keep u tx (Some s) rows = found_put u tx s rows
 
 -- ids that do not tie are different
 apart_ids : (u tx : List ℕ) → eq_by_cmp id_cmp u tx ≡ false → bytes_eq u tx ≡ false
-apart_ids u tx e = elim (bytes_eq u tx) as (λ b. bytes_eq u tx ≡ b → b ≡ false) [
-  | true ↦ λ h. let f : false ≡ true = sym e ∙ ap (λ t. eq_by_cmp id_cmp t tx) ((bytes_eq-Decides u tx).0 h) ∙ (eq_by_cmp_equiv id_total).refl tx in cc
-  | false ↦ λ _. refl
-] refl
+apart_ids u tx e = grind (arith, e, bytes_eq-Decides u tx, (eq_by_cmp_equiv id_total).refl tx)
 
 is_one : (o : Option Standing) → one_in o ≡ cond (is_some o) 1 0
 is_one None = refl
