@@ -27,6 +27,5 @@ pub mod MomentRuns
 pub mod MomentIndexes
 pub mod MomentEvents
 pub mod MomentSides
-pub mod MomentMoves
 pub mod MomentTurning
 pub mod MomentListed

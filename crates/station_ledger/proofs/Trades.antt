@@ -26,7 +26,7 @@ traded Going d es new front e back one = record {
   own = λ f. sym (transaction_moved d f new es front e back one);
 }
 
-ones : (ps : List Pair) → sum_by (λ p. 1) ps ≡ length ps
+pub ones : (ps : List Pair) → sum_by (λ p. 1) ps ≡ length ps
 ones [] = refl
 ones (p ∷ ps) = omega (arith, sum_by-cons (λ (q : Pair). 1) p ps, ones ps)
 
