@@ -3,6 +3,7 @@ use Rattle.std.{proofs.Common.{◌≡◌, ℕ, ◌+◌, ◌*◌, ◌/◌, ◌%�
 use Rattle.ledger_model.{specs.declared.reading.Direction.Direction, specs.declared.reading.Direction.TheVariants.{Import, Export}, specs.InTime.{put_in_time, AreInTime}, proofs.Callers.{put-behind, put-front, put-passed}}
 use Rattle.reading_index.{specs.Ranks.{number_of, owner, owner_of, place_of, rank}, specs.Timed.{Timed, from_on, has_rank, in_front, owned, without, AreAbove, AreRising}}
 use Rattle.key_index.proofs.Orders.{above_less}
+use Rattle.station_ledger.specs.ByMoment.{put_each}
 
 abbrev pub at : Timed → ℕ
 at t = t.0
@@ -100,3 +101,7 @@ owned-without o k ts = filter_swap (λ t. eqb (owner_of t.0) o) (λ t. not (eqb 
 pub owned-without_else : (o k : ℕ) (ts : List Timed) → (owner_of k ≡ o → ⊥) → owned o (without k ts) ≡ owned o ts
 owned-without_else o k [] apart = refl
 owned-without_else o k (t ∷ ts) apart = grind (arith, nat_tests, owned-without_else o k ts apart)
+
+pub length-put_each : (xs ts : List Timed) → length (put_each xs ts) ≡ length ts + length xs
+length-put_each [] ts = omega arith
+length-put_each (x ∷ xs) ts = omega (arith, length-put_each xs (put_in_time at x ts), length-put x ts)

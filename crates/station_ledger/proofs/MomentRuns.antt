@@ -1,17 +1,12 @@
 -- An event's readings that come or go, run by run.
 use Rattle.std.{proofs.Common.{◌≡◌, ℕ, ◌+◌, ◌*◌, ◌<◌, ◌≤◌, ◌⊎◌, inl, inr, true, false, cond, not, nat_lt, eqb, List, [], ◌∷◌, ◌++◌, Option, None, Some, length, take, drop, get_or, refl, sym, ap, subst, ◌∙◌, ⊎_elim, arith, append_assoc, length-append}, specs.List.AllByRecursion, proofs.lemmas.Bool.Decides.nat_tests, proofs.lemmas.Bool.{cases_lt, cases_eq, lt-ltb, le-ltb}, proofs.lemmas.List.{append-nil, length-map}}
 use Rattle.energy_flow.specs.Flow.{CanPlus, Energy, no_energy, plus}
-use Rattle.ledger_model.{specs.Periods.Periods, specs.Board.Flowed, specs.Deltas.{pairs_between, first_reading, last_reading}, specs.declared.reading.Direction.Direction, specs.Energy.{Pair, energy_over}, specs.Event.MeterReading, specs.InTime.{put_in_time, runs}, specs.Ranges.{greatest_reading, most_event_readings, most_readings}, proofs.Callers.{AreForeign, AreOwn, few_between}}
+use Rattle.ledger_model.{specs.Periods.Periods, specs.Board.Flowed, specs.Deltas.{pairs_between, first_reading, last_reading}, specs.declared.reading.Direction.Direction, specs.Energy.{Pair, energy_over}, specs.Event.MeterReading, specs.InTime.{put_in_time, runs}, specs.Ranges.{greatest_reading, most_event_readings, most_readings}, proofs.Callers.{AreForeign, AreFrom, AreOwn, few_between}}
 use Rattle.event_chain.specs.declared.around.Sides.{Sides}
 use Rattle.quarter_table.{specs.Pairs.{rows_of, rows_with}, specs.Table.Table, proofs.Several.made_with}
 use Rattle.reading_index.{specs.Ranks.{number_of, owner_of}, specs.Timed.{Timed, first_of, from_on, in_front, last_of, owned, AreAbove, AreRising, AreBelow}, proofs.Listed.filter-ranked}
 use Rattle.key_index.proofs.Orders.{above_less, rising_parts, below_more, below_both}
-use Rattle.station_ledger.{specs.ByMoment.{bare, bare_one, beyond, fits, fitting, put_each}, specs.Quarters.{HasRoom, HoldsPairs, IsTableMoved, IsWork, quartered}, specs.declared.by_moment.Moved.Moved, specs.declared.pairs.Way.Way, specs.declared.pairs.Way.TheVariants.{Coming, Going}, specs.Runs.{came_of, gap_of, gone_of, own_timed, pairs_among, run_pairs, AreApart, AreExchanged, AreFew, AreSwapped, HasRoomWithout}, proofs.MomentRanks.{at, length-put, parted}, proofs.MomentWalks.{AreInFront, AreOver, FirstFails, LastFails, few_more, fitting-beyond, fitting-front, followed_fewer, first_bare, foreign_first, foreign_last, foreign_parts, has_room, in_front-append, in_front-under, last-append, last_bare, last_behind, moved_in, one_run_more, own_parts, put_each-append, put_each-before, put_each-row, put_each-under, ranked-apart, three_down, three_up, with_run}, proofs.Rows.rows_less, proofs.Walks.first_and_rest}
-
--- As many readings more.
-pub length-put_each : (xs ts : List Timed) → length (put_each xs ts) ≡ length ts + length xs
-length-put_each [] ts = omega arith
-length-put_each (x ∷ xs) ts = let rest = length-put_each xs (put_in_time at x ts) in let one = length-put x ts in omega (arith, rest, one)
+use Rattle.station_ledger.{specs.ByMoment.{bare, bare_one, beyond, fits, fitting, put_each}, specs.Quarters.{HasRoom, HoldsPairs, IsTableMoved, IsWork, quartered}, specs.declared.by_moment.Moved.Moved, specs.declared.pairs.Way.Way, specs.declared.pairs.Way.TheVariants.{Coming, Going}, specs.Runs.{came_of, gap_of, gone_of, own_timed, pairs_among, run_pairs, AreApart, AreExchanged, AreFew, AreSwapped, HasRoomWithout}, proofs.MomentRanks.{at, length-put_each, parted}, proofs.MomentWalks.{AreInFront, AreOver, FirstFails, LastFails, few_more, fitting-beyond, fitting-front, followed_fewer, first_bare, foreign_first, foreign_last, foreign_parts, has_room, in_front-append, in_front-under, last-append, last_bare, last_behind, moved_in, one_run_more, own_parts, put_each-append, put_each-before, put_each-row, put_each-under, ranked-apart, three_down, three_up, with_run}, proofs.Rows.rows_less, proofs.Walks.first_and_rest}
 
 -- Below a rank stay those below it.
 under-put : (n : ℕ) (x : Timed) (ts : List Timed) → x.0 < n → AreBelow n ts → AreBelow n (put_in_time at x ts)
@@ -22,26 +17,21 @@ under-put_each : (n : ℕ) (xs ts : List Timed) → AreBelow n xs → AreBelow n
 under-put_each n [] ts h k = k
 under-put_each n (x ∷ xs) ts h k = under-put_each n xs (put_in_time at x ts) h.1 (under-put n x ts h.0 k)
 
--- Each is at a rank or above it.
-abbrev AreFromRank : ℕ → List Timed → Type 0
-AreFromRank n [] = Unit {0}
-AreFromRank n (t ∷ ts) = (n ≤ t.0) × AreFromRank n ts
-
-from-rising : (n : ℕ) (ts : List Timed) → AreAbove n ts → AreFromRank n ts
+from-rising : (n : ℕ) (ts : List Timed) → AreAbove n ts → AreFrom at n ts
 from-rising n [] h = tt
-from-rising n (t ∷ ts) h = (let a = h.0 in omega (arith, a), from-rising n ts h.1)
+from-rising n (t ∷ ts) h = (omega (arith, h.0), from-rising n ts h.1)
 
-from-parts : (n : ℕ) (ts us : List Timed) → AreFromRank n (ts ++ us) → AreFromRank n ts × AreFromRank n us
+from-parts : (n : ℕ) (ts us : List Timed) → AreFrom at n (ts ++ us) → AreFrom at n ts × AreFrom at n us
 from-parts n [] us h = (tt, h)
 from-parts n (t ∷ ts) us h = let rest = from-parts n ts us h.1 in ((h.0, rest.0), rest.1)
 
-over-under : (n : ℕ) (ts xs : List Timed) → AreBelow n ts → AreFromRank n xs → AreOver ts xs
+over-under : (n : ℕ) (ts xs : List Timed) → AreBelow n ts → AreFrom at n xs → AreOver ts xs
 over-under n ts [] h k = tt
 over-under n ts (x ∷ xs) h k = (below_more n x.0 ts k.0 h, over-under n ts xs h k.1)
 
 front-of : (n : ℕ) (xs us : List Timed) → AreBelow n xs → AreAbove n us → AreInFront xs us
 front-of n [] us h k = tt
-front-of n (x ∷ xs) us h k = (above_less x.0 n us (let a = h.0 in omega (arith, a)) k, front-of n xs us h.1 k)
+front-of n (x ∷ xs) us h k = (above_less x.0 n us (omega (arith, h.0)) k, front-of n xs us h.1 k)
 
 under-first : (xs us : List Timed) (u : Timed) → AreInFront xs (u ∷ us) → AreBelow u.0 xs
 under-first [] us u h = tt
@@ -49,13 +39,7 @@ under-first (x ∷ xs) us u h = (h.0.0, under-first xs us u h.1)
 
 -- An event's reading is no other's.
 apart : (seq : ℕ) (x y : Timed) → own_timed seq x ≡ true → own_timed seq y ≡ false → x.0 ≡ y.0 → ⊥
-apart seq x y mine other same = no (sym mine ∙ ap (λ n. eqb (number_of n) seq) same ∙ other)
-  where
-    no : true ≡ false → ⊥
-    no h = cc
-
-strictly : (m n : ℕ) → m ≤ n → (m ≡ n → ⊥) → m < n
-strictly m n le apart = ⊎_elim (λ (same : m ≡ n). absurd (apart same)) (λ (other : m ≡ n → ⊥). omega (arith, le, other)) (cases_eq m n)
+apart seq x y mine other same = let e : true ≡ false = sym mine ∙ ap (λ n. eqb (number_of n) seq) same ∙ other in cc
 
 -- The others from an event's reading on are behind it.
 from_on-behind : (seq : ℕ) (x : Timed) (ts : List Timed) → own_timed seq x ≡ true → AreForeign (own_timed seq) ts → AreAbove x.0 (from_on x.0 ts)
@@ -82,8 +66,8 @@ pairs-length t ts = followed_fewer t.1 (bare ts) ∙ length-map ts (λ (u : Time
 
 -- Fewer than readings, if there may be a reading.
 pairs-fewer : (ts : List Timed) (n : ℕ) → length ts ≤ n → 1 ≤ n → length (pairs_among ts) + 1 ≤ n
-pairs-fewer [] n le some = omega (arith, some)
-pairs-fewer (t ∷ ts) n le some = let one = pairs-length t ts in omega (arith, one, le)
+pairs-fewer [] n le some = omega (arith, le, some)
+pairs-fewer (t ∷ ts) n le some = omega (arith, pairs-length t ts, le)
 
 -- How many readings go and come.
 pub length-parts : (way : Way) (ts : List Timed) → length (gone_of way ts) + length (came_of way ts) ≡ length ts
@@ -117,7 +101,7 @@ module _ {way : Way} {seq : ℕ} {before after : Option MeterReading} {run now n
   made ts = pairs_between before (bare ts) after
 
   pub run_some : 1 ≤ length run
-  run_some = let n = ap length r.run_is in omega (arith, n)
+  run_some = omega (arith, ap length r.run_is)
 
   -- there is one run more with it
   pub one_run : runs (own_timed seq) (r.front ++ (run ++ r.back)) ≡ runs (own_timed seq) (r.front ++ r.back) + 1
@@ -127,13 +111,13 @@ module _ {way : Way} {seq : ℕ} {before after : Option MeterReading} {run now n
 
   -- how many readings go and come
   pub gone_few : length (gone_of way run) ≤ length run
-  gone_few = let n = length-parts way run in omega (arith, n)
+  gone_few = omega (arith, length-parts way run)
 
   pub came_few : length (came_of way run) ≤ length run
-  came_few = let n = length-parts way run in omega (arith, n)
+  came_few = omega (arith, length-parts way run)
 
   pub made_few : (ts : List Timed) → length (made ts) ≤ length ts + 1
-  made_few ts = let few = few_between before (bare ts) after in let n = length-map ts (λ (t : Timed). t.1) in omega (arith, few, n)
+  made_few ts = omega (arith, few_between before (bare ts) after, length-map ts (λ (t : Timed). t.1))
 
   -- all pairs, with some readings there
   module _ {all : List Timed} (ts : List Timed) (is : all ≡ r.front ++ (ts ++ r.back)) where
@@ -149,11 +133,9 @@ module _ {way : Way} {seq : ℕ} {before after : Option MeterReading} {run now n
   -- no more of them than the run makes
   pub all_few : (ts : List Timed) → length ts ≤ length run → length (fa ++ fb) + length (made ts) + 1 ≤ length (r.front ++ r.back) + length run
   all_few ts le =
-      let long = ap length (all_pairs ts refl) in
-      let a = length-append fa (made ts ++ fb) in let b = length-append (made ts) fb in let e = length-append fa fb in
-      let c = length-append r.front (ts ++ r.back) in let f = length-append ts r.back in let g = length-append r.front r.back in
-      let few = pairs-fewer (r.front ++ (ts ++ r.back)) (length (r.front ++ r.back) + length run) (omega (arith, c, f, g, le)) (omega (arith, run_some)) in
-      omega (arith, long, a, b, e, few)
+      let few = pairs-fewer (r.front ++ (ts ++ r.back)) (length (r.front ++ r.back) + length run)
+      (omega (arith, length-append r.front (ts ++ r.back), length-append ts r.back, length-append r.front r.back, le)) (omega (arith, run_some)) in
+      omega (arith, ap length (all_pairs ts refl), length-append fa (made ts ++ fb), length-append (made ts) fb, length-append fa fb, few)
 
   module _ (period : Periods) (d : Direction) (rest : List Flowed) where
     abbrev pub beside : List Flowed
@@ -241,11 +223,11 @@ module _ (seq : ℕ) (others done left : List Timed) (x : Timed) (xs : List Time
   run_in_front : AreInFront run B
   run_in_front = fitting-front B left B_sorted
 
-  from_left : AreFromRank x.0 left
-  from_left = subst (AreFromRank x.0) (sym left_is) (omega arith, from-rising x.0 xs (let h : AreRising (x ∷ xs) = subst AreRising left_is left_rising in h.0))
+  from_left : AreFrom at x.0 left
+  from_left = subst (AreFrom at x.0) (sym left_is) (omega arith, from-rising x.0 xs (let h : AreRising (x ∷ xs) = subst AreRising left_is left_rising in h.0))
 
-  from_run : AreFromRank x.0 run × AreFromRank x.0 rest
-  from_run = from-parts x.0 run rest (subst (AreFromRank x.0) (sym left_parts) from_left)
+  from_run : AreFrom at x.0 run × AreFrom at x.0 rest
+  from_run = from-parts x.0 run rest (subst (AreFrom at x.0) (sym left_parts) from_left)
 
   run_first : run ≡ x ∷ fitting (first_of B) xs
   run_first = ap (fitting (first_of B)) left_is ∙ ap (λ b. cond b (x ∷ fitting (first_of B) xs) []) (fits-first x B B_behind)
