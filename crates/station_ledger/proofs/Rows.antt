@@ -62,7 +62,7 @@ down_quartered k period d ps = ap (λ (e : ByDirection Energy). (in_direction k 
 pub long : (period : Periods) (d : Direction) (ps : List Pair) → length (quartered period d ps) ≡ length ps
 long period d ps = length-map {B = Flowed} ps (λ p. (quarter_of period p, flows_toward d (difference p)))
 
-module _ (t : Table) (more : ℕ) (has : HasRoom more t) where
+module _ {t : Table} {more : ℕ} (has : HasRoom more t) where
   pub room_for_row : 0 < more → length t.rows < t.capacity
   room_for_row some = let n = ap length has.1.rows in omega (arith, n, few_rows has.0, has.1.room)
 
@@ -83,16 +83,20 @@ module _ (t : Table) (more : ℕ) (has : HasRoom more t) where
       } in
       subst (λ r. CanPlusFlows r.energy (flows_toward d flow)) (sym (row_is q)) (record { import = fits Import; export = fits Export })
 
--- what is there may be taken out
-module _ (q : ℕ) (flow : ByDirection Energy) (others : List Flowed) (t : Table) (is : t.rows ≡ rows_of ((q, flow) ∷ others)) where
+-- a table with a pair of this period and this flow: it may be taken out
+pub record HasPair (q : ℕ) (flow : ByDirection Energy) (t : Table) : Type 0 where
+  pub others : List Flowed
+  pub is : t.rows ≡ rows_of ((q, flow) ∷ others)
+
+module _ {q : ℕ} {flow : ByDirection Energy} {t : Table} (h : HasPair q flow t) where
   pub there : 0 < (row_at q t.rows).pairs
-  there = subst (λ rows. 0 < (row_at q rows).pairs) (sym is) (pair_counted [] q flow others)
+  there = subst (λ rows. 0 < (row_at q rows).pairs) (sym h.is) (pair_counted [] q flow h.others)
 
   pub held : CanMinusFlows (row_at q t.rows).energy flow
-  held = subst (λ rows. CanMinusFlows (row_at q rows).energy flow) (sym is) (pair_held [] q flow others)
+  held = subst (λ rows. CanMinusFlows (row_at q rows).energy flow) (sym h.is) (pair_held [] q flow h.others)
 
   pub last : (row_at q t.rows).pairs ≡ 1 → (row_at q t.rows).energy ≡ flow
-  last = subst (λ rows. (row_at q rows).pairs ≡ 1 → (row_at q rows).energy ≡ flow) (sym is) (last_pair [] q flow others)
+  last = subst (λ rows. (row_at q rows).pairs ≡ 1 → (row_at q rows).energy ≡ flow) (sym h.is) (last_pair [] q flow h.others)
 
 -- the rows with several pairs more
 pub rows_more : (period : Periods) (d : Direction) {ps : List Pair} {e : Energy} {t new : Table} (others : List Flowed) (more less : ℕ) → AreRows others more t → length ps + less ≡ more
