@@ -1,9 +1,9 @@
 -- A transaction with another standing, in all sums.
 use Rattle.std.{proofs.Common.{◌≡◌, ℕ, ◌+◌, ◌-◌, ◌<◌, ◌≤◌, Bool, true, false, cond, List, Option, Some, None, is_some, length, refl, sym, ap, subst, ◌∙◌, arith}, specs.Str.bytes_eq, specs.FinMap.find, specs.Ordering.eq_by_cmp, proofs.lemmas.Slice.Eq.bytes_eq-Decides, specs.Cmp.eq_by_cmp_equiv}
 use Rattle.energy_flow.specs.Flow.{Energy, plus, minus, CanPlus, CanMinus}
-use Rattle.ledger_model.{specs.declared.figures.Figures.Figures, specs.ByDirection.in_direction, specs.Content.{Entry, live, transactions_of}, specs.Energy.energy_of_by, specs.Evse.{energy_at_by, transactions_at}, specs.declared.order.Order.Order, specs.declared.reading.Direction.Direction, specs.declared.reading.Direction.TheVariants.{Import, Export}, specs.Limits.Bounds, specs.Ranges.greatest_evse}
+use Rattle.ledger_model.{proofs.EnergyLemmas.same_energy, specs.declared.figures.Figures.Figures, specs.ByDirection.in_direction, specs.Content.{Entry, live, transactions_of}, specs.Energy.energy_of_by, specs.Evse.{energy_at_by, transactions_at}, specs.declared.order.Order.Order, specs.declared.reading.Direction.Direction, specs.declared.reading.Direction.TheVariants.{Import, Export}, specs.Limits.Bounds, specs.Ranges.greatest_evse}
 use Rattle.transaction_map.{specs.Map.{Mapped, AreRising, id_cmp}, proofs.Rising.{equal_ids, id_total}, proofs.Found.{found_put, found_out, rising_put, rising_out, length_put, length_out}}
-use Rattle.station_ledger.{specs.declared.standing.Standing.Standing, specs.declared.totals.EvseSum.EvseSum, specs.Standing.kept_of, specs.Moved.{live_in, one_in, complete_in, missing_in, flows_in, one_at, flows_at, IsMoved, sum_at, with_one, without_one, with_figures, without_figures, HasRoomAt, CountsAt, HaveRoom, DoCount}, specs.Sums.{AreStanding, AreEvseSums, AreCounts, AreAllowed, keep}, proofs.Moved.{live_kept, missing_kept, flow_in_kept, kept_same, one_in_le, complete_in_le, one_at_le, flow_at_le}, proofs.Bounded.{few_up, few_down, live_le, at_evse_le, evse_up_le, evse_down_le, own_up_le, own_down_le, own_missing_le}}
+use Rattle.station_ledger.{specs.declared.standing.Standing.Standing, specs.declared.totals.EvseSum.EvseSum, specs.Standing.kept_of, specs.Moved.{live_in, one_in, complete_in, missing_in, flows_in, one_at, flows_at, IsMoved, sum_at, with_one, without_one, with_figures, without_figures, HasRoomAt, CountsAt, HaveRoom, DoCount}, specs.Sums.{AreStanding, AreEvseSums, AreCounts, AreAllowed, keep}, proofs.Moved.{live_kept, missing_kept, flow_in_kept, kept_same, one_in_le, complete_in_le, one_at_le, flow_at_le}, proofs.Bounded.{at_evse_le, evse_le, few_energy, few_station, live_le, own_missing_le, own_within}}
 
 -- what is found where a transaction's row was written or taken out
 found_keep : (u tx : List ℕ) (o : Option Standing) (rows : List (List ℕ × Standing)) → find id_cmp u (keep tx o rows) ≡ cond (eq_by_cmp id_cmp u tx) o (find id_cmp u rows)
@@ -68,28 +68,13 @@ module _ (order : Order) (limits : Bounds) (tx : List ℕ) (es new : List Entry)
 
     module _ (evses : List EvseSum) (sums : AreEvseSums order es evses) where
       room_for : (d : Direction) (n : ℕ) → CanPlus (energy_at_by order d n es) (in_direction d (flows_at n is))
-      room_for d n = record {
-        up = omega (
-          arith,
-          evse_up_le order d n es,
-          few_up order d limits es before,
-          before.most_readings_within,
-          (flow_at_le d n is).0,
-          ap (λ (e : Energy). e.up) (flow_is d),
-          own_up_le order d tx new,
-          few_up order d limits new after,
-        );
-        down = omega (
-          arith,
-          evse_down_le order d n es,
-          few_down order d limits es before,
-          before.most_readings_within,
-          (flow_at_le d n is).1,
-          ap (λ (e : Energy). e.down) (flow_is d),
-          own_down_le order d tx new,
-          few_down order d limits new after,
-        );
-      }
+      room_for d n =
+          let here = evse_le order d n es in let all = few_station order d limits es before in let at = flow_at_le d n is in
+          let own = own_within order d tx new in let then = few_energy order d limits new after in
+          record {
+            up = omega (arith, here.up, all.up, at.0, ap (λ (e : Energy). e.up) (flow_is d), own.up, then.up, before.most_readings_within);
+            down = omega (arith, here.down, all.down, at.1, ap (λ (e : Energy). e.down) (flow_is d), own.down, then.down, before.most_readings_within);
+          }
 
       pub room_at : (n : ℕ) → n ≤ greatest_evse → HasRoomAt n is (sum_at evses n)
       room_at n le = subst (HasRoomAt n is) (sym (sums.each n le)) (record {
@@ -115,12 +100,7 @@ module _ (order : Order) (limits : Bounds) (tx : List ℕ) (es new : List Entry)
       })
 
       left_at : (d : Direction) (n : ℕ) → minus (plus (energy_at_by order d n es) (in_direction d (flows_at n is))) (in_direction d (flows_at n was)) ≡ energy_at_by order d n new
-      left_at d n =
-          let up : ((energy_at_by order d n es).up + (in_direction d (flows_at n is)).up) - (in_direction d (flows_at n was)).up ≡ (energy_at_by order d n new).up =
-          omega (arith, ap (λ (e : Energy). e.up) (flows d n)) in
-          let down : ((energy_at_by order d n es).down + (in_direction d (flows_at n is)).down) - (in_direction d (flows_at n was)).down ≡ (energy_at_by order d n new).down =
-          omega (arith, ap (λ (e : Energy). e.down) (flows d n)) in
-          λ i. record { up = up i; down = down i }
+      left_at d n = same_energy _ _ (omega (arith, ap (λ (e : Energy). e.up) (flows d n))) (omega (arith, ap (λ (e : Energy). e.down) (flows d n)))
 
       pub sums_stand : (next : List EvseSum) → length next ≡ greatest_evse + 1 → ((n : ℕ) → sum_at next n ≡ without_one n was (with_one n is (sum_at evses n))) → AreEvseSums order new next
       sums_stand next all each = record {
@@ -137,16 +117,8 @@ module _ (order : Order) (limits : Bounds) (tx : List ℕ) (es new : List Entry)
         events = omega (arith, counts.events, before.figures_within.events, before.most_events_within, ap live_in is_is, live_kept order tx new, live_le tx new, after.figures_within.events);
         transactions = omega (arith, counts.transactions, before.figures_within.transactions, before.most_transactions_within, one_in_le is);
         complete = omega (arith, counts.complete, before.figures_within.complete, before.most_transactions_within, complete_in_le is);
-        missing_fit = omega (
-          arith,
-          counts.missing_are,
-          before.figures_within.missing,
-          before.most_transactions_within,
-          ap missing_in is_is,
-          missing_kept order tx new,
-          own_missing_le tx new,
-          after.figures_within.missing,
-        );
+        missing_fit = omega (arith, counts.missing_are, before.figures_within.missing, before.most_transactions_within, ap missing_in is_is, missing_kept order tx new,
+            own_missing_le tx new, after.figures_within.missing);
       }
 
       pub do_count : DoCount was (with_figures is f)
