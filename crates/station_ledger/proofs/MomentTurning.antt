@@ -1,12 +1,12 @@
 -- One live event that comes or goes: its readings come to those by moment, or go from them.
-use Rattle.std.{proofs.Common.{◌≡◌, ◌==◌, ℕ, ◌+◌, ◌*◌, ◌<◌, ◌≤◌, true, false, cond, not, List, [], ◌∷◌, Option, None, Some, is_some, length, refl, sym, ap, subst, ◌∙◌, arith, length-append, vec_capacity}, specs.Str.bytes_eq, specs.Cmp.eq_by_cmp_equiv, proofs.lemmas.Bool.ne_eqb, proofs.lemmas.Bool.Decides.nat_tests}
+use Rattle.std.{proofs.Common.{◌≡◌, ◌==◌, ℕ, ◌+◌, ◌*◌, ◌<◌, ◌≤◌, true, false, cond, not, List, [], ◌∷◌, Option, None, Some, is_some, length, refl, sym, ap, subst, ◌∙◌, ⊎_elim, arith, length-append, vec_capacity}, specs.Str.bytes_eq, specs.Cmp.eq_by_cmp_equiv, proofs.lemmas.Bool.{cases_eq, ne_eqb}, proofs.lemmas.Bool.Decides.nat_tests}
 use Rattle.event_chain.{specs.Chains.{Chained, stored}, specs.Table.{Table as Slots, row_of, TxRow, without_row}, specs.declared.row.TableRow.TableRow}
 use Rattle.event_chain.specs.Table as table
 use Rattle.ledger_model.{proofs.Directions.each_way, specs.Periods.Periods, specs.ByDirection.in_direction, specs.Content.{Entry, live, live_of, transactions_of, has_transaction}, specs.declared.by_direction.ByDirection.ByDirection, specs.declared.order.Order.TheVariants.Moment, specs.declared.reading.Direction.Direction, specs.declared.reading.Direction.TheVariants.{Import, Export}, specs.Deltas.{IsOneMore, before_key, behind_key, own_events}, specs.Energy.{energy_by, energy_of_by}, specs.Key.KeyName, specs.Ranges.{greatest_reading, most_event_readings, most_readings}, proofs.Callers.{live_else, live_with, transactions_more}}
 use Rattle.energy_flow.specs.Flow.{Energy, plus}
 use Rattle.quarter_table.specs.Table.{Table}
 use Rattle.reading_index.{specs.Ranks.owner, specs.Timed.{Timed, TimedReadings, owned}}
-use Rattle.station_ledger.{specs.ByMoment.{timed_of, AreByMoment, IsSlotGiven, live_readings, listed_of}, specs.declared.by_moment.ByMoment.ByMoment, specs.declared.by_moment.Moved.Moved, specs.Moved.IsExchanged, specs.Quarters.{IsWork, readings_at}, specs.Spent.most_in_runs, specs.Sums.AreQuarterRows, proofs.MomentEvents.{IsTurned, by_moment_next, side_before, not_tied, by_moment_gone}, proofs.MomentLists.timed_else, proofs.MomentRanks.owner-apart, proofs.Moved.{has_own, none_long}, specs.declared.pairs.Way.Way, specs.declared.pairs.Way.TheVariants.{Coming, Going}, specs.Exchange.IsMove, specs.Runs.{by_way, AreMoved, CanMove}, proofs.MomentSides.{IsLong, IsNext, IsStep, can_move, few_listed, grown, have_place, its, listed_is, long_both, parts_was, parts_will, room_more, rows_next, sides_apart, sums_few, sums_moved, then, work_next}}
+use Rattle.station_ledger.{specs.ByMoment.{timed_of, AreByMoment, IsSlotGiven, live_readings, listed_of}, specs.declared.by_moment.ByMoment.ByMoment, specs.declared.by_moment.Moved.Moved, specs.Moved.IsExchanged, specs.Quarters.{IsWork, readings_at}, specs.Spent.most_in_runs, specs.Sums.AreQuarterRows, proofs.MomentEvents.{IsTurned, by_moment_then, side_before, not_tied}, proofs.MomentLists.timed_else, proofs.MomentRanks.owner-apart, proofs.Moved.has_own, specs.declared.pairs.Way.Way, specs.declared.pairs.Way.TheVariants.{Coming, Going}, specs.Exchange.IsMove, specs.Runs.{by_way, AreMoved, CanMove}, proofs.MomentSides.{IsLong, IsNext, IsStep, can_move, few_listed, grown, have_place, its, listed_is, long_both, parts_was, parts_will, room_more, rows_next, sides_apart, sums_few, sums_moved, then, work_next}}
 use Rattle.transaction_map.{proofs.Found.{found_out, length_out}, proofs.Rising.id_total}
 
 -- a transaction with this event has a live one
@@ -196,27 +196,22 @@ module _ {way : Way} {less more : List Entry} {chains : Chained} {key : KeyName}
         slots_will : length slots.rows ≡ length (transactions_of (live will)) + cond (length (live_of key.tx will) == 0) 1 0
         slots_will = slots_then way key.tx less more _ lives (slots_more way is given) one_more
 
-        -- the transaction has a live event still
-        pub timed_stays : (after : ByMoment) → table.AreApart slots.rows → after.slots ≡ slots → after.index ≡ last
-            → most_event_readings ≤ vec_capacity after.listed → (length (live_of key.tx (stored chains)) ≡ 0 → ⊥)
-            → AreByMoment chains.limits (stored chains) after
-        timed_stays after apart s i room some =
-            let still = ne_eqb (length (live_of key.tx will)) 0 (λ none. some (ap (λ es. length (live_of key.tx es)) (sym is.now_are) ∙ none)) in
-            subst (λ es. AreByMoment chains.limits es after) is.now_are
-            (by_moment_next is.timed given apart turned after s (ap (λ (j : TimedReadings). j.entries) i) (ap (λ (j : TimedReadings). j.capacity) i ∙ again.capacity ∙ moved.capacity) room
-            (ap not still) (omega (arith, slots_will, ap (λ b. cond {A = ℕ} b 1 0) still)) few_then)
-
-        -- or none
-        pub timed_goes : (after : ByMoment) → table.AreApart slots.rows → table.AreRising slots.rows
-            → after.slots.rows ≡ without_row key.tx slots.rows → after.slots.capacity ≡ slots.capacity → after.index ≡ last
-            → most_event_readings ≤ vec_capacity after.listed → length (live_of key.tx (stored chains)) ≡ 0
-            → AreByMoment chains.limits (stored chains) after
-        timed_goes after apart risen rows cap i room gone =
-            let none = none_long (live_of key.tx will) (ap (λ es. length (live_of key.tx es)) is.now_are ∙ gone) in
-            subst (λ es. AreByMoment chains.limits es after) is.now_are
-            (by_moment_gone is.timed given apart turned after
-            (λ u other. ap (row_of u) rows ∙ row_else key.tx u slots.rows other)
-            (ap (row_of key.tx) rows ∙ row_gone key.tx slots.rows)
-            cap (ap (λ (j : TimedReadings). j.entries) i) (ap (λ (j : TimedReadings). j.capacity) i ∙ again.capacity ∙ moved.capacity) room none
-            (omega (arith, ap length rows, slots_will, ap (λ (es : List Entry). cond {A = ℕ} (length es == 0) 1 0) none, rows_less key.tx slots.rows given.row risen given.there))
-            few_then)
+        -- the transaction has a live event still, or none
+        pub timed_then : (after : ByMoment) → table.AreApart slots.rows → table.AreRising slots.rows
+            → ((length (live_of key.tx (stored chains)) ≡ 0 → ⊥) → after.slots.rows ≡ slots.rows)
+            → (length (live_of key.tx (stored chains)) ≡ 0 → after.slots.rows ≡ without_row key.tx slots.rows)
+            → after.slots.capacity ≡ slots.capacity → after.index ≡ last → most_event_readings ≤ vec_capacity after.listed → AreByMoment chains.limits (stored chains) after
+        timed_then after apart risen kept gone cap i room =
+            let entries = ap (λ (j : TimedReadings). j.entries) i in let index_cap = ap (λ (j : TimedReadings). j.capacity) i ∙ again.capacity ∙ moved.capacity in
+            subst (λ es. AreByMoment chains.limits es after) is.now_are (⊎_elim
+            (λ (none : length (live_of key.tx will) ≡ 0).
+            let rows = gone (sym (ap (λ es. length (live_of key.tx es)) is.now_are) ∙ none) in let lacks = ap (row_of key.tx) rows ∙ row_gone key.tx slots.rows in
+            by_moment_then is.timed given apart turned after (λ u other. ap (row_of u) rows ∙ row_else key.tx u slots.rows other)
+            (ap is_some lacks ∙ sym (ap (λ n. not (n == 0)) none)) (λ row there. let e : None ≡ Some row = sym lacks ∙ there in cc) cap entries index_cap room
+            (omega (arith, ap length rows, slots_will, ap (λ n. cond {A = ℕ} (n == 0) 1 0) none, rows_less key.tx slots.rows given.row risen given.there)) few_then)
+            (λ (some : length (live_of key.tx will) ≡ 0 → ⊥).
+            let rows = kept (λ none. some (ap (λ es. length (live_of key.tx es)) is.now_are ∙ none)) in let still = ne_eqb (length (live_of key.tx will)) 0 some in
+            by_moment_then is.timed given apart turned after (λ u other. ap (row_of u) rows) (ap is_some (ap (row_of key.tx) rows ∙ given.there) ∙ sym (ap not still))
+            (λ row there. let e : Some given.row ≡ Some row = sym given.there ∙ sym (ap (row_of key.tx) rows) ∙ there in cc) cap entries index_cap room
+            (omega (arith, ap length rows, slots_will, ap (λ b. cond {A = ℕ} b 1 0) still)) few_then)
+            (cases_eq (length (live_of key.tx will)) 0))

@@ -2,7 +2,7 @@ use Rattle.std.{proofs.Common.{◌≡◌, ◌<◌, ◌≤◌, Some, None, length
 use Rattle.energy_flow.specs.Flow.{Energy}
 use Rattle.event_chain.{specs.Chains.stored, specs.Table.{Table, row_of, without_row}}
 use Rattle.ledger_model.{specs.Content.live_of, specs.Ranges.most_event_readings, specs.declared.by_direction.ByDirection.ByDirection, specs.declared.order.Order.TheVariants.Moment, specs.declared.reading.Direction.TheVariants.{Import, Export}}
-use Rattle.station_ledger.{specs.declared.by_moment.ByMoment.ByMoment, specs.ByMoment.{AreByMoment, IsSlotGiven}, specs.Moved.IsExchanged, specs.Runs.by_way, proofs.MomentTurning.{all_then, few_readings, first_move, room_for_slot, rows_then, second_move, some_live, timed_goes, timed_stays, work_then}, proofs.by_moment.move_event.Goals.{After-slot_of-slot}}
+use Rattle.station_ledger.{specs.declared.by_moment.ByMoment.ByMoment, specs.ByMoment.{AreByMoment, IsSlotGiven}, specs.Moved.IsExchanged, specs.Runs.by_way, proofs.MomentTurning.{all_then, few_readings, first_move, room_for_slot, rows_then, second_move, some_live, timed_then, work_then}, proofs.by_moment.move_event.Goals.{After-slot_of-slot}}
 use Rattle.station_ledger.proofs.by_moment.move_event.Goals as goal
 
 pub slot_of-slot-requires : goal.slot_of-slot-requires
@@ -15,16 +15,13 @@ given : (c : After-slot_of-slot) → IsSlotGiven c.args.key.now.tx c.args.by_mom
 given c = subst (λ tx. IsSlotGiven tx c.args.by_moment.now.slots c.slot_of-slot.new.slots c.slot_of-slot.result) c.tx-tx.ensures c.slot_of-slot.ensures.given
 
 pub list-requires-clause-few : goal.list-requires-clause-few
-list-requires-clause-few c =
-    few_readings c.requires.2 (given (goal.at.list-requires-clause-few c).After-slot_of-slot) Import
+list-requires-clause-few c = few_readings c.requires.2 (given (goal.at.list-requires-clause-few c).After-slot_of-slot) Import
 
 pub move_listed-import-requires : goal.move_listed-import-requires
-move_listed-import-requires c =
-    first_move c.requires.2 (given (goal.at.move_listed-import-requires c).After-slot_of-slot) c.list.ensures.items
+move_listed-import-requires c = first_move c.requires.2 (given (goal.at.move_listed-import-requires c).After-slot_of-slot) c.list.ensures.items
 
 pub list-requires-2-clause-few : goal.list-requires-2-clause-few
-list-requires-2-clause-few c =
-    few_readings c.requires.2 (given (goal.at.list-requires-2-clause-few c).After-slot_of-slot) Export
+list-requires-2-clause-few c = few_readings c.requires.2 (given (goal.at.list-requires-2-clause-few c).After-slot_of-slot) Export
 
 pub move_listed-export-requires : goal.move_listed-export-requires
 move_listed-export-requires c =
@@ -55,17 +52,12 @@ pub returns-clause-timed : goal.returns-clause-timed
 returns-clause-timed c =
     let slots = c.move_listed-export.ensures.slots ∙ c.move_listed-import.ensures.slots in
     let after : ByMoment = record { slots = c.free_slot.new.slots; index = c.move_listed-export.new.by_moment.index; listed = c.move_listed-export.new.by_moment.listed } in
-    let room = subst (λ n. most_event_readings ≤ n) (sym c.move_listed-export.ensures.room) c.list-2.ensures.room in
     let counted = ap (λ tx. length (live_of tx (stored c.args.chains.now))) c.tx-tx.ensures in
-    ⊎_elim {C = AreByMoment c.args.chains.now.limits (stored c.args.chains.now) after}
-    (λ none.
-    timed_goes c.requires.2 (given (goal.at.returns-clause-timed c).After-slot_of-slot) c.list.ensures.items c.move_listed-import.ensures.moved c.list-2.ensures.items
+    timed_then c.requires.2 (given (goal.at.returns-clause-timed c).After-slot_of-slot) c.list.ensures.items c.move_listed-import.ensures.moved c.list-2.ensures.items
     c.move_listed-export.ensures.moved after c.slot_of-slot.ensures.slotted.apart c.slot_of-slot.ensures.slotted.rising
-    (c.free_slot.ensures.rows (counted ∙ none) ∙ (λ i. without_row (c.tx-tx.ensures i) (slots i).rows)) (c.free_slot.ensures.capacity ∙ ap (λ (s : Table). s.capacity) slots) refl room none)
-    (λ some. timed_stays c.requires.2 (given (goal.at.returns-clause-timed c).After-slot_of-slot) c.list.ensures.items c.move_listed-import.ensures.moved c.list-2.ensures.items
-    c.move_listed-export.ensures.moved after c.slot_of-slot.ensures.slotted.apart
-    (c.free_slot.ensures.kept (λ none. some (sym counted ∙ none)) ∙ slots) refl room some)
-    (cases_eq (length (live_of c.args.key.now.tx (stored c.args.chains.now))) 0)
+    (λ some. ap (λ (s : Table). s.rows) (c.free_slot.ensures.kept (λ none. some (sym counted ∙ none)) ∙ slots))
+    (λ none. c.free_slot.ensures.rows (counted ∙ none) ∙ (λ i. without_row (c.tx-tx.ensures i) (slots i).rows))
+    (c.free_slot.ensures.capacity ∙ ap (λ (s : Table). s.capacity) slots) refl (subst (λ n. most_event_readings ≤ n) (sym c.move_listed-export.ensures.room) c.list-2.ensures.room)
 
 pub returns-clause-work : goal.returns-clause-work
 returns-clause-work c less more is =
