@@ -1,12 +1,12 @@
 -- An event's readings that come or go, run by run.
-use Rattle.std.{proofs.Common.{◌≡◌, ℕ, ◌+◌, ◌*◌, ◌<◌, ◌≤◌, ◌⊎◌, inl, inr, true, false, cond, not, nat_lt, eqb, List, [], ◌∷◌, ◌++◌, Option, None, Some, length, take, drop, get_or, refl, sym, ap, subst, ◌∙◌, ⊎_elim, arith, append_assoc, length-append}, specs.List.AllByRecursion, proofs.lemmas.Bool.Decides.nat_tests, proofs.lemmas.Bool.{cases_lt, cases_eq, lt-ltb, le-ltb}, proofs.lemmas.List.{append-nil, length-map}}
+use Rattle.std.{proofs.Common.{◌≡◌, ℕ, ◌+◌, ◌*◌, ◌<◌, ◌≤◌, ◌⊎◌, inl, inr, true, false, cond, not, nat_lt, eqb, List, [], ◌∷◌, ◌++◌, Option, None, Some, length, take, drop, get_or, refl, sym, ap, subst, ◌∙◌, ⊎_elim, arith, append_assoc, length-append}, specs.List.{AllByRecursion, sum_by}, proofs.lemmas.List.Sums.sum_by-append, proofs.lemmas.Bool.Decides.nat_tests, proofs.lemmas.Bool.{cases_lt, cases_eq, lt-ltb, le-ltb}, proofs.lemmas.List.{append-nil, length-map}}
 use Rattle.energy_flow.specs.Flow.{CanPlus, Energy, no_energy, plus}
-use Rattle.ledger_model.{specs.Periods.Periods, specs.Board.Flowed, specs.Deltas.{pairs_between, first_reading, last_reading}, specs.declared.reading.Direction.Direction, specs.Energy.{Pair, energy_over}, specs.Event.MeterReading, specs.InTime.{put_in_time, runs}, specs.Ranges.{greatest_reading, most_event_readings, most_readings}, proofs.Callers.{AreForeign, AreFrom, AreOwn, few_between}}
+use Rattle.ledger_model.{specs.Periods.Periods, specs.Board.Flowed, specs.Deltas.{pairs_between, first_reading, last_reading}, specs.declared.reading.Direction.Direction, specs.Energy.{Pair, difference, energy_over}, specs.Event.MeterReading, specs.InTime.{put_in_time, runs}, specs.Ranges.{greatest_reading, most_event_readings, most_readings}, proofs.Callers.{AreForeign, AreFrom, AreOwn, few_between}}
 use Rattle.event_chain.specs.declared.around.Sides.{Sides}
 use Rattle.quarter_table.{specs.Pairs.{rows_of, rows_with}, specs.Table.Table, proofs.Several.made_with}
 use Rattle.reading_index.{specs.Ranks.{number_of, owner_of}, specs.Timed.{Timed, first_of, from_on, in_front, last_of, owned, AreAbove, AreRising, AreBelow}, proofs.Listed.filter-ranked}
 use Rattle.key_index.proofs.Orders.{above_less, rising_parts, below_more, below_both}
-use Rattle.station_ledger.{specs.ByMoment.{bare, bare_one, beyond, fits, fitting, put_each}, specs.Quarters.{HasRoom, HoldsPairs, IsTableMoved, IsWork, quartered}, specs.declared.by_moment.Moved.Moved, specs.declared.pairs.Way.Way, specs.declared.pairs.Way.TheVariants.{Coming, Going}, specs.Runs.{came_of, gap_of, gone_of, own_timed, pairs_among, run_pairs, AreApart, AreExchanged, AreFew, AreSwapped, HasRoomWithout}, proofs.MomentRanks.{at, length-put_each, parted}, proofs.MomentWalks.{AreInFront, AreOver, FirstFails, LastFails, few_more, fitting-beyond, fitting-front, followed_fewer, first_bare, foreign_first, foreign_last, foreign_parts, has_room, in_front-append, in_front-under, last-append, last_bare, last_behind, moved_in, one_run_more, own_parts, put_each-append, put_each-before, put_each-row, put_each-under, ranked-apart, three_down, three_up, with_run}, proofs.Rows.rows_less, proofs.Walks.first_and_rest}
+use Rattle.station_ledger.{specs.ByMoment.{bare, bare_one, beyond, fits, fitting, put_each}, specs.Quarters.{HasRoom, HoldsPairs, IsTableMoved, IsWork, quartered}, specs.declared.by_moment.Moved.Moved, specs.declared.pairs.Way.Way, specs.declared.pairs.Way.TheVariants.{Coming, Going}, specs.Runs.{came_of, gap_of, gone_of, own_timed, pairs_among, run_pairs, AreApart, AreExchanged, AreFew, AreSwapped, HasRoomWithout}, proofs.MomentRanks.{at, length-put_each, parted}, proofs.MomentWalks.{AreInFront, AreOver, FirstFails, LastFails, few_more, fitting-beyond, fitting-front, followed_fewer, first_bare, foreign_first, foreign_last, foreign_parts, has_room, in_front-append, in_front-under, last-append, last_bare, last_behind, moved_in, one_run_more, own_parts, put_each-append, put_each-before, put_each-row, put_each-under, ranked-apart, three_sums, with_run}, proofs.Rows.rows_less, proofs.Walks.first_and_rest}
 
 -- Below a rank stay those below it.
 under-put : (n : ℕ) (x : Timed) (ts : List Timed) → x.0 < n → AreBelow n ts → AreBelow n (put_in_time at x ts)
@@ -69,6 +69,12 @@ pairs-fewer : (ts : List Timed) (n : ℕ) → length ts ≤ n → 1 ≤ n → le
 pairs-fewer [] n le some = omega (arith, le, some)
 pairs-fewer (t ∷ ts) n le some = omega (arith, pairs-length t ts, le)
 
+abbrev rise : Pair → ℕ
+rise p = (difference p).up
+
+abbrev fall : Pair → ℕ
+fall p = (difference p).down
+
 -- How many readings go and come.
 pub length-parts : (way : Way) (ts : List Timed) → length (gone_of way ts) + length (came_of way ts) ≡ length ts
 length-parts Coming ts = omega arith
@@ -124,11 +130,8 @@ module _ {way : Way} {seq : ℕ} {before after : Option MeterReading} {run now n
     pub all_pairs : pairs_among all ≡ fa ++ (made ts ++ fb)
     all_pairs = ap pairs_among is ∙ with_run r.front ts r.back ∙ sym (λ i. fa ++ (pairs_between (r.before_is i) (bare ts) (r.after_is i) ++ fb))
 
-    pub all_up : (energy_over (pairs_among all)).up ≡ (energy_over (fa ++ fb)).up + (energy_over (made ts)).up
-    all_up = let a = ap (λ ps. (energy_over ps).up) all_pairs in let b = three_up fa (made ts) fb in let e = three_up fa [] fb in omega (arith, a, b, e)
-
-    pub all_down : (energy_over (pairs_among all)).down ≡ (energy_over (fa ++ fb)).down + (energy_over (made ts)).down
-    all_down = let a = ap (λ ps. (energy_over ps).down) all_pairs in let b = three_down fa (made ts) fb in let e = three_down fa [] fb in omega (arith, a, b, e)
+    pub all_sum : (f : Pair → ℕ) → sum_by f (pairs_among all) ≡ sum_by f (fa ++ fb) + sum_by f (made ts)
+    all_sum f = omega (arith, ap (sum_by f) all_pairs, three_sums f fa (made ts) fb, sum_by-append f fa fb)
 
   -- no more of them than the run makes
   pub all_few : (ts : List Timed) → length ts ≤ length run → length (fa ++ fb) + length (made ts) + 1 ≤ length (r.front ++ r.back) + length run
@@ -393,8 +396,8 @@ module _ {way : Way} {seq : ℕ} {period : Periods} {d : Direction} {before afte
   run_moved h s = record {
     rows = put_back period d r rest s.left (made r (came_of way run)) (gone_left period d r rest t h.rows s.taken.quarters) s.added.quarters
         ∙ sym (all_rows r period d rest (came_of way run) r.next_is);
-    up = omega (arith, h.up, all_up r (gone_of way run) r.now_is, all_up r (came_of way run) r.next_is, ap (λ (e : Energy). e.up) s.taken.sum.is, ap (λ (e : Energy). e.up) s.added.sum.is);
-    down = omega (arith, h.down, all_down r (gone_of way run) r.now_is, all_down r (came_of way run) r.next_is, ap (λ (e : Energy). e.down) s.taken.sum.is, ap (λ (e : Energy). e.down) s.added.sum.is);
+    up = omega (arith, h.up, all_sum r (gone_of way run) r.now_is rise, all_sum r (came_of way run) r.next_is rise, ap (λ (e : Energy). e.up) s.taken.sum.is, ap (λ (e : Energy). e.up) s.added.sum.is);
+    down = omega (arith, h.down, all_sum r (gone_of way run) r.now_is fall, all_sum r (came_of way run) r.next_is fall, ap (λ (e : Energy). e.down) s.taken.sum.is, ap (λ (e : Energy). e.down) s.added.sum.is);
     less_up = omega (arith, h.less_up, s.taken.sum.up, made_few r (gone_of way run), gone_few r, long, run_some r);
     less_down = omega (arith, h.less_down, s.taken.sum.down, made_few r (gone_of way run), gone_few r, long, run_some r);
     more_up = omega (arith, h.more_up, s.added.sum.up, made_few r (came_of way run), came_few r, long, run_some r);
@@ -411,7 +414,7 @@ module _ {o seq : ℕ} {period : Periods} {d : Direction} {all others : List Tim
   few_now =
       let few : AreFew most_readings d (energy_over (pairs_among from)) rest = subst (λ qs. AreFew most_readings d (energy_over qs) rest) same a.few in
       few_more most_readings (2 * most_event_readings) d (energy_over (pairs_among from)) (energy_over (fa r ++ fb r)) rest few
-      (omega (arith, h.up, h.more_up, all_up r (gone_of way run) r.now_is, a.small)) (omega (arith, h.down, h.more_down, all_down r (gone_of way run) r.now_is, a.small))
+      (omega (arith, h.up, h.more_up, all_sum r (gone_of way run) r.now_is rise, a.small)) (omega (arith, h.down, h.more_down, all_sum r (gone_of way run) r.now_is fall, a.small))
 
   pub room_beside : {then : Table} (n : ℕ) → then.rows ≡ rows_of (beside r period d rest) → then.capacity ≡ t.capacity
       → length (fa r ++ fb r) + n + 1 ≤ length others + length all → n ≤ most_event_readings + 1 → HasRoom n then
@@ -587,23 +590,15 @@ no_turns : (way : Way) (seq : ℕ) (all others : List Timed) → AreTurns way 0 
 no_turns Coming seq all others = omega arith
 no_turns Going seq all others = omega arith
 
-pub turning_start : (way : Way) {o seq : ℕ} {period : Periods} {d : Direction} {all others : List Timed} {base : Table} {rest : List Flowed} {w : ℕ} {less more : Energy}
-    → less ≡ no_energy → more ≡ no_energy
+pub turning_start : (way : Way) {o seq : ℕ} {period : Periods} {d : Direction} {all others : List Timed} {base : Table} {rest : List Flowed} {w : ℕ}
     → AreApart o seq period d all others (pairs_among (put_each (gone_of way all) others)) base rest
-    → IsTurning way seq period d all all others rest base w w less more
-turning_start way {seq = seq} {period = period} {d = d} {all = all} {others = others} {base = base} {rest = rest} {less = less} {more = more} no_less no_more a = record {
+    → IsTurning way seq period d all all others rest base w w no_energy no_energy
+turning_start way {seq = seq} {period = period} {d = d} {all = all} {others = others} {base = base} {rest = rest} a = record {
   done = [];
   split = refl;
   gap = inl refl;
-  moving = subst (λ l. IsMoving period d all all (put_each (gone_of way all) others) (put_each l others) rest base less more) (all_there way all) (record {
-    rows = a.rows;
-    up = omega (arith, ap (λ (e : Energy). e.up) no_less, ap (λ (e : Energy). e.up) no_more);
-    down = omega (arith, ap (λ (e : Energy). e.down) no_less, ap (λ (e : Energy). e.down) no_more);
-    less_up = omega (arith, ap (λ (e : Energy). e.up) no_less);
-    less_down = omega (arith, ap (λ (e : Energy). e.down) no_less);
-    more_up = omega (arith, ap (λ (e : Energy). e.up) no_more);
-    more_down = omega (arith, ap (λ (e : Energy). e.down) no_more);
-  });
+  moving = subst (λ l. IsMoving period d all all (put_each (gone_of way all) others) (put_each l others) rest base no_energy no_energy) (all_there way all)
+      (record { rows = a.rows; up = omega arith; down = omega arith; less_up = omega arith; less_down = omega arith; more_up = omega arith; more_down = omega arith });
   turns = 0;
   counted = no_turns way seq all others;
   spent = omega arith;

@@ -5,7 +5,7 @@ use Rattle.ledger_model.{specs.ByDirection.in_direction, specs.Periods.Periods, 
 use Rattle.quarter_table.{specs.Table.Table, specs.Pairs.{rows_of, total}, proofs.Made.made_alike}
 use Rattle.key_index.proofs.Orders.{above_parts, above_less}
 use Rattle.reading_index.specs.Timed.{Timed, first_of, in_front, last_of, AreAbove, AreRising, AreBelow}
-use Rattle.station_ledger.{specs.ByMoment.{bare, bare_one, beyond, fits, fitting, put_each}, specs.Runs.AreFew, specs.Quarters.{HasRoom, quartered}, proofs.MomentRanks.at, proofs.Rows.{long, each_toward, up_append, down_append, up_quartered, down_quartered}, proofs.Walks.{energy_over-append, quartered-append}}
+use Rattle.station_ledger.{specs.ByMoment.{bare, bare_one, beyond, fits, fitting, put_each}, specs.Runs.AreFew, specs.Quarters.{HasRoom, quartered}, proofs.MomentRanks.at, proofs.Rows.{long, up_append, down_append, up_quartered, down_quartered}, proofs.Walks.{energy_over-append, quartered-append}}
 
 -- The pairs of readings, with a run of some in a gap and without.
 pub with_run : (front run back : List Timed)
@@ -20,20 +20,12 @@ pub moved_in : (period : Periods) (d : Direction) (a x b : List Pair) (rest : Li
 moved_in period d a x b rest =
     let q = quartered period d in
     made_alike (q (a ++ (x ++ b)) ++ rest) (q x ++ (q (a ++ b) ++ rest)) (λ measure.
-    let one = sum_by-append measure (q (a ++ (x ++ b))) rest in
-    let two = ap (sum_by measure) (quartered-append period d a (x ++ b)) ∙ sum_by-append measure (q a) (q (x ++ b)) in
-    let three = ap (sum_by measure) (quartered-append period d x b) ∙ sum_by-append measure (q x) (q b) in
-    let four = sum_by-append measure (q x) (q (a ++ b) ++ rest) in
-    let five = sum_by-append measure (q (a ++ b)) rest in
-    let six = ap (sum_by measure) (quartered-append period d a b) ∙ sum_by-append measure (q a) (q b) in
-    omega (arith, one, two, three, four, five, six))
+    let parts = λ (ps qs : List Pair). ap (sum_by measure) (quartered-append period d ps qs) ∙ sum_by-append measure (q ps) (q qs) in
+    omega (arith, sum_by-append measure (q (a ++ (x ++ b))) rest, parts a (x ++ b), parts x b, sum_by-append measure (q x) (q (a ++ b) ++ rest), sum_by-append measure (q (a ++ b)) rest, parts a b))
 
--- Energies with three parts.
-pub three_up : (a x b : List Pair) → (energy_over (a ++ (x ++ b))).up ≡ (energy_over a).up + ((energy_over x).up + (energy_over b).up)
-three_up a x b = ap (λ (e : Energy). e.up) (energy_over-append a (x ++ b)) ∙ ap (λ (e : Energy). (energy_over a).up + e.up) (energy_over-append x b)
-
-pub three_down : (a x b : List Pair) → (energy_over (a ++ (x ++ b))).down ≡ (energy_over a).down + ((energy_over x).down + (energy_over b).down)
-three_down a x b = ap (λ (e : Energy). e.down) (energy_over-append a (x ++ b)) ∙ ap (λ (e : Energy). (energy_over a).down + e.down) (energy_over-append x b)
+-- Sums with three parts.
+pub three_sums : (f : Pair → ℕ) (a x b : List Pair) → sum_by f (a ++ (x ++ b)) ≡ sum_by f a + (sum_by f x + sum_by f b)
+three_sums f a x b = omega (arith, sum_by-append f a (x ++ b), sum_by-append f x b)
 
 pub followed_fewer : (r : MeterReading) (rs : List MeterReading) → length (followed (r ∷ rs)) ≡ length rs
 followed_fewer r [] = refl
@@ -42,12 +34,7 @@ followed_fewer r (s ∷ rs) = let rest = followed_fewer s rs in omega (arith, re
 -- A little more of it.
 pub few_more : (most more : ℕ) (d : Direction) (e f : Energy) (rest : List Flowed) → AreFew most d e rest
     → f.up ≤ e.up + greatest_reading * more → f.down ≤ e.down + greatest_reading * more → AreFew (most + more) d f rest
-few_more most more d e f rest few up down = record {
-  up = λ k. let r = (in_direction k (total rest)).up in
-      each_toward k d (λ at beside. (at e).up + r ≤ greatest_reading * most → (at f).up + r ≤ greatest_reading * (most + more)) (λ h. omega (arith, h, up)) (λ h. omega (arith, h)) (few.up k);
-  down = λ k. let r = (in_direction k (total rest)).down in
-      each_toward k d (λ at beside. (at e).down + r ≤ greatest_reading * most → (at f).down + r ≤ greatest_reading * (most + more)) (λ h. omega (arith, h, down)) (λ h. omega (arith, h)) (few.down k);
-}
+few_more most more d e f rest few up down = record { up = λ k. grind (arith, few.up k, up); down = λ k. grind (arith, few.down k, down) }
 
 -- There is room for pairs beside these.
 pub has_room : (period : Periods) (d : Direction) (ps : List Pair) (rest : List Flowed) (n most : ℕ) (t : Table)
@@ -190,11 +177,9 @@ module _ (own : Timed → Bool) where
   -- there is one run more
   pub one_run_more : (front : List Timed) (x : Timed) (xs back : List Timed) → LastFails own front → AreOwn own (x ∷ xs)
       → FirstFails own back → runs own (front ++ ((x ∷ xs) ++ back)) ≡ runs own (front ++ back) + 1
-  one_run_more [] x xs back fails mine first = let one = runs_own own false x (xs ++ back) mine.0 in let rest = run_ends xs back mine.1 first in omega (arith, one, rest)
+  one_run_more [] x xs back fails mine first = omega (arith, runs_own own false x (xs ++ back) mine.0, run_ends xs back mine.1 first)
   one_run_more (y ∷ front) x xs back fails mine first =
-      let one : runs_behind false own ((x ∷ xs) ++ back) ≡ runs_behind false own back + 1 =
-      (let a = runs_own own false x (xs ++ back) mine.0 in let b = run_ends xs back mine.1 first in omega (arith, a, b)) in
-      front_runs false y front ((x ∷ xs) ++ back) back fails one
+      front_runs false y front ((x ∷ xs) ++ back) back fails (omega (arith, runs_own own false x (xs ++ back) mine.0, run_ends xs back mine.1 first))
 
 -- The last reading, without its rank.
 pub last_bare : (ts : List Timed) → bare_one (last_of ts) ≡ last_reading (bare ts)

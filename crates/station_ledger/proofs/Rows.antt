@@ -10,21 +10,6 @@ abbrev pub other : Direction → Direction
 other Import = Export
 other Export = Import
 
--- What holds of an energy of a direction in that direction, and not in the other, holds in each.
-pub each_toward : (k d : Direction) (P : (Energy → Energy) → (Energy → Energy) → Type 0) → P (λ e. e) (λ e. no_energy) → P (λ e. no_energy) (λ e. e)
-    → P (λ e. in_direction k (flows_toward d e)) (λ e. in_direction k (flows_toward (other d) e))
-each_toward Import Import P own apart = own
-each_toward Import Export P own apart = apart
-each_toward Export Import P own apart = apart
-each_toward Export Export P own apart = own
-
--- an energy of a direction is at most itself in each
-up_toward : (k d : Direction) (e : Energy) → (in_direction k (flows_toward d e)).up ≤ e.up
-up_toward k d e = each_toward k d (λ at beside. (at e).up ≤ e.up) (omega arith) (omega arith)
-
-down_toward : (k d : Direction) (e : Energy) → (in_direction k (flows_toward d e)).down ≤ e.down
-down_toward k d e = each_toward k d (λ at beside. (at e).down ≤ e.down) (omega arith) (omega arith)
-
 -- pairs behind others add up with them
 pub up_append : (d : Direction) (a b : List Flowed) → (in_direction d (total (a ++ b))).up ≡ (in_direction d (total a)).up + (in_direction d (total b)).up
 up_append Import a b = sum_by-append (λ (f : Flowed). f.1.import.up) a b
@@ -78,8 +63,8 @@ module _ {t : Table} {more : ℕ} (has : HasRoom more t) where
   pub room_for_flow : (q : ℕ) (d : Direction) (flow : Energy) → IsDifference flow → CanPlusFlows (row_at q t.rows).energy (flows_toward d flow)
   room_for_flow q d flow small =
       let fits : (k : Direction) → CanPlus (in_direction k (row_of q has.0).energy) (in_direction k (flows_toward d flow)) = λ k. record {
-        up = omega (arith, row_up_le k q has.0, has.1.up k, up_toward k d flow, small.up);
-        down = omega (arith, row_down_le k q has.0, has.1.down k, down_toward k d flow, small.down);
+        up = grind (arith, row_up_le k q has.0, has.1.up k, small.up);
+        down = grind (arith, row_down_le k q has.0, has.1.down k, small.down);
       } in
       subst (λ r. CanPlusFlows r.energy (flows_toward d flow)) (sym (row_is q)) (record { import = fits Import; export = fits Export })
 
@@ -109,8 +94,8 @@ rows_more period d {ps = ps} {t = t} {new = new} others more less was n sum put 
     record {
       rows = put.rows ∙ ap (rows_with mine) was.rows ∙ made_with mine others;
       room = omega (arith, was.room, length-append mine others, put.capacity, n, long period d ps);
-      up = λ k. omega (arith, was.up k, up_append k mine others, up_quartered k period d ps, up_toward k d all, up, n);
-      down = λ k. omega (arith, was.down k, down_append k mine others, down_quartered k period d ps, down_toward k d all, down, n);
+      up = λ k. grind (arith, was.up k, up_append k mine others, up_quartered k period d ps, up, n);
+      down = λ k. grind (arith, was.down k, down_append k mine others, down_quartered k period d ps, down, n);
       few = omega (arith, was.few, put.capacity);
     }
 

@@ -5,7 +5,7 @@ use Rattle.station_ledger.{specs.Quarters.HoldsPairs, specs.Runs.{run_pairs, cam
 use Rattle.station_ledger.proofs.by_moment.replace_runs.Goals as goal
 
 pub loop-left-init : goal.loop-left-init
-loop-left-init c = record { moving = λ o seq rest a. turning_start c.args.way c.zero-less.ensures c.zero-more.ensures a; capacity = refl }
+loop-left-init c = record { moving = λ o seq rest a. turning_by c.zero-less.ensures c.zero-more.ensures (turning_start c.args.way a); capacity = refl }
 
 -- the turn of an iteration
 turn : (c : After-split_at) {o seq : ℕ} {rest : List Flowed} → AreToMove c.args.way o seq c.args.period c.args.direction c.args.readings.now c.args.index.now c.args.quarters.now rest
