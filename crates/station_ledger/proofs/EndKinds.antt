@@ -11,19 +11,13 @@ counted k ks = sum_by-cons (λ (x : Kind). cond {A = ℕ} (is_end x) 1 0) k ks
 
 -- where none is Started or Ended, the last is not Ended
 none_ends : (k : Kind) (ks : List Kind) → count_by is_end (k ∷ ks) ≡ 0 → is_ended (slice_get (k ∷ ks) (length ks)) ≡ false
-none_ends Updated [] none = refl
-none_ends Started [] none = absurd (omega (arith, none, counted Started []))
-none_ends Ended [] none = absurd (omega (arith, none, counted Ended []))
+none_ends k [] none = grind (arith, counted k [])
 none_ends k (m ∷ ms) none = none_ends m ms (omega (arith, none, counted k (m ∷ ms)))
 
 -- after the first
 goes_on : (k : Kind) (ks : List Kind) → count_by is_end (k ∷ ks) ≡ 1 → goes_on_and_ends (k ∷ ks) ≡ is_ended (slice_get (k ∷ ks) (length ks))
-goes_on Started [] one = refl
-goes_on Updated [] one = absurd (omega (arith, one, counted Updated []))
-goes_on Ended [] one = refl
-goes_on Updated (m ∷ ms) one = goes_on m ms (omega (arith, one, counted Updated (m ∷ ms)))
-goes_on Started (m ∷ ms) one = sym (none_ends m ms (omega (arith, one, counted Started (m ∷ ms))))
-goes_on Ended (m ∷ ms) one = sym (none_ends m ms (omega (arith, one, counted Ended (m ∷ ms))))
+goes_on k [] one = grind (arith, counted k [])
+goes_on k (m ∷ ms) one = grind (arith, counted k (m ∷ ms), goes_on m ms, none_ends m ms)
 
 -- from the first on
 whole : (ks : List Kind) → count_by is_end ks ≡ 2 → starts_and_ends ks ≡ (is_started (slice_get ks 0) && is_ended (slice_get ks (length ks - 1)))
@@ -38,17 +32,13 @@ whole (Started ∷ m ∷ ms) two =
 -- what goes on and ends has one end
 one_end : (ks : List Kind) → goes_on_and_ends ks ≡ true → count_by is_end ks ≡ 1
 one_end [] h = cc
-one_end (Started ∷ ks) h = cc
-one_end (Ended ∷ []) h = refl
-one_end (Ended ∷ m ∷ ms) h = cc
-one_end (Updated ∷ ks) h = omega (arith, counted Updated ks, one_end ks h)
+one_end (k ∷ []) h = grind (arith, counted k [])
+one_end (k ∷ m ∷ ms) h = grind (arith, counted k (m ∷ ms), one_end (m ∷ ms))
 
 -- what starts and ends has two
 two_ends : (ks : List Kind) → starts_and_ends ks ≡ true → count_by is_end ks ≡ 2
 two_ends [] h = cc
-two_ends (Updated ∷ ks) h = cc
-two_ends (Ended ∷ ks) h = cc
-two_ends (Started ∷ ks) h = omega (arith, counted Started ks, one_end ks h)
+two_ends (k ∷ ks) h = grind (arith, counted k ks, one_end ks)
 
 -- with another count nothing starts and ends
 pub not_two : (ks : List Kind) → (count_by is_end ks ≡ 2 → ⊥) → starts_and_ends ks ≡ false

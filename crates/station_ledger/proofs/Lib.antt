@@ -1,3 +1,4 @@
+pub mod Each
 pub mod Rows
 pub mod Walks
 pub mod Both

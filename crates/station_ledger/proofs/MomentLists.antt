@@ -3,30 +3,12 @@ use Rattle.std.{proofs.Common.{◌≡◌, ℕ, ◌+◌, ◌*◌, ◌^◌, ◌<�
 use Rattle.ledger_model.specs.BoardLaws as laws
 use Rattle.ledger_model.{specs.declared.order.Order.TheVariants.Moment, specs.declared.reading.Direction.Direction, specs.Content.{Entry, live, live_of}, specs.Deltas.{before_key, behind_key, own_events, IsOneMore}, specs.Energy.readings_by, specs.Event.{IsMeterReading, MeterReading, same_direction, toward}, specs.Gaps.numbers_of, specs.InTime.{in_time, put_in_time}, specs.ReadingOrder.{Numbered, numbered, numbered_by}, proofs.Bounds.AreEntries-filter, proofs.Callers.{AreEntries, AreForeign, AreOwn, IsEntry, few_toward, in_time-map, live_else, live_with, live_without, numbered_readings, own_before_key, own_behind_key, put-behind, put-front}}
 use Rattle.reading_index.{specs.Ranks.{number_of, owner, owner_of, rank}, specs.Timed.{Timed, has_rank, placed_at, without, AreAbove, AreRising}, specs.declared.placed.PlacedReading.PlacedReading}
-use Rattle.station_ledger.{specs.ByMoment.{bare, live_readings, put_each, ranked, ranked_from, take_each, timed_of}, specs.Runs.own_timed, specs.Listing.{placed, placed_by, placed_from}, proofs.MomentRanks.{at, number_of-rank, owner_of-rank, length-put_each, place_of-rank, put-ranked}}
+use Rattle.station_ledger.{proofs.Each.{each_append, each_in_time, each_put, each_then, each_toward}, specs.ByMoment.{bare, live_readings, put_each, ranked, ranked_from, take_each, timed_of}, specs.Runs.own_timed, specs.Listing.{placed, placed_by, placed_from}, proofs.MomentRanks.{at, number_of-rank, owner_of-rank, length-put_each, place_of-rank, put-ranked}}
 
 -- What is so of each reading is so of each by rank.
-module _ (P : Timed → Type 0) where
-  pub each_put : (x : Timed) (ts : List Timed) → P x → AllByRecursion P ts → AllByRecursion P (put_in_time at x ts)
-  each_put x [] here all = (here, tt)
-  each_put x (t ∷ ts) here all = grind (arith, nat_tests, each_put x ts here all.1)
-
-  pub each_put_each : (xs ts : List Timed) → AllByRecursion P xs → AllByRecursion P ts → AllByRecursion P (put_each xs ts)
-  each_put_each [] ts mine all = all
-  each_put_each (x ∷ xs) ts mine all = each_put_each xs (put_in_time at x ts) mine.1 (each_put x ts mine.0 all)
-
-  each_in_time : (ts : List Timed) → AllByRecursion P ts → AllByRecursion P (in_time at ts)
-  each_in_time [] all = tt
-  each_in_time (t ∷ ts) all = each_put t (in_time at ts) all.0 (each_in_time ts all.1)
-
-  each_append : (xs ys : List Timed) → AllByRecursion P xs → AllByRecursion P ys → AllByRecursion P (xs ++ ys)
-  each_append [] ys all more = more
-  each_append (x ∷ xs) ys all more = (all.0, each_append xs ys all.1 more)
-
--- What follows for each from what holds of each.
-each_then : (P Q : Timed → Type 0) → ((t : Timed) → P t → Q t) → (ts : List Timed) → AllByRecursion P ts → AllByRecursion Q ts
-each_then P Q so [] all = tt
-each_then P Q so (t ∷ ts) all = (so t all.0, each_then P Q so ts all.1)
+pub each_put_each : (P : Timed → Type 0) (xs ts : List Timed) → AllByRecursion P xs → AllByRecursion P ts → AllByRecursion P (put_each xs ts)
+each_put_each P [] ts mine all = all
+each_put_each P (x ∷ xs) ts mine all = each_put_each P xs (put_in_time at x ts) mine.1 (each_put P at x ts mine.0 all)
 
 -- None has this rank.
 abbrev pub AreApart : ℕ → List Timed → Type 0
@@ -52,7 +34,7 @@ ranked_distinct (t ∷ ts) up = (behind_apart t.0 ts up.0, ranked_distinct ts up
 -- Of different ranks, by rank, they are by rank.
 distinct_ranked : (ts : List Timed) → AreDistinct ts → AreRising (in_time at ts)
 distinct_ranked [] apart = tt
-distinct_ranked (t ∷ ts) apart = put-ranked t (in_time at ts) (distinct_ranked ts apart.1) (none_has t.0 (in_time at ts) (each_in_time (λ u. u.0 ≡ t.0 → ⊥) ts apart.0))
+distinct_ranked (t ∷ ts) apart = put-ranked t (in_time at ts) (distinct_ranked ts apart.1) (none_has t.0 (in_time at ts) (each_in_time (λ u. u.0 ≡ t.0 → ⊥) at ts apart.0))
 
 -- Two readings of different ranks are put in in either order.
 put_put : (x y : Timed) (ts : List Timed) → (y.0 ≡ x.0 → ⊥) → put_in_time at x (put_in_time at y ts) ≡ put_in_time at y (put_in_time at x ts)
@@ -80,7 +62,7 @@ put_each-front x (y ∷ ys) ts apart = grind (arith, nat_tests, put_each-front x
 -- They may be put in by rank.
 put_each-sorted : (xs ts : List Timed) → AreDistinct xs → put_each (in_time at xs) ts ≡ put_each xs ts
 put_each-sorted [] ts apart = refl
-put_each-sorted (x ∷ xs) ts apart = put_each-front x (in_time at xs) ts (each_in_time (λ u. u.0 ≡ x.0 → ⊥) xs apart.0) ∙ put_each-sorted xs (put_in_time at x ts) apart.1
+put_each-sorted (x ∷ xs) ts apart = put_each-front x (in_time at xs) ts (each_in_time (λ u. u.0 ≡ x.0 → ⊥) at xs apart.0) ∙ put_each-sorted xs (put_in_time at x ts) apart.1
 
 listed_sorted : (xs : List Timed) → AreDistinct xs → put_each xs [] ≡ in_time at xs
 listed_sorted xs apart = put_each-in_time xs [] apart ∙ ap (in_time at) (append-nil xs)
@@ -122,7 +104,7 @@ put_agrees t (u ∷ us) all = let a : IsAfter t u = all.0 in (λ i. cond (a.agre
 -- By rank they are as by moment.
 by_rank : (ts : List Timed) → AreListed ts → in_time at ts ≡ in_time (λ u. u.1.moment) ts
 by_rank [] all = refl
-by_rank (t ∷ ts) all = put_agrees t (in_time at ts) (each_in_time (IsAfter t) ts all.0) ∙ ap (put_in_time (λ u. u.1.moment) t) (by_rank ts all.1)
+by_rank (t ∷ ts) all = put_agrees t (in_time at ts) (each_in_time (IsAfter t) at ts all.0) ∙ ap (put_in_time (λ u. u.1.moment) t) (by_rank ts all.1)
 
 -- Of one owner, a later place is behind.
 after : (o n p k q : ℕ) (r s : MeterReading) → n < 2 ^ 31 → p < 2 ^ 10 → k < 2 ^ 31 → q < 2 ^ 10 → n * 2 ^ 10 + p < k * 2 ^ 10 + q → IsAfter (rank o r.moment n p, r) (rank o s.moment k q, s)
@@ -159,10 +141,6 @@ owned_from o n p (r ∷ rs) number room all =
 length_from : (o n p : ℕ) (rs : List MeterReading) → length (ranked_from o n p rs) ≡ length rs
 length_from o n p [] = refl
 length_from o n p (r ∷ rs) = let rest = length_from o n (p + 1) rs in omega (arith, rest)
-
-toward_each : (P : MeterReading → Type 0) (d : Direction) (rs : List MeterReading) → AllByRecursion P rs → AllByRecursion P (toward d rs)
-toward_each P d [] all = tt
-toward_each P d (r ∷ rs) all = grind (arith, toward_each P d rs all.1)
 
 are_own : (own : Timed → Bool) (ts : List Timed) → AllByRecursion (λ t. own t ≡ true) ts → AreOwn own ts
 are_own own [] all = tt
@@ -201,7 +179,7 @@ module _ (slot : ℕ) (d : Direction) (e : Entry) where
     pub listed-owned : All IsMeterReading e.1.event.readings → AllByRecursion (λ t. owner_of t.0 ≡ owner slot d) listed
     listed-owned all =
         each_put_each (λ t. owner_of t.0 ≡ owner slot d) (ranked slot d e) []
-        (owned_from (owner slot d) e.0.seq 0 (toward d e.1.event.readings) number room (toward_each IsMeterReading d e.1.event.readings (recursion_from_All IsMeterReading e.1.event.readings all))) tt
+        (owned_from (owner slot d) e.0.seq 0 (toward d e.1.event.readings) number room (each_toward IsMeterReading d e.1.event.readings (recursion_from_All IsMeterReading e.1.event.readings all))) tt
 
   pub length-listed : length listed ≡ length (toward d e.1.event.readings)
   length-listed = omega (arith, length-put_each (ranked slot d e) [], length_from (owner slot d) e.0.seq 0 (toward d e.1.event.readings))
@@ -281,7 +259,7 @@ module _ (slot : ℕ) (d : Direction) (es new : List Entry) (e : Entry) (one : I
   own = its_own slot d e it_in_range.key.number it_in_range.event.event.0
 
   pub stand_foreign : AllByRecursion (λ t. own_timed e.0.seq t ≡ false) (timed_of slot d e.0.tx es)
-  stand_foreign = each_in_time (λ t. own_timed e.0.seq t ≡ false) (flat_map (ranked slot d) (live_of e.0.tx es))
+  stand_foreign = each_in_time (λ t. own_timed e.0.seq t ≡ false) at (flat_map (ranked slot d) (live_of e.0.tx es))
       (subst (AllByRecursion (λ t. own_timed e.0.seq t ≡ false)) (sym without_it)
       (each_append (λ t. own_timed e.0.seq t ≡ false) (flat_map (ranked slot d) here) (flat_map (ranked slot d) there) before_foreign behind_foreign))
 

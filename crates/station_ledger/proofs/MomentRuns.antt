@@ -274,14 +274,11 @@ module _ (seq : ℕ) (others done left : List Timed) (x : Timed) (xs : List Time
     there : put_each done others ≡ put_each done F ++ B
     there = ap (put_each done) others_are ∙ put_each-before done F B (front-of x.0 done B done_under B_behind)
 
-    none_left : left ≡ [] → ⊥
-    none_left e = let same : x ∷ xs ≡ [] = sym left_is ∙ e in cc
-
     ends : (last_of (put_each done F) ≡ last_of F) × LastFails (own_timed seq) (put_each done F)
     ends = ⊎_elim
         (λ (none : done ≡ []). (ap (λ l. last_of (put_each l F)) none, subst (λ l. LastFails (own_timed seq) (put_each l F)) (sym none) (foreign_last (own_timed seq) F parts_foreign.0)))
         (λ (some : (left ≡ []) ⊎ AreParted done left others). ⊎_elim
-        (λ (e : left ≡ []). absurd (none_left e))
+        (λ (e : left ≡ []). let same : x ∷ xs ≡ [] = sym left_is ∙ e in cc)
         (λ (p : AreParted done left others). behind p) some) gap
       where
         behind : AreParted done left others → (last_of (put_each done F) ≡ last_of F) × LastFails (own_timed seq) (put_each done F)
@@ -575,11 +572,6 @@ turn_of o count entries {left = left} {x = x} done owned_by split some x_is befo
       run_is = run_is ∙ fit;
       next_is = next_is ∙ past;
     }
-
--- At the end nothing is left.
-pub none_left : {X : Type 0} (xs : List X) → length xs < 1 → xs ≡ []
-none_left [] h = refl
-none_left (x ∷ xs) h = absurd (omega (arith, h))
 
 -- At first all are there that go, and none that come.
 all_there : (way : Way) (all : List Timed) → gone_of way all ≡ still way [] all

@@ -1,5 +1,5 @@
 -- Readings put into the gaps of others, run by run: what their pairs do to the periods, and to sums.
-use Rattle.std.{proofs.Common.{◌≡◌, ℕ, zero, suc, ◌+◌, ◌-◌, ◌*◌, ◌<◌, ◌≤◌, Bool, true, false, cond, nat_lt, List, [], ◌∷◌, ◌++◌, Option, None, Some, length, slice_get, refl, sym, ap, subst, ◌∙◌, ⊎_elim, arith, length-append}, specs.List.sum_by, proofs.lemmas.Bool.Decides.nat_tests, proofs.lemmas.Bool.{cases_lt, lt-ltb, le-ltb}, proofs.lemmas.List.{map-append, length-map}, proofs.lemmas.List.Elements.filter-append, proofs.lemmas.List.Sums.sum_by-append}
+use Rattle.std.{proofs.Common.{◌≡◌, ℕ, zero, suc, ◌+◌, ◌-◌, ◌*◌, ◌<◌, ◌≤◌, Bool, true, false, cond, nat_lt, List, [], ◌∷◌, ◌++◌, Option, None, Some, length, slice_get, refl, sym, ap, subst, ◌∙◌, ⊎_elim, arith, length-append}, specs.List.{AllByRecursion, sum_by}, proofs.lemmas.Bool.Decides.nat_tests, proofs.lemmas.Bool.{cases_lt, lt-ltb, le-ltb}, proofs.lemmas.List.{map-append, length-map}, proofs.lemmas.List.Elements.filter-append, proofs.lemmas.List.Sums.sum_by-append}
 use Rattle.energy_flow.specs.Flow.{Energy}
 use Rattle.ledger_model.{specs.ByDirection.in_direction, specs.Periods.Periods, specs.Board.Flowed, specs.Deltas.{pairs_between, first_reading, last_reading}, specs.Energy.{Pair, energy_over, followed}, specs.declared.reading.Direction.Direction, specs.Event.MeterReading, specs.InTime.{put_in_time, runs, runs_behind}, specs.Ranges.{greatest_reading, most_readings}, proofs.Callers.{AreForeign, AreOwn, followed_cut, put-behind, put-front, runs_own, runs_foreign}}
 use Rattle.quarter_table.{specs.Table.Table, specs.Pairs.{rows_of, total}, proofs.Made.made_alike}
@@ -54,13 +54,11 @@ has_room period d ps rest n most t rows room few_rows few small =
 
 -- Each of the second is above all of the first.
 abbrev pub AreOver : List Timed → List Timed → Type 0
-AreOver ts [] = Unit {0}
-AreOver ts (x ∷ xs) = AreBelow x.0 ts × AreOver ts xs
+AreOver ts xs = AllByRecursion (λ x. AreBelow x.0 ts) xs
 
 -- Each of the first is below all of the second.
 abbrev pub AreInFront : List Timed → List Timed → Type 0
-AreInFront [] us = Unit {0}
-AreInFront (x ∷ xs) us = AreAbove x.0 us × AreInFront xs us
+AreInFront xs us = AllByRecursion (λ x. AreAbove x.0 us) xs
 
 -- One that is behind all of a front.
 put-under : (x : Timed) (ts us : List Timed) → AreBelow x.0 ts → put_in_time at x (ts ++ us) ≡ ts ++ put_in_time at x us

@@ -78,14 +78,8 @@ module _ (order : Order) where
       record {
         others = λ u apart. live_else es more front e back u one apart;
         events = omega (arith, events_more es more front e back one, live_kept tx es, live_kept tx more, own, with_it);
-        transactions =
-            omega (
-              arith,
-              counted (has_transaction tx (live es)) (length (transactions_of (live es))) (length (transactions_of (live more))) (transactions_more es more front e back one),
-              one_kept tx es,
-              one_kept tx more,
-              ap (λ b. cond {A = ℕ} b 1 0) there,
-            );
+        transactions = omega (arith, counted (has_transaction tx (live es)) (length (transactions_of (live es))) (length (transactions_of (live more))) (transactions_more es more front e back one),
+            one_kept tx es, one_kept tx more, ap (λ b. cond {A = ℕ} b 1 0) there);
         complete = omega (arith, complete_more es more front e back one, complete_kept tx es, complete_kept tx more);
         missing_are = omega (arith, missing_more es more front e back one, missing_kept tx es, missing_kept tx more);
         at_evse = λ n. omega (arith, evse_counts n es more front e back one, at_kept n tx es, at_kept n tx more, ap (λ b. cond {A = ℕ} b (cond (evse_of tx more == n) 1 0) 0) there);

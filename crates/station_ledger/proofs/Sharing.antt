@@ -100,11 +100,6 @@ numbers_each (e ∷ es) h = (h.0.sequence, numbers_each es h.1)
 pub walk_numbers : (tx : List ℕ) (es : List Entry) → AreNumbered es → AreNumbers (numbers_of tx es)
 walk_numbers tx es h = numbers_each (live_of tx es) (live_numbered tx es h)
 
--- A list that is shorter than one element.
-pub empty : {X : Type 0} (xs : List X) → length xs < 1 → xs ≡ []
-empty [] h = refl
-empty (x ∷ xs) h = absurd (omega (arith, h))
-
 -- The next number of a walk, and the rest.
 pub next_number : (was rest : List ℕ) (n : ℕ) → 0 < length was → n ≡ slice_index was 0 → rest ≡ drop 1 was → was ≡ n ∷ rest
 next_number [] rest n some is after = absurd (omega (arith, some))

@@ -1,41 +1,21 @@
 -- Each reading of events in range is at a moment, and so the period of each pair begins at one.
-use Rattle.std.{proofs.lemmas.Bool.Decides.nat_tests, proofs.Common.{◌≡◌, ℕ, zero, suc, ◌+◌, ◌-◌, ◌*◌, ◌<◌, ◌≤◌, ◌&&◌, ◌⊎◌, inl, inr, max, not, Bool, true, false, cond, nat_le, nat_lt, List, [], ◌∷◌, ◌++◌, map, refl, sym, ap, ◌∙◌, subst, arith, ⊎_elim}, specs.List.{All, flat_map}, specs.Str.bytes_eq, proofs.Math.Nat.{max-eq_left, max-eq_right, mul-le-mul_right}, proofs.lemmas.Bool.{cases_lt, le-ltb}, proofs.lemmas.List.Elements.{All-nil, All-cons, All-append}}
+use Rattle.std.{proofs.lemmas.Bool.Decides.nat_tests, proofs.Common.{◌≡◌, ℕ, zero, suc, ◌+◌, ◌-◌, ◌*◌, ◌<◌, ◌≤◌, ◌&&◌, ◌⊎◌, inl, inr, max, not, Bool, true, false, cond, nat_le, nat_lt, List, [], ◌∷◌, ◌++◌, map, refl, sym, ap, ◌∙◌, subst, arith, ⊎_elim}, specs.List.{All, AllByRecursion, flat_map}, specs.Str.bytes_eq, proofs.Math.Nat.{max-eq_left, max-eq_right, mul-le-mul_right}, proofs.lemmas.Bool.{cases_lt, le-ltb}, proofs.lemmas.List.Elements.{All-nil, All-cons, All-append, recursion_from_All}}
 use Rattle.ledger_model.{specs.Periods.Periods, specs.BoardLaws.IsIn, specs.Content.{Entry, live, live_of, transactions_of}, specs.Energy.{Pair, all_pairs_by, change_of, followed, pairs_by, parts_of, parts_of_both, parts_over, readings_of}, specs.Parts.{Change, Part, is_shared, level_at, longest_share, parts_by, shares, shares_from, whole}, specs.Event.{MeterReading, IsMeterReading, same_direction, toward}, specs.InTime.{in_order, in_time, put_in_time}, specs.declared.order.Order.Order, specs.declared.order.Order.TheVariants.{Sequence, Moment}, specs.declared.reading.Direction.Direction, specs.declared.reading.Direction.TheVariants.{Import, Export}, specs.declared.settle.Settle.Settle, specs.declared.settle.Settle.TheVariants.{Later, Closing, Even}, specs.Moment.{IsMoment, first_moment}, specs.Settling.settled_by, specs.Quarter.{IsPeriod, IsQuarterOf, quarter_at}, proofs.Bounds.AreEntries-filter, proofs.Callers.AreEntries}
+use Rattle.station_ledger.proofs.Each.{each_append, each_in_time, each_toward}
 
 -- readings at moments
 abbrev AreTimely : List MeterReading → Type 0
-AreTimely [] = Unit {0}
-AreTimely (r ∷ rs) = IsMoment r.moment × AreTimely rs
-
-timely-append : (rs ss : List MeterReading) → AreTimely rs → AreTimely ss → AreTimely (rs ++ ss)
-timely-append [] ss h k = k
-timely-append (r ∷ rs) ss h k = (h.0, timely-append rs ss h.1 k)
-
-timely-all : (rs : List MeterReading) → All IsMeterReading rs → AreTimely rs
-timely-all [] h = tt
-timely-all (r ∷ rs) h = ((h 0 r (omega arith)).moment, timely-all rs (λ k d lt. h (suc k) d (omega arith)))
-
-timely-some : (d : Direction) (rs : List MeterReading) → AreTimely rs → AreTimely (toward d rs)
-timely-some d [] h = tt
-timely-some d (r ∷ rs) h = grind (arith, timely-some d rs h.1, h.0)
+AreTimely rs = AllByRecursion (λ (r : MeterReading). IsMoment r.moment) rs
 
 timely-entries : (d : Direction) (es : List Entry) → AreEntries es → AreTimely (flat_map (λ e. toward d e.1.event.readings) es)
 timely-entries d [] h = tt
 timely-entries d (e ∷ es) h =
-    timely-append (toward d e.1.event.readings) (flat_map (λ f. toward d f.1.event.readings) es)
-    (timely-some d e.1.event.readings (timely-all e.1.event.readings h.0.event.readings)) (timely-entries d es h.1)
-
-timely-put : (r : MeterReading) (rs : List MeterReading) → IsMoment r.moment → AreTimely rs → AreTimely (put_in_time (λ s. s.moment) r rs)
-timely-put r [] at h = (at, tt)
-timely-put r (s ∷ rs) at h = grind (arith, timely-put r rs at h.1)
-
-timely-in_time : (rs : List MeterReading) → AreTimely rs → AreTimely (in_time (λ s. s.moment) rs)
-timely-in_time [] h = tt
-timely-in_time (r ∷ rs) h = timely-put r (in_time (λ s. s.moment) rs) h.0 (timely-in_time rs h.1)
+    each_append (λ r. IsMoment r.moment) (toward d e.1.event.readings) (flat_map (λ f. toward d f.1.event.readings) es)
+    (each_toward (λ r. IsMoment r.moment) d e.1.event.readings (recursion_from_All (λ r. IsMoment r.moment) e.1.event.readings (λ k r lt. (h.0.event.readings k r lt).moment))) (timely-entries d es h.1)
 
 timely-in_order : (order : Order) (rs : List MeterReading) → AreTimely rs → AreTimely (in_order order (λ s. s.moment) rs)
 timely-in_order Sequence rs h = h
-timely-in_order Moment rs h = timely-in_time rs h
+timely-in_order Moment rs h = each_in_time (λ (r : MeterReading). IsMoment r.moment) (λ s. s.moment) rs h
 
 -- both readings of a pair are at moments
 abbrev pub IsTimed : Pair → Type 0
@@ -75,10 +55,8 @@ settled_quarter Closing period moment is at = own_quarter period (max (moment - 
 settled_quarter Even period moment is at = own_quarter period (max (moment - 1) first_moment) is (before moment at)
 
 whole_in : (rule : Settle) (length : ℕ) (c : Change) (k : ℕ) → IsPeriod length → IsMoment c.until → IsIn k (map (λ (t : Part). t.0) (whole rule length c)) → IsQuarterOf length k
-whole_in rule length c k is until h =
-    ⊎_elim {C = IsQuarterOf length k}
-    (λ (e : k ≡ settled_by rule length c.until). subst (IsQuarterOf length) (sym e) (settled_quarter rule length c.until is until))
-    (λ never. absurd never) h
+whole_in rule length c k is until (inl e) = subst (IsQuarterOf length) (sym e) (settled_quarter rule length c.until is until)
+whole_in rule length c k is until (inr never) = absurd never
 
 -- a later moment lies in no earlier period
 quarters_rise : (length m n : ℕ) → IsPeriod length → m ≤ n → quarter_at length m ≤ quarter_at length n
@@ -109,13 +87,11 @@ in_parts Even length c k is since until h = shared_in (is_shared c) refl h
     shared_in : (b : Bool) → is_shared c ≡ b → IsIn k (map (λ (t : Part). t.0) (cond b (shares length c) (whole Even length c))) → IsQuarterOf length k
     shared_in false not_so there = whole_in Even length c k is until there
     shared_in true so there =
-        let up = rising_moments c so in
-        let first = quarter_at length c.since in let last = quarter_at length (c.until - 1) in
-        let own = in_shares length c first c.earlier (last - first) k there in let low = own.0 in let high = own.1 in
+        let up = rising_moments c so in let first = quarter_at length c.since in let last = quarter_at length (c.until - 1) in
+        let own = in_shares length c first c.earlier (last - first) k there in
         let ordered : first ≤ last = quarters_rise length c.since (c.until - 1) is (omega (arith, up)) in
         between length first k last (own_quarter length c.since is since)
-        (own_quarter length (c.until - 1) is (let a = since.0 in let b = until.1 in (omega (arith, a, up), omega (arith, b))))
-        low (omega (arith, high, ordered))
+        (own_quarter length (c.until - 1) is (omega (arith, since.0, up), omega (arith, until.1))) own.0 (omega (arith, own.1, ordered))
 
 own_parts : (length : ℕ) (ts : List Part) → ((k : ℕ) → IsIn k (map (λ (t : Part). t.0) ts) → IsQuarterOf length k) → All (λ (t : Part). IsQuarterOf length t.0) ts
 own_parts length [] h = All-nil (λ (t : Part). IsQuarterOf length t.0)
@@ -132,11 +108,9 @@ either_part (t ∷ ts) us k h = grind (arith, either_part ts us k, h)
 one_direction : (period : Periods) (ps : List Pair) (k : ℕ) → IsPeriod period.length → All IsTimed ps → IsIn k (map (λ (t : Part). t.0) (parts_over period ps)) → IsQuarterOf period.length k
 one_direction period [] k is at h = absurd h
 one_direction period (p ∷ ps) k is at h =
-    ⊎_elim {C = IsQuarterOf period.length k}
-    (λ (here : IsIn k (map (λ (t : Part). t.0) (parts_of period p))). let own : IsTimed p =
-    at 0 p (omega arith) in in_parts period.rule period.length (change_of p) k is own.0 own.1 here)
-    (λ (there : IsIn k (map (λ (t : Part). t.0) (parts_over period ps))). one_direction period ps k is (λ j d lt. at (suc j) d (omega arith)) there)
-    (either_part (parts_of period p) (parts_over period ps) k h)
+    let own : IsTimed p = at 0 p (omega arith) in
+    ⊎_elim {C = IsQuarterOf period.length k} (λ here. in_parts period.rule period.length (change_of p) k is own.0 own.1 here)
+    (λ there. one_direction period ps k is (λ j d lt. at (suc j) d (omega arith)) there) (either_part (parts_of period p) (parts_over period ps) k h)
 
 -- each period that a station shows begins at a moment
 pub in_period : (order : Order) (period : Periods) (es : List Entry) (k : ℕ) → AreEntries es → IsPeriod period.length
