@@ -17,12 +17,10 @@ pub record IsChange (limits : Bounds) (tx : List ℕ) (es new : List Entry) (gon
 
 -- sides that are asked for only where there is a reading
 across_if : (rs : List MeterReading) (b a : Option MeterReading) → across (side_if (has_some rs) b) (side_if (has_some rs) a) ≡ if_read rs (across b a)
-across_if [] b a = refl
-across_if (r ∷ rs) b a = refl
+across_if rs b a = grind arith
 
 between_if : (rs : List MeterReading) (b a : Option MeterReading) → pairs_between (side_if (has_some rs) b) rs (side_if (has_some rs) a) ≡ if_read rs (pairs_between b rs a)
-between_if [] b a = refl
-between_if (r ∷ rs) b a = refl
+between_if rs b a = grind arith
 
 most_le : (n : ℕ) → most_for n ≤ n + 2
 most_le zero = omega arith
@@ -60,8 +58,7 @@ abbrev pub came_sides : Way → ByDirection Sides → Chained → KeyName → Di
 came_sides way place chains key d = by_way way (sides_between place chains key d) (sides_across place d)
 
 both_long : (way : Way) (ps qs : List Pair) → length (by_way way ps qs) + length (by_way way qs ps) ≡ length ps + length qs
-both_long Coming ps qs = refl
-both_long Going ps qs = omega arith
+both_long way ps qs = grind arith
 
 module _ {tx : List ℕ} {es : List Entry} {chains : Chained} {key : KeyName} {place : ByDirection Sides} (tx_is : tx ≡ key.tx) where
   -- only the live events of the transaction change

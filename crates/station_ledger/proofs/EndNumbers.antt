@@ -23,8 +23,7 @@ none_last [] h = refl
 none_last (m ∷ []) h = cc
 none_last (m ∷ k ∷ ns) h =
     let at : suc (length (k ∷ ns) - 1) ≡ length (m ∷ k ∷ ns) - 1 = omega arith in
-    let rest : length (k ∷ ns) ≡ 0 = none_last (k ∷ ns) (ap (slice_get (m ∷ k ∷ ns)) at ∙ h) in
-    absurd (omega (arith, rest))
+    absurd (omega (arith, none_last (k ∷ ns) (ap (slice_get (m ∷ k ∷ ns)) at ∙ h)))
 
 -- the numbers and what is missing fill the range
 pub fills : (ns : List ℕ) (first last : ℕ) → AreRising ns → slice_get ns 0 ≡ Some first → slice_get ns (length ns - 1) ≡ Some last → first + length ns + missing ns ≡ last + 1

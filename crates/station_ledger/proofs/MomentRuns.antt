@@ -6,7 +6,7 @@ use Rattle.event_chain.specs.declared.around.Sides.{Sides}
 use Rattle.quarter_table.{specs.Pairs.{rows_of, rows_with}, specs.Table.Table, proofs.Several.made_with}
 use Rattle.reading_index.{specs.Ranks.{number_of, owner_of}, specs.Timed.{Timed, first_of, from_on, in_front, last_of, owned, AreAbove, AreRising, AreBelow}, proofs.Listed.filter-ranked}
 use Rattle.key_index.proofs.Orders.{above_less, rising_parts, below_more, below_both}
-use Rattle.station_ledger.{specs.ByMoment.{bare, bare_one, beyond, fits, fitting, put_each}, specs.Quarters.{HasRoom, HoldsPairs, IsTableMoved, IsWork, quartered}, specs.declared.by_moment.Moved.Moved, specs.declared.pairs.Way.Way, specs.declared.pairs.Way.TheVariants.{Coming, Going}, specs.Runs.{came_of, gap_of, gone_of, own_timed, pairs_among, run_pairs, AreApart, AreExchanged, AreFew, AreSwapped, HasRoomWithout}, proofs.MomentRanks.{at, length-put_each, parted}, proofs.MomentWalks.{AreInFront, AreOver, FirstFails, LastFails, few_more, fitting-beyond, fitting-front, followed_fewer, first_bare, foreign_first, foreign_last, foreign_parts, has_room, in_front-append, in_front-under, last-append, last_bare, last_behind, moved_in, one_run_more, own_parts, put_each-append, put_each-before, put_each-row, put_each-under, ranked-apart, three_sums, with_run}, proofs.Rows.rows_less, proofs.Walks.first_and_rest}
+use Rattle.station_ledger.{specs.ByMoment.{bare, bare_one, beyond, fits, fitting, put_each}, specs.Quarters.{HasRoom, HoldsPairs, IsTableMoved, IsWork, quartered}, specs.declared.by_moment.Moved.Moved, specs.declared.pairs.Way.Way, specs.declared.pairs.Way.TheVariants.{Coming, Going}, specs.Runs.{came_of, gap_of, gone_of, own_timed, pairs_among, run_pairs, AreApart, AreExchanged, AreFew, AreSwapped, HasRoomWithout}, proofs.MomentRanks.{at, length-put_each, parted}, proofs.MomentWalks.{AreInFront, AreOver, FirstFails, LastFails, few_more, fitting-beyond, fitting-front, followed_fewer, first_bare, foreign_first, foreign_last, foreign_parts, has_room, in_front-append, in_front-under, last-append, last_bare, last_behind, moved_in, one_run_more, over-one, own_parts, put_each-append, put_each-before, put_each-row, put_each-under, ranked-apart, three_sums, with_run}, proofs.Rows.rows_less, proofs.Walks.first_and_rest}
 
 -- Below a rank stay those below it.
 under-put : (n : ℕ) (x : Timed) (ts : List Timed) → x.0 < n → AreBelow n ts → AreBelow n (put_in_time at x ts)
@@ -77,8 +77,7 @@ fall p = (difference p).down
 
 -- How many readings go and come.
 pub length-parts : (way : Way) (ts : List Timed) → length (gone_of way ts) + length (came_of way ts) ≡ length ts
-length-parts Coming ts = omega arith
-length-parts Going ts = omega arith
+length-parts way ts = grind arith
 
 -- A run among others, which comes or goes: what is in front of it and behind it, now and next.
 pub record IsRun (way : Way) (seq : ℕ) (before after : Option MeterReading) (run now next : List Timed) : Type 0 where
@@ -154,8 +153,7 @@ AreTurns Going turns now total = turns + now ≤ total
 
 pub turn_counted : (way : Way) {seq : ℕ} {before after : Option MeterReading} {run now next : List Timed} (r : IsRun way seq before after run now next) (turns total : ℕ)
     → AreTurns way turns (runs (own_timed seq) now) total → AreTurns way (turns + 1) (runs (own_timed seq) next) total
-turn_counted Coming {seq = seq} r turns total h = let a = ap (runs (own_timed seq)) r.now_is in let b = ap (runs (own_timed seq)) r.next_is in omega (arith, h, a, b, one_run r)
-turn_counted Going {seq = seq} r turns total h = let a = ap (runs (own_timed seq)) r.now_is in let b = ap (runs (own_timed seq)) r.next_is in omega (arith, h, a, b, one_run r)
+turn_counted way {seq = seq} r turns total h = grind (arith, h, ap (runs (own_timed seq)) r.now_is, ap (runs (own_timed seq)) r.next_is, one_run r)
 
 -- Of the readings that were moved, and those that are left: the ones that are there.
 abbrev pub still : Way → List Timed → List Timed → List Timed
@@ -193,23 +191,14 @@ module _ (seq : ℕ) (others done left : List Timed) (x : Timed) (xs : List Time
   left_own : AreOwn (own_timed seq) left
   left_own = (own_parts (own_timed seq) done left own).1
 
-  x_own : own_timed seq x ≡ true
-  x_own = let h : AreOwn (own_timed seq) (x ∷ xs) = subst (AreOwn (own_timed seq)) left_is left_own in h.0
-
   left_rising : AreRising left
   left_rising = (rising_parts done left rising).1
 
   B_behind : AreAbove x.0 B
-  B_behind = from_on-behind seq x others x_own foreign
+  B_behind = from_on-behind seq x others (let h : AreOwn (own_timed seq) (x ∷ xs) = subst (AreOwn (own_timed seq)) left_is left_own in h.0) foreign
 
   parts_foreign : AreForeign (own_timed seq) F × AreForeign (own_timed seq) B
   parts_foreign = foreign_parts (own_timed seq) F B (subst (AreForeign (own_timed seq)) others_are foreign)
-
-  B_sorted : AreRising B
-  B_sorted = (rising_parts F B (subst AreRising others_are sorted)).1
-
-  F_under : AreBelow x.0 F
-  F_under = in_front-under x.0 others
 
   done_under : AreBelow x.0 done
   done_under = under-first done xs x (subst (AreInFront done) left_is (ranked-apart done left rising))
@@ -224,13 +213,12 @@ module _ (seq : ℕ) (others done left : List Timed) (x : Timed) (xs : List Time
   run_rising = (rising_parts run rest (subst AreRising (sym left_parts) left_rising)).0
 
   run_in_front : AreInFront run B
-  run_in_front = fitting-front B left B_sorted
-
-  from_left : AreFrom at x.0 left
-  from_left = subst (AreFrom at x.0) (sym left_is) (omega arith, from-rising x.0 xs (let h : AreRising (x ∷ xs) = subst AreRising left_is left_rising in h.0))
+  run_in_front = fitting-front B left (rising_parts F B (subst AreRising others_are sorted)).1
 
   from_run : AreFrom at x.0 run × AreFrom at x.0 rest
-  from_run = from-parts x.0 run rest (subst (AreFrom at x.0) (sym left_parts) from_left)
+  from_run =
+      let above : AreRising (x ∷ xs) = subst AreRising left_is left_rising in
+      from-parts x.0 run rest (subst (AreFrom at x.0) (sym (left_parts ∙ left_is)) (omega arith, from-rising x.0 xs above.0))
 
   run_first : run ≡ x ∷ fitting (first_of B) xs
   run_first = ap (fitting (first_of B)) left_is ∙ ap (λ b. cond b (x ∷ fitting (first_of B) xs) []) (fits-first x B B_behind)
@@ -263,7 +251,7 @@ module _ (seq : ℕ) (others done left : List Timed) (x : Timed) (xs : List Time
     run_is = run_first;
     now_is = there;
     next_is = put_each-append done run others ∙ ap (put_each run) there
-        ∙ put_each-under run (put_each done F) B (over-under x.0 (put_each done F) run (under-put_each x.0 done F done_under F_under) from_run.0)
+        ∙ put_each-under run (put_each done F) B (over-under x.0 (put_each done F) run (under-put_each x.0 done F done_under (in_front-under x.0 others)) from_run.0)
         ∙ ap (λ l. put_each done F ++ l) (put_each-row run B run_rising run_in_front);
     before_is = ap bare_one (sym ends.0) ∙ last_bare (put_each done F);
     after_is = first_bare B;
@@ -308,10 +296,10 @@ module _ (seq : ℕ) (others done left : List Timed) (x : Timed) (xs : List Time
     run_is = run_first;
     now_is =
         ap (λ l. put_each l others) (sym left_parts) ∙ put_each-append run rest others
-        ∙ ap (put_each rest) (ap (put_each run) others_are ∙ put_each-under run F B (over-under x.0 F run F_under from_run.0) ∙ ap (λ l. F ++ l) (put_each-row run B run_rising run_in_front))
-        ∙ put_each-under rest F (run ++ B) (over-under x.0 F rest F_under from_run.1)
+        ∙ ap (put_each rest) (ap (put_each run) others_are ∙ put_each-under run F B (over-under x.0 F run (in_front-under x.0 others) from_run.0) ∙ ap (λ l. F ++ l) (put_each-row run B run_rising run_in_front))
+        ∙ put_each-under rest F (run ++ B) (over-under x.0 F rest (in_front-under x.0 others) from_run.1)
         ∙ ap (λ l. F ++ l) (put_each-under rest run B (over_run run rest (subst AreRising (sym left_parts) left_rising)));
-    next_is = ap (put_each rest) others_are ∙ put_each-under rest F B (over-under x.0 F rest F_under from_run.1);
+    next_is = ap (put_each rest) others_are ∙ put_each-under rest F B (over-under x.0 F rest (in_front-under x.0 others) from_run.1);
     before_is = last_bare F;
     after_is = ap bare_one (sym (begins B refl).0) ∙ first_bare (put_each rest B);
     last_fails = foreign_last (own_timed seq) F parts_foreign.0;
@@ -319,15 +307,8 @@ module _ (seq : ℕ) (others done left : List Timed) (x : Timed) (xs : List Time
     own = run_own;
   } where
     over_run : (ts us : List Timed) → AreRising (ts ++ us) → AreOver ts us
-    over_run ts us h = all_over ts us (ranked-apart ts us h)
-      where
-        all_over : (ts us : List Timed) → AreInFront ts us → AreOver ts us
-        all_over ts [] h = tt
-        all_over ts (u ∷ us) h = (under-first ts us u h, all_over ts us (tails ts us u h))
-          where
-            tails : (ts us : List Timed) (u : Timed) → AreInFront ts (u ∷ us) → AreInFront ts us
-            tails [] us u h = tt
-            tails (t ∷ ts) us u h = (h.0.1, tails ts us u h.1)
+    over_run ts [] h = tt
+    over_run ts (u ∷ us) h = over-under u.0 ts (u ∷ us) (under-first ts us u (ranked-apart ts (u ∷ us) h)) (omega arith, from-rising u.0 us (rising_parts ts (u ∷ us) h).1.0)
 
     begins : (bs : List Timed) → B ≡ bs → (first_of (put_each rest B) ≡ first_of B) × FirstFails (own_timed seq) (put_each rest B)
     begins [] none =
@@ -336,12 +317,8 @@ module _ (seq : ℕ) (others done left : List Timed) (x : Timed) (xs : List Time
     begins (y ∷ ys) is =
         let fore : AreForeign (own_timed seq) (y ∷ ys) = subst (AreForeign (own_timed seq)) is parts_foreign.1 in
         let behind : AreAbove y.0 rest = subst (λ o. AreAbove y.0 (beyond o left)) (sym (ap first_of is)) (beyond-behind seq y left fore.0 left_own left_rising) in
-        let put : put_each rest B ≡ y ∷ put_each rest ys = ap (put_each rest) is ∙ put_each-under rest (y ∷ []) ys (over_one y rest behind) in
+        let put : put_each rest B ≡ y ∷ put_each rest ys = ap (put_each rest) is ∙ put_each-under rest (y ∷ []) ys (over-one y rest behind) in
         (ap first_of put ∙ sym (ap first_of is), subst (FirstFails (own_timed seq)) (sym put) fore.0)
-      where
-        over_one : (y : Timed) (us : List Timed) → AreAbove y.0 us → AreOver (y ∷ []) us
-        over_one y [] h = tt
-        over_one y (u ∷ us) h = ((h.0, tt), over_one y us h.1)
 
   -- a run that comes or goes
   pub next_run : (way : Way) → (done ≡ []) ⊎ ((left ≡ []) ⊎ AreParted done left others)
@@ -575,12 +552,10 @@ turn_of o count entries {left = left} {x = x} done owned_by split some x_is befo
 
 -- At first all are there that go, and none that come.
 all_there : (way : Way) (all : List Timed) → gone_of way all ≡ still way [] all
-all_there Coming all = refl
-all_there Going all = refl
+all_there way all = grind arith
 
 no_turns : (way : Way) (seq : ℕ) (all others : List Timed) → AreTurns way 0 (runs (own_timed seq) (put_each (still way [] all) others)) (runs (own_timed seq) (put_each all others))
-no_turns Coming seq all others = omega arith
-no_turns Going seq all others = omega arith
+no_turns way seq all others = grind arith
 
 pub turning_start : (way : Way) {o seq : ℕ} {period : Periods} {d : Direction} {all others : List Timed} {base : Table} {rest : List Flowed} {w : ℕ}
     → AreApart o seq period d all others (pairs_among (put_each (gone_of way all) others)) base rest
@@ -610,8 +585,7 @@ all_moved Coming all done left split none = sym (append-nil done) ∙ ap (λ l. 
 all_moved Going all done left split none = none
 
 all_turns : (way : Way) (turns now total : ℕ) (is : AreTurns way turns now total) → (way ≡ Coming → now ≡ total) → turns ≤ total
-all_turns Coming turns now total is all = let e = all refl in omega (arith, is, e)
-all_turns Going turns now total is all = omega (arith, is)
+all_turns way turns now total is all = grind (arith, is, all)
 
 -- What occurs once all runs came, or went.
 module _ {o seq : ℕ} {period : Periods} {d : Direction} {all others : List Timed} {ps : List Pair} {base : Table}

@@ -87,7 +87,7 @@ pub put_each-append : (xs ys ts : List Timed) → put_each (xs ++ ys) ts ≡ put
 put_each-append [] ys ts = refl
 put_each-append (x ∷ xs) ys ts = put_each-append xs ys (put_in_time at x ts)
 
-over-one : (x : Timed) (xs : List Timed) → AreAbove x.0 xs → AreOver (x ∷ []) xs
+pub over-one : (x : Timed) (xs : List Timed) → AreAbove x.0 xs → AreOver (x ∷ []) xs
 over-one x [] h = tt
 over-one x (y ∷ ys) h = ((h.0, tt), over-one x ys h.1)
 

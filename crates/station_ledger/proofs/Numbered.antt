@@ -25,8 +25,7 @@ highest_few (e ∷ []) h = h.0.sequence
 highest_few (e ∷ f ∷ es) h = highest_few (f ∷ es) h.1
 
 named_first : (o : Option ℕ) (ns : List ℕ) → IfSome o (λ number. number ≤ greatest_evse) → first_or_zero ns ≤ greatest_evse → first_or_zero (cons_option o ns) ≤ greatest_evse
-named_first None ns le rest = rest
-named_first (Some n) ns le rest = le
+named_first o ns le rest = grind (arith, le, rest)
 
 named_few : (es : List Entry) → AreNumbered es → first_or_zero (filter_map (λ (e : Entry). e.1.event.evse) es) ≤ greatest_evse
 named_few [] h = omega arith

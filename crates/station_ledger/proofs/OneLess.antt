@@ -59,8 +59,7 @@ filled (k ∷ front) (m ∷ back) n f up first lt =
 -- A number behind the first of some leaves it the first.
 keeps_first : (front back : List ℕ) (n f : ℕ) → AreRising (front ++ n ∷ back) → f ≡ unwrap_or (slice_get (front ++ back) 0) 0
     → 0 < length (front ++ back) → f < n → slice_get (front ++ n ∷ back) 0 ≡ Some f
-keeps_first [] [] n f up is some lt = absurd (omega (arith, some))
-keeps_first [] (m ∷ back) n f up is some lt = absurd (omega (arith, up.0, is, lt))
+keeps_first [] back n f up is some lt = grind (arith, up, is, some)
 keeps_first (k ∷ front) back n f up is some lt = ap Some (sym is)
 
 -- An event that names no EVSE is passed over.

@@ -63,25 +63,10 @@ module _ {X : Type 0} (made : ℕ → List MeterReading → List X) where
       → flat_map (λ n. made n (readings_under d (find key_cmp (record { tx = tx; seq = n }) all))) (map (λ (e : Entry). e.0.seq) (filter (λ (e : Entry). bytes_eq tx e.0.tx) es))
       ≡ flat_map (λ (e : Entry). made e.0.seq (toward d e.1.event.readings)) (filter (λ (e : Entry). bytes_eq tx e.0.tx) es)
   read_each d tx all [] found = refl
-  read_each d tx all (e ∷ es) found = step (bytes_eq tx e.0.tx) refl (read_each d tx all es found.1)
-    where
-      own : List Entry
-      own = filter (λ (f : Entry). bytes_eq tx f.0.tx) es
-
-      reads : ℕ → List X
-      reads n = made n (readings_under d (find key_cmp (record { tx = tx; seq = n }) all))
-
-      of_entry : Entry → List X
-      of_entry f = made f.0.seq (toward d f.1.event.readings)
-
-      step : (b : Bool) → bytes_eq tx e.0.tx ≡ b → flat_map reads (map (λ (f : Entry). f.0.seq) own) ≡ flat_map of_entry own
-          → flat_map reads (map (λ (f : Entry). f.0.seq) (cond b (e ∷ own) own)) ≡ flat_map of_entry (cond b (e ∷ own) own)
-      step false is rest = rest
-      step true is rest =
-          let same : tx ≡ e.0.tx = (bytes_eq-Decides tx e.0.tx).0 is in
-          let here : readings_under d (find key_cmp (record { tx = tx; seq = e.0.seq }) all) ≡ toward d e.1.event.readings =
-          ap (λ t. readings_under d (find key_cmp (record { tx = t; seq = e.0.seq }) all)) same ∙ ap (readings_under d) found.0 in
-          λ i. made e.0.seq (here i) ++ rest i
+  read_each d tx all (e ∷ es) found =
+      let here : bytes_eq tx e.0.tx ≡ true → readings_under d (find key_cmp (record { tx = tx; seq = e.0.seq }) all) ≡ toward d e.1.event.readings = λ is.
+      ap (λ t. readings_under d (find key_cmp (record { tx = t; seq = e.0.seq }) all)) ((bytes_eq-Decides tx e.0.tx).0 is) ∙ ap (readings_under d) found.0 in
+      grind (arith, here, read_each d tx all es found.1)
 
   -- So along the numbers of a transaction's live events.
   pub read_along : (d : Direction) (tx : List ℕ) (chains : Chained)

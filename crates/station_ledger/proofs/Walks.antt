@@ -38,11 +38,11 @@ not_same Export Export other = absurd (other refl)
 
 -- those of the direction of the first one
 pub toward_first : (d : Direction) (left rest : List MeterReading) (r : MeterReading) → left ≡ r ∷ rest → r.direction ≡ d → toward d left ≡ r ∷ toward d rest
-toward_first d left rest r is same = ap (toward d) is ∙ ap (λ b. cond b (r ∷ toward d rest) (toward d rest)) (ap (same_direction d) same ∙ same_self d)
+toward_first d left rest r is same = ap (toward d) is ∙ grind (arith, same)
 
 -- those of another direction
 pub toward_rest : (d : Direction) (left rest : List MeterReading) (r : MeterReading) → left ≡ r ∷ rest → (r.direction ≡ d → ⊥) → toward d left ≡ toward d rest
-toward_rest d left rest r is other = ap (toward d) is ∙ ap (λ b. cond b (r ∷ toward d rest) (toward d rest)) (not_same d r.direction other)
+toward_rest d left rest r is other = ap (toward d) is ∙ grind (arith, other)
 
 -- Pairs of a direction that come or go one after the other, while some are left.
 pub record IsMoving (way : Way) (period : Periods) (d : Direction) (ps left : List Pair) (old t : Table) (before work : ℕ) (sum : Energy) : Type 0 where
